@@ -1,0 +1,8 @@
+pub mod Shift
+pub mod Product
+pub mod FieldLaws
+pub mod Sums
+pub mod Blocks
+pub mod TableLemmas
+pub mod LaneLemmas
+pub mod TablesMade
