@@ -2,7 +2,7 @@ pub mod Shift
 pub mod Product
 pub mod FieldLaws
 pub mod Sums
-pub mod Blocks
+pub mod BlockSums
 pub mod TableLemmas
 pub mod LaneLemmas
 pub mod TablesMade

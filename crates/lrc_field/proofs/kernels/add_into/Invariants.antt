@@ -1,0 +1,12 @@
+use Rattle.std.proofs.Common.{length, ◌-◌, ◌≤◌}
+use Rattle.lrc_field.proofs.Sums.{IsSummed}
+use Rattle.lrc_field.proofs.kernels.add_into.Given as goal
+
+abbrev pub invariant-lanes : goal.invariant-lanes
+invariant-lanes l = record { within : l.at ≤ length l.dst; summed : IsSummed l.initial.dst l.src l.dst l.at }
+
+abbrev pub decreases-lanes : goal.decreases-lanes
+decreases-lanes l = length l.dst - l.at
+
+abbrev pub invariant-loop-i : goal.invariant-loop-i
+invariant-loop-i l = IsSummed l.fn.dst l.src l.dst l.i

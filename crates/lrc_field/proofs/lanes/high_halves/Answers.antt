@@ -1,6 +1,0 @@
-use Rattle.std.proofs.Common.{◌/◌, ◌^◌}
-use Rattle.lrc_field.proofs.LaneLemmas.{zipped_all}
-use Rattle.lrc_field.proofs.lanes.high_halves.Goals as goal
-
-pub returns : goal.returns
-returns c = zipped_all (λ b n. b / 2 ^ n) c.args.bytes 4 c.fits-bytes.0

@@ -1,0 +1,23 @@
+-- What a vector of 32 bytes holds.
+use Rattle.std.specs.Prelude.{◌≡◌, ℕ, ◌+◌, ◌*◌, ◌%◌, ◌<◌, ◌≤◌, List, length, slice_index}
+use Rattle.std.specs.Int.Bits.{bit_xor}
+use Rattle.lrc_field.specs.Field.{times}
+
+-- v has 32 lanes, and lane k holds f k
+pub record HasLanes (v : List ℕ) (f : ℕ → ℕ) : Type 0 where
+  pub long : length v ≡ 32
+  pub each : (k : ℕ) → k < 32 → slice_index v k ≡ f k
+
+-- two tables of a scalar's products: with the low and with the high halves of bytes, each table standing twice
+pub record AreTables (c : ℕ) (low high : List ℕ) : Type 0 where
+  pub low_long : length low ≡ 32
+  pub high_long : length high ≡ 32
+  pub low_is : (k : ℕ) → k < 32 → slice_index low k ≡ times c (k % 16)
+  pub high_is : (k : ℕ) → k < 32 → slice_index high k ≡ times c (16 * (k % 16))
+
+-- in the 32 bytes from a place on, f of the place is added
+pub record IsBlockAdded (f : ℕ → ℕ) (before after : List ℕ) (i : ℕ) : Type 0 where
+  pub len : length after ≡ length before
+  pub inside : (k : ℕ) → k < 32 → slice_index after (i + k) ≡ bit_xor (slice_index before (i + k)) (f (i + k))
+  pub below : (k : ℕ) → k < i → slice_index after k ≡ slice_index before k
+  pub above : (k : ℕ) → i + 32 ≤ k → slice_index after k ≡ slice_index before k

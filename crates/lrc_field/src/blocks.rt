@@ -1,0 +1,135 @@
+//! Blocks of 32 bytes, one lane a byte.
+ghost use Rattle.std.specs.Prelude.{◌≡◌, ◌<◌, ◌≤◌, ◌+◌, ◌*◌, ◌/◌, ◌%◌, ◌^◌, ℕ, bit_xor, length, slice_index};
+ghost use Rattle.lrc_field.specs.Field.{times};
+ghost use Rattle.lrc_field.specs.Blocks.{HasLanes, AreTables, IsBlockAdded};
+
+use crate::element::Gf;
+use std::marker::Model;
+use std::simd::prelude::*;
+
+/// A scalar, and its products with the low halves of bytes (00 to 0F) and with the high halves (00, 10 to F0).
+/// Each table stands twice, since a shuffle reads within blocks of 16 lanes.
+#[derive(Drop)]
+pub(crate) struct Tables {
+    scalar: Gf,
+    low: [u8; 32],
+    high: [u8; 32],
+}
+
+impl Model for Tables {
+    ghost use Rattle.std.specs.Prelude.{ℕ};
+    ghost use Rattle.lrc_field.specs.Blocks.{AreTables};
+
+    ghost Value = { ℕ };
+
+    ghost view = { λ t. t.scalar };
+
+    ghost invariant = { λ t. AreTables t.scalar t.low t.high };
+}
+
+/// The 32 bytes from place `i` on.
+#[inline(always)]
+fn load(bytes: &[u8], i: usize) -> u8x32
+    requires { i + 32 ≤ length bytes.now }
+    ensures { HasLanes result (λ k. slice_index bytes.now (i + k)) }
+{
+    u8x32::from_slice(&bytes[i..])
+}
+
+/// Writes the vector over the 32 bytes from place `i` on.
+#[inline(always)]
+fn store(bytes: &mut [u8], i: usize, v: u8x32)
+    requires room { i + 32 ≤ length bytes.old }
+    requires whole { length v ≡ 32 }
+    ensures len { length bytes.new ≡ length bytes.old }
+    ensures below { (k : ℕ) → k < i → slice_index bytes.new k ≡ slice_index bytes.old k }
+    ensures inside { (k : ℕ) → k < 32 → slice_index bytes.new (i + k) ≡ slice_index v k }
+    ensures above { (k : ℕ) → i + 32 ≤ k → slice_index bytes.new k ≡ slice_index bytes.old k }
+{
+    v.copy_to_slice(&mut bytes[i..]);
+}
+
+#[inline(always)]
+fn added(a: u8x32, b: u8x32) -> u8x32
+    ensures { HasLanes result (λ k. bit_xor (slice_index a k) (slice_index b k)) }
+{
+    a ^ b
+}
+
+#[inline(always)]
+fn low_halves(bytes: u8x32) -> u8x32
+    ensures { HasLanes result (λ k. slice_index bytes k % 16) }
+{
+    bytes & u8x32::splat(15)
+}
+
+#[inline(always)]
+fn high_halves(bytes: u8x32) -> u8x32
+    ensures { HasLanes result (λ k. slice_index bytes k / 16) }
+{
+    bytes >> u8x32::splat(4)
+}
+
+/// In each lane the table's entry at that half, read within the lane's own block of 16.
+#[inline(always)]
+fn looked_up(table: &[u8; 32], halves: u8x32) -> u8x32
+    requires { (k : ℕ) → k < 32 → slice_index halves k < 16 }
+    ensures { HasLanes result (λ k. slice_index table.now (16 * (k / 16) + slice_index halves k)) }
+{
+    u8x32::from_array(*table).swizzle_dyn_within::<16>(halves)
+}
+
+impl Tables {
+    pub(crate) fn new(scalar: Gf) -> Tables
+        ensures { result ≡ scalar }
+    {
+        let mut low = [0; 32];
+        let mut high = [0; 32];
+        for k in 0..16u8 {
+            let low_product = scalar.mul(Gf::new(k)).byte();
+            let high_product = scalar.mul(Gf::new(16 * k)).byte();
+            low[k as usize] = low_product;
+            low[k as usize + 16] = low_product;
+            high[k as usize] = high_product;
+            high[k as usize + 16] = high_product;
+        }
+        Tables { scalar, low, high }
+    }
+
+    /// The scalar times each lane.
+    #[inline(always)]
+    fn scaled(&self, bytes: u8x32) -> u8x32
+        ensures { HasLanes result (λ k. times self.now (slice_index bytes k)) }
+    {
+        let low = looked_up(&self.low, low_halves(bytes));
+        let high = looked_up(&self.high, high_halves(bytes));
+        added(low, high)
+    }
+}
+
+/// Adds 32 bytes of `src`, from place `i` on.
+#[inline(always)]
+pub(crate) fn add_block(dst: &mut [u8], i: usize, src: &[u8])
+    requires to { i + 32 ≤ length dst.old }
+    requires from { i + 32 ≤ length src.now }
+    ensures { IsBlockAdded (λ k. slice_index src.now k) dst.old dst.new i }
+{
+    let bytes = load(src, i);
+    let old = load(dst, i);
+    let sums = added(old, bytes);
+    store(dst, i, sums);
+}
+
+/// Adds 32 products with bytes of `src`, from place `i` on.
+#[inline(always)]
+pub(crate) fn scale_add_block(dst: &mut [u8], i: usize, tables: &Tables, src: &[u8])
+    requires to { i + 32 ≤ length dst.old }
+    requires from { i + 32 ≤ length src.now }
+    ensures { IsBlockAdded (λ k. times tables.now (slice_index src.now k)) dst.old dst.new i }
+{
+    let bytes = load(src, i);
+    let products = tables.scaled(bytes);
+    let old = load(dst, i);
+    let sums = added(old, products);
+    store(dst, i, sums);
+}

@@ -1,0 +1,38 @@
+//! Sums and scaled sums of byte slices, 32 bytes at a time.
+ghost use Rattle.std.specs.Prelude.{◌≡◌, length, map};
+ghost use Rattle.lrc_field.specs.Field.{times};
+ghost use Rattle.lrc_field.specs.Sums.{sums};
+
+use crate::blocks::{self, Tables};
+use crate::element::Gf;
+
+/// Adds each byte of `src` to the byte of `dst` at its place. The slices have one length.
+pub fn add_into(dst: &mut [u8], src: &[u8])
+    requires { length dst.old ≡ length src.now }
+    ensures { dst.new ≡ sums dst.old src.now }
+{
+    let mut at = 0;
+    'lanes: while dst.len() - at >= 32 {
+        blocks::add_block(dst, at, src);
+        at += 32;
+    }
+    for i in at..dst.len() {
+        dst[i] ^= src[i];
+    }
+}
+
+/// Adds `c` times each byte of `src` to the byte of `dst` at its place. The slices have one length.
+pub fn scale_add_into(dst: &mut [u8], c: Gf, src: &[u8])
+    requires { length dst.old ≡ length src.now }
+    ensures { dst.new ≡ sums dst.old (map (times c) src.now) }
+{
+    let tables = Tables::new(c);
+    let mut at = 0;
+    'lanes: while dst.len() - at >= 32 {
+        blocks::scale_add_block(dst, at, &tables, src);
+        at += 32;
+    }
+    for i in at..dst.len() {
+        dst[i] ^= c.mul(Gf::new(src[i])).byte();
+    }
+}
