@@ -11,7 +11,7 @@ ghost use Rattle.lrc_plan.specs.ChecksBelow.{AreChecksBelow};
 ghost use Rattle.lrc_plan.specs.Planned.{rows_without_pivot};
 
 use crate::products::row_tree;
-use crate::rows::{PLACES, row_of};
+use crate::rows::{PLACES, count_without_pivot, row_of};
 use crate::tree::Tree;
 use lrc_code::{PlaceSet, Reduced};
 use std::alloc::{AllocError, Allocator};
@@ -26,7 +26,7 @@ pub(crate) fn checks_of<A: Allocator + Clone>(
     ensures checks { IfOk result (λ v. AreChecks narrow (is_in survivors) (map form_of v.items)) }
     ensures count { IfOk result (λ v. vec_len v ≡ rows_without_pivot (pivot_of reduced.now) 4) }
 {
-    let mut checks = Vec::new(alloc.clone()?);
+    let mut checks = Vec::with_capacity(alloc.clone()?, count_without_pivot(reduced))?;
     for row in 0..4usize {
         add_check(alloc, reduced, survivors, row, &mut checks)?;
     }

@@ -12,6 +12,8 @@ mod products;
 mod rows;
 mod solved;
 mod solving;
+#[cfg(test)]
+mod tests;
 mod tree;
 mod value;
 
