@@ -13,19 +13,20 @@ use Rattle.lrc_code.specs.Sums.{GivesBytes}
 use Rattle.lrc_plan.specs.Form.{Form, meaning}
 use Rattle.lrc_plan.specs.ReducedRows.{row_sum, AreReduced}
 use Rattle.lrc_plan.specs.Extensions.{Extends}
-use Rattle.lrc_plan.specs.Planned.{LeavesSurvive, rows_without_pivot, AreChecks}
+use Rattle.lrc_plan.specs.Planned.{LeavesSurvive, IsShallow, rows_without_pivot, AreChecks}
 use Rattle.lrc_plan.specs.ChecksBelow.{AreChecksBelow}
 use Rattle.lrc_plan.proofs.Extension.{has_extension}
 
 module _ (survives : Place → Bool) (coef : ℕ → Place → ℕ) (pivot : ℕ → Option Place) where
   -- no row yet
   pub checks_start : AreChecksBelow survives coef pivot 0 []
-  checks_start = record { leaves = All-nil _; means = λ s h. (λ a r k. absurd (omega (arith, k)), λ a. All-nil _); count = refl }
+  checks_start = record { leaves = All-nil _; shallow = All-nil _; means = λ s h. (λ a r k. absurd (omega (arith, k)), λ a. All-nil _); count = refl }
 
   -- a row with a pivot
   pub checks_pass : (n : ℕ) (v : Place) (checks : List Form) → pivot n ≡ Some v → AreChecksBelow survives coef pivot n checks → AreChecksBelow survives coef pivot (suc n) checks
   checks_pass n v checks e c = record {
     leaves = c.leaves;
+    shallow = c.shallow;
     means = λ s h. (λ a r k m. more s r k m ((c.means s h).0 a), λ a. (c.means s h).1 (λ r k m. a r (omega arith) m));
     count = c.count ∙ sym (add_none (pivot n) v e (rows_without_pivot pivot n));
   }
@@ -40,10 +41,11 @@ module _ (survives : Place → Bool) (coef : ℕ → Place → ℕ) (pivot : ℕ
       add_none o v k x = rw k (omega arith)
 
   -- a row without one
-  pub checks_push : (n : ℕ) (t : Form) (checks : List Form) → pivot n ≡ None → LeavesSurvive survives t → ((s : Place → ℕ) → GivesBytes s → meaning s t ≡ row_sum coef n s)
+  pub checks_push : (n : ℕ) (t : Form) (checks : List Form) → pivot n ≡ None → LeavesSurvive survives t → IsShallow t → ((s : Place → ℕ) → GivesBytes s → meaning s t ≡ row_sum coef n s)
       → AreChecksBelow survives coef pivot n checks → AreChecksBelow survives coef pivot (suc n) (checks ++ t ∷ [])
-  checks_push n t checks e l k c = record {
+  checks_push n t checks e l d k c = record {
     leaves = All-push (LeavesSurvive survives) checks t c.leaves l;
+    shallow = All-push IsShallow checks t c.shallow d;
     means = λ s h. (λ a r q m. there s h r q m (All-pop (λ f. meaning s f ≡ 0) (checks ++ t ∷ []) checks (Some t) refl a), λ a. All-push (λ f. meaning s f ≡ 0) checks t ((c.means s h).1 (λ r q m. a r (omega arith) m)) (k s h ∙ a n (omega arith) e));
     count = length-append checks (t ∷ []) ∙ grown (pivot n) e _ _ c.count;
   }
@@ -62,12 +64,12 @@ module _ (survives : Place → Bool) (coef : ℕ → Place → ℕ) (pivot : ℕ
   }
 
 -- the same, for a list of trees
-pub push_step : {X : Type 0} (f : X → Form) (survives : Place → Bool) (coef : ℕ → Place → ℕ) (pivot : ℕ → Option Place) (n : ℕ) (x : X) (xs ys : List X) → ys ≡ xs ++ x ∷ [] → pivot n ≡ None → LeavesSurvive survives (f x)
+pub push_step : {X : Type 0} (f : X → Form) (survives : Place → Bool) (coef : ℕ → Place → ℕ) (pivot : ℕ → Option Place) (n : ℕ) (x : X) (xs ys : List X) → ys ≡ xs ++ x ∷ [] → pivot n ≡ None → LeavesSurvive survives (f x) → IsShallow (f x)
     → ((s : Place → ℕ) → GivesBytes s → meaning s (f x) ≡ row_sum coef n s) → AreChecksBelow survives coef pivot n (map f xs) → AreChecksBelow survives coef pivot (n + 1) (map f ys)
-push_step f survives coef pivot n x xs ys g e l k c =
+push_step f survives coef pivot n x xs ys g e l d k c =
     subst (λ zs. AreChecksBelow survives coef pivot (n + 1) (map f zs)) (sym g)
     (subst (λ fs. AreChecksBelow survives coef pivot (n + 1) fs) (sym (map-append f xs (x ∷ [])))
-    (subst (λ m. AreChecksBelow survives coef pivot m (map f xs ++ f x ∷ [])) (sym (add-one n)) (checks_push survives coef pivot n (f x) (map f xs) e l k c)))
+    (subst (λ m. AreChecksBelow survives coef pivot m (map f xs ++ f x ∷ [])) (sym (add-one n)) (checks_push survives coef pivot n (f x) (map f xs) e l d k c)))
 
 -- leaves of a row without a pivot survive
 pub row_survives : (survives : Place → Bool) (coef : ℕ → Place → ℕ) (pivot : ℕ → Option Place) (red : AreReduced survives coef pivot) (n : ℕ) (t : Form) → n < 4 → pivot n ≡ None

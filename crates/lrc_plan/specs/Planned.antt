@@ -1,10 +1,10 @@
 -- What a plan promises.
-use Rattle.std.specs.Prelude.{◌≡◌, ◌≢◌, ℕ, ◌<◌, ◌+◌, ◌↔◌, Bool, true, false, Option, Some, None, IfSome, IsNone, IsSomeAnd, List, length, All, is_none, zero, suc, if◌then◌else◌, not, [], ◌∷◌, ◌||◌}
+use Rattle.std.specs.Prelude.{◌≡◌, ◌≢◌, ℕ, ◌≤◌, ◌+◌, ◌↔◌, Bool, true, false, Option, Some, None, IfSome, IsNone, IsSomeAnd, List, length, All, is_none, zero, suc, if◌then◌else◌, not, [], ◌∷◌, ◌||◌}
 use Rattle.lrc_code.specs.declared.places.Place.{Place}
 use Rattle.lrc_code.specs.declared.places.Place.TheVariants.{X0, X1, X2, Y0, Y1, Y2, Px, Py, P0, P1}
 use Rattle.lrc_code.specs.Places.{same_place}
 use Rattle.lrc_code.specs.Sums.{GivesBytes}
-use Rattle.lrc_plan.specs.Form.{Form, meaning, has_leaf, leaf_total}
+use Rattle.lrc_plan.specs.Form.{Form, meaning, has_leaf, leaf_total, depth}
 use Rattle.lrc_code.specs.Code.{Code}
 use Rattle.lrc_code.specs.Reduction.{Reduction, IsReduction}
 use Rattle.lrc_plan.specs.Rows.{pivot_of}
@@ -43,6 +43,10 @@ IsLocal survives target = (length (group_others target) ≡ 3) × All (λ p. sur
 -- a tree of exactly the three others
 abbrev pub IsLocalTree : Place → Form → Type 0
 IsLocalTree target t = (leaf_total t ≡ 3) × All (λ p. has_leaf t p ≡ true) (group_others target)
+
+-- a tree that no deep recursion walks
+abbrev pub IsShallow : Form → Type 0
+IsShallow t = depth t ≤ 20
 
 -- the target's tree, or none
 pub record IsTargetValue (code : Code) (survives : Place → Bool) (target : Place) (value : Option Form) : Type 0 where

@@ -1,12 +1,12 @@
 // The checks of the survivors.
 ghost use Rattle.lrc_code.specs.Code.{narrow};
-ghost use Rattle.std.specs.Prelude.{◌≡◌, ◌<◌, ◌+◌, ℕ, map, IfOk, OnOk, vec_len};
+ghost use Rattle.std.specs.Prelude.{◌≡◌, ◌<◌, ◌+◌, ℕ, map, All, IfOk, OnOk, vec_len};
 ghost use Rattle.lrc_code.specs.declared.places.Place.{Place};
 ghost use Rattle.lrc_code.specs.Sets.{is_in};
 ghost use Rattle.lrc_plan.specs.Tree.{form_of};
 ghost use Rattle.lrc_plan.specs.ReducedRows.{AreReduced};
 ghost use Rattle.lrc_plan.specs.Rows.{coef_of, pivot_of};
-ghost use Rattle.lrc_plan.specs.Planned.{AreChecks};
+ghost use Rattle.lrc_plan.specs.Planned.{AreChecks, IsShallow};
 ghost use Rattle.lrc_plan.specs.ChecksBelow.{AreChecksBelow};
 ghost use Rattle.lrc_plan.specs.Planned.{rows_without_pivot};
 
@@ -24,6 +24,7 @@ pub(crate) fn checks_of<A: Allocator + Clone>(
 ) -> Result<Vec<Tree<A>, A>, AllocError>
     requires { AreReduced (is_in survivors) (coef_of reduced.now) (pivot_of reduced.now) }
     ensures checks { IfOk result (λ v. AreChecks narrow (is_in survivors) (map form_of v.items)) }
+    ensures shallow { IfOk result (λ v. All IsShallow (map form_of v.items)) }
     ensures count { IfOk result (λ v. vec_len v ≡ rows_without_pivot (pivot_of reduced.now) 4) }
 {
     let mut checks = Vec::with_capacity(alloc.clone()?, count_without_pivot(reduced))?;

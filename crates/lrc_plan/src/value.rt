@@ -1,6 +1,6 @@
 // The target's tree.
 ghost use Rattle.lrc_code.specs.Code.{narrow};
-ghost use Rattle.std.specs.Prelude.{◌≡◌, ◌<◌, ℕ, true, false, [], ◌∷◌, IfOk, MatchOption, IsSomeAnd, Some};
+ghost use Rattle.std.specs.Prelude.{◌≡◌, ◌<◌, ℕ, true, false, [], ◌∷◌, IfOk, IfSome, MatchOption, IsSomeAnd, Some};
 ghost use Rattle.std.specs.Option.{option_map};
 ghost use Rattle.lrc_code.specs.declared.places.Place.{Place};
 ghost use Rattle.lrc_code.specs.Sets.{is_in};
@@ -8,7 +8,7 @@ ghost use Rattle.lrc_plan.specs.Form.{Leaf, Sum};
 ghost use Rattle.lrc_plan.specs.Tree.{form_of};
 ghost use Rattle.lrc_plan.specs.ReducedRows.{AreReduced};
 ghost use Rattle.lrc_plan.specs.Rows.{coef_of, pivot_of};
-ghost use Rattle.lrc_plan.specs.Planned.{IsTargetValue, IsLocal, IsLocalTree, group_others};
+ghost use Rattle.lrc_plan.specs.Planned.{IsTargetValue, IsShallow, IsLocal, IsLocalTree, group_others};
 
 use crate::products::row_tree;
 use crate::rows::{PLACES, determines, row_of, row_with_pivot};
@@ -70,7 +70,8 @@ fn row_value<A: Allocator + Clone>(
 ) -> Result<Option<Tree<A>>, AllocError>
     requires lost { is_in survivors target ≡ false }
     requires reduced { AreReduced (is_in survivors) (coef_of reduced.now) (pivot_of reduced.now) }
-    ensures { IfOk result (λ o. IsTargetValue narrow (is_in survivors) target (option_map form_of o)) }
+    ensures value { IfOk result (λ o. IsTargetValue narrow (is_in survivors) target (option_map form_of o)) }
+    ensures shallow { IfOk result (λ o. IfSome (option_map form_of o) IsShallow) }
 {
     let Some(row) = row_with_pivot(reduced, target) else {
         return Ok(None);
@@ -94,6 +95,7 @@ pub(crate) fn value_of<A: Allocator + Clone>(
     requires lost { is_in survivors target ≡ false }
     requires reduced { AreReduced (is_in survivors) (coef_of reduced.now) (pivot_of reduced.now) }
     ensures value { IfOk result (λ o. IsTargetValue narrow (is_in survivors) target (option_map form_of o)) }
+    ensures shallow { IfOk result (λ o. IfSome (option_map form_of o) IsShallow) }
     ensures local { IfOk result (λ o. IsLocal (is_in survivors) target → IsSomeAnd (option_map form_of o) (IsLocalTree target)) }
 {
     match surviving_others(survivors, target) {

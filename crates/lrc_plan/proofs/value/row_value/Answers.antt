@@ -11,16 +11,16 @@ use Rattle.lrc_plan.proofs.Values.{none_value, determined_value, cut_is, some_ma
 use Rattle.lrc_code.proofs.PlaceSums.{same_place-sym, at_places}
 use Rattle.lrc_plan.proofs.value.row_value.Goals as goal
 
-pub returns-in_default : goal.returns-in_default
-returns-in_default g c = none_value _ _ (free_differs (is_in c.args.survivors) (coef_of c.args.reduced.now) (pivot_of c.args.reduced.now) c.requires.reduced c.args.target c.requires.lost c.in_default.ensures)
+pub returns-in_default-clause-value : goal.returns-in_default-clause-value
+returns-in_default-clause-value g c = none_value _ _ (free_differs (is_in c.args.survivors) (coef_of c.args.reduced.now) (pivot_of c.args.reduced.now) c.requires.reduced c.args.target c.requires.lost c.in_default.ensures)
 
-pub returns-then-not-determines : goal.returns-then-not-determines
-returns-then-not-determines g c =
+pub returns-then-not-determines-clause-value : goal.returns-then-not-determines-clause-value
+returns-then-not-determines-clause-value g c =
     let n = c.if-not-determines.ensures.no refl in
     none_value _ _ (pivot_differs (is_in c.args.survivors) (coef_of c.args.reduced.now) (pivot_of c.args.reduced.now) c.requires.reduced c.in-Some.row c.args.target n.0 c.in-Some.ensures.0 c.in-Some.ensures.1 n.1 (same_place-sym _ _ n.2) n.3)
 
-pub returns : goal.returns
-returns g c =
+pub returns-clause-value : goal.returns-clause-value
+returns-clause-value g c =
     let survives = is_in c.args.survivors in
     let coef = coef_of c.args.reduced.now in
     let row : List ℕ = c.row_of-coefficients.result in
