@@ -1,4 +1,4 @@
-// The checks of the survivors.
+//! The checks of the survivors.
 ghost use Rattle.lrc_code.specs.Code.{narrow};
 ghost use Rattle.std.specs.Prelude.{◌≡◌, ◌<◌, ◌+◌, ℕ, map, All, IfOk, OnOk, vec_len};
 ghost use Rattle.lrc_code.specs.declared.places.Place.{Place};

@@ -1,4 +1,4 @@
-// The tree of a row.
+//! The tree of a row of coefficients.
 ghost use Rattle.std.specs.Prelude.{◌≡◌, ◌≢◌, ◌≤◌, ◌+◌, ℕ, max, length, true, IfOk, IfSome, IsSome, IsNone, ◌||◌, slice_index, All};
 ghost use Rattle.std.specs.Option.{option_map};
 ghost use Rattle.lrc_code.specs.declared.places.Place.{Place};
@@ -29,7 +29,7 @@ fn product<A: Allocator>(alloc: A, scalar: Gf, place: Place) -> Result<Tree<A>, 
 }
 
 // The sum of a row's products over places, with no tree where all coefficients are 0.
-pub fn row_tree<A: Allocator + Clone>(
+pub(crate) fn row_tree<A: Allocator + Clone>(
     alloc: &A,
     row: &[Gf; 10],
     places: &[Place],
@@ -54,6 +54,7 @@ pub fn row_tree<A: Allocator + Clone>(
     }
 }
 
+// One term more in front of the others.
 fn added<A: Allocator + Clone>(
     alloc: &A,
     own: Tree<A>,

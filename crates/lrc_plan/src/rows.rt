@@ -1,4 +1,4 @@
-// The rows of a reduction.
+//! The rows of a reduction.
 ghost use Rattle.std.specs.Prelude.{◌≡◌, ◌≢◌, ◌<◌, ℕ, true, false, Some, MatchOption, length, slice_index, slice_index_or};
 ghost use Rattle.std.specs.Bool.{OnTrue};
 ghost use Rattle.lrc_code.specs.declared.places.Place.{Place};
@@ -10,6 +10,7 @@ ghost use Rattle.lrc_plan.specs.Planned.{rows_without_pivot};
 use lrc_code::{Place, PlaceSet, Reduced};
 use lrc_field::Gf;
 
+/// The places of the (6,2,2) code, in the order of its tables.
 pub(crate) const PLACES: [Place; 10] = [
     Place::X0,
     Place::X1,
@@ -67,7 +68,7 @@ pub(crate) fn row_with_pivot(reduced: &Reduced, place: Place) -> Option<usize>
     None
 }
 
-// Whether the row is 00 at each lost place but one.
+// Whether the row is 00 at each lost place but the target, and so gives the target from survivors.
 pub(crate) fn determines(
     reduced: &Reduced,
     row: usize,

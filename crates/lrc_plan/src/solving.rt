@@ -52,7 +52,8 @@ pub(crate) fn solve_in<A: Allocator + Clone, B: Allocator>(
     Ok(solved)
 }
 
-// What the plan answers. One vector serves the checks, which leave it 00, and then the value.
+// What the plan answers. One vector serves the checks, which leave it 00, and then the value; a plan of neither
+// needs none.
 fn apply<A: Allocator, B: Allocator>(
     alloc: B,
     survivors: PlaceSet,
@@ -63,7 +64,11 @@ fn apply<A: Allocator, B: Allocator>(
     requires plan { IsPlan narrow (is_in survivors) request.now.target (option_map form_of plan.now.value) (map form_of plan.now.checks.items) }
     ensures { IfOk result (λ s. IsAnswer narrow request.now (outcome_of s)) }
 {
-    let mut bytes = zeros(alloc, request.length() as usize)?;
+    let length = request.length() as usize;
+    if plan.checks.is_empty() && plan.value.is_none() {
+        return Ok(Solved::Several);
+    }
+    let mut bytes = zeros(alloc, length)?;
     let possible = are_zero(plan.checks.as_slice(), request, bytes.as_mut_slice());
     if !possible {
         return Ok(Solved::Contradiction);

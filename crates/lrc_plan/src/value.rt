@@ -1,4 +1,4 @@
-// The target's tree.
+//! The tree that gives the target.
 ghost use Rattle.lrc_code.specs.Code.{narrow};
 ghost use Rattle.std.specs.Prelude.{◌≡◌, ◌<◌, ℕ, true, false, [], ◌∷◌, IfOk, IfSome, MatchOption, IsSomeAnd, Some};
 ghost use Rattle.std.specs.Option.{option_map};
@@ -46,6 +46,7 @@ fn surviving_others(survivors: PlaceSet, target: Place) -> Option<(Place, Place,
     None
 }
 
+// Three leaves, added.
 fn sum_of_three<A: Allocator + Clone>(
     alloc: &A,
     first: Place,

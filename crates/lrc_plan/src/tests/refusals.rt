@@ -252,7 +252,7 @@ fn is_answer<A: Allocator>(solved: &Solved<A>, answer: Answer) -> bool {
 }
 
 // Whether the answer is refused at each allocation of the plan and at the one of its bytes in turn, and is then
-// the right one.
+// the right one. A plan without checks and value needs no bytes.
 fn answers_in_turn(alloc: Global, request: &Request, answer: Answer) -> Result<bool, AllocError> {
     let survivors = request.survivors();
     let target = request.target();
@@ -261,6 +261,7 @@ fn answers_in_turn(alloc: Global, request: &Request, answer: Answer) -> Result<b
     }
     let plan = plan(alloc, survivors, target)?;
     let planned = allocations(&plan);
+    let bytes = if plan.checks.is_empty() && plan.value.is_none() { 0usize } else { 1 };
     let mut refused = Refused { next: 0 };
     for size in (0..2 * LARGEST).step_by(8) {
         let Ok(heap) = LocalHeap::new(alloc, size) else {
@@ -271,7 +272,9 @@ fn answers_in_turn(alloc: Global, request: &Request, answer: Answer) -> Result<b
         };
         let number = fitting(&heap, plan.checks.len()).min(planned);
         match solve_in(&heap, &heap, request) {
-            Ok(solved) => return Ok(refused.next == planned.wrapping_add(1) && is_answer(&solved, answer)),
+            Ok(solved) => {
+                return Ok(refused.next == planned.wrapping_add(bytes) && is_answer(&solved, answer));
+            }
             Err(AllocError) => {
                 if !refused.follows(number) {
                     return Ok(false);
