@@ -1,0 +1,30 @@
+use Rattle.std.proofs.Math.Seq.{take-append_seam}
+use Rattle.std.proofs.Common.{IsSomeAnd, arith, Option, Some, unwrap_or, [], slice_index, ◌≡◌, ◌<◌, List, length, take, ◌++◌, subst, ◌∙◌, ap, sym, ℕ}
+use Rattle.std.specs.Int.Bits.{bit_xor}
+use Rattle.lrc_field.specs.Field.{times}
+use Rattle.std.specs.Int.Bits.{xor_zero_l, xor_assoc}
+use Rattle.lrc_field.proofs.FieldLaws.{times-one, times-xor, times-assoc}
+
+-- a scalar goes into the factor
+pub scaled_step : (o f s m x : ℕ) → x ≡ times f s → bit_xor o (times x m) ≡ bit_xor o (times f (times s m))
+scaled_step o f s m x e = ap (λ y. bit_xor o y) (ap (λ y. times y m) e ∙ times-assoc f s m)
+
+-- the two branches, one after the other
+pub summed_step : (o f m n x : ℕ) → x ≡ bit_xor o (times f m) → bit_xor x (times f n) ≡ bit_xor o (times f (bit_xor m n))
+summed_step o f m n x e = ap (λ y. bit_xor y (times f n)) e ∙ xor_assoc o (times f m) (times f n) ∙ ap (λ y. bit_xor o y) (sym (times-xor f m n))
+
+-- what a `Vec` holds after a write through its slice
+pub written : (n : ℕ) (xs ys : List ℕ) → length xs ≡ n → take n (xs ++ ys) ≡ xs
+written n xs ys e = subst (λ m. take m (xs ++ ys) ≡ xs) e (take-append_seam xs ys)
+
+-- one time a byte, added to nothing
+pub from_nothing : (f m o : ℕ) → f ≡ 1 → o ≡ 0 → m < 256 → bit_xor o (times f m) ≡ m
+from_nothing f m o e z h = rw (e, z) (xor_zero_l _ ∙ times-one m h)
+
+-- added to nothing
+pub zero_plus : (x y z o : ℕ) → x ≡ bit_xor z y → z ≡ o → o ≡ 0 → x ≡ y
+zero_plus x y z o e p q = e ∙ rw (p, q) (xor_zero_l y)
+
+-- one time a byte
+pub once : (s r x : ℕ) → r ≡ s → r ≡ 1 → x < 256 → x ≡ times s x
+once s r x e k h = sym (ap (λ y. times y x) (sym e ∙ k) ∙ times-one x h)

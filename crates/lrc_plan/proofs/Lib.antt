@@ -1,0 +1,10 @@
+pub mod FormLaws
+pub mod ReductionRows
+pub mod RowLemmas
+pub mod Extension
+pub mod Values
+pub mod CheckRows
+pub mod EvaluationSteps
+pub mod FittingStripes
+pub mod Grafts
+pub mod ScaledValues

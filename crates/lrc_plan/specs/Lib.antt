@@ -1,0 +1,10 @@
+pub mod Form
+pub mod Tree
+pub mod Extensions
+pub mod Evaluation
+pub mod Planned
+pub mod Rows
+pub mod ReducedRows
+pub mod Sums
+pub mod ChecksBelow
+pub mod Solved

@@ -1,0 +1,108 @@
+//! What a tree gives at each position of a request.
+ghost use Rattle.std.specs.Prelude.{◌≡◌, ◌<◌, ℕ, true, false, length, slice_index, IfOk};
+ghost use Rattle.std.specs.Int.Bits.{bit_xor};
+ghost use Rattle.lrc_field.specs.Field.{times};
+ghost use Rattle.lrc_plan.specs.Form.{meaning};
+ghost use Rattle.lrc_plan.specs.Tree.{form_of};
+ghost use Rattle.lrc_plan.specs.Evaluation.{byte_at, CanEvaluate, AreWhole, AreZeros, IsValue};
+
+use crate::tree::Tree;
+use lrc_code::Request;
+use lrc_field::{Gf, add_into, scale_add_into};
+use std::alloc::{AllocError, Allocator, Global};
+
+/// The tree's value at each position of the request.
+pub fn evaluate<A: Allocator>(
+    alloc: Global,
+    tree: &Tree<A>,
+    request: &Request,
+) -> Result<Vec<u8>, AllocError>
+    requires { CanEvaluate request.now (form_of tree.now) }
+    ensures { IfOk result (λ v. IsValue request.now (form_of tree.now) v.items) }
+{
+    let bytes = evaluate_in(alloc, tree, request)?;
+    Ok(bytes)
+}
+
+// `evaluate` in any allocator. One vector serves the whole tree.
+pub(crate) fn evaluate_in<A: Allocator, B: Allocator>(
+    alloc: B,
+    tree: &Tree<A>,
+    request: &Request,
+) -> Result<Vec<u8, B>, AllocError>
+    requires { CanEvaluate request.now (form_of tree.now) }
+    ensures { IfOk result (λ v. IsValue request.now (form_of tree.now) v.items) }
+{
+    let mut bytes = zeros(alloc, request.length() as usize)?;
+    add_value(tree, request, bytes.as_mut_slice());
+    Ok(bytes)
+}
+
+pub(crate) fn zeros<B: Allocator>(alloc: B, len: usize) -> Result<Vec<u8, B>, AllocError>
+    ensures len { IfOk result (λ v. length v.items ≡ len) }
+    ensures zero { IfOk result (λ v. AreZeros v.items) }
+{
+    Vec::from_elem(alloc, 0u8, len)
+}
+
+// Writes the tree's value at each position over zeros.
+pub(crate) fn add_value<A: Allocator>(tree: &Tree<A>, request: &Request, dst: &mut [u8])
+    requires can { CanEvaluate request.now (form_of tree.now) }
+    requires length { length dst.old ≡ request.now.len }
+    requires zero { AreZeros dst.old }
+    ensures { IsValue request.now (form_of tree.now) dst.new }
+{
+    let _ = request.length();
+    add_scaled(tree, Gf::new(1), request, dst);
+}
+
+// Adds the tree's value, times a factor, at each position.
+pub(crate) fn add_scaled<A: Allocator>(
+    tree: &Tree<A>,
+    factor: Gf,
+    request: &Request,
+    dst: &mut [u8],
+)
+    requires can { CanEvaluate request.now (form_of tree.now) }
+    requires whole { AreWhole request.now }
+    requires length { length dst.old ≡ request.now.len }
+    ensures small { (i : ℕ) → i < length dst.old → meaning (byte_at request.now i) (form_of tree.now) < 256 }
+    ensures sum { (i : ℕ) → i < length dst.old → slice_index dst.new i ≡ bit_xor (slice_index dst.old i) (times factor (meaning (byte_at request.now i) (form_of tree.now))) }
+{
+    match tree {
+        Tree::Leaf(place) => {
+            if let Some(bytes) = request.bytes_at(*place) {
+                add_product(dst, factor, bytes);
+            }
+        }
+        Tree::Scale(scalar, below) => add_scaled(below, factor.mul(*scalar), request, dst),
+        Tree::Sum(left, right) => {
+            add_scaled(left, factor, request, dst);
+            add_scaled(right, factor, request, dst);
+        }
+    }
+}
+
+// Adds a factor times the bytes. The factor 01 needs no products.
+fn add_product(dst: &mut [u8], factor: Gf, src: &[u8])
+    requires { length dst.old ≡ length src.now }
+    ensures { (i : ℕ) → i < length src.now → slice_index dst.new i ≡ bit_xor (slice_index dst.old i) (times factor (slice_index src.now i)) }
+{
+    if factor.byte() == 1 {
+        add_into(dst, src);
+    } else {
+        scale_add_into(dst, factor, src);
+    }
+}
+
+// Whether all bytes are 00.
+pub(crate) fn are_zeros(bytes: &[u8]) -> bool
+    ensures yes { result ≡ true → AreZeros bytes.now }
+    ensures no { result ≡ false → ¬ AreZeros bytes.now }
+{
+    let mut union = 0u8;
+    for byte in bytes {
+        union |= *byte;
+    }
+    union == 0
+}

@@ -1,0 +1,77 @@
+// The rows of a reduction.
+ghost use Rattle.std.specs.Prelude.{◌≡◌, ◌≢◌, ◌<◌, ℕ, true, false, Some, MatchOption, length, slice_index, slice_index_or};
+ghost use Rattle.std.specs.Bool.{OnTrue};
+ghost use Rattle.lrc_code.specs.declared.places.Place.{Place};
+ghost use Rattle.lrc_code.specs.Places.{index_of, same_place};
+ghost use Rattle.lrc_code.specs.Sets.{is_in};
+ghost use Rattle.lrc_plan.specs.Rows.{coef_of, pivot_of};
+
+use lrc_code::{Place, PlaceSet, Reduced};
+use lrc_field::Gf;
+
+pub(crate) const PLACES: [Place; 10] = [
+    Place::X0,
+    Place::X1,
+    Place::X2,
+    Place::Y0,
+    Place::Y1,
+    Place::Y2,
+    Place::Px,
+    Place::Py,
+    Place::P0,
+    Place::P1,
+];
+
+// The coefficients of a row.
+pub(crate) fn row_of(reduced: &Reduced, row: usize) -> [Gf; 10]
+    requires { row < 4 }
+    ensures { (p : Place) → slice_index result (index_of p) ≡ coef_of reduced.now row p }
+{
+    [
+        reduced.coefficient(row, Place::X0),
+        reduced.coefficient(row, Place::X1),
+        reduced.coefficient(row, Place::X2),
+        reduced.coefficient(row, Place::Y0),
+        reduced.coefficient(row, Place::Y1),
+        reduced.coefficient(row, Place::Y2),
+        reduced.coefficient(row, Place::Px),
+        reduced.coefficient(row, Place::Py),
+        reduced.coefficient(row, Place::P0),
+        reduced.coefficient(row, Place::P1),
+    ]
+}
+
+// The row whose pivot the place is.
+pub(crate) fn row_with_pivot(reduced: &Reduced, place: Place) -> Option<usize>
+    ensures { MatchOption result ((r : ℕ) → r < 4 → pivot_of reduced.now r ≢ Some place) (λ r. (r < 4) × (pivot_of reduced.now r ≡ Some place)) }
+{
+    for row in 0..4usize {
+        if reduced.pivot(row) == Some(place) {
+            return Some(row);
+        }
+    }
+    None
+}
+
+// Whether the row is 00 at each lost place but one.
+pub(crate) fn determines(
+    reduced: &Reduced,
+    row: usize,
+    survivors: PlaceSet,
+    target: Place,
+    places: &[Place],
+) -> bool
+    requires { row < 4 }
+    ensures yes { OnTrue result ((k : ℕ) (d : Place) → k < length places.now → is_in survivors (slice_index_or places.now k d) ≡ false → same_place target (slice_index_or places.now k d) ≡ false → coef_of reduced.now row (slice_index_or places.now k d) ≡ 0) }
+    ensures no { result ≡ false → (f : Place) × (is_in survivors f ≡ false) × (same_place target f ≡ false) × (coef_of reduced.now row f ≢ 0) }
+{
+    for place in places {
+        if !survivors.has(*place)
+            && *place != target
+            && reduced.coefficient(row, *place).byte() != 0
+        {
+            return false;
+        }
+    }
+    true
+}

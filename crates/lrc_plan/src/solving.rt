@@ -1,0 +1,108 @@
+//! Answers to requests.
+ghost use Rattle.std.specs.Prelude.{◌≡◌, ◌<◌, ℕ, true, false, IfOk, All, map, length, slice_index};
+ghost use Rattle.std.specs.Option.{option_map};
+ghost use Rattle.lrc_code.specs.declared.places.Place.{Place};
+ghost use Rattle.lrc_code.specs.Code.{narrow};
+ghost use Rattle.lrc_code.specs.Answers.{IsAnswer};
+ghost use Rattle.lrc_code.specs.Requests.{is_among};
+ghost use Rattle.lrc_code.specs.Sets.{is_in};
+ghost use Rattle.lrc_plan.specs.Tree.{form_of};
+ghost use Rattle.lrc_plan.specs.Planned.{IsPlan};
+ghost use Rattle.lrc_plan.specs.Evaluation.{CanEvaluate, AreZeros, IsZero};
+ghost use Rattle.lrc_plan.specs.Solved.{outcome_of};
+
+use crate::evaluation::{add_value, are_zeros, zeros};
+use crate::planning::plan;
+use crate::plans::Plan;
+use crate::solved::Solved;
+use crate::tree::Tree;
+use lrc_code::{Bytes, Outcome, PlaceSet, Request};
+use std::alloc::{AllocError, Allocator, Global};
+
+/// The answer to a request over all stripes of the (6,2,2) code: the target's bytes that every fitting stripe
+/// has, or that no stripe fits, or that two fitting stripes differ at the target. The plan stands in
+/// `plan_alloc`, the bytes in `alloc`.
+pub fn solve<A: Allocator + Clone>(
+    alloc: Global,
+    plan_alloc: A,
+    request: &Request,
+) -> Result<Outcome, AllocError>
+    ensures { IfOk result (IsAnswer narrow request.now) }
+{
+    match solve_in(alloc, plan_alloc, request)? {
+        Solved::Rebuilt(bytes) => Ok(Outcome::Rebuilt(Bytes::new(bytes))),
+        Solved::Contradiction => Ok(Outcome::Contradiction),
+        Solved::Several => Ok(Outcome::Several),
+    }
+}
+
+// `solve` in any allocator.
+pub(crate) fn solve_in<A: Allocator + Clone, B: Allocator>(
+    alloc: B,
+    plan_alloc: A,
+    request: &Request,
+) -> Result<Solved<B>, AllocError>
+    ensures { IfOk result (λ s. IsAnswer narrow request.now (outcome_of s)) }
+{
+    let survivors = request.survivors();
+    let target = request.target();
+    let _ = request.length();
+    let plan = plan(plan_alloc, survivors, target)?;
+    let solved = apply(alloc, survivors, &plan, request)?;
+    Ok(solved)
+}
+
+// What the plan answers. One vector serves the checks, which leave it 00, and then the value.
+fn apply<A: Allocator, B: Allocator>(
+    alloc: B,
+    survivors: PlaceSet,
+    plan: &Plan<A>,
+    request: &Request,
+) -> Result<Solved<B>, AllocError>
+    requires survivors { (p : Place) → is_in survivors p ≡ is_among p request.now.survivors }
+    requires plan { IsPlan narrow (is_in survivors) request.now.target (option_map form_of plan.now.value) (map form_of plan.now.checks.items) }
+    ensures { IfOk result (λ s. IsAnswer narrow request.now (outcome_of s)) }
+{
+    let mut bytes = zeros(alloc, request.length() as usize)?;
+    let possible = are_zero(plan.checks.as_slice(), request, bytes.as_mut_slice());
+    if !possible {
+        return Ok(Solved::Contradiction);
+    }
+    match &plan.value {
+        Some(tree) => {
+            add_value(tree, request, bytes.as_mut_slice());
+            Ok(Solved::Rebuilt(bytes))
+        }
+        None => Ok(Solved::Several),
+    }
+}
+
+// Whether all trees are 00 at every position; the bytes are then 00 again.
+fn are_zero<A: Allocator>(trees: &[Tree<A>], request: &Request, bytes: &mut [u8]) -> bool
+    requires can { All (λ t. CanEvaluate request.now (form_of t)) trees.now }
+    requires length { length bytes.old ≡ request.now.len }
+    requires zero { AreZeros bytes.old }
+    ensures yes { result ≡ true → All (λ t. IsZero request.now (form_of t)) trees.now }
+    ensures cleared { result ≡ true → AreZeros bytes.new }
+    ensures no { result ≡ false → ¬ All (λ t. IsZero request.now (form_of t)) trees.now }
+{
+    for tree in trees {
+        if !is_zero(tree, request, bytes) {
+            return false;
+        }
+    }
+    true
+}
+
+// Whether a tree is 00 at every position.
+fn is_zero<A: Allocator>(tree: &Tree<A>, request: &Request, bytes: &mut [u8]) -> bool
+    requires can { CanEvaluate request.now (form_of tree.now) }
+    requires length { length bytes.old ≡ request.now.len }
+    requires zero { AreZeros bytes.old }
+    ensures yes { result ≡ true → IsZero request.now (form_of tree.now) }
+    ensures cleared { result ≡ true → AreZeros bytes.new }
+    ensures no { result ≡ false → ¬ IsZero request.now (form_of tree.now) }
+{
+    add_value(tree, request, bytes);
+    are_zeros(bytes)
+}
