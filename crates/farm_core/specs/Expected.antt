@@ -12,6 +12,10 @@ use Rattle.farm_core.specs.Orders.{before_close}
 abbrev pub AreAnswers : List Asked → List Outcome → Type 0
 AreAnswers requests outcomes = AllZip (IsAnswer narrow) requests outcomes
 
+-- to each request of each list its answer
+abbrev pub AreAllAnswers : List (List Asked) → List (List Outcome) → Type 0
+AreAllAnswers racks answers = AllZip AreAnswers racks answers
+
 -- for each rack in order, the answers to the requests before its list's close, in order
 abbrev pub AreExpected : List (List Order) → List (List Outcome) → Type 0
-AreExpected racks answers = AllZip AreAnswers (map before_close racks) answers
+AreExpected racks answers = AreAllAnswers (map before_close racks) answers
