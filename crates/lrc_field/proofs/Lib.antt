@@ -6,3 +6,4 @@ pub mod BlockSums
 pub mod TableLemmas
 pub mod LaneLemmas
 pub mod TablesMade
+pub mod Scaled

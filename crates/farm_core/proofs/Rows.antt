@@ -1,0 +1,60 @@
+-- Laws of rows and tables of replies.
+use Rattle.std.proofs.Common.{ℕ, ◌≡◌, ◌+◌, List, [], ◌∷◌, ◌++◌, length, get_or, set, replicate, arith, refl, sym, ap, ◌∙◌, add-one, subst, suc, zero, Option, Some, None}
+use Rattle.std.specs.Option.{option_map}
+use Rattle.std.specs.List.{AllZip}
+use Rattle.std.proofs.Math.ListN.{get_or-map}
+use Rattle.std.proofs.Math.Seq.{map-set_same}
+use Rattle.farm_core.specs.Orders.{before_close, served}
+use Rattle.farm_core.specs.Replies.{Entry}
+use Rattle.farm_core.specs.Rows.{entries, Answers, HasShape, IsGap}
+use Rattle.farm_core.specs.Faults.{entry_of}
+use Rattle.lrc_code.specs.Answers.{IsAnswer}
+use Rattle.lrc_code.specs.Code.{narrow}
+use Rattle.farm_core.specs.declared.reply.ReplyResult.TheVariants.{Done}
+use Rattle.std.proofs.lemmas.List.{map-append}
+use Rattle.farm_core.specs.declared.orders.Order.{Order}
+use Rattle.farm_core.specs.Replies.{Replied}
+use Rattle.lrc_code.specs.declared.outcomes.Outcome.{Outcome}
+
+pub replicate_push : {X : Type 0} (n : ℕ) (x : X) → replicate n x ++ x ∷ [] ≡ replicate (n + 1) x
+replicate_push zero x = refl
+replicate_push {X} (suc n) x =
+    let e : n + 1 ≡ suc n = omega arith in
+    rw add-one (ap (λ (t : List X). x ∷ t) (replicate_push n x ∙ ap (λ k. replicate k x) e))
+
+pub entries-replicate : (n : ℕ) → entries (replicate n None) ≡ replicate n None
+entries-replicate zero = refl
+entries-replicate (suc n) = ap (λ t. None ∷ t) (entries-replicate n)
+
+pub all_zip_push : {A B : Type 0} (R : A → B → Type 0) (xs : List A) (ys : List B) (x : A) (y : B) → AllZip R xs ys → R x y → AllZip R (xs ++ x ∷ []) (ys ++ y ∷ [])
+all_zip_push R [] [] x y all here = (here, tt)
+all_zip_push R [] (q ∷ ys) x y all here = absurd all
+all_zip_push R (p ∷ xs) [] x y all here = absurd all
+all_zip_push R (p ∷ xs) (q ∷ ys) x y all here = (all.0, all_zip_push R xs ys x y all.1 here)
+
+-- a row has a cell for each request that is served
+pub shape_at : (racks : List (List Order)) (table : List (List (Option Entry))) → HasShape racks table → (rack : ℕ) → length (get_or table rack []) ≡ length (served racks rack)
+shape_at racks table shape rack =
+    sym (get_or-map (λ (row : List (Option Entry)). length row) table rack [])
+    ∙ ap (λ ns. get_or ns rack 0) shape
+    ∙ get_or-map (λ (orders : List Order). length (before_close orders)) racks rack []
+
+-- a row of the same length in a row's place
+pub shape_set : (racks : List (List Order)) (table : List (List (Option Entry))) (rack : ℕ) (row : List (Option Entry)) → HasShape racks table → length row ≡ length (get_or table rack []) → HasShape racks (set table rack row)
+shape_set racks table rack row shape same = map-set_same (λ (r : List (Option Entry)). length r) table rack row [] same ∙ shape
+
+-- a cell without a reply is a gap
+pub gap_at_seam : (done rest : List (Option Replied)) → IsGap (entries (done ++ None ∷ rest)) (length done)
+gap_at_seam [] rest = (omega arith, refl)
+gap_at_seam (x ∷ done) rest = let h = gap_at_seam done rest in (omega (arith, h.0), h.1)
+
+-- one answer more
+pub Answers-more : (cells : List (Option Replied)) (cell : Option Replied) (reply : Replied) (os os' : List Outcome) (o : Outcome) →
+    AllZip Answers (entries cells) os → cell ≡ Some reply → reply.result ≡ Done o → IsAnswer narrow reply.request o → os' ≡ os ++ o ∷ []
+    → AllZip Answers (entries (cells ++ cell ∷ [])) os'
+Answers-more cells cell reply os os' o all is says right grown =
+    let here : Answers (option_map entry_of cell) o = subst (λ (c : Option Replied). Answers (option_map entry_of c) o) (sym is) (right, says) in
+    let more : AllZip Answers (entries cells ++ option_map entry_of cell ∷ []) (os ++ o ∷ []) = all_zip_push Answers (entries cells) os (option_map entry_of cell) o all here in
+    let seen : AllZip Answers (entries (cells ++ cell ∷ [])) (os ++ o ∷ []) =
+    subst (λ (row : List (Option Entry)). AllZip Answers row (os ++ o ∷ [])) (sym (map-append (option_map entry_of) cells (cell ∷ []))) more in
+    subst (λ (t : List Outcome). AllZip Answers (entries (cells ++ cell ∷ [])) t) (sym grown) seen

@@ -1,0 +1,19 @@
+-- What stands in front of a list's close.
+use Rattle.std.specs.Prelude.{ℕ, ◌<◌, List, [], ◌∷◌, length, slice_index_or}
+use Rattle.lrc_code.specs.Requests.{Asked}
+use Rattle.farm_core.specs.declared.orders.Order.{Order}
+use Rattle.farm_core.specs.declared.orders.Order.TheVariants.{Rebuild, Close}
+
+-- the requests in front of the first close, or all of them
+abbrev pub before_close : List Order → List Asked
+before_close [] = []
+before_close (Close ∷ orders) = []
+before_close (Rebuild request ∷ orders) = request ∷ before_close orders
+
+-- the requests of a rack that are answered; none beyond the last rack
+abbrev pub served : List (List Order) → ℕ → List Asked
+served racks rack = before_close (slice_index_or racks rack [])
+
+-- the request of that number is answered
+abbrev pub IsServed : List (List Order) → ℕ → ℕ → Type 0
+IsServed racks rack number = number < length (served racks rack)

@@ -1,0 +1,13 @@
+pub mod Five
+pub mod Fuel
+pub mod SpacedNames
+pub mod Orders
+pub mod Plain
+pub mod Rows
+pub mod Put
+pub mod PutAll
+pub mod ReadFiles
+pub mod ReadSurvivors
+pub mod ReadRequests
+pub mod ReadRacks
+pub mod Making

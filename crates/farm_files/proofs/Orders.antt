@@ -1,0 +1,162 @@
+-- One more record behind those so far.
+use Rattle.std.proofs.Common.{◌≡◌, ◌<◌, ◌≤◌, ◌+◌, ◌++◌, ◌∙◌, ℕ, Bool, true, false, cond, List, [], ◌∷◌, Result, Ok, Err, length, refl, sym, ap, arith, subst, inl, inr}
+use Rattle.std.proofs.lemmas.Bool.{le-ltb, lt-ltb}
+use Rattle.std.specs.Prelude.{nat_lt}
+use Rattle.std.specs.Cmp.Lexicographic.{pointwise}
+use Rattle.std.specs.Str.{bytes_eq}
+use Rattle.farm_files.specs.declared.listing.ListFault.{ListFault}
+use Rattle.farm_files.specs.declared.listing.ListFault.TheVariants as fault
+use Rattle.farm_files.specs.Listing.{IsFaultOf, IsRecordFault, SoFar, Stops, and_then, header, list_limit, list_of, list_of_rows, order_at, order_limit, orders}
+use Rattle.farm_files.specs.declared.listing.Record.{Record}
+use Rattle.csv.specs.Reading.{AreRecords, Reached, default_config, records, strip_bom}
+use Rattle.csv.specs.declared.parser.State.{State}
+use Rattle.csv.specs.declared.parser.State.TheVariants as st
+use Rattle.farm_files.proofs.Fuel.{records_are, records_begin}
+
+abbrev Rows : Type 0
+Rows = List (List (List ℕ))
+
+-- behind some orders, one more
+abbrev pub then_one : List Record → Result Record ListFault → Result (List Record) ListFault
+then_one os (Ok o) = Ok (os ++ o ∷ [])
+then_one os (Err e) = Err e
+
+abbrev after : ℕ → List Record → List (List ℕ) → Result (List Record) ListFault
+after n os row = cond (nat_lt order_limit n) (Err fault.TooMany) (then_one os (order_at n row))
+
+first_one : (b : Bool) (x : Result Record ListFault) → cond b (Err fault.TooMany) (and_then x (Ok [])) ≡ cond b (Err fault.TooMany) (then_one [] x)
+first_one true x = refl
+first_one false (Ok o) = refl
+first_one false (Err e) = refl
+
+-- what an `Ok` of one record and the rest comes of
+record Parts (b : Bool) (x : Result Record ListFault) (y : Result (List Record) ListFault) (os : List Record) : Type 0 where
+  one : Record
+  rest : List Record
+  within : b ≡ false
+  first : x ≡ Ok one
+  others : y ≡ Ok rest
+  whole : os ≡ one ∷ rest
+
+parts : (b : Bool) (x : Result Record ListFault) (y : Result (List Record) ListFault) (os : List Record) → cond b (Err fault.TooMany) (and_then x y) ≡ Ok os → Parts b x y os
+parts true x y os e = cc
+parts false (Err f) y os e = cc
+parts false (Ok o) (Err f) os e = cc
+parts false (Ok o) (Ok rest) os e = record { one = o; rest = rest; within = refl; first = refl; others = refl; whole = cc }
+
+ahead : (o : Record) (os : List Record) (b : Bool) (x : Result Record ListFault) → and_then (Ok o) (cond b (Err fault.TooMany) (then_one os x)) ≡ cond b (Err fault.TooMany) (then_one (o ∷ os) x)
+ahead o os true x = refl
+ahead o os false (Ok y) = refl
+ahead o os false (Err e) = refl
+
+over : (b : Bool) (x : Result Record ListFault) (y : Result (List Record) ListFault) (one : Record) (rest os : List Record) (b2 : Bool) (x2 : Result Record ListFault)
+    → b ≡ false → x ≡ Ok one → y ≡ cond b2 (Err fault.TooMany) (then_one rest x2) → os ≡ one ∷ rest
+    → cond b (Err fault.TooMany) (and_then x y) ≡ cond b2 (Err fault.TooMany) (then_one os x2)
+over b x y one rest os b2 x2 hb hx hy ho = rw (hb, hx, hy, ho) (ahead one rest b2 x2)
+
+pub orders_push : (n : ℕ) (rows : Rows) (os : List Record) (row : List (List ℕ)) → orders n rows ≡ Ok os → orders n (rows ++ row ∷ []) ≡ after (n + length rows) os row
+orders_push n [] os row e =
+    let none : os ≡ [] = cc in
+    let same : n + 0 ≡ n = omega arith in
+    rw (none, same) (first_one (nat_lt order_limit n) (order_at n row))
+orders_push n (r ∷ rows) os row e =
+    let p = parts (nat_lt order_limit n) (order_at n r) (orders (n + 1) rows) os e in
+    let more = orders_push (n + 1) rows p.rest row p.others in
+    let same : n + length (r ∷ rows) ≡ (n + 1) + length rows = omega arith in
+    rw same (over (nat_lt order_limit n) (order_at n r) (orders (n + 1) (rows ++ row ∷ [])) p.one p.rest os (nat_lt order_limit ((n + 1) + length rows)) (order_at ((n + 1) + length rows) row) p.within p.first more p.whole)
+
+-- one more record behind a header and the orders so far
+pub push_any : (rows : Rows) (os : List Record) (row : List (List ℕ)) (number : ℕ) → length rows ≡ number → (number ≡ 0 → ⊥) → SoFar rows os
+    → list_of_rows (rows ++ row ∷ []) ≡ after number os row
+push_any [] os row number e some so = absurd (some (sym e))
+push_any (h ∷ rows) os row number e some so = by (pointwise bytes_eq h header) so
+  where
+    by : (b : Bool) → cond b (orders 1 rows) (Err fault.BadHeader) ≡ Ok os → cond b (orders 1 (rows ++ row ∷ [])) (Err fault.BadHeader) ≡ after number os row
+    by true k = let same : 1 + length rows ≡ number = omega (arith, e) in rw (orders_push 1 rows os row k, same) refl
+    by false k = cc
+
+so_far_of : (rows : Rows) (row : List (List ℕ)) (os : List Record) → list_of_rows (rows ++ row ∷ []) ≡ Ok os → SoFar (rows ++ row ∷ []) os
+so_far_of [] row os e = e
+so_far_of (h ∷ rows) row os e = e
+
+pub push_order : (rows : Rows) (os : List Record) (row : List (List ℕ)) (number : ℕ) (o : Record) → length rows ≡ number → (number ≡ 0 → ⊥) → number ≤ 4096 → SoFar rows os
+    → order_at number row ≡ Ok o → SoFar (rows ++ row ∷ []) (os ++ o ∷ [])
+push_order rows os row number o e some few so is =
+    let low : nat_lt order_limit number ≡ false = le-ltb 4096 number few in
+    so_far_of rows row (os ++ o ∷ []) (push_any rows os row number e some so ∙ rw (low, is) refl)
+
+pub push_many : (rows : Rows) (os : List Record) (row : List (List ℕ)) (number : ℕ) → length rows ≡ number → 4096 < number → SoFar rows os
+    → list_of_rows (rows ++ row ∷ []) ≡ Err fault.TooMany
+push_many rows os row number e many so =
+    let some : number ≡ 0 → ⊥ = omega arith in
+    let high : nat_lt order_limit number ≡ true = lt-ltb 4096 number many in
+    push_any rows os row number e some so ∙ rw high refl
+
+pub push_fault : (f : ListFault) (rows : Rows) (os : List Record) (row : List (List ℕ)) (number : ℕ) → length rows ≡ number → (number ≡ 0 → ⊥) → number ≤ 4096 → SoFar rows os
+    → IsRecordFault f number row → Stops f (rows ++ row ∷ [])
+push_fault fault.OutOfMemory rows os row number e some few so is = tt
+push_fault fault.TooLong rows os row number e some few so is = is
+push_fault fault.BadHeader rows os row number e some few so is = absurd is
+push_fault fault.TooMany rows os row number e some few so is = absurd is
+push_fault (fault.BadRecord n) rows os row number e some few so is =
+    let low : nat_lt order_limit number ≡ false = le-ltb 4096 number few in push_any rows os row number e some so ∙ rw (low, is) refl
+push_fault (fault.Refused n k) rows os row number e some few so is =
+    let low : nat_lt order_limit number ≡ false = le-ltb 4096 number few in push_any rows os row number e some so ∙ rw (low, is) refl
+
+-- the orders of all records, where there are some
+pub listed_all : (rows : Rows) (os : List Record) (number : ℕ) → length rows ≡ number → (number ≡ 0 → ⊥) → SoFar rows os → list_of_rows rows ≡ Ok os
+listed_all [] os number e some so = absurd (some (sym e))
+listed_all (row ∷ rows) os number e some so = so
+
+pub so_far_empty : (rows : Rows) → length rows ≡ 0 → rows ≡ []
+so_far_empty [] e = refl
+so_far_empty (row ∷ rows) e = absurd (omega arith)
+
+-- what a first fault shows, it shows whatever follows
+failed_more : (n : ℕ) (rows more : Rows) (f : ListFault) → orders n rows ≡ Err f → orders n (rows ++ more) ≡ Err f
+failed_more n [] more f e = cc
+failed_more n (row ∷ rows) more f e = by (nat_lt order_limit n) (order_at n row) (orders (n + 1) rows) (failed_more (n + 1) rows more f) e
+  where
+    by : (b : Bool) (x : Result Record ListFault) (y : Result (List Record) ListFault) → (y ≡ Err f → orders (n + 1) (rows ++ more) ≡ Err f)
+        → cond b (Err fault.TooMany) (and_then x y) ≡ Err f → cond b (Err fault.TooMany) (and_then x (orders (n + 1) (rows ++ more))) ≡ Err f
+    by true x y h k = k
+    by false (Err g) y h k = k
+    by false (Ok o) (Err g) h k = let same : g ≡ f = cc in rw (h (ap Err same)) refl
+    by false (Ok o) (Ok os) h k = cc
+
+pub fault_more : (rows more : Rows) (f : ListFault) → 0 < length rows → list_of_rows rows ≡ Err f → list_of_rows (rows ++ more) ≡ Err f
+fault_more [] more f some e = absurd (omega arith)
+fault_more (row ∷ rows) more f some e = by (pointwise bytes_eq row header) e
+  where
+    by : (b : Bool) → cond b (orders 1 rows) (Err fault.BadHeader) ≡ Err f → cond b (orders 1 (rows ++ more)) (Err fault.BadHeader) ≡ Err f
+    by true k = failed_more 1 rows more f k
+    by false k = k
+
+-- a text within the limit lists what its records do
+within : (bytes : List ℕ) → length bytes ≤ list_limit → list_of bytes ≡ list_of_rows (records default_config (strip_bom bytes))
+unfolding list_of
+within bytes small = let low : nat_lt list_limit (length bytes) ≡ false = le-ltb list_limit (length bytes) small in rw low refl
+
+first_fault : (bytes : List ℕ) (rows : Rows) (s : State) (rest : List ℕ) (f : ListFault) → length bytes ≤ list_limit → 0 < length rows
+    → Reached default_config st.StartRecord (strip_bom bytes) rows s rest → list_of_rows rows ≡ Err f → list_of bytes ≡ Err f
+first_fault bytes rows s rest f small some reached e =
+    let (more, is) = records_begin default_config (length (strip_bom bytes) + 1) st.StartRecord s (strip_bom bytes) rest rows refl (omega arith) reached in
+    within bytes small ∙ ap list_of_rows is ∙ fault_more rows more f some e
+
+-- the first records show the fault
+pub explain : (f : ListFault) (bytes : List ℕ) (rows : Rows) (s : State) (rest : List ℕ) → length bytes ≤ list_limit → 0 < length rows
+    → Reached default_config st.StartRecord (strip_bom bytes) rows s rest → Stops f rows → IsFaultOf f (list_of bytes)
+explain fault.OutOfMemory bytes rows s rest small some reached stops = tt
+explain fault.TooLong bytes rows s rest small some reached stops = absurd stops
+explain fault.BadHeader bytes rows s rest small some reached stops = first_fault bytes rows s rest fault.BadHeader small some reached stops
+explain fault.TooMany bytes rows s rest small some reached stops = first_fault bytes rows s rest fault.TooMany small some reached stops
+explain (fault.BadRecord n) bytes rows s rest small some reached stops = first_fault bytes rows s rest (fault.BadRecord n) small some reached stops
+explain (fault.Refused n k) bytes rows s rest small some reached stops = first_fault bytes rows s rest (fault.Refused n k) small some reached stops
+
+-- all records were read
+pub lists_all : (bytes : List ℕ) (rows : Rows) → length bytes ≤ list_limit → AreRecords default_config st.StartRecord (strip_bom bytes) rows → list_of bytes ≡ list_of_rows rows
+lists_all bytes rows small all = within bytes small ∙ ap list_of_rows (records_are (strip_bom bytes) rows all)
+
+pub too_long : (bytes : List ℕ) → list_limit < length bytes → list_of bytes ≡ Err fault.TooLong
+unfolding list_of
+too_long bytes long = let high : nat_lt list_limit (length bytes) ≡ true = lt-ltb list_limit (length bytes) long in rw high refl

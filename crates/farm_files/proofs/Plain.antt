@@ -1,0 +1,148 @@
+-- The fields of a report call for no quotes.
+use Rattle.std.proofs.Common.{◌≡◌, ◌<◌, ◌≤◌, ◌+◌, ◌++◌, ◌∙◌, ◌^◌, ◌/◌, ◌%◌, ℕ, zero, suc, Bool, true, false, cond, List, [], ◌∷◌, Option, Some, None, length, get_or, map, decimal, refl, sym, ap, arith}
+use Rattle.std.specs.Prelude.{nat_le, not, ◌==◌, ◌&&◌, ◌||◌}
+use Rattle.std.specs.List.{AllByRecursion, join_with_byte, list_all, list_any}
+use Rattle.std.specs.Str.Parse.{AllDigits}
+use Rattle.std.proofs.lemmas.List.{append-nil}
+use Rattle.std.proofs.lemmas.List.Folds.{list_any-append}
+use Rattle.std.proofs.lemmas.Str.Parse.{digit_from_value}
+use Rattle.std.proofs.lemmas.Fmt.{decimal_is_IsNumeral}
+use Rattle.csv.specs.Writing.{default_writer, escaped, field_text, fields_text, is_blank, needs_byte, needs_quotes, row_text}
+use Rattle.hex.specs.Hex.{encode_lower, encode_with, lower_digits}
+use Rattle.sha2.specs.Sha256.{sha256}
+use Rattle.lrc_code.specs.declared.places.Place.{Place}
+use Rattle.lrc_code.specs.declared.places.Place.TheVariants as place
+use Rattle.lrc_code.specs.declared.outcomes.Outcome.{Outcome}
+use Rattle.lrc_code.specs.declared.outcomes.Outcome.TheVariants as outcome
+use Rattle.lrc_code.specs.declared.requests.RequestFault.{RequestFault}
+use Rattle.lrc_code.specs.declared.requests.RequestFault.TheVariants as fault
+use Rattle.lrc_code.specs.Places.{name_of}
+use Rattle.lrc_code.specs.Requests.{is_name, is_name_byte}
+use Rattle.farm_files.specs.Listed.{ListedRequest, is_listed, listed_refusal, stands_twice}
+use Rattle.farm_files.specs.Report.{digest, outcome_name, report_line, report_row}
+use Rattle.farm_files.proofs.SpacedNames.{and_left, and_right}
+
+-- a field that calls for no quotes
+abbrev pub IsPlain : List ℕ → Type 0
+IsPlain f = needs_quotes default_writer f ≡ false
+
+abbrev pub ArePlain : List (List ℕ) → Type 0
+ArePlain fields = AllByRecursion (λ f. IsPlain f) fields
+
+body : (f : List ℕ) (fs : List (List ℕ)) → ArePlain (f ∷ fs) → field_text default_writer f ++ fields_text default_writer fs ≡ join_with_byte 44 (f ∷ fs)
+unfolding fields_text
+body f [] plain = rw (plain.0) (append-nil f)
+body f (g ∷ gs) plain = rw (plain.0) (ap (λ t. f ++ 44 ∷ t) (body g gs plain.1))
+
+pub plain_row : (fs : List (List ℕ)) → 1 < length fs → ArePlain fs → row_text default_writer fs ≡ report_line fs
+unfolding is_blank fields_text
+plain_row [] several plain = absurd (omega arith)
+plain_row (f ∷ []) several plain = absurd (omega arith)
+plain_row (f ∷ g ∷ fs) several plain = ap (λ t. t ++ 10 ∷ []) (body f (g ∷ fs) plain)
+
+-- ---- the bytes of the fields
+
+differs : (b k : ℕ) → k < b → (b == k) ≡ false
+differs b k h = grind arith
+
+-- all bytes from the minus on
+high : (b : ℕ) → 45 ≤ b → needs_byte default_writer b ≡ false
+high b h = rw (differs b 44 (omega arith), differs b 34 (omega arith), differs b 13 (omega arith), differs b 10 (omega arith)) refl
+
+plain_cons : (b : ℕ) (f : List ℕ) → needs_byte default_writer b ≡ false → IsPlain f → IsPlain (b ∷ f)
+plain_cons b f h p = rw h p
+
+plain_append : (f g : List ℕ) → IsPlain f → IsPlain g → IsPlain (f ++ g)
+plain_append f g p q = list_any-append (needs_byte default_writer) f g ∙ rw p q
+
+plain_digits : (f : List ℕ) → AllDigits 10 f → IsPlain f
+plain_digits [] d = refl
+plain_digits (b ∷ f) d = let r = digit_from_value b d.0 in plain_cons b f (high b (omega (arith, r.0))) (plain_digits f d.1)
+
+plain_decimal : (n : ℕ) → n < 2 ^ 64 → IsPlain (decimal n)
+plain_decimal n h = plain_digits (decimal n) (decimal_is_IsNumeral n h).0.1
+
+name_high : (b : ℕ) → is_name_byte b ≡ true → 45 ≤ b
+name_high b h = grind arith
+
+plain_name : (f : List ℕ) → list_all is_name_byte f ≡ true → IsPlain f
+plain_name [] h = refl
+plain_name (b ∷ f) h = plain_cons b f (high b (name_high b (and_left (is_name_byte b) (list_all is_name_byte f) h))) (plain_name f (and_right (is_name_byte b) (list_all is_name_byte f) h))
+
+or_left : (a b : Bool) → (a || b) ≡ false → a ≡ false
+or_left true b h = h
+or_left false b h = refl
+
+or_right : (a b : Bool) → (a || b) ≡ false → b ≡ false
+or_right true b h = cc
+or_right false b h = h
+
+plain_at : (t : List ℕ) (k : ℕ) → IsPlain t → needs_byte default_writer (get_or t k 0) ≡ false
+plain_at [] k p = refl
+plain_at (b ∷ t) zero p = or_left (needs_byte default_writer b) (list_any (needs_byte default_writer) t) p
+plain_at (b ∷ t) (suc k) p = plain_at t k (or_right (needs_byte default_writer b) (list_any (needs_byte default_writer) t) p)
+
+plain_hex : (t bytes : List ℕ) → IsPlain t → IsPlain (encode_with t bytes)
+unfolding encode_with
+plain_hex t [] p = refl
+plain_hex t (b ∷ bytes) p =
+    plain_cons (get_or t (b / 16) 0) (get_or t (b % 16) 0 ∷ encode_with t bytes) (plain_at t (b / 16) p)
+      (plain_cons (get_or t (b % 16) 0) (encode_with t bytes) (plain_at t (b % 16) p) (plain_hex t bytes p))
+
+plain_place : (p : Place) → IsPlain (name_of p)
+plain_place place.X0 = refl
+plain_place place.X1 = refl
+plain_place place.X2 = refl
+plain_place place.Y0 = refl
+plain_place place.Y1 = refl
+plain_place place.Y2 = refl
+plain_place place.Px = refl
+plain_place place.Py = refl
+plain_place place.P0 = refl
+plain_place place.P1 = refl
+
+plain_places : (ps : List Place) → IsPlain (join_with_byte 32 (map name_of ps))
+plain_places [] = refl
+plain_places (p ∷ []) = plain_place p
+plain_places (p ∷ q ∷ ps) = plain_append (name_of p) (32 ∷ join_with_byte 32 (map name_of (q ∷ ps))) (plain_place p) (plain_cons 32 (join_with_byte 32 (map name_of (q ∷ ps))) refl (plain_places (q ∷ ps)))
+
+plain_outcome : (o : Outcome) → IsPlain (outcome_name o)
+plain_outcome (outcome.Rebuilt f) = refl
+plain_outcome outcome.Contradiction = refl
+plain_outcome outcome.Several = refl
+
+plain_digest : (o : Outcome) → IsPlain (digest o)
+plain_digest (outcome.Rebuilt f) = plain_hex lower_digits (sha256 f) refl
+plain_digest outcome.Contradiction = refl
+plain_digest outcome.Several = refl
+
+-- ---- a request that isn't refused
+
+pub record Accepted (r : ListedRequest) : Type 0 where
+  pub named : is_name r.stripe ≡ true
+  pub short : r.len ≤ 65536
+
+pub accepted : (r : ListedRequest) → listed_refusal r ≡ None → Accepted r
+accepted r e = by (is_name r.stripe) (nat_le 1 r.len && nat_le r.len 65536) _ refl refl e
+  where
+    by : (b c : Bool) (x : Option RequestFault) → is_name r.stripe ≡ b → (nat_le 1 r.len && nat_le r.len 65536) ≡ c
+        → cond (not b) (Some fault.BadStripe) (cond (not c) (Some fault.BadLength) x) ≡ None → Accepted r
+    by true true x h k q = record { named = h; short = let s = and_right (nat_le 1 r.len) (nat_le r.len 65536) k in grind (arith, s) }
+    by true false x h k q = cc
+    by false c x h k q = cc
+
+pub plain_fields : (n : ℕ) (r : ListedRequest) (o : Outcome) (unread : List Place) → n < 2 ^ 64 → listed_refusal r ≡ None → ArePlain (report_row n r o unread)
+plain_fields n r o unread small e =
+    let a = accepted r e in
+    let named = plain_name r.stripe (and_right (nat_le 1 (length r.stripe) && nat_le (length r.stripe) 32) (list_all is_name_byte r.stripe) a.named) in
+    (plain_decimal n small, (named, (plain_place r.target, (plain_decimal r.len (omega (arith, a.short)), (plain_outcome o, (plain_digest o, (plain_places unread, tt)))))))
+
+pub row_line : (n : ℕ) (r : ListedRequest) (o : Outcome) (unread : List Place) → n < 2 ^ 64 → listed_refusal r ≡ None → row_text default_writer (report_row n r o unread) ≡ report_line (report_row n r o unread)
+row_line n r o unread small e = plain_row (report_row n r o unread) (omega arith) (plain_fields n r o unread small e)
+
+pub row_fields : (n : ℕ) (r : ListedRequest) (o : Outcome) (unread : List Place) (a b c d e f g : List ℕ) → n < 2 ^ 64 → listed_refusal r ≡ None
+    → a ≡ decimal n → b ≡ r.stripe → c ≡ name_of r.target → d ≡ decimal r.len → e ≡ outcome_name o → f ≡ digest o → g ≡ join_with_byte 32 (map name_of unread)
+    → row_text default_writer (a ∷ b ∷ c ∷ d ∷ e ∷ f ∷ g ∷ []) ≡ report_line (report_row n r o unread)
+row_fields n r o unread a b c d e f g small accept ha hb hc hd he hf hg =
+    let same : a ∷ b ∷ c ∷ d ∷ e ∷ f ∷ g ∷ [] ≡ report_row n r o unread = rw (ha, hb, hc, hd, he, hf, hg) refl in
+    ap (row_text default_writer) same ∙ row_line n r o unread small accept

@@ -1,0 +1,65 @@
+-- The requests of a rack, one more.
+use Rattle.std.proofs.Common.{◌≡◌, ◌<◌, ◌≤◌, ◌+◌, ◌++◌, ◌∙◌, Bor, Global, Vec, ℕ, zero, suc, List, [], ◌∷◌, length, map, take, get_or, refl, sym, ap, arith, subst}
+use Rattle.std.specs.List.{AllZip}
+use Rattle.std.specs.Prelude.{sum_by}
+use Rattle.std.proofs.lemmas.List.{get_or-map, length-map, map-append, map_more}
+use Rattle.std.proofs.lemmas.List.Sums.{sum_by-append}
+use Rattle.lrc_code.specs.declared.places.Place.{Place}
+use Rattle.lrc_code.specs.Requests.{Asked}
+use Rattle.farm_files.specs.Listed.{ListedRequest}
+use Rattle.farm_files.specs.Files.{Files}
+use Rattle.farm_files.specs.Serving.{AreReads, Reads, asked, asked_rack, failures, rack_failures, survivor_count, unread, unread_rack}
+
+pub reads_push : (rs : List ListedRequest) (qs : List Reads) (r : ListedRequest) (q : Reads) → AllZip AreReads rs qs → AreReads r q → AllZip AreReads (rs ++ r ∷ []) (qs ++ q ∷ [])
+reads_push [] [] r q h k = (k, tt)
+reads_push [] (x ∷ qs) r q h k = absurd h
+reads_push (x ∷ rs) [] r q h k = absurd h
+reads_push (x ∷ rs) (y ∷ qs) r q h k = (h.0, reads_push rs qs r q h.1 k)
+
+pub asked_push : (there : Files) (rs : List ListedRequest) (qs : List Reads) (r : ListedRequest) (q : Reads) → AllZip AreReads rs qs → asked_rack there (rs ++ r ∷ []) (qs ++ q ∷ []) ≡ asked_rack there rs qs ++ asked there r q ∷ []
+asked_push there [] [] r q h = refl
+asked_push there [] (x ∷ qs) r q h = absurd h
+asked_push there (x ∷ rs) [] r q h = absurd h
+asked_push there (x ∷ rs) (y ∷ qs) r q h = ap (λ t. asked there x y ∷ t) (asked_push there rs qs r q h.1)
+
+pub unread_push : (there : Files) (rs : List ListedRequest) (qs : List Reads) (r : ListedRequest) (q : Reads) → AllZip AreReads rs qs → unread_rack there (rs ++ r ∷ []) (qs ++ q ∷ []) ≡ unread_rack there rs qs ++ unread there r q ∷ []
+unread_push there [] [] r q h = refl
+unread_push there [] (x ∷ qs) r q h = absurd h
+unread_push there (x ∷ rs) [] r q h = absurd h
+unread_push there (x ∷ rs) (y ∷ qs) r q h = ap (λ t. unread there x y ∷ t) (unread_push there rs qs r q h.1)
+
+pub rack_failures_push : (qs : List Reads) (q : Reads) → rack_failures (qs ++ q ∷ []) ≡ rack_failures qs + failures q
+rack_failures_push qs q = sum_by-append failures qs (q ∷ []) ∙ (let e : sum_by failures (q ∷ []) ≡ failures q = omega arith in ap (λ n. rack_failures qs + n) e)
+
+pub count_push : (rs : List ListedRequest) (r : ListedRequest) → survivor_count (rs ++ r ∷ []) ≡ survivor_count rs + length r.survivors
+count_push rs r = sum_by-append (λ (x : ListedRequest). length x.survivors) rs (r ∷ []) ∙ (let e : sum_by (λ (x : ListedRequest). length x.survivors) (r ∷ []) ≡ length r.survivors = omega arith in ap (λ n. survivor_count rs + n) e)
+
+count_cons : (r : ListedRequest) (rs : List ListedRequest) → survivor_count (r ∷ rs) ≡ length r.survivors + survivor_count rs
+count_cons r rs = sum_by-append (λ (x : ListedRequest). length x.survivors) (r ∷ []) rs ∙ (let e : sum_by (λ (x : ListedRequest). length x.survivors) (r ∷ []) ≡ length r.survivors = omega arith in ap (λ n. n + survivor_count rs) e)
+
+-- the listed survivors of the first requests and of the next are no more than those of all
+pub count_within : (rs : List (Bor ListedRequest)) (i : ℕ) (r : Bor ListedRequest) → i < length rs → r ≡ get_or rs i r
+    → survivor_count (map (λ x. x.now) (take i rs)) + length r.now.survivors ≤ survivor_count (map (λ x. x.now) rs)
+count_within [] i r h e = absurd (omega arith)
+count_within (x ∷ rs) zero r h e =
+    let all : survivor_count (map (λ (y : Bor ListedRequest). y.now) (x ∷ rs)) ≡ length x.now.survivors + survivor_count (map (λ (y : Bor ListedRequest). y.now) rs) = count_cons x.now (map (λ (y : Bor ListedRequest). y.now) rs) in
+    let one = ap (λ (y : Bor ListedRequest). length y.now.survivors) e in
+    omega (arith, all, one)
+count_within (x ∷ rs) (suc i) r h e =
+    let all : survivor_count (map (λ (y : Bor ListedRequest). y.now) (x ∷ rs)) ≡ length x.now.survivors + survivor_count (map (λ (y : Bor ListedRequest). y.now) rs) = count_cons x.now (map (λ (y : Bor ListedRequest). y.now) rs) in
+    let front : survivor_count (map (λ (y : Bor ListedRequest). y.now) (take (suc i) (x ∷ rs))) ≡ length x.now.survivors + survivor_count (map (λ (y : Bor ListedRequest). y.now) (take i rs)) = count_cons x.now (map (λ (y : Bor ListedRequest). y.now) (take i rs)) in
+    let rest = count_within rs i r (omega arith) e in omega (arith, all, front, rest)
+
+pub taken : (rack : List (Bor ListedRequest)) (i : ℕ) (r : Bor ListedRequest) → i < length rack → r ≡ get_or rack i r
+    → map (λ x. x.now) (take (i + 1) rack) ≡ map (λ x. x.now) (take i rack) ++ r.now ∷ []
+taken rack i r within e = map_more (λ (x : Bor ListedRequest). x.now) rack i r within ∙ ap (λ (x : Bor ListedRequest). map (λ (y : Bor ListedRequest). y.now) (take i rack) ++ x.now ∷ []) (sym e)
+
+pub asked_more : (there : Files) (rs : List ListedRequest) (qs : List Reads) (r : ListedRequest) (q : Reads) (before after : List Asked) (request : Asked) → AllZip AreReads rs qs
+    → after ≡ before ++ request ∷ [] → before ≡ asked_rack there rs qs → request ≡ asked there r q → after ≡ asked_rack there (rs ++ r ∷ []) (qs ++ q ∷ [])
+asked_more there rs qs r q before after request are grew so is = grew ∙ ap (λ t. t ++ request ∷ []) so ∙ ap (λ z. asked_rack there rs qs ++ z ∷ []) is ∙ sym (asked_push there rs qs r q are)
+
+pub unread_more : (there : Files) (rs : List ListedRequest) (qs : List Reads) (r : ListedRequest) (q : Reads) (before after : List (Vec Place Global)) (places : Vec Place Global) → AllZip AreReads rs qs
+    → after ≡ before ++ places ∷ [] → map (λ u. u.items) before ≡ unread_rack there rs qs → places.items ≡ unread there r q → map (λ u. u.items) after ≡ unread_rack there (rs ++ r ∷ []) (qs ++ q ∷ [])
+unread_more there rs qs r q before after places are grew so is =
+    ap (map (λ (u : Vec Place Global). u.items)) grew ∙ map-append (λ (u : Vec Place Global). u.items) before (places ∷ []) ∙ ap (λ t. t ++ places.items ∷ []) so
+    ∙ ap (λ z. unread_rack there rs qs ++ z ∷ []) is ∙ sym (unread_push there rs qs r q are)

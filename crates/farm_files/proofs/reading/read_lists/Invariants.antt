@@ -1,0 +1,11 @@
+use Rattle.std.proofs.Common.{◌≡◌, Some, map, length}
+use Rattle.farm_files.specs.Files.{Files}
+use Rattle.farm_files.specs.Serving.{HaveLists}
+use Rattle.farm_files.proofs.reading.read_lists.Given as goal
+
+abbrev pub invariant-loop-rack : goal.invariant-loop-rack
+invariant-loop-rack g l =
+    (g.I.Shelf.files l.input ≡ g.I.Shelf.files l.fn.input)
+    × (g.I.Shelf.failed l.input ≡ g.I.Shelf.failed l.fn.input)
+    × (length l.lists.items ≡ l.rack)
+    × ((there : Files) → g.I.Shelf.files l.fn.input ≡ Some there → HaveLists there 0 (map (λ v. v.items) l.lists.items))

@@ -1,0 +1,11 @@
+pub mod Listed
+pub mod Listing
+pub mod Views
+pub mod Report
+pub mod Files
+pub mod Folder
+pub mod Memory
+pub mod Names
+pub mod Named
+pub mod Serving
+pub mod Faults

@@ -1,0 +1,111 @@
+-- What a request list reads as.
+use Rattle.std.specs.Prelude.{◌≡◌, ◌+◌, ◌<◌, ◌==◌, ◌&&◌, not, nat_le, nat_lt, Bool, true, false, ℕ, List, [], ◌∷◌, ◌++◌, length, map, Option, Some, None, Result, Ok, Err, option_map, option_and_then, if◌then◌else◌, codes}
+use Rattle.std.specs.List.{slice_split}
+use Rattle.std.specs.Str.{bytes_eq}
+use Rattle.lrc_code.specs.Text.{every, is_space, number}
+use Rattle.std.specs.Option.{option_map_or}
+use Rattle.std.specs.Cmp.Lexicographic.{pointwise}
+use Rattle.csv.specs.Reading.{default_config, records, strip_bom}
+use Rattle.lrc_code.specs.declared.places.Place.{Place}
+use Rattle.lrc_code.specs.Text.{place_named}
+use Rattle.lrc_code.specs.Code.{narrow}
+use Rattle.farm_files.specs.Listed.{ListedRequest, listed_refusal}
+use Rattle.farm_files.specs.declared.listing.Record.{Record}
+use Rattle.farm_files.specs.declared.listing.Record.TheVariants as rec
+use Rattle.farm_files.specs.declared.listing.ListFault.{ListFault}
+use Rattle.farm_files.specs.declared.listing.ListFault.TheVariants as fault
+
+abbrev pub list_limit : ℕ
+list_limit = 1048576
+
+abbrev pub order_limit : ℕ
+order_limit = 4096
+
+-- ---- one record
+
+-- place names with one space between two
+abbrev pub places : List ℕ → Option (List Place)
+places [] = Some []
+places (b ∷ bs) = every (map (place_named narrow) (slice_split is_space (b ∷ bs)))
+
+-- the request that four fields list, where each has its form
+abbrev pub listed : List ℕ → List ℕ → List ℕ → List ℕ → Option ListedRequest
+listed stripe target size survivors =
+    option_and_then (λ p. option_and_then (λ n. option_map (λ s. record { stripe = stripe; target = p; len = n; survivors = s }) (places survivors)) (number size)) (place_named narrow target)
+
+-- the order of record n that lists a request, where it has its form
+abbrev pub rebuild_at : ℕ → Option ListedRequest → Result Record ListFault
+rebuild_at n None = Err (fault.BadRecord n)
+rebuild_at n (Some r) = option_map_or (λ e. Err (fault.Refused n e)) (listed_refusal r) (Ok (rec.Rebuild r))
+
+-- the order of record n that is to be a close
+abbrev pub close_at : ℕ → Bool → Result Record ListFault
+close_at n is_close = if is_close then Ok rec.Close else Err (fault.BadRecord n)
+
+-- the order that the fields of record n give
+abbrev pub order_at : ℕ → List (List ℕ) → Result Record ListFault
+order_at n (word ∷ stripe ∷ target ∷ size ∷ survivors ∷ []) =
+    if bytes_eq word (codes "rebuild") then rebuild_at n (listed stripe target size survivors)
+    else close_at n (bytes_eq word (codes "close") && (length stripe == 0 && (length target == 0 && (length size == 0 && length survivors == 0))))
+order_at n _ = Err (fault.BadRecord n)
+
+-- ---- all records
+
+abbrev pub header : List (List ℕ)
+header = codes "order" ∷ codes "stripe" ∷ codes "target" ∷ codes "length" ∷ codes "survivors" ∷ []
+
+abbrev pub and_then : Result Record ListFault → Result (List Record) ListFault → Result (List Record) ListFault
+and_then (Err e) more = Err e
+and_then (Ok o) (Err e) = Err e
+and_then (Ok o) (Ok os) = Ok (o ∷ os)
+
+-- the orders of the records from the n-th on
+abbrev pub orders : ℕ → List (List (List ℕ)) → Result (List Record) ListFault
+orders n [] = Ok []
+orders n (row ∷ rows) = if nat_lt order_limit n then Err fault.TooMany else and_then (order_at n row) (orders (n + 1) rows)
+
+-- the orders of a header and the records behind it
+abbrev pub list_of_rows : List (List (List ℕ)) → Result (List Record) ListFault
+list_of_rows [] = Err fault.BadHeader
+list_of_rows (row ∷ rows) = if pointwise bytes_eq row header then orders 1 rows else Err fault.BadHeader
+
+-- ---- the whole text
+
+-- the orders of a list, or its first fault
+unfoldable pub list_of : List ℕ → Result (List Record) ListFault
+list_of bytes = if nat_lt list_limit (length bytes) then Err fault.TooLong else list_of_rows (records default_config (strip_bom bytes))
+
+-- the fault is the list's; want of memory is nobody's
+abbrev pub IsFaultOf : ListFault → Result (List Record) ListFault → Type 0
+IsFaultOf fault.OutOfMemory r = Unit {0}
+IsFaultOf fault.TooLong r = r ≡ Err fault.TooLong
+IsFaultOf fault.BadHeader r = r ≡ Err fault.BadHeader
+IsFaultOf (fault.BadRecord n) r = r ≡ Err (fault.BadRecord n)
+IsFaultOf (fault.Refused n e) r = r ≡ Err (fault.Refused n e)
+IsFaultOf fault.TooMany r = r ≡ Err fault.TooMany
+
+-- why a record is refused
+abbrev pub IsRecordFault : ListFault → ℕ → List (List ℕ) → Type 0
+IsRecordFault fault.OutOfMemory n fields = Unit {0}
+IsRecordFault fault.TooLong n fields = ⊥
+IsRecordFault fault.BadHeader n fields = ⊥
+IsRecordFault fault.TooMany n fields = ⊥
+IsRecordFault (fault.BadRecord m) n fields = order_at n fields ≡ Err (fault.BadRecord m)
+IsRecordFault (fault.Refused m e) n fields = order_at n fields ≡ Err (fault.Refused m e)
+
+abbrev pub IsNotFive : List (List ℕ) → Type 0
+IsNotFive fields = length fields ≡ 5 → ⊥
+
+-- the orders of the records so far
+abbrev pub SoFar : List (List (List ℕ)) → List Record → Type 0
+SoFar [] os = os ≡ []
+SoFar (row ∷ rows) os = list_of_rows (row ∷ rows) ≡ Ok os
+
+-- the records show the fault
+abbrev pub Stops : ListFault → List (List (List ℕ)) → Type 0
+Stops fault.OutOfMemory rows = Unit {0}
+Stops fault.TooLong rows = ⊥
+Stops fault.BadHeader rows = list_of_rows rows ≡ Err fault.BadHeader
+Stops fault.TooMany rows = list_of_rows rows ≡ Err fault.TooMany
+Stops (fault.BadRecord n) rows = list_of_rows rows ≡ Err (fault.BadRecord n)
+Stops (fault.Refused n e) rows = list_of_rows rows ≡ Err (fault.Refused n e)

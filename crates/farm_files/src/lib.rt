@@ -1,0 +1,25 @@
+//! Folders of request lists: lists and reports, shelves of named files, and `serve`, which answers the lists of
+//! one shelf by files on another.
+#![tactic(auto)]
+
+mod faults;
+mod folder;
+mod listed;
+mod listing;
+mod memory;
+mod names;
+mod reading;
+mod report;
+mod serving;
+mod shelf;
+mod text;
+mod writing;
+
+pub use faults::ServeFault;
+pub use folder::FolderShelf;
+pub use listed::Listed;
+pub use listing::{ListFault, Record, read_list};
+pub use memory::MemoryShelf;
+pub use report::report_text;
+pub use serving::{Served, serve};
+pub use shelf::{Shelf, ShelfFault};

@@ -1,0 +1,105 @@
+//! Requests as they are listed.
+ghost use Rattle.std.specs.Prelude.{◌≡◌, MatchResult, None, Some, Bool};
+ghost use Rattle.std.specs.List.{list_any};
+ghost use Rattle.std.specs.String.{string_bytes};
+ghost use Rattle.lrc_code.specs.Places.{same_place};
+ghost use Rattle.farm_files.specs.Listed.{ListedRequest, is_listed, listed_refusal, stands_twice};
+
+use lrc_code::{Place, RequestFault, is_stripe_name};
+use std::marker::Model;
+
+/// A request as it is listed, before its fragments are read. None of the first four refusals holds of it.
+#[derive(Drop)]
+pub struct Listed {
+    stripe: String,
+    target: Place,
+    length: u32,
+    survivors: Vec<Place>,
+}
+
+impl Model for Listed {
+    ghost use Rattle.std.specs.Prelude.{◌≡◌, None};
+    ghost use Rattle.std.specs.String.{string_bytes};
+    ghost use Rattle.farm_files.specs.Listed.{ListedRequest, listed_refusal};
+
+    ghost Value = { ListedRequest };
+
+    ghost view = { λ r. record { stripe = string_bytes r.stripe; target = r.target; len = r.length; survivors = r.survivors.items } };
+
+    ghost invariant = { λ r. listed_refusal (record { stripe = string_bytes r.stripe; target = r.target; len = r.length; survivors = r.survivors.items }) ≡ None };
+}
+
+// Whether a place is among others.
+fn has_place(place: Place, places: &[Place]) -> bool
+    ensures { result ≡ is_listed place places.now }
+{
+    places.iter().any(|other| place == *other)
+}
+
+fn has_repeated(places: &[Place]) -> bool
+    ensures { result ≡ stands_twice places.now }
+{
+    match places {
+        [] => false,
+        [first, later @ ..] => has_place(*first, later) || has_repeated(later),
+    }
+}
+
+impl Listed {
+    /// A listed request, unless one of the first four refusals holds.
+    pub fn new(
+        stripe: String,
+        target: Place,
+        length: u32,
+        survivors: Vec<Place>,
+    ) -> Result<Listed, RequestFault>
+        ensures { MatchResult result
+            (λ r. (r ≡ record { stripe = string_bytes stripe; target = target; len = length; survivors = survivors.items }) × (listed_refusal r ≡ None))
+            (λ e. listed_refusal (record { stripe = string_bytes stripe; target = target; len = length; survivors = survivors.items }) ≡ Some e) }
+    {
+        if !is_stripe_name(&stripe) {
+            return Err(RequestFault::BadStripe);
+        }
+        if length == 0 || length > 65_536 {
+            return Err(RequestFault::BadLength);
+        }
+        if has_repeated(&survivors) {
+            return Err(RequestFault::Repeated);
+        }
+        if has_place(target, &survivors) {
+            return Err(RequestFault::NotLost);
+        }
+        Ok(Listed {
+            stripe,
+            target,
+            length,
+            survivors,
+        })
+    }
+
+    pub fn stripe(&self) -> &str
+        ensures value { result.now ≡ self.now.stripe }
+        ensures accepted { listed_refusal self.now ≡ None }
+    {
+        self.stripe.as_str()
+    }
+
+    pub fn target(&self) -> Place
+        ensures { result ≡ self.now.target }
+    {
+        self.target
+    }
+
+    pub fn length(&self) -> u32
+        ensures value { result ≡ self.now.len }
+        ensures accepted { listed_refusal self.now ≡ None }
+    {
+        self.length
+    }
+
+    pub fn survivors(&self) -> &[Place]
+        ensures { result.now ≡ self.now.survivors }
+    {
+        self.survivors.as_slice()
+    }
+}

@@ -1,0 +1,229 @@
+//! Request lists, by csv's own reading.
+ghost use Rattle.std.specs.Prelude.{◌≡◌, ◌==◌, ◌&&◌, ℕ, List, ◌≤◌, Ok, Err, OnOk, ◌++◌, ◌∷◌, [], IfOk, IfErr, IfSome, IfNone, codes, length, map, option_map};
+ghost use Rattle.std.specs.Cmp.Lexicographic.{pointwise};
+ghost use Rattle.std.specs.Str.{bytes_eq};
+ghost use Rattle.csv.specs.Records.{fields_of};
+ghost use Rattle.lrc_code.specs.Text.{every};
+ghost use Rattle.lrc_code.specs.Text.{place_named};
+ghost use Rattle.lrc_code.specs.Code.{narrow};
+ghost use Rattle.farm_files.specs.Listing.{IsFaultOf, IsNotFive, IsRecordFault, SoFar, Stops, close_at, header, list_of, listed, order_at, places, rebuild_at};
+ghost use Rattle.farm_files.specs.Views.{IsRebuildFault, five};
+
+use crate::listed::Listed;
+use csv::{ByteRecord, ReaderBuilder};
+use crate::text::split_at_spaces;
+use lrc_code::text::parse_number;
+use lrc_code::{Place, RequestFault};
+use std::alloc::{AllocError, Global};
+
+/// An order of a list.
+#[derive(Drop)]
+pub enum Record {
+    Rebuild(Listed),
+    Close,
+}
+
+/// Why a list is refused. Records are numbered from 1 after the header.
+#[derive(Clone, Copy)]
+pub enum ListFault {
+    TooLong,
+    BadHeader,
+    BadRecord(usize),
+    Refused(usize, RequestFault),
+    TooMany,
+    OutOfMemory,
+}
+
+const LIST_LIMIT: usize = 1_048_576;
+
+const ORDER_LIMIT: usize = 4096;
+
+/// The orders that a list has, or its first fault.
+pub fn read_list(alloc: Global, bytes: &[u8]) -> Result<Vec<Record>, ListFault>
+    ensures read { IfOk result (λ v. list_of bytes.now ≡ Ok v.items) }
+    ensures fault { IfErr result (λ f. IsFaultOf f (list_of bytes.now)) }
+{
+    if bytes.len() > LIST_LIMIT {
+        return Err(ListFault::TooLong);
+    }
+    let rdr = ReaderBuilder::new()
+        .has_headers(false)
+        .flexible(true)
+        .from_reader(alloc, bytes);
+    let mut list = Vec::new(alloc);
+    let mut number = 0usize;
+    for row in rdr.into_byte_records() {
+        let Ok(row) = row else {
+            return Err(ListFault::OutOfMemory);
+        };
+        take_row(alloc, &mut list, number, &row)?;
+        number += 1;
+    }
+    if number == 0 {
+        return Err(ListFault::BadHeader);
+    }
+    Ok(list)
+}
+
+// Takes one more record: the header, or an order.
+fn take_row(
+    alloc: Global,
+    list: &mut Vec<Record>,
+    number: usize,
+    row: &ByteRecord,
+) -> Result<(), ListFault>
+    ensures ok { OnOk result ((number ≤ 4096) × ((rows : List (List (List ℕ))) → length rows ≡ number → SoFar rows list.old.items → SoFar (rows ++ fields_of row.now ∷ []) list.new.items)) }
+    ensures err { IfErr result (λ f. (rows : List (List (List ℕ))) → length rows ≡ number → SoFar rows list.old.items → Stops f (rows ++ fields_of row.now ∷ [])) }
+{
+    if number == 0 {
+        return if is_header(row) {
+            Ok(())
+        } else {
+            Err(ListFault::BadHeader)
+        };
+    }
+    if number > ORDER_LIMIT {
+        return Err(ListFault::TooMany);
+    }
+    let order = order_of(alloc, number, row)?;
+    match list.push(order) {
+        Ok(()) => Ok(()),
+        Err(_) => Err(ListFault::OutOfMemory),
+    }
+}
+
+// The fields of a record of five.
+#[derive(Clone, Copy)]
+struct Fields<'a> {
+    order: &'a [u8],
+    stripe: &'a [u8],
+    target: &'a [u8],
+    length: &'a [u8],
+    survivors: &'a [u8],
+}
+
+fn five_fields(row: &ByteRecord) -> Option<Fields<'_>>
+    ensures five { IfSome result (λ f. fields_of row.now ≡ five f) }
+    ensures other { IfNone result (IsNotFive (fields_of row.now)) }
+{
+    let Some(order) = row.get(0) else {
+        return None;
+    };
+    let Some(stripe) = row.get(1) else {
+        return None;
+    };
+    let Some(target) = row.get(2) else {
+        return None;
+    };
+    let Some(length) = row.get(3) else {
+        return None;
+    };
+    let Some(survivors) = row.get(4) else {
+        return None;
+    };
+    match row.get(5) {
+        Some(_) => None,
+        None => Some(Fields {
+            order,
+            stripe,
+            target,
+            length,
+            survivors,
+        }),
+    }
+}
+
+fn is_header(row: &ByteRecord) -> bool
+    ensures { result ≡ pointwise bytes_eq (fields_of row.now) header }
+{
+    match five_fields(row) {
+        Some(f) => {
+            f.order == b"order".as_slice()
+                && f.stripe == b"stripe".as_slice()
+                && f.target == b"target".as_slice()
+                && f.length == b"length".as_slice()
+                && f.survivors == b"survivors".as_slice()
+        }
+        None => false,
+    }
+}
+
+// The order of record `number`, by its fields.
+fn order_of(alloc: Global, number: usize, row: &ByteRecord) -> Result<Record, ListFault>
+    ensures ok { IfOk result (λ o. order_at number (fields_of row.now) ≡ Ok o) }
+    ensures err { IfErr result (λ f. IsRecordFault f number (fields_of row.now)) }
+{
+    let Some(fields) = five_fields(row) else {
+        return Err(ListFault::BadRecord(number));
+    };
+    if fields.order == b"rebuild".as_slice() {
+        return rebuild_of(alloc, number, &fields);
+    }
+    if is_close(&fields) {
+        Ok(Record::Close)
+    } else {
+        Err(ListFault::BadRecord(number))
+    }
+}
+
+fn is_close(fields: &Fields<'_>) -> bool
+    ensures { result ≡ (bytes_eq fields.now.order.now (codes "close") && (length fields.now.stripe.now == 0 && (length fields.now.target.now == 0 && (length fields.now.length.now == 0 && length fields.now.survivors.now == 0)))) }
+{
+    fields.order == b"close".as_slice()
+        && fields.stripe.is_empty()
+        && fields.target.is_empty()
+        && fields.length.is_empty()
+        && fields.survivors.is_empty()
+}
+
+// The order of record `number`, which is to list a request.
+fn rebuild_of(alloc: Global, number: usize, fields: &Fields<'_>) -> Result<Record, ListFault>
+    ensures ok { IfOk result (λ o. rebuild_at number (listed fields.now.stripe.now fields.now.target.now fields.now.length.now fields.now.survivors.now) ≡ Ok o) }
+    ensures err { IfErr result (λ f. IsRebuildFault f number (listed fields.now.stripe.now fields.now.target.now fields.now.length.now fields.now.survivors.now)) }
+{
+    let Some(target) = Place::named(fields.target) else {
+        return Err(ListFault::BadRecord(number));
+    };
+    let Some(length) = parse_number(fields.length) else {
+        return Err(ListFault::BadRecord(number));
+    };
+    let survivors = match parse_places(alloc, fields.survivors) {
+        Ok(Some(survivors)) => survivors,
+        Ok(None) => return Err(ListFault::BadRecord(number)),
+        Err(_) => return Err(ListFault::OutOfMemory),
+    };
+    let Ok(stripe) = Vec::from_slice(alloc, fields.stripe) else {
+        return Err(ListFault::OutOfMemory);
+    };
+    let Ok(stripe) = String::from_utf8(stripe) else {
+        return Err(ListFault::Refused(number, RequestFault::BadStripe));
+    };
+    match Listed::new(stripe, target, length, survivors) {
+        Ok(listed) => Ok(Record::Rebuild(listed)),
+        Err(fault) => Err(ListFault::Refused(number, fault)),
+    }
+}
+
+// The places that names with one space between two give.
+fn parse_places(alloc: Global, text: &[u8]) -> Result<Option<Vec<Place>>, AllocError>
+    ensures { IfOk result (λ v. option_map (λ s. s.items) v ≡ places text.now) }
+{
+    if text.is_empty() {
+        return Ok(Some(Vec::new(alloc)));
+    }
+    let names = split_at_spaces(alloc, text)?;
+    parse_names(alloc, names.as_slice())
+}
+
+fn parse_names(alloc: Global, names: &[&[u8]]) -> Result<Option<Vec<Place>>, AllocError>
+    ensures { IfOk result (λ v. option_map (λ s. s.items) v ≡ every (map (λ n. place_named narrow n.now) names.now)) }
+{
+    let mut places = Vec::new(alloc);
+    for name in names {
+        match Place::named(name) {
+            Some(place) => places.push(place)?,
+            None => return Ok(None),
+        }
+    }
+    Ok(Some(places))
+}

@@ -1,0 +1,124 @@
+//! A shelf in memory, which can be told to fail.
+ghost use Rattle.std.specs.Prelude.{◌≡◌, ℕ, List, ◌<◌, ◌+◌, ◌^◌, if◌then◌else◌, Some, None, IfOk, IfSome, OnOk, OnErr, take, option_map};
+ghost use Rattle.farm_files.specs.Files.{put};
+ghost use Rattle.farm_files.specs.Memory.{failed_of, due_next, fails_in, files_of, is_due};
+
+use crate::shelf::{Shelf, ShelfFault};
+use std::alloc::{AllocError, Global};
+use std::collections::BTreeMap;
+
+#[derive(Drop)]
+pub struct MemoryShelf {
+    pub(crate) stored: BTreeMap<String, Vec<u8>>,
+    pub(crate) failed: u64,
+    pub(crate) fails_in: Option<u64>,
+}
+
+impl MemoryShelf {
+    pub fn new(alloc: Global) -> MemoryShelf
+        ensures empty { (name : List ℕ) → files_of result name ≡ None }
+        ensures failed { failed_of result ≡ 0 }
+        ensures steady { fails_in result ≡ None }
+    {
+        MemoryShelf {
+            stored: BTreeMap::new(alloc),
+            failed: 0,
+            fails_in: None,
+        }
+    }
+
+    pub fn place(&mut self, alloc: Global, name: &str, bytes: &[u8]) -> Result<(), AllocError>
+        ensures ok { OnOk result (files_of self.new ≡ put (files_of self.old) name.now bytes.now) }
+        ensures err { OnErr result (files_of self.new ≡ files_of self.old) }
+        ensures failed { failed_of self.new ≡ failed_of self.old }
+        ensures steady { fails_in self.new ≡ fails_in self.old }
+    {
+        let key = String::from_str(alloc, name)?;
+        let mut copy = Vec::new(alloc);
+        copy.extend_from_slice(bytes)?;
+        match self.stored.insert(key, copy) {
+            Ok(_) => Ok(()),
+            Err(_) => Err(AllocError),
+        }
+    }
+
+    pub fn file(&self, name: &str) -> Option<&[u8]>
+        ensures { option_map (λ b. b.now) result ≡ files_of self.now name.now }
+    {
+        match self.stored.get(name) {
+            Some(bytes) => Some(bytes.as_slice()),
+            None => None,
+        }
+    }
+
+    pub fn fail_at(&mut self, k: u64)
+        ensures armed { fails_in self.new ≡ Some k }
+        ensures files { files_of self.new ≡ files_of self.old }
+        ensures failed { failed_of self.new ≡ failed_of self.old }
+    {
+        self.fails_in = Some(k);
+    }
+
+    // Whether the call at hand is the one that fails; it is counted.
+    fn fails_now(&mut self) -> bool
+        requires { failed_of self.old < 2 ^ 63 }
+        ensures told { result ≡ is_due (fails_in self.old) }
+        ensures next { fails_in self.new ≡ due_next (fails_in self.old) }
+        ensures files { files_of self.new ≡ files_of self.old }
+        ensures failed { failed_of self.new ≡ failed_of self.old + (if result then 1 else 0) }
+    {
+        match self.fails_in {
+            Some(0) => {
+                self.fails_in = None;
+                self.failed += 1;
+                true
+            }
+            Some(k) => {
+                self.fails_in = Some(k - 1);
+                false
+            }
+            None => false,
+        }
+    }
+}
+
+impl Shelf for MemoryShelf {
+    ghost files = { λ s. Some (files_of s) };
+
+    ghost failed = { λ s. failed_of s };
+
+    fn failures(&self) -> u64 {
+        self.failed
+    }
+
+    fn read(
+        &mut self,
+        alloc: Global,
+        name: &str,
+        limit: usize,
+    ) -> Result<Option<Vec<u8>>, ShelfFault> {
+        if self.fails_now() {
+            return Err(ShelfFault::Device);
+        }
+        let Some(bytes) = self.file(name) else {
+            return Ok(None);
+        };
+        let size = bytes.len().min(limit);
+        let mut copy = Vec::new(alloc);
+        match copy.extend_from_slice(&bytes[..size]) {
+            Ok(()) => Ok(Some(copy)),
+            Err(_) => Err(ShelfFault::OutOfMemory),
+        }
+    }
+
+    fn write(&mut self, alloc: Global, name: &str, bytes: &[u8]) -> Result<(), ShelfFault> {
+        if self.fails_now() {
+            let _ = self.place(alloc, name, &bytes[..bytes.len() / 2]);
+            return Err(ShelfFault::Device);
+        }
+        match self.place(alloc, name, bytes) {
+            Ok(()) => Ok(()),
+            Err(_) => Err(ShelfFault::OutOfMemory),
+        }
+    }
+}

@@ -1,0 +1,214 @@
+//! Reading the lists and the fragments.
+ghost use Rattle.std.specs.Prelude.{◌≡◌, ◌+◌, ◌++◌, ◌∷◌, [], OnOk, ◌<◌, ◌≤◌, ◌^◌, ℕ, List, Bool, Option, Some, None, Ok, Err, IfOk, IfErr, IfSome, MatchResult, if◌then◌else◌, is_some, length, map, option_map};
+ghost use Rattle.std.specs.List.{AllZip, filter_map};
+ghost use Rattle.lrc_code.specs.Survivors.{survivors_of};
+ghost use Rattle.farm_files.specs.Listing.{list_of};
+ghost use Rattle.farm_files.specs.declared.listing.Record.{Record};
+ghost use Rattle.farm_files.specs.Files.{Files};
+ghost use Rattle.farm_files.specs.declared.faults.ServeFault.TheVariants as serving_fault;
+ghost use Rattle.farm_files.specs.Names.{list_name};
+ghost use Rattle.farm_files.specs.Serving.{AreLists, AreReads, Reads, asked, asked_rack, failures, fragment, rack_failures, survivor, survivor_count, unread, unread_rack};
+ghost use Rattle.farm_files.specs.Faults.{CountsFault, Explains, IsListFault, IsReadFault, serve_fault};
+
+use crate::faults::ServeFault;
+use crate::names::{fragment_file, list_file};
+use crate::listed::Listed;
+use crate::listing::{ListFault, Record, read_list};
+use crate::shelf::{Shelf, ShelfFault};
+use lrc_code::{Fragment, Place, Request};
+use std::alloc::{AllocError, Global};
+
+const RACK_LIMIT: usize = 16;
+
+// One byte more than a list may have.
+const LIST_ROOM: usize = 1_048_577;
+
+// One byte more than a fragment may have.
+const FRAGMENT_ROOM: usize = 65_537;
+
+// The list of a rack, where it is there.
+fn read_rack_list<I: Shelf>(
+    alloc: Global,
+    input: &mut I,
+    rack: usize,
+) -> Result<Option<Vec<Record>>, ServeFault>
+    requires { I.failed input.old < 2 ^ 63 }
+    ensures same { I.files input.new ≡ I.files input.old }
+    ensures list { IfOk result (λ list. (there : Files) → I.files input.old ≡ Some there → option_map list_of (there (list_name rack)) ≡ option_map (λ v. Ok v.items) list) }
+    ensures calm { IfOk result (λ list. I.failed input.new ≡ I.failed input.old) }
+    ensures fault { IfErr result (λ f. IsListFault f rack (I.files input.old) (I.failed input.old) (I.failed input.new)) }
+{
+    let Ok(name) = list_file(alloc, rack) else {
+        return Err(ServeFault::OutOfMemory);
+    };
+    let bytes = match input.read(alloc, name.as_str(), LIST_ROOM) {
+        Ok(Some(bytes)) => bytes,
+        Ok(None) => return Ok(None),
+        Err(ShelfFault::Device) => return Err(ServeFault::Device),
+        Err(ShelfFault::OutOfMemory) => return Err(ServeFault::OutOfMemory),
+    };
+    match read_list(alloc, bytes.as_slice()) {
+        Ok(list) => Ok(Some(list)),
+        Err(fault) => Err(list_fault(rack, fault)),
+    }
+}
+
+// The fault of a list, as serving's.
+fn list_fault(rack: usize, fault: ListFault) -> ServeFault
+    ensures { result ≡ serve_fault rack fault }
+{
+    match fault {
+        ListFault::TooLong => ServeFault::List(rack, ListFault::TooLong),
+        ListFault::BadHeader => ServeFault::List(rack, ListFault::BadHeader),
+        ListFault::BadRecord(n) => ServeFault::List(rack, ListFault::BadRecord(n)),
+        ListFault::Refused(n, e) => ServeFault::List(rack, ListFault::Refused(n, e)),
+        ListFault::TooMany => ServeFault::List(rack, ListFault::TooMany),
+        ListFault::OutOfMemory => ServeFault::OutOfMemory,
+    }
+}
+
+// The bytes of a listed survivor, where they are there and as many as listed and the device doesn't fail.
+fn read_fragment<I: Shelf>(
+    alloc: Global,
+    input: &mut I,
+    listed: &Listed,
+    place: Place,
+) -> Result<Option<Vec<u8>>, AllocError>
+    requires { I.failed input.old < 2 ^ 63 }
+    ensures same { I.files input.new ≡ I.files input.old }
+    ensures read { IfOk result (λ v. (failed : Bool) × (I.failed input.new ≡ I.failed input.old + (if failed then 1 else 0))
+        × ((there : Files) → I.files input.old ≡ Some there → option_map (λ b. b.items) v ≡ fragment there listed.now (place, failed))) }
+    ensures few { I.failed input.new ≤ I.failed input.old + 1 }
+{
+    let name = fragment_file(alloc, listed.stripe(), place)?;
+    let bytes = match input.read(alloc, name.as_str(), FRAGMENT_ROOM) {
+        Ok(Some(bytes)) => bytes,
+        Ok(None) => return Ok(None),
+        Err(ShelfFault::Device) => return Ok(None),
+        Err(ShelfFault::OutOfMemory) => return Err(AllocError),
+    };
+    if bytes.len() == listed.length() as usize {
+        Ok(Some(bytes))
+    } else {
+        Ok(None)
+    }
+}
+
+// The fragments of a request's listed survivors that were read, and the places of the others.
+fn read_survivors<I: Shelf>(
+    alloc: Global,
+    input: &mut I,
+    listed: &Listed,
+) -> Result<(Vec<Fragment>, Vec<Place>), AllocError>
+    requires { I.failed input.old + length listed.now.survivors < 2 ^ 63 }
+    ensures same { I.files input.new ≡ I.files input.old }
+    ensures read { IfOk result (λ v. (reads : Reads) × AreReads listed.now reads × (I.failed input.new ≡ I.failed input.old + failures reads)
+        × ((there : Files) → I.files input.old ≡ Some there → (survivors_of v.0.items ≡ filter_map (survivor there listed.now) reads) × (v.1.items ≡ unread there listed.now reads))) }
+    ensures few { I.failed input.new ≤ I.failed input.old + length listed.now.survivors }
+{
+    let mut fragments = Vec::new(alloc);
+    let mut unread = Vec::new(alloc);
+    let places = listed.survivors();
+    for index in 0..places.len() {
+        let place = places[index];
+        match read_fragment(alloc, input, listed, place)? {
+            Some(bytes) => fragments.push(Fragment { place, bytes })?,
+            None => unread.push(place)?,
+        }
+    }
+    Ok((fragments, unread))
+}
+
+// The lists of all racks.
+fn read_lists<I: Shelf>(alloc: Global, input: &mut I) -> Result<Vec<Vec<Record>>, ServeFault>
+    requires { I.failed input.old < 2 ^ 62 }
+    ensures same { I.files input.new ≡ I.files input.old }
+    ensures lists { IfOk result (λ v. (there : Files) → I.files input.old ≡ Some there → AreLists there (map (λ l. l.items) v.items)) }
+    ensures calm { IfOk result (λ v. I.failed input.new ≡ I.failed input.old) }
+    ensures why { IfErr result (λ f. (there : Files) → I.files input.old ≡ Some there → Explains f there) }
+    ensures fault { IfErr result (λ f. CountsFault f (I.failed input.old) (I.failed input.new)) }
+{
+    let mut lists = Vec::new(alloc);
+    for rack in 0..RACK_LIMIT {
+        match read_rack_list(alloc, input, rack)? {
+            Some(list) => push_list(&mut lists, list)?,
+            None if rack == 0 => return Err(ServeFault::NoRacks),
+            None => return Ok(lists),
+        }
+    }
+    if has_rack(alloc, input, RACK_LIMIT)? {
+        return Err(ServeFault::TooManyRacks);
+    }
+    Ok(lists)
+}
+
+fn push_list(lists: &mut Vec<Vec<Record>>, list: Vec<Record>) -> Result<(), ServeFault>
+    ensures pushed { OnOk result (lists.new.items ≡ lists.old.items ++ list ∷ []) }
+    ensures memory { IfErr result (λ f. f ≡ serving_fault.OutOfMemory) }
+{
+    match lists.push(list) {
+        Ok(()) => Ok(()),
+        Err(_) => Err(ServeFault::OutOfMemory),
+    }
+}
+
+// Whether a rack's list is there.
+fn has_rack<I: Shelf>(alloc: Global, input: &mut I, rack: usize) -> Result<bool, ServeFault>
+    requires { I.failed input.old < 2 ^ 63 }
+    ensures same { I.files input.new ≡ I.files input.old }
+    ensures has { IfOk result (λ has. (there : Files) → I.files input.old ≡ Some there → is_some (there (list_name rack)) ≡ has) }
+    ensures calm { IfOk result (λ has. I.failed input.new ≡ I.failed input.old) }
+    ensures fault { IfErr result (λ f. IsReadFault f (I.failed input.old) (I.failed input.new)) }
+{
+    let Ok(name) = list_file(alloc, rack) else {
+        return Err(ServeFault::OutOfMemory);
+    };
+    match input.read(alloc, name.as_str(), 0) {
+        Ok(Some(_)) => Ok(true),
+        Ok(None) => Ok(false),
+        Err(ShelfFault::Device) => Err(ServeFault::Device),
+        Err(ShelfFault::OutOfMemory) => Err(ServeFault::OutOfMemory),
+    }
+}
+
+// A listed request with the survivors that were read, and the places of the others.
+fn read_request<I: Shelf>(
+    alloc: Global,
+    input: &mut I,
+    listed: &Listed,
+) -> Result<(Request, Vec<Place>), AllocError>
+    requires { I.failed input.old + length listed.now.survivors < 2 ^ 63 }
+    ensures same { I.files input.new ≡ I.files input.old }
+    ensures read { IfOk result (λ v. (reads : Reads) × AreReads listed.now reads × (I.failed input.new ≡ I.failed input.old + failures reads)
+        × ((there : Files) → I.files input.old ≡ Some there → (v.0 ≡ asked there listed.now reads) × (v.1.items ≡ unread there listed.now reads))) }
+    ensures few { I.failed input.new ≤ I.failed input.old + length listed.now.survivors }
+{
+    let (fragments, unread) = read_survivors(alloc, input, listed)?;
+    let stripe = String::from_str(alloc, listed.stripe())?;
+    match Request::new(stripe, listed.target(), listed.length(), fragments) {
+        Ok(request) => Ok((request, unread)),
+        Err(_) => Err(AllocError),
+    }
+}
+
+// The requests of a rack with the survivors that were read, and the places of the others.
+fn read_rack<I: Shelf>(
+    alloc: Global,
+    input: &mut I,
+    rack: &[&Listed],
+) -> Result<(Vec<Request>, Vec<Vec<Place>>), AllocError>
+    requires { I.failed input.old + survivor_count (map (λ r. r.now) rack.now) < 2 ^ 63 }
+    ensures same { I.files input.new ≡ I.files input.old }
+    ensures read { IfOk result (λ v. (reads : List Reads) × AllZip AreReads (map (λ r. r.now) rack.now) reads × (I.failed input.new ≡ I.failed input.old + rack_failures reads)
+        × ((there : Files) → I.files input.old ≡ Some there → (v.0.items ≡ asked_rack there (map (λ r. r.now) rack.now) reads) × (map (λ u. u.items) v.1.items ≡ unread_rack there (map (λ r. r.now) rack.now) reads))) }
+    ensures few { I.failed input.new ≤ I.failed input.old + survivor_count (map (λ r. r.now) rack.now) }
+{
+    let mut requests = Vec::new(alloc);
+    let mut unread = Vec::new(alloc);
+    for index in 0..rack.len() {
+        let (request, places) = read_request(alloc, input, rack[index])?;
+        requests.push(request)?;
+        unread.push(places)?;
+    }
+    Ok((requests, unread))
+}

@@ -1,0 +1,41 @@
+//! Shelves: named files that may fail.
+ghost use Rattle.std.specs.Prelude.{◌≡◌, ℕ, List, ◌<◌, ◌^◌, Option, None, IfOk, IfSome, take, option_map};
+ghost use Rattle.farm_files.specs.Files.{CountsFailure, Told, Writes};
+
+use std::alloc::Global;
+
+#[derive(Clone, Copy, PartialEq, Eq, Debug)]
+pub enum ShelfFault {
+    Device,
+    OutOfMemory,
+}
+
+/// Named files on a device that may fail.
+pub trait Shelf {
+    /// The files, where the shelf tells them.
+    ghost files: { Self → Told } = { λ _. None };
+
+    /// How often the device failed.
+    ghost failed: { Self → ℕ };
+
+    fn failures(&self) -> u64
+        ensures { result ≡ failed self.now };
+
+    /// The first bytes of a file, as many as the limit at most.
+    fn read(
+        &mut self,
+        alloc: Global,
+        name: &str,
+        limit: usize,
+    ) -> Result<Option<Vec<u8>>, ShelfFault>
+        requires { failed self.old < 2 ^ 63 }
+        ensures bytes { IfOk result (λ v. IfSome (files self.old) (λ there. option_map (λ b. b.items) v ≡ option_map (take limit) (there name.now))) }
+        ensures same { files self.new ≡ files self.old }
+        ensures failure { CountsFailure result (failed self.old) (failed self.new) };
+
+    /// Replaces a whole file.
+    fn write(&mut self, alloc: Global, name: &str, bytes: &[u8]) -> Result<(), ShelfFault>
+        requires { failed self.old < 2 ^ 63 }
+        ensures written { Writes result name.now bytes.now (files self.old) (files self.new) }
+        ensures failure { CountsFailure result (failed self.old) (failed self.new) };
+}

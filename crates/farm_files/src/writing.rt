@@ -1,0 +1,87 @@
+//! Writing the files.
+ghost use Rattle.std.specs.Prelude.{◌≡◌, ◌++◌, ◌<◌, ◌^◌, IfErr, OnOk, length, map, option_map};
+ghost use Rattle.farm_files.specs.Files.{StopsWriting, put_all};
+ghost use Rattle.farm_files.specs.Named.{named};
+ghost use Rattle.farm_files.specs.Serving.{rack_files, rebuilt_file};
+
+use crate::names;
+use crate::listed::Listed;
+use crate::report::report_on;
+use crate::shelf::{Shelf, ShelfFault};
+use lrc_code::{Outcome, Place};
+use std::alloc::{AllocError, Global};
+
+/// A file that is to be written.
+#[derive(Drop)]
+pub(crate) struct NamedFile {
+    pub(crate) name: String,
+    pub(crate) bytes: Vec<u8>,
+}
+
+// Writes the files in order, up to the first write that fails.
+fn write_files<O: Shelf>(
+    alloc: Global,
+    output: &mut O,
+    files: &[NamedFile],
+) -> Result<(), ShelfFault>
+    requires { O.failed output.old < 2 ^ 63 }
+    ensures ok { OnOk result (O.files output.new ≡ option_map (λ old. put_all old (map named files.now)) (O.files output.old)) }
+    ensures fault { IfErr result (λ f. StopsWriting f (map named files.now) (O.files output.old) (O.files output.new)) }
+{
+    for file in files {
+        output.write(alloc, file.name.as_str(), file.bytes.as_slice())?;
+    }
+    Ok(())
+}
+
+// Adds the fragment of a request, where it was rebuilt.
+fn push_rebuilt(
+    alloc: Global,
+    files: &mut Vec<NamedFile>,
+    rack: usize,
+    number: usize,
+    listed: &Listed,
+    outcome: &Outcome,
+) -> Result<(), AllocError>
+    ensures { OnOk result (map named files.new.items ≡ map named files.old.items ++ rebuilt_file rack number listed.now outcome.now) }
+{
+    match outcome {
+        Outcome::Rebuilt(bytes) => {
+            let name = names::rebuilt_file(alloc, rack, number, listed.stripe(), listed.target())?;
+            let bytes = Vec::from_slice(alloc, bytes.as_slice())?;
+            files.push(NamedFile { name, bytes })?;
+            Ok(())
+        }
+        Outcome::Contradiction => Ok(()),
+        Outcome::Several => Ok(()),
+    }
+}
+
+// Adds a rack's rebuilt fragments, then its report.
+fn push_rack(
+    alloc: Global,
+    files: &mut Vec<NamedFile>,
+    rack: usize,
+    requests: &[&Listed],
+    outcomes: &[Outcome],
+    unread: &[Vec<Place>],
+) -> Result<(), AllocError>
+    requires outcomes { length outcomes.now ≡ length requests.now }
+    requires unread { length unread.now ≡ length requests.now }
+    ensures { OnOk result (map named files.new.items ≡ map named files.old.items ++ rack_files rack (map (λ r. r.now) requests.now) outcomes.now (map (λ u. u.items) unread.now)) }
+{
+    let bytes = report_on(alloc, requests, outcomes, unread)?;
+    for number in 0..requests.len() {
+        push_rebuilt(
+            alloc,
+            files,
+            rack,
+            number,
+            requests[number],
+            &outcomes[number],
+        )?;
+    }
+    let name = names::report_file(alloc, rack)?;
+    files.push(NamedFile { name, bytes })?;
+    Ok(())
+}

@@ -1,0 +1,198 @@
+//! Names, sets, refusals, one stripe and one reduction, with values from outside.
+use crate::text::parse_number;
+use crate::{
+    Bytes, Fragment, Group, Place, PlaceSet, Request, RequestFault, encode, is_stripe_name, reduce,
+};
+use std::alloc::{AllocError, Global};
+
+const NAMES: [&str; 10] = ["x0", "x1", "x2", "y0", "y1", "y2", "px", "py", "p0", "p1"];
+
+fn text(alloc: Global, text: &str) -> Result<String, AllocError> {
+    String::from_str(alloc, text)
+}
+
+// A request for `target` with survivors of these places, each of one byte.
+fn asked(
+    alloc: Global,
+    stripe: &str,
+    target: Place,
+    length: u32,
+    places: &[Place],
+) -> Result<Result<Request, RequestFault>, AllocError> {
+    let mut survivors = Vec::new(alloc);
+    for place in places {
+        survivors.push(Fragment {
+            place: *place,
+            bytes: vec![in alloc; 7]?,
+        })?;
+    }
+    Ok(Request::new(text(alloc, stripe)?, target, length, survivors))
+}
+
+#[test]
+fn places_by_name_and_index(rt: HostRuntime) {
+    for index in 0..10usize {
+        let place = Place::from_index(index);
+        assert!(&rt; place.is_some_and(|p| p.index() == index));
+        assert_eq!(&rt; place.map(|p| p.name()), Some(NAMES[index]));
+        assert_eq!(&rt; Place::parse(NAMES[index]), place);
+        let group = match index {
+            0 | 1 | 2 | 6 => Some(Group::X),
+            3 | 4 | 5 | 7 => Some(Group::Y),
+            _ => None,
+        };
+        assert_eq!(&rt; place.and_then(|p| p.group()), group);
+    }
+    assert!(&rt; Place::from_index(10).is_none());
+    for name in ["", "x", "x3", "X0", "x0 ", "px0", "z9"] {
+        assert!(&rt; Place::parse(name).is_none(), "{name}");
+    }
+    assert!(&rt; Place::named(b"\xffp").is_none());
+}
+
+#[test]
+fn sets_of_places(rt: HostRuntime) {
+    let set = PlaceSet::empty()
+        .with(Place::X1)
+        .with(Place::P1)
+        .with(Place::X1);
+    assert!(&rt; set.len() == 2 && set.has(Place::X1) && set.has(Place::P1) && !set.has(Place::X0));
+    let others = set.others();
+    assert!(&rt;
+        others.len() == 8
+            && !others.has(Place::X1)
+            && !others.has(Place::P1)
+            && others.has(Place::X0)
+    );
+}
+
+#[test]
+fn numbers_of_one_to_seven_digits(rt: HostRuntime) {
+    for (text, number) in [
+        ("0", 0),
+        ("7", 7),
+        ("0000003", 3),
+        ("65536", 65_536),
+        ("9999999", 9_999_999),
+    ] {
+        assert_eq!(&rt; parse_number(text.as_bytes()), Some(number));
+    }
+    for text in ["", "00000003", "+3", "-3", "3 ", "3a", "٣"] {
+        assert!(&rt; parse_number(text.as_bytes()).is_none(), "{text}");
+    }
+}
+
+#[test]
+fn names_of_stripes(rt: HostRuntime) {
+    for name in ["a", "z9-", "-", "abcdefghijklmnopqrstuvwxyz012345"] {
+        assert!(&rt; is_stripe_name(name), "{name}");
+    }
+    for name in [
+        "",
+        "A",
+        "a b",
+        "a_b",
+        "ä",
+        "abcdefghijklmnopqrstuvwxyz0123456",
+    ] {
+        assert!(&rt; !is_stripe_name(name), "{name}");
+    }
+}
+
+#[test]
+fn refusals_in_order(rt: HostRuntime) -> Result<(), AllocError> {
+    let rows: [(&str, Place, u32, &[Place], Option<u8>); 12] = [
+        ("a", Place::X0, 1, &[], None),
+        ("a", Place::X0, 65_536, &[], None),
+        ("a", Place::X0, 1, &[Place::X1, Place::X2, Place::Px], None),
+        ("A", Place::X0, 1, &[], Some(1)),
+        ("A", Place::X0, 0, &[Place::X0, Place::X0], Some(1)),
+        ("a", Place::X0, 0, &[Place::X0, Place::X0], Some(2)),
+        ("a", Place::X0, 65_537, &[], Some(2)),
+        ("a", Place::X0, 1, &[Place::X1, Place::X1], Some(3)),
+        ("a", Place::X0, 2, &[Place::X0, Place::X0], Some(3)),
+        ("a", Place::X0, 1, &[Place::X0], Some(4)),
+        ("a", Place::X0, 2, &[Place::X0], Some(4)),
+        ("a", Place::X0, 2, &[Place::X1], Some(5)),
+    ];
+    for (stripe, target, length, places, code) in rows {
+        let made = asked(rt.alloc(), stripe, target, length, places)?;
+        assert_eq!(&rt;
+            made.err().map(|fault| fault.code()),
+            code,
+            "{stripe} {length}"
+        );
+    }
+    Ok(())
+}
+
+#[test]
+fn readers_of_a_request(rt: HostRuntime) -> Result<(), AllocError> {
+    let made = asked(rt.alloc(), "a-1", Place::P0, 1, &[Place::Y2, Place::X1])?;
+    assert!(&rt; made.is_ok());
+    if let Ok(request) = made {
+        assert!(&rt;
+            request.stripe() == "a-1" && request.target() == Place::P0 && request.length() == 1
+        );
+        assert!(&rt; request.survivors().len() == 2 && request.survivors().has(Place::Y2));
+        assert_eq!(&rt; request.bytes_at(Place::X1), Some([7u8].as_slice()));
+        assert!(&rt; request.bytes_at(Place::X0).is_none());
+    }
+    let bytes = Bytes::new(vec![in rt.alloc(); 1, 2, 3]?);
+    assert_eq!(&rt; bytes.as_slice(), [1u8, 2, 3].as_slice());
+    assert_eq!(&rt; bytes.into_vec().len(), 3);
+    Ok(())
+}
+
+// The parities of 61 62 63 and five data of zeros.
+#[test]
+fn one_stripe_encoded(rt: HostRuntime) -> Result<(), AllocError> {
+    let alloc = rt.alloc();
+    let sources = [
+        vec![in alloc; 0x61, 0x62, 0x63]?,
+        vec![in alloc; 0, 0, 0]?,
+        vec![in alloc; 0, 0, 0]?,
+        vec![in alloc; 0, 0, 0]?,
+        vec![in alloc; 0, 0, 0]?,
+        vec![in alloc; 0, 0, 0]?,
+    ];
+    let lengths = sources.iter().all(|s| s.len() == 3);
+    assert!(&rt; lengths);
+    let stripe = encode(alloc, &sources)?;
+    let expected: [[u8; 3]; 10] = [
+        [0x61, 0x62, 0x63],
+        [0, 0, 0],
+        [0, 0, 0],
+        [0, 0, 0],
+        [0, 0, 0],
+        [0, 0, 0],
+        [0x61, 0x62, 0x63],
+        [0, 0, 0],
+        [0x99, 0x95, 0x91],
+        [0x5e, 0x6e, 0x7e],
+    ];
+    for k in 0..10usize {
+        assert_eq!(&rt;
+            stripe[k].as_slice(),
+            expected[k].as_slice(),
+            "fragment {k}"
+        );
+    }
+    Ok(())
+}
+
+// With x0 lost alone the first local equation determines it, and three rows are without a pivot.
+#[test]
+fn one_reduction(rt: HostRuntime) {
+    let reduced = reduce(PlaceSet::empty().with(Place::X0));
+    let mut pivots = 0u32;
+    for row in 0..4usize {
+        if let Some(place) = reduced.pivot(row) {
+            pivots = pivots.wrapping_add(1);
+            assert!(&rt; place == Place::X0 && reduced.coefficient(row, place).byte() == 1);
+        } else {
+            assert!(&rt; reduced.coefficient(row, Place::X0).byte() == 0);
+        }
+    }
+    assert_eq!(&rt; pivots, 1);
+}
