@@ -26,8 +26,7 @@ scaled_further f c g r t bytes e v = record {
 }
 
 -- the sum of both branches
-pub scaled_sum : (f : ℕ) (r : Asked) (s t : Form) (xs ys : List ℕ) → IsScaledValue f r s xs → IsScaledValue f r t ys → length (sums xs ys) ≡ r.len → IsScaledValue f r (Sum s t) (sums xs ys)
-scaled_sum f r s t xs ys v w len = record {
+pub scaled_sum : (f : ℕ) (r : Asked) (s t : Form) (xs ys zs : List ℕ) → IsScaledValue f r s xs → IsScaledValue f r t ys → zs ≡ sums xs ys → length zs ≡ r.len → IsScaledValue f r (Sum s t) zs
+scaled_sum f r s t xs ys zs v w e len = record {
   len = len;
-  at = λ i h. get_or-sums xs ys i (omega (arith, h, v.len)) (v.len ∙ sym w.len) ∙ ap₂ bit_xor (v.at i h) (w.at i h) ∙ sym (times-xor f _ _);
-}
+  at = λ i h. ap (λ bs. get_or bs i 0) e ∙ get_or-sums xs ys i (omega (arith, h, v.len)) (v.len ∙ sym w.len) ∙ ap₂ bit_xor (v.at i h) (w.at i h) ∙ sym (times-xor f _ _) }

@@ -13,7 +13,7 @@ pub returns-in_ok-second-in-Sum : goal.returns-in_ok-second-in-Sum
 returns-in_ok-second-in-Sum g t c =
     let first : IsScaledValue c.args.factor c.args.request.now (form_of c.in-Sum.left.value) c.in_ok-sum-in-Sum.sum.items = rw c.in_ok-sum-in-Sum.was at c.join-first.ensures.first in
     let second : IsScaledValue c.args.factor c.args.request.now (form_of c.in-Sum.right.value) c.in_ok-second-in-Sum.second.items = rw c.in_ok-second-in-Sum.was at c.join-first.ensures.second in
-    let sum = c.add_into.ensures ∙ ap₂ sums c.as_mut_slice.ensures.value c.as_slice.ensures.value in
+    let sum : c.add_into.new.dst ≡ sums c.in_ok-sum-in-Sum.sum.items c.in_ok-second-in-Sum.second.items = c.add_into.ensures ∙ ap₂ sums c.as_mut_slice.ensures.value c.as_slice.ensures.value in
     let n : length c.add_into.new.dst ≡ c.in_ok-sum-in-Sum.sum.len = omega arith in
     let e = written c.in_ok-sum-in-Sum.sum.len c.add_into.new.dst (drop (length c.add_into.new.dst) c.in_ok-sum-in-Sum.sum.items) n in
-    rw (c.in-Sum.is, e, sum) (scaled_sum _ _ _ _ _ _ first second (sym (ap length sum) ∙ omega (arith, first.len)))
+    rw (c.in-Sum.is, e) (scaled_sum c.args.factor c.args.request.now (form_of c.in-Sum.left.value) (form_of c.in-Sum.right.value) c.in_ok-sum-in-Sum.sum.items c.in_ok-second-in-Sum.second.items c.add_into.new.dst first second sum (omega (arith, first.len)))
