@@ -4,3 +4,4 @@ pub mod Reading
 pub mod Survivors
 pub mod WordsMade
 pub mod Answering
+pub mod Unique

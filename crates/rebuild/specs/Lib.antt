@@ -3,3 +3,4 @@ pub mod Parts
 pub mod Reply
 pub mod Replies
 pub mod LineMode
+pub mod Laws

@@ -9,6 +9,7 @@ use std::io::{Read, Write};
 use thiserror::Error;
 
 mod input;
+pub mod laws;
 mod lines;
 mod parsing;
 mod replies;

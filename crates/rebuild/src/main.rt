@@ -6,23 +6,36 @@ pub mod line;
 mod tests;
 
 use line::{line_mode, line_status};
+use std::io::ErrorKind;
 use std::process::ExitCode;
 use std::{env, io};
 
-/// The status where the command line is not one that the program takes.
+/// The status of a command line that the program doesn't take.
 const USAGE: u8 = 2;
 
+/// The status of want of memory.
+const OUT_OF_MEMORY: u8 = 4;
+
 fn main(rt: HostRuntime) -> ExitCode {
-    let status = match has_words(&rt) {
-        Ok(false) => answer_lines(&rt),
+    ExitCode::from(run(&rt))
+}
+
+// Does what the command line asks, and gives the exit status.
+fn run(rt: &HostRuntime) -> u8 {
+    match has_words(rt) {
+        Ok(false) => answer_lines(rt),
+        Err(e) if e.kind() == ErrorKind::OutOfMemory => {
+            let _ = eprintln!(rt; "E16");
+            OUT_OF_MEMORY
+        }
+        // A word that isn't text is an error too.
         _ => {
-            let _ = eprintln!(&rt;
-                "rebuild takes no words: it answers the lines of its standard input"
+            let _ = eprintln!(rt;
+                "rebuild takes no words; it answers the lines of its standard input"
             );
             USAGE
         }
-    };
-    ExitCode::from(status)
+    }
 }
 
 // Whether words stand behind the program's name.
@@ -30,7 +43,7 @@ fn has_words(rt: &HostRuntime) -> io::Result<bool> {
     Ok(env::args(rt)?.len() > 1)
 }
 
-// Answers the lines of standard input on standard output, and gives the exit status.
+// Replies to the lines of standard input on standard output, and gives the exit status.
 fn answer_lines(rt: &HostRuntime) -> u8 {
     let answered = line_mode(rt.alloc(), &mut rt.stdin(), &mut rt.stdout());
     if let Err(fault) = answered {

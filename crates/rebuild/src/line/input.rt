@@ -1,6 +1,7 @@
 //! The whole input, up to its limit.
-ghost use Rattle.std.specs.Prelude.{◌≡◌, IfOk, IfErr};
-ghost use Rattle.rebuild.specs.LineMode.{IsWholeInput, StopsReading};
+ghost use Rattle.std.specs.Prelude.{◌≡◌, ◌≢◌, ◌<◌, ◌≤◌, ◌++◌, length, IfOk, IfErr, OnOk};
+ghost use Rattle.rebuild.specs.declared.line.LineFault.TheVariants.{Device, InputTooLong};
+ghost use Rattle.rebuild.specs.LineMode.{IsWholeInput, StopsReading, input_limit};
 
 use super::LineFault;
 use std::alloc::Global;
@@ -25,12 +26,7 @@ pub(crate) fn read_input<R: Read>(alloc: Global, input: &mut R) -> Result<Vec<u8
     for _turn in 0..READ_TURNS {
         match input.read(&mut block) {
             Ok(0) => return Ok(bytes),
-            Ok(n) => {
-                if n > INPUT_LIMIT - bytes.len() {
-                    return Err(LineFault::InputTooLong);
-                }
-                bytes.extend_from_slice(&block[..n])?;
-            }
+            Ok(n) => add_block(&mut bytes, &block[..n])?,
             Err(e) => {
                 if e.kind() != ErrorKind::Interrupted {
                     return Err(LineFault::Device);
@@ -39,4 +35,19 @@ pub(crate) fn read_input<R: Read>(alloc: Global, input: &mut R) -> Result<Vec<u8
         }
     }
     Err(LineFault::Device)
+}
+
+// Adds what a read gave, where the input stays within its limit.
+fn add_block(bytes: &mut Vec<u8>, block: &[u8]) -> Result<(), LineFault>
+    requires { length bytes.old.items ≤ input_limit }
+    ensures added { OnOk result (bytes.new.items ≡ bytes.old.items ++ block.now) }
+    ensures within { OnOk result (length bytes.new.items ≤ input_limit) }
+    ensures fault { IfErr result (λ f. f ≡ InputTooLong → input_limit < length (bytes.old.items ++ block.now)) }
+    ensures kind { IfErr result (λ f. f ≢ Device) }
+{
+    if block.len() > INPUT_LIMIT - bytes.len() {
+        return Err(LineFault::InputTooLong);
+    }
+    bytes.extend_from_slice(block)?;
+    Ok(())
 }

@@ -1,11 +1,7 @@
 //! Readers and writers that give and take little, or fail.
-ghost use Rattle.std.specs.Prelude.{◌≤◌, length};
-
-use super::run;
 use crate::line::{LineCount, LineFault, line_mode, line_status};
 use std::io;
 use std::io::{ErrorKind, Read, Write};
-use std::test::Fail;
 
 /// The input of the program's stored run, whose ten lines are all answered.
 const TEN_LINES: &[u8] = b"a x0 1 x1=02 x2=03 px=00\n\
@@ -30,7 +26,7 @@ contradiction\n\
 several\n\
 several\n";
 
-// What a call number says: it works, it fails, or it is interrupted and works when it is made again.
+// Whether each call of a device works, or which one fails, and how.
 #[derive(Clone, Copy)]
 enum Fate {
     Works,

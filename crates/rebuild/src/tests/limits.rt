@@ -1,8 +1,10 @@
-//! The greatest input, and one byte more.
-use super::run;
+//! The greatest input and one byte more, and long lines.
+use super::assert_replies;
 use crate::line::{LineCount, LineFault, line_mode, line_status};
+use std::alloc::AllocError;
 use std::io;
 use std::io::Read;
+use std::test::Fail;
 
 /// The greatest length of an input.
 const GREATEST: usize = 8_388_608;
@@ -57,4 +59,50 @@ fn stops_past_the_limit(rt: HostRuntime) {
         assert_eq!(rt; line_status(&answer), 1);
         assert!(rt; output.is_empty());
     }
+}
+
+// Adds a text so many times.
+fn add_times(line: &mut Vec<u8>, text: &[u8], times: usize) -> Result<(), AllocError> {
+    for _ in 0..times {
+        line.extend_from_slice(text)?;
+    }
+    Ok(())
+}
+
+/// Fragments of the greatest length: A5 + 5A + FF is 00 at each position.
+#[test]
+fn answers_long_fragments(rt: HostRuntime) -> Result<(), Fail> {
+    let alloc = rt.alloc();
+    let mut line = Vec::from_slice(alloc, b"a x0 65536")?;
+    let survivors: [(&[u8], &[u8]); 3] = [(b" x1=", b"A5"), (b" x2=", b"5a"), (b" px=", b"fF")];
+    for (place, byte) in survivors {
+        line.extend_from_slice(place)?;
+        add_times(&mut line, byte, 65_536)?;
+    }
+    let mut text = Vec::from_slice(alloc, b"rebuilt ")?;
+    add_times(&mut text, b"00", 65_536)?;
+    text.push(b'\n')?;
+    assert_replies(&rt, &line, &text, 1, 0);
+    Ok(())
+}
+
+/// Long lines that ask nothing that is answered: each repeats a piece behind its front many times.
+#[test]
+fn refuses_long_lines(rt: HostRuntime) -> Result<(), Fail> {
+    let lines: [(&[u8], &[u8], usize, &[u8]); 8] = [
+        (b"a x0 1", b" x1=02", 300, b"refused E3\n"),
+        (b"a x0 1 x2=03", b" x1=", 100_000, b"refused E3\n"),
+        (b"a x0 1 x1=", b"02", 65_537, b"refused E5\n"),
+        (b"x0 x0 1", b" x0", 100_000, b"refused E22\n"),
+        (b"a x0 ", b"1", 100_000, b"refused E22\n"),
+        (b"a ", b" ", 1_000_000, b"refused E22\n"),
+        (b"", b"a", 1_000_000, b"refused E22\n"),
+        (b"a x0 1", b"\0", 1_000_000, b"refused E22\n"),
+    ];
+    for (front, piece, times, reply) in lines {
+        let mut line = Vec::from_slice(rt.alloc(), front)?;
+        add_times(&mut line, piece, times)?;
+        assert_replies(&rt, &line, reply, 0, 1);
+    }
+    Ok(())
 }
