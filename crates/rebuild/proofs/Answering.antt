@@ -2,12 +2,12 @@
 use Rattle.std.proofs.Common.{◌≡◌, ◌++◌, ℕ, Bool, true, false, cond, List, [], ◌∷◌, sym, subst, append_assoc}
 use Rattle.std.proofs.lemmas.List.{append-nil}
 use Rattle.std.specs.List.{AllZip, filter}
-use Rattle.rebuild.specs.LineMode.{is_asking}
+use Rattle.rebuild.specs.LineMode.{is_nonblank}
 use Rattle.rebuild.specs.Reply.{IsReply, Reply}
 
 -- replies to some lines
 abbrev pub Answer : List (List ℕ) → List Reply → Type 0
-Answer ls replies = AllZip IsReply (filter is_asking ls) replies
+Answer ls replies = AllZip IsReply (filter is_nonblank ls) replies
 
 -- whatever answers the lines left completes the replies
 abbrev pub Completes : List (List ℕ) → List Reply → List (List ℕ) → Type 0
@@ -17,22 +17,22 @@ pub completes-none : (all : List (List ℕ)) → Completes all [] all
 completes-none all more h = h
 
 -- a blank line
-pub completes-blank : (all left behind : List (List ℕ)) (line : List ℕ) (replies : List Reply) → left ≡ line ∷ behind → is_asking line ≡ false
+pub completes-blank : (all left behind : List (List ℕ)) (line : List ℕ) (replies : List Reply) → left ≡ line ∷ behind → is_nonblank line ≡ false
     → Completes all replies left → Completes all replies behind
 completes-blank all left behind line replies is blank whole more h =
-    whole more (let P : List (List ℕ) → Type 0 = λ ls. Answer ls more in subst P (sym is) (by (is_asking line) blank))
+    whole more (let P : List (List ℕ) → Type 0 = λ ls. Answer ls more in subst P (sym is) (by (is_nonblank line) blank))
   where
-    by : (b : Bool) → b ≡ false → AllZip IsReply (cond b (line ∷ filter is_asking behind) (filter is_asking behind)) more
+    by : (b : Bool) → b ≡ false → AllZip IsReply (cond b (line ∷ filter is_nonblank behind) (filter is_nonblank behind)) more
     by true e = cc
     by false e = h
 
--- a line that asks, and its reply
-pub completes-reply : (all left behind : List (List ℕ)) (line : List ℕ) (replies : List Reply) (reply : Reply) → left ≡ line ∷ behind → is_asking line ≡ true → IsReply line reply
+-- a line that isn't blank, and its reply
+pub completes-reply : (all left behind : List (List ℕ)) (line : List ℕ) (replies : List Reply) (reply : Reply) → left ≡ line ∷ behind → is_nonblank line ≡ true → IsReply line reply
     → Completes all replies left → Completes all (replies ++ reply ∷ []) behind
-completes-reply all left behind line replies reply is asking here whole more h =
-    rw append_assoc (whole (reply ∷ more) (let P : List (List ℕ) → Type 0 = λ ls. Answer ls (reply ∷ more) in subst P (sym is) (by (is_asking line) asking)))
+completes-reply all left behind line replies reply is nonblank here whole more h =
+    rw append_assoc (whole (reply ∷ more) (let P : List (List ℕ) → Type 0 = λ ls. Answer ls (reply ∷ more) in subst P (sym is) (by (is_nonblank line) nonblank)))
   where
-    by : (b : Bool) → b ≡ true → AllZip IsReply (cond b (line ∷ filter is_asking behind) (filter is_asking behind)) (reply ∷ more)
+    by : (b : Bool) → b ≡ true → AllZip IsReply (cond b (line ∷ filter is_nonblank behind) (filter is_nonblank behind)) (reply ∷ more)
     by true e = (here, h)
     by false e = cc
 

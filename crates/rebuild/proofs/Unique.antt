@@ -9,15 +9,15 @@ use Rattle.lrc_code.specs.Requests.{Asked, refusal}
 use Rattle.lrc_code.proofs.CodeLaws.{answer-unique}
 use Rattle.rebuild.specs.declared.line.replies.LineRefusal.{LineRefusal}
 use Rattle.rebuild.specs.declared.line.replies.LineRefusal.TheVariants.{BadLine, Refused}
-use Rattle.rebuild.specs.Line.{asked_by}
-use Rattle.rebuild.specs.LineMode.{AreReplies, is_asking}
+use Rattle.rebuild.specs.Line.{request_of}
+use Rattle.rebuild.specs.LineMode.{AreReplies, is_nonblank}
 use Rattle.rebuild.specs.Reply.{IsReply, Reply, refusal_of}
 
 some_once : {A : Type 0} (o : Option A) (x y : A) → o ≡ Some x → o ≡ Some y → x ≡ y
 some_once o x y e f = cc
 
 -- a request that isn't refused isn't a refusal
-not_refused : (line : List ℕ) (asked : Asked) (e : LineRefusal) → asked_by line ≡ Some asked → refusal asked ≡ None → refusal_of line ≡ Some e → ⊥
+not_refused : (line : List ℕ) (asked : Asked) (e : LineRefusal) → request_of line ≡ Some asked → refusal asked ≡ None → refusal_of line ≡ Some e → ⊥
 not_refused line asked e is none h =
     let none_there : refusal_of line ≡ None =
     ap (λ o. option_map_or (λ a. option_map Refused (refusal a)) o (Some BadLine)) is ∙ ap (option_map Refused) none
@@ -27,7 +27,7 @@ not_refused line asked e is none h =
 
 reply_once : (line : List ℕ) (a b : Reply) → IsReply line a → IsReply line b → a ≡ b
 reply_once line (Ok o) (Ok p) (x, is, none, answer) (y, is', none', answer') =
-    let same : y ≡ x = some_once (asked_by line) y x is' is in
+    let same : y ≡ x = some_once (request_of line) y x is' is in
     ap Ok (answer-unique narrow x o p answer (let P : Asked → Type 0 = λ r. IsAnswer narrow r p in subst P same answer'))
 reply_once line (Ok o) (Err f) (x, is, none, answer) h = absurd (not_refused line x f is none h)
 reply_once line (Err e) (Ok p) h (y, is, none, answer) = absurd (not_refused line y e is none h)
@@ -42,4 +42,4 @@ zip_once (l ∷ ls) (p ∷ a) [] h k = absurd k
 zip_once (l ∷ ls) (p ∷ a) (q ∷ b) h k = ap₂ (λ r rs. r ∷ rs) (reply_once l p q h.0 k.0) (zip_once ls a b h.1 k.1)
 
 pub replies-unique : (input : List ℕ) (a b : List Reply) → AreReplies input a → AreReplies input b → a ≡ b
-replies-unique input a b h k = zip_once (filter is_asking (lines input)) a b h k
+replies-unique input a b h k = zip_once (filter is_nonblank (lines input)) a b h k

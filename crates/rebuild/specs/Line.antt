@@ -1,4 +1,4 @@
--- The request that a line of line mode asks.
+-- The request that a line of line mode writes.
 use Rattle.std.specs.Prelude.{◌==◌, ◌&&◌, ◌+◌, nat_le, ℕ, Bool, true, false, List, [], ◌∷◌, take, drop, map, Option, Some, None, if◌then◌else◌, position}
 use Rattle.std.specs.List.{filter, list_all, slice_split}
 use Rattle.std.specs.Result.{result_ok}
@@ -35,16 +35,16 @@ survivor word = do
   Some (record { place = place; bytes = bytes })
 
 -- the request that words write: the stripe's name, the target's, the length, and the survivors
-abbrev pub asked_by_words : List (List ℕ) → Option Asked
-asked_by_words [] = None
-asked_by_words (stripe ∷ []) = None
-asked_by_words (stripe ∷ target ∷ []) = None
-asked_by_words (stripe ∷ target ∷ size ∷ rest) = do
+abbrev pub request_of_words : List (List ℕ) → Option Asked
+request_of_words [] = None
+request_of_words (stripe ∷ []) = None
+request_of_words (stripe ∷ target ∷ []) = None
+request_of_words (stripe ∷ target ∷ size ∷ rest) = do
   place ← place_named narrow target
   len ← number size
   survivors ← every (map survivor rest)
   Some (record { stripe = stripe; target = place; len = len; survivors = survivors })
 
--- the request that a line asks, where it has the form of one
-abbrev pub asked_by : List ℕ → Option Asked
-asked_by line = if list_all is_printable line then asked_by_words (words line) else None
+-- the request that a line writes, where it has the form of one
+abbrev pub request_of : List ℕ → Option Asked
+request_of line = if list_all is_printable line then request_of_words (words line) else None

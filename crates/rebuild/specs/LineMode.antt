@@ -10,13 +10,14 @@ use Rattle.rebuild.specs.declared.line.LineFault.{LineFault}
 use Rattle.rebuild.specs.declared.line.LineFault.TheVariants.{InputTooLong, Device, OutOfMemory}
 use Rattle.rebuild.specs.Reply.{IsReply, Reply, reply_line}
 
--- a line that asks: one that isn't empty and doesn't hold spaces alone
-abbrev pub is_asking : List ℕ → Bool
-is_asking line = not (list_all is_space line)
+-- a line that isn't empty and doesn't hold spaces alone
+abbrev pub is_nonblank : List ℕ → Bool
+is_nonblank line = not (list_all is_space line)
 
--- these are the replies to the lines of an input that ask, in order
+-- these are the replies to the lines of an input that aren't blank, in order. The input is cut at each line feed; one
+-- carriage return in front of a line feed is dropped, and a last line without one counts where it isn't empty
 abbrev pub AreReplies : List ℕ → List Reply → Type 0
-AreReplies input replies = AllZip IsReply (filter is_asking (lines input)) replies
+AreReplies input replies = AllZip IsReply (filter is_nonblank (lines input)) replies
 
 -- the text of replies
 abbrev pub text_of : List Reply → List ℕ
@@ -39,12 +40,12 @@ abbrev pub ReadsPastLimit : Option (List ℕ) → Option (List ℕ) → Type 0
 ReadsPastLimit before after = (input : List ℕ) × Consumes before after input × (input_limit < length input)
 
 -- all input was read, and the writer got the replies to its lines and nothing else; they are counted
-pub record Replied (before after held holds : Option (List ℕ)) (count : LineCount) : Type 0 where
+pub record Replied (input_before input_after output_before output_after : Option (List ℕ)) (count : LineCount) : Type 0 where
   pub input : List ℕ
-  pub whole : IsWholeInput before after input
+  pub whole : IsWholeInput input_before input_after input
   pub replies : List Reply
   pub are_replies : AreReplies input replies
-  pub written : Appends held holds (text_of replies)
+  pub written : Appends output_before output_after (text_of replies)
   pub answered : count.answered ≡ count_by is_ok replies
   pub refused : count.refused ≡ count_by is_err replies
 
@@ -56,9 +57,9 @@ StopsReading before after OutOfMemory = Unit {0}
 
 -- what a fault tells of the reader and the writer: nothing is written before all input was read
 abbrev pub Explains : Option (List ℕ) → Option (List ℕ) → Option (List ℕ) → Option (List ℕ) → LineFault → Type 0
-Explains before after held holds InputTooLong = ReadsPastLimit before after × Keeps held holds
-Explains before after held holds Device = Keeps held holds ⊎ ((input : List ℕ) × IsWholeInput before after input)
-Explains before after held holds OutOfMemory = Keeps held holds
+Explains input_before input_after output_before output_after InputTooLong = ReadsPastLimit input_before input_after × Keeps output_before output_after
+Explains input_before input_after output_before output_after Device = Keeps output_before output_after ⊎ ((input : List ℕ) × IsWholeInput input_before input_after input)
+Explains input_before input_after output_before output_after OutOfMemory = Keeps output_before output_after
 
 -- ---- numbers
 

@@ -10,7 +10,7 @@ use Rattle.lrc_code.specs.Code.{narrow}
 use Rattle.lrc_code.specs.Requests.{Asked, code_of, refusal}
 use Rattle.rebuild.specs.declared.line.replies.LineRefusal.{LineRefusal}
 use Rattle.rebuild.specs.declared.line.replies.LineRefusal.TheVariants.{BadLine, Refused}
-use Rattle.rebuild.specs.Line.{asked_by}
+use Rattle.rebuild.specs.Line.{request_of}
 
 -- an outcome, or why the line is refused
 abbrev pub Reply : Type 0
@@ -18,11 +18,11 @@ Reply = Result Outcome LineRefusal
 
 -- why a line is refused: by its form first, and then as its request is
 abbrev pub refusal_of : List ℕ → Option LineRefusal
-refusal_of line = option_map_or (λ asked. option_map Refused (refusal asked)) (asked_by line) (Some BadLine)
+refusal_of line = option_map_or (λ asked. option_map Refused (refusal asked)) (request_of line) (Some BadLine)
 
--- the reply to a line: an answer to the request that it asks, or why it is refused
+-- the reply to a line: an answer to the request that it writes, or why it is refused
 abbrev pub IsReply : List ℕ → Reply → Type 0
-IsReply line (Ok outcome) = (asked : Asked) × (asked_by line ≡ Some asked) × (refusal asked ≡ None) × IsAnswer narrow asked outcome
+IsReply line (Ok outcome) = (asked : Asked) × (request_of line ≡ Some asked) × (refusal asked ≡ None) × IsAnswer narrow asked outcome
 IsReply line (Err e) = refusal_of line ≡ Some e
 
 -- a refusal's number

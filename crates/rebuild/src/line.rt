@@ -1,6 +1,5 @@
-//! Line mode: each line of the input asks for a fragment, and each line of the output replies.
-ghost use Rattle.std.specs.Prelude.{◌≡◌, ◌≢◌, List, ℕ, IfOk, IfErr};
-ghost use Rattle.std.specs.Io.KnownBytes.{Keeps};
+//! Line mode: each line of the input is a request for a fragment, and each line of the output the reply to one.
+ghost use Rattle.std.specs.Prelude.{◌≡◌, IfOk, IfErr};
 ghost use Rattle.rebuild.specs.LineMode.{Explains, Replied, fault_number, status_of};
 ghost use Rattle.rebuild.specs.declared.line.LineFault.TheVariants as fault;
 

@@ -1,4 +1,4 @@
-//! The program `rebuild`: answers the requests that its standard input asks, line by line.
+//! The program `rebuild`: replies to the requests of its standard input, line by line.
 #![tactic(auto)]
 
 pub mod line;
@@ -20,7 +20,7 @@ fn main(rt: HostRuntime) -> ExitCode {
     ExitCode::from(run(&rt))
 }
 
-// Does what the command line asks, and gives the exit status.
+// Does what the command line says, and gives the exit status.
 fn run(rt: &HostRuntime) -> u8 {
     match has_words(rt) {
         Ok(false) => answer_lines(rt),
@@ -31,7 +31,7 @@ fn run(rt: &HostRuntime) -> u8 {
         // A word that isn't text is an error too.
         _ => {
             let _ = eprintln!(rt;
-                "rebuild takes no words; it answers the lines of its standard input"
+                "rebuild takes no words; it replies to the lines of its standard input"
             );
             USAGE
         }

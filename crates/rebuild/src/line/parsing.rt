@@ -1,4 +1,4 @@
-//! The request that a line asks.
+//! The request that a line writes.
 ghost use Rattle.std.specs.Prelude.{◌≡◌, Ok, Some, None, IfOk, MatchResult, map, true};
 ghost use Rattle.std.specs.List.{list_all};
 ghost use Rattle.std.specs.Option.{option_map};
@@ -6,7 +6,7 @@ ghost use Rattle.std.specs.String.{string_bytes};
 ghost use Rattle.lrc_code.specs.Requests.{refusal};
 ghost use Rattle.lrc_code.specs.Survivors.{survivor_of, survivors_of};
 ghost use Rattle.lrc_code.specs.Text.{every};
-ghost use Rattle.rebuild.specs.Line.{asked_by, is_printable, survivor, words};
+ghost use Rattle.rebuild.specs.Line.{request_of, is_printable, survivor, words};
 ghost use Rattle.rebuild.specs.Parts.{asked_of};
 ghost use Rattle.rebuild.specs.Reply.{refusal_of};
 
@@ -18,13 +18,13 @@ use lrc_code::text::parse_number;
 use lrc_code::{Fragment, Place, Request};
 use std::alloc::{AllocError, Global};
 
-/// The request that a line asks, or why it is refused.
+/// The request that a line writes, or why the line is refused.
 pub(crate) fn parse_line(
     alloc: Global,
     line: &[u8],
 ) -> Result<Result<Request, LineRefusal>, AllocError>
     ensures { IfOk result (λ asked. MatchResult asked
-        (λ request. (asked_by line.now ≡ Some request) × (refusal request ≡ None))
+        (λ request. (request_of line.now ≡ Some request) × (refusal request ≡ None))
         (λ e. refusal_of line.now ≡ Some e)) }
 {
     let Some(parts) = parse_parts(alloc, line)? else {
@@ -51,9 +51,9 @@ struct Parts {
     survivors: Vec<Fragment>,
 }
 
-// The parts of the request that a line asks, where the line has the form of one.
+// The parts of the request that a line writes, where the line has the form of one.
 fn parse_parts(alloc: Global, line: &[u8]) -> Result<Option<Parts>, AllocError>
-    ensures { IfOk result (λ parts. option_map asked_of parts ≡ asked_by line.now) }
+    ensures { IfOk result (λ parts. option_map asked_of parts ≡ request_of line.now) }
 {
     if !are_printable(line) {
         return Ok(None);

@@ -28,33 +28,33 @@ several\n";
 
 // Whether each call of a device works, or which one fails, and how.
 #[derive(Clone, Copy)]
-enum Fate {
-    Works,
-    FailsAt(u64, ErrorKind),
+enum Calls {
+    AllWork,
+    OneFails(u64, ErrorKind),
 }
 
 // A reader that gives at most so many bytes at each call, and fails at one call.
 #[derive(Drop)]
-struct Tap<'a> {
+struct PieceReader<'a> {
     rest: &'a [u8],
     most: usize,
     calls: u64,
-    fate: Fate,
+    rule: Calls,
 }
 
 // Counts a call, and fails where it is the one that does.
-fn count_call(calls: &mut u64, fate: Fate) -> io::Result<()> {
+fn count_call(calls: &mut u64, rule: Calls) -> io::Result<()> {
     let number = *calls;
     *calls = number.saturating_add(1);
-    match fate {
-        Fate::FailsAt(at, kind) if at == number => Err(io::Error::from(kind)),
+    match rule {
+        Calls::OneFails(at, kind) if at == number => Err(io::Error::from(kind)),
         _ => Ok(()),
     }
 }
 
-impl Read for Tap<'_> {
+impl Read for PieceReader<'_> {
     fn read(&mut self, buf: &mut [u8]) -> io::Result<usize> {
-        count_call(&mut self.calls, self.fate)?;
+        count_call(&mut self.calls, self.rule)?;
         let n = buf.len().min(self.rest.len()).min(self.most);
         buf[..n].copy_from_slice(&self.rest[..n]);
         self.rest = &self.rest[n..];
@@ -64,48 +64,56 @@ impl Read for Tap<'_> {
 
 // A writer that takes at most so many bytes at each call, and fails at one call; a flush counts as a call.
 #[derive(Drop)]
-struct Sink {
+struct PieceWriter {
     text: Vec<u8>,
     most: usize,
     calls: u64,
-    fate: Fate,
+    rule: Calls,
 }
 
-impl Write for Sink {
+impl Write for PieceWriter {
     fn write(&mut self, buf: &[u8]) -> io::Result<usize> {
-        count_call(&mut self.calls, self.fate)?;
+        count_call(&mut self.calls, self.rule)?;
         let n = buf.len().min(self.most);
         self.text.extend_from_slice(&buf[..n])?;
         Ok(n)
     }
 
     fn flush(&mut self) -> io::Result<()> {
-        count_call(&mut self.calls, self.fate)
+        count_call(&mut self.calls, self.rule)
     }
 }
 
-// Line mode over ten lines, by devices that move so many bytes at a call: what was written, what was answered, and how
-// often the reader and the writer were called.
-fn run_ten(
-    rt: &impl AllocGlobal,
-    most: usize,
-    reading: Fate,
-    writing: Fate,
-) -> (Vec<u8>, Result<LineCount, LineFault>, u64, u64) {
-    let mut input = Tap {
+// What a run of line mode over the ten lines left.
+#[derive(Drop)]
+struct Run {
+    text: Vec<u8>,
+    answer: Result<LineCount, LineFault>,
+    reads: u64,
+    writes: u64,
+}
+
+// Line mode over the ten lines, by devices that move so many bytes at a call.
+fn run_ten(rt: &impl AllocGlobal, most: usize, reading: Calls, writing: Calls) -> Run {
+    let mut input = PieceReader {
         rest: TEN_LINES,
         most,
         calls: 0,
-        fate: reading,
+        rule: reading,
     };
-    let mut output = Sink {
+    let mut output = PieceWriter {
         text: Vec::new(rt.alloc()),
         most,
         calls: 0,
-        fate: writing,
+        rule: writing,
     };
     let answer = line_mode(rt.alloc(), &mut input, &mut output);
-    (output.text, answer, input.calls, output.calls)
+    Run {
+        text: output.text,
+        answer,
+        reads: input.calls,
+        writes: output.calls,
+    }
 }
 
 const ALL_ANSWERED: Result<LineCount, LineFault> = Ok(LineCount {
@@ -116,9 +124,9 @@ const ALL_ANSWERED: Result<LineCount, LineFault> = Ok(LineCount {
 #[test]
 fn takes_small_pieces(rt: HostRuntime) {
     for most in [1usize, 2, 7, 100, 1000] {
-        let (text, answer, _, _) = run_ten(&rt, most, Fate::Works, Fate::Works);
-        assert_eq!(rt; text.as_slice(), TEN_REPLIES);
-        assert_eq!(rt; answer, ALL_ANSWERED);
+        let run = run_ten(&rt, most, Calls::AllWork, Calls::AllWork);
+        assert_eq!(rt; run.text.as_slice(), TEN_REPLIES);
+        assert_eq!(rt; run.answer, ALL_ANSWERED);
     }
 }
 
@@ -126,19 +134,19 @@ fn takes_small_pieces(rt: HostRuntime) {
 #[test]
 fn ends_at_failed_reads(rt: HostRuntime) {
     for most in [100usize, 1000] {
-        let (_, _, reads, _) = run_ten(&rt, most, Fate::Works, Fate::Works);
-        assert!(rt; 1 < reads);
-        for k in 0..reads {
-            let (text, answer, _, writes) = run_ten(
+        let whole = run_ten(&rt, most, Calls::AllWork, Calls::AllWork);
+        assert!(rt; 1 < whole.reads);
+        for k in 0..whole.reads {
+            let run = run_ten(
                 &rt,
                 most,
-                Fate::FailsAt(k, ErrorKind::Other),
-                Fate::Works,
+                Calls::OneFails(k, ErrorKind::Other),
+                Calls::AllWork,
             );
-            assert_eq!(rt; answer, Err(LineFault::Device));
-            assert_eq!(rt; line_status(&answer), 3);
-            assert!(rt; text.is_empty());
-            assert_eq!(rt; writes, 0);
+            assert_eq!(rt; run.answer, Err(LineFault::Device));
+            assert_eq!(rt; line_status(&run.answer), 3);
+            assert!(rt; run.text.is_empty());
+            assert_eq!(rt; run.writes, 0);
         }
     }
 }
@@ -147,18 +155,18 @@ fn ends_at_failed_reads(rt: HostRuntime) {
 #[test]
 fn ends_at_failed_writes(rt: HostRuntime) {
     for most in [10usize, 1000] {
-        let (_, _, _, writes) = run_ten(&rt, most, Fate::Works, Fate::Works);
-        assert!(rt; 1 < writes);
-        for k in 0..writes {
-            let (text, answer, _, _) = run_ten(
+        let whole = run_ten(&rt, most, Calls::AllWork, Calls::AllWork);
+        assert!(rt; 1 < whole.writes);
+        for k in 0..whole.writes {
+            let run = run_ten(
                 &rt,
                 most,
-                Fate::Works,
-                Fate::FailsAt(k, ErrorKind::Other),
+                Calls::AllWork,
+                Calls::OneFails(k, ErrorKind::Other),
             );
-            assert_eq!(rt; answer, Err(LineFault::Device));
-            assert_eq!(rt; line_status(&answer), 3);
-            assert!(rt; TEN_REPLIES.starts_with(&text));
+            assert_eq!(rt; run.answer, Err(LineFault::Device));
+            assert_eq!(rt; line_status(&run.answer), 3);
+            assert!(rt; TEN_REPLIES.starts_with(&run.text));
         }
     }
 }
@@ -167,36 +175,36 @@ fn ends_at_failed_writes(rt: HostRuntime) {
 #[test]
 fn goes_on_after_interruptions(rt: HostRuntime) {
     for k in 0..3u64 {
-        let interrupted = Fate::FailsAt(k, ErrorKind::Interrupted);
-        let (text, answer, _, _) = run_ten(&rt, 200, interrupted, Fate::Works);
-        assert_eq!(rt; text.as_slice(), TEN_REPLIES);
-        assert_eq!(rt; answer, ALL_ANSWERED);
+        let interrupted = Calls::OneFails(k, ErrorKind::Interrupted);
+        let run = run_ten(&rt, 200, interrupted, Calls::AllWork);
+        assert_eq!(rt; run.text.as_slice(), TEN_REPLIES);
+        assert_eq!(rt; run.answer, ALL_ANSWERED);
     }
-    let (text, answer, _, _) = run_ten(
+    let run = run_ten(
         &rt,
         1000,
-        Fate::Works,
-        Fate::FailsAt(0, ErrorKind::Interrupted),
+        Calls::AllWork,
+        Calls::OneFails(0, ErrorKind::Interrupted),
     );
-    assert_eq!(rt; text.as_slice(), TEN_REPLIES);
-    assert_eq!(rt; answer, ALL_ANSWERED);
+    assert_eq!(rt; run.text.as_slice(), TEN_REPLIES);
+    assert_eq!(rt; run.answer, ALL_ANSWERED);
 }
 
-// A reader that is always interrupted.
+// A reader whose calls are always interrupted.
 #[derive(Drop)]
-struct Stuck;
+struct InterruptedReader;
 
-impl Read for Stuck {
+impl Read for InterruptedReader {
     fn read(&mut self, _buf: &mut [u8]) -> io::Result<usize> {
         Err(io::Error::from(ErrorKind::Interrupted))
     }
 }
 
-/// Line mode gives up on a reader that never gives anything.
+/// Line mode ends for a reader that never gives anything.
 #[test]
-fn ends_for_a_stuck_reader(rt: HostRuntime) {
+fn ends_for_an_interrupted_reader(rt: HostRuntime) {
     let mut output = Vec::new(rt.alloc());
-    let answer = line_mode(rt.alloc(), &mut Stuck, &mut output);
+    let answer = line_mode(rt.alloc(), &mut InterruptedReader, &mut output);
     assert_eq!(rt; answer, Err(LineFault::Device));
     assert!(rt; output.is_empty());
 }

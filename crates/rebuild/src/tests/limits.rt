@@ -86,7 +86,7 @@ fn answers_long_fragments(rt: HostRuntime) -> Result<(), Fail> {
     Ok(())
 }
 
-/// Long lines that ask nothing that is answered: each repeats a piece behind its front many times.
+/// Long lines that are refused: each repeats a piece behind its front many times.
 #[test]
 fn refuses_long_lines(rt: HostRuntime) -> Result<(), Fail> {
     let lines: [(&[u8], &[u8], usize, &[u8]); 8] = [

@@ -1,6 +1,6 @@
 //! Lines and their replies, each worked out by hand.
 use super::{assert_replies, ended, run};
-use crate::line::{LineCount, line_status};
+use crate::line::{LineFault, line_status};
 use std::test::Fail;
 
 /// Lines that are answered, and their answers. Stripe a has the data 01 02 03 04 05 06.
@@ -119,7 +119,7 @@ fn refuses_lines(rt: HostRuntime) -> Result<(), Fail> {
     Ok(())
 }
 
-/// How an input is cut into lines, and which of them ask.
+/// How an input is cut into lines, and which of them get a reply.
 #[test]
 fn cuts_lines(rt: HostRuntime) {
     assert_replies(&rt, b"", b"", 0, 0);
@@ -139,7 +139,7 @@ fn cuts_lines(rt: HostRuntime) {
     assert_replies(&rt, b" \r\r\n", b"refused E22\n", 0, 1);
 }
 
-/// The exit statuses.
+/// Whether a line was refused decides between the statuses 0 and 1.
 #[test]
 fn gives_statuses(rt: HostRuntime) {
     let inputs: [(&[u8], u8); 5] = [
@@ -153,11 +153,17 @@ fn gives_statuses(rt: HostRuntime) {
         let (_, answer) = run(rt.alloc(), input);
         assert_eq!(rt; line_status(&answer), status);
     }
-    assert_eq!(rt;
-        line_status(&Ok(LineCount {
-            answered: 0,
-            refused: 0
-        })),
-        0
-    );
+}
+
+/// Each fault has its number and its status.
+#[test]
+fn gives_fault_numbers(rt: HostRuntime) {
+    for (fault, number, status) in [
+        (LineFault::InputTooLong, 25, 1),
+        (LineFault::Device, 24, 3),
+        (LineFault::OutOfMemory, 16, 4),
+    ] {
+        assert_eq!(rt; fault.code(), number);
+        assert_eq!(rt; line_status(&Err(fault)), status);
+    }
 }
