@@ -12,3 +12,4 @@ pub mod ReadSurvivors
 pub mod ReadRequests
 pub mod ReadRacks
 pub mod Making
+pub mod ReadAllRacks
