@@ -13,3 +13,4 @@ pub mod ReadRequests
 pub mod ReadRacks
 pub mod Making
 pub mod ReadAllRacks
+pub mod MakingAll
