@@ -14,3 +14,4 @@ pub mod ReadRacks
 pub mod Making
 pub mod ReadAllRacks
 pub mod MakingAll
+pub mod Answered

@@ -2,7 +2,7 @@
 ghost use Rattle.std.specs.Prelude.{◌≡◌, IfOk, ◌++◌, ◌<◌, ◌^◌, IfErr, OnOk, length, map, option_map};
 ghost use Rattle.std.specs.List.{AllZip};
 ghost use Rattle.farm_files.specs.Report.{before_close};
-ghost use Rattle.farm_files.specs.Files.{StopsWriting, put_all};
+ghost use Rattle.farm_files.specs.Files.{CountsFailure, StopsWriting, put_all};
 ghost use Rattle.farm_files.specs.Named.{named};
 ghost use Rattle.farm_files.specs.Serving.{files_from, rack_files, rebuilt_file};
 
@@ -30,6 +30,7 @@ pub(crate) fn write_files<O: Shelf>(
     requires { O.failed output.old < 2 ^ 63 }
     ensures ok { OnOk result (O.files output.new ≡ option_map (λ old. put_all old (map named files.now)) (O.files output.old)) }
     ensures fault { IfErr result (λ f. StopsWriting f (map named files.now) (O.files output.old) (O.files output.new)) }
+    ensures failure { CountsFailure result (O.failed output.old) (O.failed output.new) }
 {
     for file in files {
         output.write(alloc, file.name.as_str(), file.bytes.as_slice())?;
