@@ -12,3 +12,4 @@ pub mod LaneKeeps
 pub mod LaneParts
 pub mod Opens
 pub mod Settles
+pub mod SmallLanes

@@ -13,6 +13,8 @@ mod record;
 mod rule;
 mod seat;
 mod steps;
+#[cfg(test)]
+mod tests;
 
 use crate::gate::record::{GateSize, SeatRecord};
 use crate::gate::rule::GateRule;
@@ -43,7 +45,7 @@ impl<A: Allocator> Model for Gate<A> {
 }
 
 /// Why a draw gave no number.
-#[derive(Debug, Drop, Error)]
+#[derive(Clone, Copy, Debug, PartialEq, Eq, Error)]
 pub enum GateRefusal {
     /// The gate was closed.
     #[error("the gate is closed")]
@@ -55,7 +57,7 @@ pub enum GateRefusal {
 }
 
 /// The gate was closed already when this close came.
-#[derive(Debug, Drop, Error)]
+#[derive(Clone, Copy, Debug, PartialEq, Eq, Error)]
 #[error("the gate was closed already")]
 pub struct AlreadyClosed;
 

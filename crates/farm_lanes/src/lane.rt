@@ -16,3 +16,6 @@ pub use opening::{Lane, LaneError};
 pub use put_end::{EndedPut, PutEnd};
 pub use settling::{Settled, settle};
 pub use take_end::TakeEnd;
+
+#[cfg(test)]
+mod tests;

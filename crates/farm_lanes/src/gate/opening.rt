@@ -14,10 +14,10 @@ use std::marker::Brand;
 use thiserror::Error;
 
 /// Why a gate was not opened.
-#[derive(Debug, Drop, Error)]
+#[derive(Clone, Copy, Debug, PartialEq, Eq, Error)]
 pub enum GateError {
     /// There are no seats or more than `MOST_SEATS`, or no rights or more than `MOST_RIGHTS`.
-    #[error("a gate has 1 to 16 seats and 1 to 16 rights")]
+    #[error("the number of seats or of rights is 0 or too great")]
     NoSeats,
 
     /// The gate's room was refused.

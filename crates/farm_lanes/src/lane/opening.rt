@@ -21,14 +21,14 @@ use thiserror::Error;
 pub struct Lane;
 
 /// Why a lane was not opened.
-#[derive(Debug, Drop, Error)]
+#[derive(Clone, Copy, Debug, PartialEq, Eq, Error)]
 pub enum LaneError {
     /// The capacity is 0 or greater than `MOST_CAPACITY`.
-    #[error("the capacity of a lane is 1 to 1024 items")]
+    #[error("the capacity of the lane is 0 or too great")]
     NoRoom,
 
     /// There are no put ends or more than `MOST_PUT_ENDS`, or no take ends or more than `MOST_TAKE_ENDS`.
-    #[error("a lane has 1 to 32 put ends and 1 to 32 take ends")]
+    #[error("the number of put ends or of take ends is 0 or too great")]
     NoEnds,
 
     /// The lane's room was refused.
