@@ -38,19 +38,26 @@ pub record TakeView (T : Type 0) : Type 0 where
   pub taken : List (Item T)
 
 module _ {T : Type 0} where
+  -- the put end of a sender that put these items, and a take end that took these
+  abbrev pub put_end : LaneName T → ℕ → List (Item T) → PutView T
+  put_end lane s xs = record { lane = lane; sender = s; put = xs }
+
+  abbrev pub take_end : LaneName T → List (Item T) → TakeView T
+  take_end lane xs = record { lane = lane; taken = xs }
+
   -- an end that has put nothing, and one that has taken nothing
   abbrev pub new_put : LaneName T → ℕ → PutView T
-  new_put lane s = record { lane = lane; sender = s; put = [] }
+  new_put lane s = put_end lane s []
 
   abbrev pub new_take : LaneName T → TakeView T
-  new_take lane = record { lane = lane; taken = [] }
+  new_take lane = take_end lane []
 
   -- the end once this item was put too, or taken too
   abbrev pub with_put : PutView T → Item T → PutView T
-  with_put e x = record e { put = e.put ++ x ∷ [] }
+  with_put e x = put_end e.lane e.sender (e.put ++ x ∷ [])
 
   abbrev pub with_taken : TakeView T → Item T → TakeView T
-  with_taken e x = record e { taken = e.taken ++ x ∷ [] }
+  with_taken e x = take_end e.lane (e.taken ++ x ∷ [])
 
   -- the new put ends of the senders 0 to n - 1, in order
   pub record AreNewPutEnds (lane : LaneName T) (n : ℕ) (puts : List (PutView T)) : Type 0 where

@@ -103,9 +103,9 @@ impl<A: Allocator> Gate<A> {
     {
         let Right { raw } = right;
         raw_join(&self.table.shared, &mut seat.raw, raw);
-        let found = raw_close::<Brand>(&self.table.shared, &mut seat.raw);
-        if found < CLOSED {
-            Ok(found)
+        let answer = raw_close::<Brand>(&self.table.shared, &mut seat.raw);
+        if answer < CLOSED {
+            Ok(answer)
         } else {
             Err(AlreadyClosed)
         }
