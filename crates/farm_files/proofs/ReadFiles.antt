@@ -71,9 +71,10 @@ other_from : (x : Option (List ℕ)) (bytes : List ℕ) (len : ℕ) → len ≤ 
 other_from None bytes len small e h = cc
 other_from (Some b) bytes len small e h =
     let same : bytes ≡ take 65537 b = cc in
-    elim (eqb_tells (length b) len) as (λ _. counted len b ≡ None)
-      [ inl p ↦ absurd (h (ap length (same ∙ take_all 65537 b (omega (arith, p.1))) ∙ p.1))
-      | inr p ↦ rw (p.0) refl ]
+    elim (eqb_tells (length b) len) as (λ _. counted len b ≡ None) [
+      | inl p ↦ absurd (h (ap length (same ∙ take_all 65537 b (omega (arith, p.1))) ∙ p.1))
+      | inr p ↦ rw (p.0) refl
+    ]
 
 pub fragment_read : (there : Files) (r : ListedRequest) (p : Place) (name bytes : List ℕ) → r.len ≤ 65536 → name ≡ fragment_name r.stripe p → Some bytes ≡ option_map (take 65537) (there name) → length bytes ≡ r.len
     → Some bytes ≡ fragment there r (p, false)
@@ -103,8 +104,8 @@ pub list_refused : (f : ListFault) (told : Told) (rack n m : ℕ) (name bytes : 
     → ((t : Files) → told ≡ Some t → Some bytes ≡ option_map (take 1048577) (t name))
     → IsFaultOf f (list_of bytes) → IsListFault (serve_fault rack f) rack told n m
 list_refused list_fault.OutOfMemory told rack n m name bytes calm named read is = calm
-list_refused list_fault.TooLong told rack n m name bytes calm named read is = (refl, calm, λ t e. list_read t rack name bytes _ named (read t e) is)
+list_refused list_fault.InputTooLong told rack n m name bytes calm named read is = (refl, calm, λ t e. list_read t rack name bytes _ named (read t e) is)
 list_refused list_fault.BadHeader told rack n m name bytes calm named read is = (refl, calm, λ t e. list_read t rack name bytes _ named (read t e) is)
-list_refused list_fault.TooMany told rack n m name bytes calm named read is = (refl, calm, λ t e. list_read t rack name bytes _ named (read t e) is)
+list_refused list_fault.TooManyOrders told rack n m name bytes calm named read is = (refl, calm, λ t e. list_read t rack name bytes _ named (read t e) is)
 list_refused (list_fault.BadRecord k) told rack n m name bytes calm named read is = (refl, calm, λ t e. list_read t rack name bytes _ named (read t e) is)
 list_refused (list_fault.Refused k x) told rack n m name bytes calm named read is = (refl, calm, λ t e. list_read t rack name bytes _ named (read t e) is)

@@ -9,3 +9,5 @@ pub mod Names
 pub mod Named
 pub mod Serving
 pub mod Faults
+pub mod Parts
+pub mod Causes

@@ -1,20 +1,26 @@
 //! Reading the lists and the fragments.
-ghost use Rattle.std.specs.Prelude.{◌≡◌, ◌+◌, ◌++◌, ◌∷◌, [], OnOk, ◌<◌, ◌≤◌, ◌^◌, ℕ, List, Bool, Option, Some, None, Ok, Err, IfOk, IfErr, IfSome, MatchResult, if◌then◌else◌, is_some, length, map, option_map};
-ghost use Rattle.std.specs.List.{AllZip, filter_map};
+ghost use Rattle.std.specs.Prelude.{◌≡◌, ◌+◌, ◌*◌, ◌++◌, ◌∷◌, [], OnOk, ◌<◌, ◌≤◌, ◌^◌, ℕ, List, Bool, Option, Some, None, Ok, Err, IfOk, IfErr, IfSome, MatchResult, if◌then◌else◌, is_some, length, map, option_map};
+ghost use Rattle.std.specs.List.{All, AllZip, filter_map};
+ghost use Rattle.farm_core.specs.Orders.{before_close};
+ghost use Rattle.farm_core.specs.declared.orders.Order.TheVariants.{Rebuild};
+ghost use Rattle.farm_files.specs.Report.{before_close as listed_before_close};
 ghost use Rattle.lrc_code.specs.Survivors.{survivors_of};
 ghost use Rattle.farm_files.specs.Listing.{list_of};
 ghost use Rattle.farm_files.specs.declared.listing.Record.{Record};
 ghost use Rattle.farm_files.specs.Files.{Files};
 ghost use Rattle.farm_files.specs.declared.faults.ServeFault.TheVariants as serving_fault;
 ghost use Rattle.farm_files.specs.Names.{list_name};
-ghost use Rattle.farm_files.specs.Serving.{AreLists, AreReads, Reads, asked, asked_rack, failures, fragment, rack_failures, survivor, survivor_count, unread, unread_rack};
+ghost use Rattle.farm_files.specs.Serving.{AreAllReads, AreLists, AreReads, Reads, all_failures, asked, asked_all, asked_rack, failures, fragment, rack_failures, survivor, unread, unread_all, unread_rack};
+ghost use Rattle.farm_files.specs.Parts.{ArePart};
 ghost use Rattle.farm_files.specs.Faults.{CountsFault, Explains, IsListFault, IsReadFault, serve_fault};
 
 use crate::faults::ServeFault;
-use crate::names::{fragment_file, list_file};
 use crate::listed::Listed;
 use crate::listing::{ListFault, Record, read_list};
+use crate::names::{fragment_file, list_file};
+use crate::report::requests_before_close;
 use crate::shelf::{Shelf, ShelfFault};
+use farm_core::{Order, RackList, Racks};
 use lrc_code::{Fragment, Place, Request};
 use std::alloc::{AllocError, Global};
 
@@ -34,6 +40,7 @@ fn read_rack_list<I: Shelf>(
 ) -> Result<Option<Vec<Record>>, ServeFault>
     requires { I.failed input.old < 2 ^ 63 }
     ensures same { I.files input.new ≡ I.files input.old }
+    ensures few { IfOk result (λ list. IfSome list (λ l. length l.items ≤ 4096)) }
     ensures list { IfOk result (λ list. (there : Files) → I.files input.old ≡ Some there → option_map list_of (there (list_name rack)) ≡ option_map (λ v. Ok v.items) list) }
     ensures calm { IfOk result (λ list. I.failed input.new ≡ I.failed input.old) }
     ensures fault { IfErr result (λ f. IsListFault f rack (I.files input.old) (I.failed input.old) (I.failed input.new)) }
@@ -58,11 +65,32 @@ fn list_fault(rack: usize, fault: ListFault) -> ServeFault
     ensures { result ≡ serve_fault rack fault }
 {
     match fault {
-        ListFault::TooLong => ServeFault::List(rack, ListFault::TooLong),
-        ListFault::BadHeader => ServeFault::List(rack, ListFault::BadHeader),
-        ListFault::BadRecord(n) => ServeFault::List(rack, ListFault::BadRecord(n)),
-        ListFault::Refused(n, e) => ServeFault::List(rack, ListFault::Refused(n, e)),
-        ListFault::TooMany => ServeFault::List(rack, ListFault::TooMany),
+        ListFault::InputTooLong => ServeFault::List {
+            rack,
+            fault: ListFault::InputTooLong,
+        },
+        ListFault::BadHeader => ServeFault::List {
+            rack,
+            fault: ListFault::BadHeader,
+        },
+        ListFault::BadRecord { number: n } => ServeFault::List {
+            rack,
+            fault: ListFault::BadRecord { number: n },
+        },
+        ListFault::Refused {
+            number: n,
+            fault: e,
+        } => ServeFault::List {
+            rack,
+            fault: ListFault::Refused {
+                number: n,
+                fault: e,
+            },
+        },
+        ListFault::TooManyOrders => ServeFault::List {
+            rack,
+            fault: ListFault::TooManyOrders,
+        },
         ListFault::OutOfMemory => ServeFault::OutOfMemory,
     }
 }
@@ -78,6 +106,7 @@ fn read_fragment<I: Shelf>(
     ensures same { I.files input.new ≡ I.files input.old }
     ensures read { IfOk result (λ v. (failed : Bool) × (I.failed input.new ≡ I.failed input.old + (if failed then 1 else 0))
         × ((there : Files) → I.files input.old ≡ Some there → option_map (λ b. b.items) v ≡ fragment there listed.now (place, failed))) }
+    ensures whole { IfOk result (λ v. IfSome v (λ b. length b.items ≡ listed.now.len)) }
     ensures few { I.failed input.new ≤ I.failed input.old + 1 }
 {
     let name = fragment_file(alloc, listed.stripe(), place)?;
@@ -100,11 +129,12 @@ fn read_survivors<I: Shelf>(
     input: &mut I,
     listed: &Listed,
 ) -> Result<(Vec<Fragment>, Vec<Place>), AllocError>
-    requires { I.failed input.old + length listed.now.survivors < 2 ^ 63 }
+    requires { I.failed input.old + 10 < 2 ^ 63 }
     ensures same { I.files input.new ≡ I.files input.old }
     ensures read { IfOk result (λ v. (reads : Reads) × AreReads listed.now reads × (I.failed input.new ≡ I.failed input.old + failures reads)
         × ((there : Files) → I.files input.old ≡ Some there → (survivors_of v.0.items ≡ filter_map (survivor there listed.now) reads) × (v.1.items ≡ unread there listed.now reads))) }
-    ensures few { I.failed input.new ≤ I.failed input.old + length listed.now.survivors }
+    ensures part { IfOk result (λ v. ArePart listed.now.len listed.now.survivors (survivors_of v.0.items)) }
+    ensures few { I.failed input.new ≤ I.failed input.old + 10 }
 {
     let mut fragments = Vec::new(alloc);
     let mut unread = Vec::new(alloc);
@@ -120,10 +150,15 @@ fn read_survivors<I: Shelf>(
 }
 
 // The lists of all racks.
-fn read_lists<I: Shelf>(alloc: Global, input: &mut I) -> Result<Vec<Vec<Record>>, ServeFault>
+pub(crate) fn read_lists<I: Shelf>(
+    alloc: Global,
+    input: &mut I,
+) -> Result<Vec<Vec<Record>>, ServeFault>
     requires { I.failed input.old < 2 ^ 62 }
     ensures same { I.files input.new ≡ I.files input.old }
     ensures lists { IfOk result (λ v. (there : Files) → I.files input.old ≡ Some there → AreLists there (map (λ l. l.items) v.items)) }
+    ensures racks { IfOk result (λ v. length v.items ≤ 16) }
+    ensures orders { IfOk result (λ v. All (λ l. length l.items ≤ 4096) v.items) }
     ensures calm { IfOk result (λ v. I.failed input.new ≡ I.failed input.old) }
     ensures why { IfErr result (λ f. (there : Files) → I.files input.old ≡ Some there → Explains f there) }
     ensures fault { IfErr result (λ f. CountsFault f (I.failed input.old) (I.failed input.new)) }
@@ -177,38 +212,91 @@ fn read_request<I: Shelf>(
     input: &mut I,
     listed: &Listed,
 ) -> Result<(Request, Vec<Place>), AllocError>
-    requires { I.failed input.old + length listed.now.survivors < 2 ^ 63 }
+    requires { I.failed input.old + 10 < 2 ^ 63 }
     ensures same { I.files input.new ≡ I.files input.old }
     ensures read { IfOk result (λ v. (reads : Reads) × AreReads listed.now reads × (I.failed input.new ≡ I.failed input.old + failures reads)
         × ((there : Files) → I.files input.old ≡ Some there → (v.0 ≡ asked there listed.now reads) × (v.1.items ≡ unread there listed.now reads))) }
-    ensures few { I.failed input.new ≤ I.failed input.old + length listed.now.survivors }
+    ensures few { I.failed input.new ≤ I.failed input.old + 10 }
 {
     let (fragments, unread) = read_survivors(alloc, input, listed)?;
     let stripe = String::from_str(alloc, listed.stripe())?;
-    match Request::new(stripe, listed.target(), listed.length(), fragments) {
-        Ok(request) => Ok((request, unread)),
-        Err(_) => Err(AllocError),
-    }
+    let Ok(request) = Request::new(stripe, listed.target(), listed.length(), fragments) else {
+        unreachable!();
+    };
+    Ok((request, unread))
 }
 
-// The requests of a rack with the survivors that were read, and the places of the others.
+// The orders of a rack's requests with the survivors that were read, and the places of the others.
 fn read_rack<I: Shelf>(
     alloc: Global,
     input: &mut I,
     rack: &[&Listed],
-) -> Result<(Vec<Request>, Vec<Vec<Place>>), AllocError>
-    requires { I.failed input.old + survivor_count (map (λ r. r.now) rack.now) < 2 ^ 63 }
+) -> Result<(RackList, Vec<Vec<Place>>), AllocError>
+    requires room { I.failed input.old + 10 * length rack.now < 2 ^ 63 }
+    requires orders { length rack.now ≤ 4096 }
     ensures same { I.files input.new ≡ I.files input.old }
     ensures read { IfOk result (λ v. (reads : List Reads) × AllZip AreReads (map (λ r. r.now) rack.now) reads × (I.failed input.new ≡ I.failed input.old + rack_failures reads)
-        × ((there : Files) → I.files input.old ≡ Some there → (v.0.items ≡ asked_rack there (map (λ r. r.now) rack.now) reads) × (map (λ u. u.items) v.1.items ≡ unread_rack there (map (λ r. r.now) rack.now) reads))) }
-    ensures few { I.failed input.new ≤ I.failed input.old + survivor_count (map (λ r. r.now) rack.now) }
+        × ((there : Files) → I.files input.old ≡ Some there → (v.0 ≡ map Rebuild (asked_rack there (map (λ r. r.now) rack.now) reads)) × (map (λ u. u.items) v.1.items ≡ unread_rack there (map (λ r. r.now) rack.now) reads))) }
+    ensures sizes { IfOk result (λ v. (length (before_close v.0) ≡ length rack.now) × (length v.1.items ≡ length rack.now)) }
+    ensures few { I.failed input.new ≤ I.failed input.old + 10 * length rack.now }
 {
-    let mut requests = Vec::new(alloc);
+    let mut orders = Vec::new(alloc);
     let mut unread = Vec::new(alloc);
     for index in 0..rack.len() {
         let (request, places) = read_request(alloc, input, rack[index])?;
-        requests.push(request)?;
+        orders.push(Order::Rebuild(request))?;
         unread.push(places)?;
     }
-    Ok((requests, unread))
+    let Ok(list) = RackList::new(orders) else {
+        unreachable!();
+    };
+    Ok((list, unread))
+}
+
+// The same of a rack's list, for its requests before the first close.
+fn read_listed_rack<I: Shelf>(
+    alloc: Global,
+    input: &mut I,
+    list: &[Record],
+) -> Result<(RackList, Vec<Vec<Place>>), AllocError>
+    requires room { I.failed input.old + 40960 < 2 ^ 63 }
+    requires orders { length list.now ≤ 4096 }
+    ensures same { I.files input.new ≡ I.files input.old }
+    ensures read { IfOk result (λ v. (reads : List Reads) × AllZip AreReads (listed_before_close list.now) reads × (I.failed input.new ≡ I.failed input.old + rack_failures reads)
+        × ((there : Files) → I.files input.old ≡ Some there → (before_close v.0 ≡ asked_rack there (listed_before_close list.now) reads) × (map (λ u. u.items) v.1.items ≡ unread_rack there (listed_before_close list.now) reads))) }
+    ensures sizes { IfOk result (λ v. (length (before_close v.0) ≡ length (listed_before_close list.now)) × (length v.1.items ≡ length (listed_before_close list.now))) }
+    ensures few { I.failed input.new ≤ I.failed input.old + 40960 }
+{
+    let requests = requests_before_close(alloc, list)?;
+    let read = read_rack(alloc, input, requests.as_slice())?;
+    Ok(read)
+}
+
+// The racks with the survivors that were read, and for each request the places of the others.
+pub(crate) fn read_racks<I: Shelf>(
+    alloc: Global,
+    input: &mut I,
+    lists: &[Vec<Record>],
+) -> Result<(Racks, Vec<Vec<Vec<Place>>>), AllocError>
+    requires room { I.failed input.old < 2 ^ 62 }
+    requires racks { length lists.now ≤ 16 }
+    requires orders { All (λ l. length l.items ≤ 4096) lists.now }
+    ensures same { I.files input.new ≡ I.files input.old }
+    ensures read { IfOk result (λ v. (reads : List (List Reads)) × AreAllReads (map (λ l. l.items) lists.now) reads × (I.failed input.new ≡ I.failed input.old + all_failures reads)
+        × ((there : Files) → I.files input.old ≡ Some there → (map before_close v.0 ≡ asked_all there (map (λ l. l.items) lists.now) reads)
+        × (map (λ us. map (λ u. u.items) us.items) v.1.items ≡ unread_all there (map (λ l. l.items) lists.now) reads))) }
+    ensures sizes { IfOk result (λ v. AllZip (λ l os. length (before_close os) ≡ length (listed_before_close l.items)) lists.now v.0
+        × AllZip (λ l us. length us.items ≡ length (listed_before_close l.items)) lists.now v.1.items) }
+{
+    let mut racks = Vec::new(alloc);
+    let mut unread = Vec::new(alloc);
+    for rack in 0..lists.len() {
+        let (list, places) = read_listed_rack(alloc, input, lists[rack].as_slice())?;
+        racks.push(list)?;
+        unread.push(places)?;
+    }
+    let Ok(racks) = Racks::new(racks) else {
+        unreachable!();
+    };
+    Ok((racks, unread))
 }

@@ -5,7 +5,7 @@ use Rattle.csv.specs.Reading.{Reached, default_config, strip_bom}
 use Rattle.csv.specs.Records.{fields_of}
 use Rattle.csv.specs.declared.parser.State.TheVariants as st
 use Rattle.csv.proofs.ReadFacts.{rows-end, rows-more}
-use Rattle.farm_files.proofs.Orders.{explain, listed_all, lists_all, so_far_empty, too_long}
+use Rattle.farm_files.proofs.Orders.{explain, listed_all, lists_all, so_far_empty, too_long, list_few}
 use Rattle.farm_files.specs.Listing.{list_of_rows}
 use Rattle.farm_files.proofs.listing.read_list.Goals as goal
 
@@ -38,9 +38,20 @@ loop-row-preserved c =
     let (plain, ready, left, config, y, source, rows, reached, number, so, small, few) = c.loop-row.invariant in
     let s = rw (c.in-Some.is, c.in-Ok.is) at ((c.next.ensures.steps left plain).0 ready) in
     let m = rows-more (λ (s : Bor (List ℕ)). Some s.now) c.loop-row.row-iterator.rdr c.next.new.self.rdr (fields_of c.in-Ok.row) default_config st.StartRecord (strip_bom c.args.bytes.now) y rows config source reached s.0 in
-    let took = c.in_ok-take_row.ensures.ok in
-    (s.0.3 ∙ plain, inl s.1, s.2, s.0.2 ∙ config, m.0, m.1, rows ++ fields_of c.in-Ok.row ∷ [], m.2,
-     omega (arith, length-append rows (fields_of c.in-Ok.row ∷ []), number), took.1 rows (sym number) so, small, omega (arith, took.0))
+    let took = c.in_ok-take_row.ensures.ok in (
+      s.0.3 ∙ plain,
+      inl s.1,
+      s.2,
+      s.0.2 ∙ config,
+      m.0,
+      m.1,
+      rows ++ fields_of c.in-Ok.row ∷ [],
+      m.2,
+      omega (arith, length-append rows (fields_of c.in-Ok.row ∷ []), number),
+      took.1 rows (sym number) so,
+      small,
+      omega (arith, took.0),
+    )
 
 pub returns-in_err-take_row-clause-fault : goal.returns-in_err-take_row-clause-fault
 returns-in_err-take_row-clause-fault c =
@@ -62,10 +73,8 @@ pub returns : goal.returns
 returns c =
     let (plain, ready, left, config, y, source, rows, reached, number, so, small, few) = c.loop-row.invariant in
     let s = rw c.in-None.is at ((c.next.ensures.steps left plain).0 ready) in
-    record {
-      read = lists_all c.args.bytes.now rows small (c.loop-row.row-iterator.rdr.state, y, reached, rows-end (λ (s : Bor (List ℕ)). Some s.now) c.loop-row.row-iterator.rdr c.next.new.self.rdr [] default_config y config source s) ∙ listed_all rows c.loop-row.list.items c.loop-row.number (sym number) c.if-number-eq0.false so;
-      fault = tt;
-    }
+    let read = lists_all c.args.bytes.now rows small (c.loop-row.row-iterator.rdr.state, y, reached, rows-end (λ (s : Bor (List ℕ)). Some s.now) c.loop-row.row-iterator.rdr c.next.new.self.rdr [] default_config y config source s) ∙ listed_all rows c.loop-row.list.items c.loop-row.number (sym number) c.if-number-eq0.false so in
+    record { read = read; few = list_few c.args.bytes.now c.loop-row.list.items read; fault = tt }
 
 pub returns-then-bytes-gt-LIST_LIMIT-clause-fault : goal.returns-then-bytes-gt-LIST_LIMIT-clause-fault
 returns-then-bytes-gt-LIST_LIMIT-clause-fault c = too_long c.args.bytes.now c.if-bytes-gt-LIST_LIMIT.true
