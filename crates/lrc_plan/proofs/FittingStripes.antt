@@ -20,7 +20,8 @@ use Rattle.lrc_code.proofs.CodeLaws.{code-linear}
 use Rattle.lrc_code.proofs.RequestLaws.{accepted_length, accepted_lengths, accepted_bytes, survivors_hold_bytes, among_at}
 use Rattle.lrc_plan.specs.Form.{Form, meaning, has_leaf}
 use Rattle.lrc_plan.specs.Extensions.{Extends}
-use Rattle.lrc_plan.specs.Evaluation.{byte_at, AreWhole, CanEvaluate, IsValue, IsZero}
+use Rattle.lrc_plan.specs.Evaluation.{byte_at, CanEvaluate, IsValue}
+use Rattle.lrc_plan.specs.EvaluationParts.{AreWhole, IsZero}
 use Rattle.lrc_plan.specs.Planned.{LeavesSurvive, ExtensionsDiffer, AreChecks}
 
 -- a stripe that equals survivors has at their places what survives there

@@ -8,7 +8,8 @@ use Rattle.lrc_code.specs.Requests.{Asked}
 use Rattle.lrc_code.specs.Sums.{GivesBytes}
 use Rattle.lrc_code.proofs.Clearing.{get_or-sums}
 use Rattle.lrc_plan.specs.Form.{Form, Scale, Sum, meaning}
-use Rattle.lrc_plan.specs.Evaluation.{byte_at, IsValue, IsScaledValue}
+use Rattle.lrc_plan.specs.Evaluation.{byte_at, IsValue}
+use Rattle.lrc_plan.specs.EvaluationParts.{IsScaledValue}
 use Rattle.lrc_plan.proofs.FormLaws.{meaning-lt}
 
 -- one time the value
@@ -29,4 +30,5 @@ scaled_further f c g r t bytes e v = record {
 pub scaled_sum : (f : ℕ) (r : Asked) (s t : Form) (xs ys zs : List ℕ) → IsScaledValue f r s xs → IsScaledValue f r t ys → zs ≡ sums xs ys → length zs ≡ r.len → IsScaledValue f r (Sum s t) zs
 scaled_sum f r s t xs ys zs v w e len = record {
   len = len;
-  at = λ i h. ap (λ bs. get_or bs i 0) e ∙ get_or-sums xs ys i (omega (arith, h, v.len)) (v.len ∙ sym w.len) ∙ ap₂ bit_xor (v.at i h) (w.at i h) ∙ sym (times-xor f _ _) }
+  at = λ i h. ap (λ bs. get_or bs i 0) e ∙ get_or-sums xs ys i (omega (arith, h, v.len)) (v.len ∙ sym w.len) ∙ ap₂ bit_xor (v.at i h) (w.at i h) ∙ sym (times-xor f _ _);
+}

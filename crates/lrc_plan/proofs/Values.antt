@@ -56,7 +56,7 @@ list_sum e (p ∷ []) = e p
 list_sum e (p ∷ q ∷ ps) = bit_xor (e p) (list_sum e (q ∷ ps))
 
 -- a member of a group is the sum of the three others
-from_others : (e : Place → ℕ) → GivesBytes e → Solves narrow.equations narrow.places e → (t a b c : Place) → group_others t ≡ a ∷ b ∷ c ∷ [] → list_sum e (group_others t) ≡ e t
+from_others : (e : Place → ℕ) → GivesBytes e → Solves narrow.equations narrow.places e → (t a b c : Place) → group_others narrow t ≡ a ∷ b ∷ c ∷ [] → list_sum e (group_others narrow t) ≡ e t
 from_others e g w X0 a b c h = ap (λ x. bit_xor (e X1) (bit_xor (e X2) x)) ((equations-parities e g).0 w).local_x ∙ solve_1 (e X0) (e X1) (e X2)
 from_others e g w X1 a b c h = ap (λ x. bit_xor (e X0) (bit_xor (e X2) x)) ((equations-parities e g).0 w).local_x ∙ solve_2 (e X0) (e X1) (e X2)
 from_others e g w X2 a b c h = ap (λ x. bit_xor (e X0) (bit_xor (e X1) x)) ((equations-parities e g).0 w).local_x ∙ solve_3 (e X0) (e X1) (e X2)
@@ -91,7 +91,7 @@ three_leaves_survive survives a b c x y z p l =
     last u v w n m l = sym (ap (λ x. v || w) n ∙ ap (λ x. x || w) m) ∙ sym (ap (λ x. x || (v || w)) n) ∙ l
 
 -- the local tree
-pub local_value : (survives : Place → Bool) (target a b c : Place) → group_others target ≡ a ∷ b ∷ c ∷ [] → survives a ≡ true → survives b ≡ true → survives c ≡ true
+pub local_value : (survives : Place → Bool) (target a b c : Place) → group_others narrow target ≡ a ∷ b ∷ c ∷ [] → survives a ≡ true → survives b ≡ true → survives c ≡ true
     → IsTargetValue narrow survives target (Some (Sum (Leaf a) (Sum (Leaf b) (Leaf c))))
 local_value survives target a b c m x y z = record { leaves = three_leaves_survive survives a b c x y z; right = right; several = right_is_one survives target (Sum (Leaf a) (Sum (Leaf b) (Leaf c))) right }
   where

@@ -2,6 +2,7 @@ pub mod Form
 pub mod Tree
 pub mod Extensions
 pub mod Evaluation
+pub mod EvaluationParts
 pub mod Planned
 pub mod Rows
 pub mod ReducedRows

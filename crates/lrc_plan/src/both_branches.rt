@@ -1,7 +1,8 @@
 //! Evaluation with both branches of a sum at once.
 ghost use Rattle.std.specs.Prelude.{IfOk};
 ghost use Rattle.std.specs.Thread.{IsSync};
-ghost use Rattle.lrc_plan.specs.Evaluation.{CanEvaluate, IsValue, IsScaledValue};
+ghost use Rattle.lrc_plan.specs.Evaluation.{CanEvaluate, IsValue};
+ghost use Rattle.lrc_plan.specs.EvaluationParts.{IsScaledValue};
 ghost use Rattle.lrc_plan.specs.Tree.{form_of};
 
 use crate::evaluation::{add_scaled, zeros};

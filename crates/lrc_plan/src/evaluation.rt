@@ -4,7 +4,8 @@ ghost use Rattle.std.specs.Int.Bits.{bit_xor};
 ghost use Rattle.lrc_field.specs.Field.{times};
 ghost use Rattle.lrc_plan.specs.Form.{meaning};
 ghost use Rattle.lrc_plan.specs.Tree.{form_of};
-ghost use Rattle.lrc_plan.specs.Evaluation.{byte_at, CanEvaluate, AreWhole, AreZeros, IsValue};
+ghost use Rattle.lrc_plan.specs.Evaluation.{byte_at, CanEvaluate, IsValue};
+ghost use Rattle.lrc_plan.specs.EvaluationParts.{AreWhole, AreZeros};
 
 use crate::tree::Tree;
 use lrc_code::Request;

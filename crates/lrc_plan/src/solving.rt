@@ -8,7 +8,8 @@ ghost use Rattle.lrc_code.specs.Requests.{is_among};
 ghost use Rattle.lrc_code.specs.Sets.{is_in};
 ghost use Rattle.lrc_plan.specs.Tree.{form_of};
 ghost use Rattle.lrc_plan.specs.Planned.{IsPlan};
-ghost use Rattle.lrc_plan.specs.Evaluation.{CanEvaluate, AreZeros, IsZero};
+ghost use Rattle.lrc_plan.specs.Evaluation.{CanEvaluate};
+ghost use Rattle.lrc_plan.specs.EvaluationParts.{AreZeros, IsZero};
 ghost use Rattle.lrc_plan.specs.Solved.{outcome_of};
 
 use crate::evaluation::{add_value, are_zeros, zeros};

@@ -1,7 +1,7 @@
 use Rattle.std.proofs.Common.{◌≡◌, length, drop, sym, ap, ap₂, ◌∙◌, subst, arith}
 use Rattle.lrc_field.specs.Sums.{sums}
 use Rattle.lrc_plan.specs.Tree.{form_of}
-use Rattle.lrc_plan.specs.Evaluation.{IsScaledValue}
+use Rattle.lrc_plan.specs.EvaluationParts.{IsScaledValue}
 use Rattle.lrc_plan.proofs.EvaluationSteps.{written}
 use Rattle.lrc_plan.proofs.ScaledValues.{scaled_further, scaled_sum}
 use Rattle.lrc_plan.proofs.both_branches.+evaluate_scaled+fn-evaluate_scaled-join+arg2+fn-evaluate_scaled-join+arg3.Goals as goal

@@ -1,6 +1,6 @@
 use Rattle.std.proofs.Common.{◌+◌, ◌*◌}
 use Rattle.lrc_plan.specs.Tree.{form_of}
-use Rattle.lrc_plan.specs.Evaluation.{node_total}
+use Rattle.lrc_plan.proofs.FormLaws.{node_total}
 use Rattle.lrc_plan.proofs.both_branches.+evaluate_scaled+fn-evaluate_scaled-join+arg2+fn-evaluate_scaled-join+arg3.Given as goal
 
 abbrev pub decreases-evaluate_scaled : goal.decreases-evaluate_scaled

@@ -10,7 +10,7 @@ use Rattle.std.proofs.lemmas.List.{length-map}
 use Rattle.lrc_plan.specs.Form.{Form}
 use Rattle.lrc_plan.specs.Tree.{form_of}
 use Rattle.lrc_plan.specs.Planned.{LeavesSurvive}
-use Rattle.lrc_plan.specs.Evaluation.{AreZeros, IsZero}
+use Rattle.lrc_plan.specs.EvaluationParts.{AreZeros, IsZero}
 use Rattle.lrc_plan.proofs.EvaluationSteps.{written}
 use Rattle.lrc_plan.proofs.FittingStripes.{All-of_map, can_evaluate, contradiction, rebuilt, several}
 use Rattle.lrc_plan.proofs.solving.apply.Goals as goal
