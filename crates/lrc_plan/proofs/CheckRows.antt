@@ -5,14 +5,13 @@ use Rattle.std.proofs.lemmas.Bool.{true_from_ne_false}
 use Rattle.lrc_code.specs.Code.{narrow_places}
 use Rattle.lrc_plan.specs.Form.{has_leaf}
 use Rattle.lrc_code.proofs.PlaceSums.{at_places}
-use Rattle.std.proofs.Common.{get_or, add-one, ◌≡◌, ◌≢◌, ◌<◌, ℕ, ◌+◌, suc, zero, ◌↔◌, Bool, true, false, cond, List, [], ◌∷◌, ◌++◌, Option, Some, None, is_none, length, All, map, refl, sym, ◌∙◌, ap, subst, arith, inl, inr, length-append}
+use Rattle.std.proofs.Common.{get_or, add-one, ◌≡◌, ◌≢◌, ◌<◌, ℕ, ◌+◌, suc, Bool, true, cond, List, [], ◌∷◌, ◌++◌, Option, Some, None, is_none, All, map, refl, sym, ◌∙◌, ap, subst, arith, inl, inr, length-append}
 use Rattle.std.proofs.lemmas.List.Elements.{All-push, All-pop, All-nil}
 use Rattle.std.proofs.lemmas.Bool.Decides.{eqb_tells}
 use Rattle.lrc_code.specs.declared.places.Place.{Place}
 use Rattle.lrc_code.specs.Sums.{GivesBytes}
 use Rattle.lrc_plan.specs.Form.{Form, meaning}
 use Rattle.lrc_plan.specs.ReducedRows.{row_sum, AreReduced}
-use Rattle.lrc_plan.specs.Extensions.{Extends}
 use Rattle.lrc_plan.specs.Planned.{LeavesSurvive, IsShallow, rows_without_pivot, AreChecks}
 use Rattle.lrc_plan.specs.ChecksBelow.{AreChecksBelow}
 use Rattle.lrc_plan.proofs.Extension.{has_extension}

@@ -1,5 +1,5 @@
 use Rattle.std.proofs.Math.Seq.{take-append_seam}
-use Rattle.std.proofs.Common.{IsSomeAnd, arith, Option, Some, unwrap_or, [], slice_index, ◌≡◌, ◌<◌, List, length, take, ◌++◌, subst, ◌∙◌, ap, sym, ℕ}
+use Rattle.std.proofs.Common.{◌≡◌, ◌<◌, List, length, take, ◌++◌, subst, ◌∙◌, ap, sym, ℕ}
 use Rattle.std.specs.Int.Bits.{bit_xor}
 use Rattle.lrc_field.specs.Field.{times}
 use Rattle.std.specs.Int.Bits.{xor_zero_l, xor_assoc}

@@ -1,5 +1,5 @@
 -- From plans to answers: stripes made of extensions at each position.
-use Rattle.std.proofs.Common.{◌≡◌, ◌≢◌, ℕ, suc, zero, ◌+◌, ◌<◌, ◌≤◌, ◌^◌, List, [], ◌∷◌, length, map, get_or, Bool, true, false, cond, Option, Some, None, refl, ap, ap₂, sym, ◌∙◌, subst, arith, inl, inr, ◌⊎◌, All, lit<, zero-add}
+use Rattle.std.proofs.Common.{◌≡◌, ℕ, suc, ◌<◌, ◌≤◌, List, [], ◌∷◌, length, map, get_or, Bool, true, cond, None, refl, ap, ap₂, sym, ◌∙◌, subst, arith, inl, inr, ◌⊎◌, All, lit<, zero-add}
 use Rattle.std.specs.Prelude.{◌||◌}
 use Rattle.std.specs.List.{range_with_len}
 use Rattle.std.specs.Int.Bits.{bit_xor, xor_self, xor_zero_r}
@@ -11,14 +11,14 @@ use Rattle.lrc_field.proofs.Shift.{cancel}
 use Rattle.lrc_code.specs.declared.places.Place.{Place}
 use Rattle.lrc_code.specs.declared.outcomes.Outcome.TheVariants.{Rebuilt, Contradiction, Several}
 use Rattle.lrc_code.specs.Places.{same_place}
-use Rattle.lrc_code.specs.Code.{AreBytes, narrow, narrow_places, narrow_equations, combination, Solves, bytes_at, IsInCode}
+use Rattle.lrc_code.specs.Code.{AreBytes, narrow, narrow_places, narrow_equations, combination, Solves, bytes_at}
 use Rattle.lrc_code.specs.Requests.{Asked, Survivor, is_among, bytes_of, refusal}
 use Rattle.lrc_code.specs.Answers.{Fits, IsAnswer}
 use Rattle.lrc_code.specs.Sums.{GivesBytes}
 use Rattle.lrc_code.proofs.PlaceSums.{at_places, same_place-eq}
 use Rattle.lrc_code.proofs.CodeLaws.{code-linear}
 use Rattle.lrc_code.proofs.RequestLaws.{accepted_length, accepted_lengths, accepted_bytes, survivors_hold_bytes, among_at}
-use Rattle.lrc_plan.specs.Form.{Form, meaning, has_leaf}
+use Rattle.lrc_plan.specs.Form.{Form, meaning}
 use Rattle.lrc_plan.specs.Extensions.{Extends}
 use Rattle.lrc_plan.specs.Evaluation.{byte_at, CanEvaluate, IsValue}
 use Rattle.lrc_plan.specs.EvaluationParts.{AreWhole, IsZero}

@@ -1,12 +1,12 @@
 -- What a reduction of the equations tells of its rows, as functions of the places.
-use Rattle.std.proofs.Common.{◌≡◌, ◌≢◌, ◌↔◌, ℕ, ◌<◌, ◌≤◌, ◌^◌, Bool, true, false, List, [], length, map, get_or, Option, Some, None, refl, sym, ◌∙◌, ap, subst, arith, inl, inr, All, lit<}
+use Rattle.std.proofs.Common.{◌≡◌, ◌↔◌, ℕ, ◌<◌, Bool, true, false, [], length, map, get_or, Option, Some, None, refl, sym, ◌∙◌, ap, subst, inl, inr, lit<}
 use Rattle.std.specs.Prelude.{not}
 use Rattle.std.proofs.lemmas.Bool.{cases_lt}
 use Rattle.std.proofs.lemmas.List.{get_or_past}
 use Rattle.lrc_code.specs.declared.places.Place.{Place}
 use Rattle.lrc_code.specs.Places.{index_of}
 use Rattle.lrc_code.specs.Code.{Code, combination, narrow, narrow_places, narrow_equations, Solves}
-use Rattle.lrc_code.specs.Reduction.{Reduction, IsReduction, IsPivot, row_at, coefficient}
+use Rattle.lrc_code.specs.Reduction.{Reduction, IsReduction, IsPivot, row_at}
 use Rattle.lrc_code.proofs.Clearing.{solves_each, solves_from}
 use Rattle.lrc_code.proofs.PlaceSums.{combination-sum_over, index_of-lt}
 use Rattle.lrc_plan.specs.ReducedRows.{AreReduced, row_sum}

@@ -1,6 +1,6 @@
 -- The target's tree, from the equations or from a row.
 use Rattle.lrc_code.specs.Code.{narrow, Solves}
-use Rattle.std.proofs.Common.{◌≡◌, ◌≢◌, ◌<◌, ℕ, ◌+◌, ◌%◌, ◌↔◌, Bool, true, false, ◌||◌, cond, List, [], ◌∷◌, Option, Some, None, IfSome, IsNone, length, get_or, slice_index, slice_set, refl, sym, ◌∙◌, ap, subst, arith, inl, inr}
+use Rattle.std.proofs.Common.{◌≡◌, ◌≢◌, ◌<◌, ℕ, ◌↔◌, Bool, true, false, ◌||◌, cond, List, [], ◌∷◌, Option, Some, None, IfSome, IsNone, length, slice_index, slice_set, refl, sym, ◌∙◌, ap, arith, inl, inr}
 use Rattle.std.proofs.Common.{◌≤◌, ◌⊎◌, nat_lt, length-set}
 use Rattle.std.proofs.lemmas.List.{get_or_past}
 use Rattle.std.specs.Option.{option_map}
@@ -11,7 +11,7 @@ use Rattle.std.proofs.lemmas.Nat.Bits.{bit_at_xor, bit_at-lt, same_from_bits}
 use Rattle.std.proofs.lemmas.Bool.Decides.{eqb_tells}
 use Rattle.std.proofs.lemmas.Grind.{get_or-set_at}
 use Rattle.std.proofs.lemmas.List.{get_or-set_other}
-use Rattle.std.proofs.lemmas.Bool.{eqb-true, eq-eqb, cases_Bool, true_from_ne_false}
+use Rattle.std.proofs.lemmas.Bool.{cases_Bool, true_from_ne_false}
 use Rattle.lrc_code.specs.declared.places.Place.{Place}
 use Rattle.lrc_code.specs.declared.places.Place.TheVariants.{X0, X1, X2, Y0, Y1, Y2, Px, Py, P0, P1}
 use Rattle.std.specs.Int.Bits.{bit_xor}
@@ -19,13 +19,13 @@ use Rattle.lrc_field.specs.Field.{times}
 use Rattle.lrc_code.specs.Places.{index_of, same_place}
 use Rattle.lrc_code.specs.Sums.{GivesBytes, sum_over}
 use Rattle.lrc_code.specs.Code.{narrow_places}
-use Rattle.lrc_code.proofs.PlaceSums.{sum_over-same, index_of-lt}
+use Rattle.lrc_code.proofs.PlaceSums.{sum_over-same}
 use Rattle.lrc_plan.specs.Form.{Form, Leaf, Sum, meaning, has_leaf}
 use Rattle.lrc_plan.specs.ReducedRows.{AreReduced}
 use Rattle.lrc_plan.specs.Extensions.{Extends}
 use Rattle.lrc_plan.specs.Planned.{LeavesSurvive, ExtensionsDiffer, IsTargetValue, group_others}
 use Rattle.lrc_plan.specs.Sums.{sum_meaning}
-use Rattle.lrc_code.proofs.PlaceSums.{same_place-eq, place_at}
+use Rattle.lrc_code.proofs.PlaceSums.{same_place-eq}
 use Rattle.lrc_code.proofs.Words.{word, word_small, word_apart, word_solves}
 use Rattle.lrc_code.proofs.CodeLaws.{equations-parities}
 use Rattle.lrc_plan.proofs.Extension.{determined}

@@ -1,8 +1,6 @@
 -- What a tree gives at each position of a request.
-use Rattle.std.specs.Prelude.{◌≡◌, ◌<◌, ◌+◌, ℕ, List, true, length, slice_index}
-use Rattle.lrc_field.specs.Field.{times}
+use Rattle.std.specs.Prelude.{◌≡◌, ◌<◌, ℕ, List, true, length, slice_index}
 use Rattle.lrc_code.specs.declared.places.Place.{Place}
-use Rattle.lrc_code.specs.Code.{AreBytes}
 use Rattle.lrc_code.specs.Requests.{Asked, is_among, bytes_of}
 use Rattle.lrc_plan.specs.Form.{Form, meaning, has_leaf}
 

@@ -1,5 +1,5 @@
 -- What a plan promises.
-use Rattle.std.specs.Prelude.{◌≡◌, ◌≢◌, ℕ, ◌≤◌, ◌+◌, ◌↔◌, Bool, true, false, Option, Some, None, IfSome, IsNone, IsSomeAnd, List, length, All, is_none, zero, suc, if◌then◌else◌, not, ◌&&◌, filter, IsSome}
+use Rattle.std.specs.Prelude.{◌≡◌, ◌≢◌, ℕ, ◌≤◌, ◌+◌, ◌↔◌, Bool, true, false, Option, Some, IfSome, IsNone, IsSomeAnd, List, length, All, is_none, zero, suc, if◌then◌else◌, not, ◌&&◌, filter, IsSome}
 use Rattle.lrc_code.specs.declared.places.Place.{Place}
 use Rattle.lrc_code.specs.declared.places.Group.{Group}
 use Rattle.lrc_code.specs.declared.places.Group.TheVariants as group

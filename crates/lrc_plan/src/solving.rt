@@ -1,5 +1,5 @@
 //! Answers to requests.
-ghost use Rattle.std.specs.Prelude.{◌≡◌, ◌<◌, ℕ, true, false, IfOk, All, map, length, slice_index};
+ghost use Rattle.std.specs.Prelude.{◌≡◌, ℕ, true, false, IfOk, IsNone, All, map, length, vec_len};
 ghost use Rattle.std.specs.Option.{option_map};
 ghost use Rattle.lrc_code.specs.declared.places.Place.{Place};
 ghost use Rattle.lrc_code.specs.Code.{narrow};
@@ -66,7 +66,7 @@ fn apply<A: Allocator, B: Allocator>(
     ensures { IfOk result (λ s. IsAnswer narrow request.now (outcome_of s)) }
 {
     let length = request.length() as usize;
-    if plan.checks.is_empty() && plan.value.is_none() {
+    if has_no_trees(plan) {
         return Ok(Solved::Several);
     }
     let mut bytes = zeros(alloc, length)?;
@@ -81,6 +81,13 @@ fn apply<A: Allocator, B: Allocator>(
         }
         None => Ok(Solved::Several),
     }
+}
+
+fn has_no_trees<A: Allocator>(plan: &Plan<A>) -> bool
+    ensures checks { result ≡ true → vec_len plan.now.checks ≡ 0 }
+    ensures value { result ≡ true → IsNone (option_map form_of plan.now.value) }
+{
+    plan.checks.is_empty() && plan.value.is_none()
 }
 
 // Whether all trees are 00 at every position; the bytes are then 00 again.

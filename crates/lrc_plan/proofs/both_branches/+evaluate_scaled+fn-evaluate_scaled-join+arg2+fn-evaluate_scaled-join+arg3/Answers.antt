@@ -1,4 +1,4 @@
-use Rattle.std.proofs.Common.{◌≡◌, length, drop, sym, ap, ap₂, ◌∙◌, subst, arith}
+use Rattle.std.proofs.Common.{◌≡◌, length, drop, ap₂, ◌∙◌, arith}
 use Rattle.lrc_field.specs.Sums.{sums}
 use Rattle.lrc_plan.specs.Tree.{form_of}
 use Rattle.lrc_plan.specs.EvaluationParts.{IsScaledValue}

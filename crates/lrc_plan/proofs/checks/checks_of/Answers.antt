@@ -1,4 +1,4 @@
-use Rattle.std.proofs.Common.{◌≡◌, sym, ap, ◌∙◌, arith, map, length, vec_len}
+use Rattle.std.proofs.Common.{◌≡◌, sym, ap, ◌∙◌, arith, length, vec_len}
 use Rattle.std.proofs.lemmas.List.{length-map}
 use Rattle.lrc_code.specs.Sets.{is_in}
 use Rattle.lrc_plan.specs.Tree.{form_of}

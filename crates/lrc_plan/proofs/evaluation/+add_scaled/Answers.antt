@@ -1,5 +1,4 @@
-use Rattle.std.proofs.lemmas.Bool.{eq-eqb}
-use Rattle.std.proofs.Common.{refl, ◌∙◌, arith}
+use Rattle.std.proofs.Common.{◌∙◌, arith}
 use Rattle.std.proofs.lemmas.Nat.{xor_lt}
 use Rattle.lrc_field.proofs.FieldLaws.{times_lt}
 use Rattle.lrc_plan.proofs.EvaluationSteps.{scaled_step, summed_step}

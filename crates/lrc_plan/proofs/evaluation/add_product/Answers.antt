@@ -1,4 +1,4 @@
-use Rattle.std.proofs.Common.{◌≡◌, ◌∙◌, sym, ap, map, get_or, arith}
+use Rattle.std.proofs.Common.{◌∙◌, sym, ap, map, get_or, arith}
 use Rattle.std.specs.Int.Bits.{bit_xor}
 use Rattle.lrc_field.specs.Field.{times}
 use Rattle.lrc_code.proofs.RowOps.{length-map_times}

@@ -1,4 +1,4 @@
-use Rattle.std.proofs.Common.{◌≡◌, ◌<◌, ℕ, get_or, ap₂, arith, bit_or}
+use Rattle.std.proofs.Common.{◌≡◌, get_or, ap₂, arith, bit_or}
 use Rattle.std.proofs.lemmas.Nat.{le_or_l, le_or_r}
 use borrow.Author.Count.{below_more}
 use Rattle.lrc_plan.proofs.evaluation.are_zeros.Goals as goal

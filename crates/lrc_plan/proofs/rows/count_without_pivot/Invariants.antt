@@ -1,4 +1,4 @@
-use Rattle.std.proofs.Common.{◌≡◌, ◌≤◌, ℕ}
+use Rattle.std.proofs.Common.{◌≡◌, ◌≤◌}
 use Rattle.lrc_plan.specs.Planned.{rows_without_pivot}
 use Rattle.lrc_plan.specs.Rows.{pivot_of}
 use Rattle.lrc_plan.proofs.rows.count_without_pivot.Given as goal

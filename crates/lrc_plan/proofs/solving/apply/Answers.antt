@@ -1,13 +1,10 @@
-use Rattle.std.proofs.Common.{◌≡◌, sym, ap, ◌∙◌, subst, refl, map, get_or, All, length, drop, arith, Option, Some, None, IsNone, is_some, false, vec_len}
+use Rattle.std.proofs.Common.{◌≡◌, sym, ◌∙◌, subst, refl, map, get_or, All, length, drop, arith}
 use Rattle.std.proofs.lemmas.List.Elements.{All-map}
 use Rattle.lrc_code.specs.declared.outcomes.Outcome.TheVariants.{Rebuilt}
 use Rattle.lrc_code.specs.Sets.{is_in}
 use Rattle.lrc_code.specs.Code.{narrow}
 use Rattle.lrc_code.specs.Answers.{IsAnswer}
-use Rattle.std.specs.Option.{option_map}
-use Rattle.std.proofs.lemmas.Bool.{eqb-true}
 use Rattle.std.proofs.lemmas.List.{length-map}
-use Rattle.lrc_plan.specs.Form.{Form}
 use Rattle.lrc_plan.specs.Tree.{form_of}
 use Rattle.lrc_plan.specs.Planned.{LeavesSurvive}
 use Rattle.lrc_plan.specs.EvaluationParts.{AreZeros, IsZero}
@@ -48,13 +45,10 @@ returns-in-None g c =
     let none = rw c.in-None.is at c.requires.plan.of_target.several in
     several c.args.request.now c.length-length.ensures.accepted c.length-length.ensures.bytes (is_in c.args.survivors) c.requires.survivors (map form_of c.args.plan.now.checks.items) c.requires.plan.of_survivors zero (none.0 refl)
 
-no_value : {X : Type 0} (f : X → Form) (o : Option X) → is_some o ≡ false → IsNone (option_map f o)
-no_value f None e = refl
-no_value f (Some x) e = absurd (cc)
-
-pub returns-then-is_none : goal.returns-then-is_none
-returns-then-is_none g c =
+pub returns-then-has_no_trees : goal.returns-then-has_no_trees
+returns-then-has_no_trees g c =
     let checks = c.args.plan.now.checks in
-    let empty : vec_len checks ≡ 0 = eqb-true (vec_len checks) 0 (sym c.if-is_empty.ensures) in
+    let empty = c.has_no_trees.ensures.checks c.if-has_no_trees.true in
     let zero : All (IsZero c.args.request.now) (map form_of checks.items) = λ k d lt. absurd (omega (arith, lt, length-map checks.items form_of, empty, checks.ok.0)) in
-    several c.args.request.now c.length-length.ensures.accepted c.length-length.ensures.bytes (is_in c.args.survivors) c.requires.survivors (map form_of checks.items) c.requires.plan.of_survivors zero (c.requires.plan.of_target.several.0 (no_value form_of c.args.plan.now.value c.if-is_none.ensures))
+    several c.args.request.now c.length-length.ensures.accepted c.length-length.ensures.bytes (is_in c.args.survivors) c.requires.survivors (map form_of checks.items) c.requires.plan.of_survivors zero
+    (c.requires.plan.of_target.several.0 (c.has_no_trees.ensures.value c.if-has_no_trees.true))

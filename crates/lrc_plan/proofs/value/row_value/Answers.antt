@@ -1,6 +1,6 @@
 use Rattle.lrc_code.specs.declared.places.Place.{Place}
 use Rattle.lrc_plan.specs.Form.{has_leaf}
-use Rattle.std.proofs.Common.{true, cond, ◌≢◌, ◌≡◌, ◌≤◌, ◌<◌, ℕ, false, [], List, length, get_or, slice_index, slice_set, drop, ◌∷◌, sym, ap, ◌∙◌, refl, arith}
+use Rattle.std.proofs.Common.{true, cond, ◌≢◌, ◌≡◌, ℕ, false, List, slice_index, slice_set, ap, ◌∙◌, refl}
 use Rattle.std.specs.Option.{option_map}
 use Rattle.lrc_code.specs.Sets.{is_in}
 use Rattle.lrc_code.specs.Places.{index_of, same_place}

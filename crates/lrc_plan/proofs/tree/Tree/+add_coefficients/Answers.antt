@@ -1,4 +1,4 @@
-use Rattle.std.proofs.Common.{◌≡◌, ◌<◌, ◌∙◌, ap, sym, ℕ, List, length, map, get_or, slice_index, slice_set, arith}
+use Rattle.std.proofs.Common.{◌≡◌, ◌<◌, ◌∙◌, ap, sym, ℕ, List, length, map, get_or, slice_set, arith}
 use Rattle.std.proofs.lemmas.Grind.{get_or_default_zero}
 use Rattle.lrc_code.specs.declared.places.Place.{Place}
 use Rattle.std.specs.Int.Bits.{bit_xor}
@@ -8,8 +8,6 @@ use Rattle.lrc_code.specs.Code.{combination, narrow_places}
 use Rattle.std.specs.Int.Bits.{xor_assoc}
 use Rattle.lrc_field.proofs.FieldLaws.{times-xor, times-assoc}
 use Rattle.lrc_code.proofs.PlaceSums.{combination-set}
-use Rattle.lrc_plan.specs.Form.{meaning}
-use Rattle.lrc_plan.specs.Tree.{form_of}
 use Rattle.lrc_plan.proofs.tree.Tree.+add_coefficients.Goals as goal
 
 -- one coefficient grows by the factor

@@ -1,4 +1,4 @@
-use Rattle.std.proofs.Common.{◌≡◌, ◌<◌, ◌∙◌, ap, sym, ℕ, List, map, replicate, arith}
+use Rattle.std.proofs.Common.{◌≡◌, ◌<◌, ◌∙◌, ℕ, List, map, replicate, arith}
 use Rattle.std.specs.Int.Bits.{bit_xor}
 use Rattle.lrc_field.specs.Field.{times}
 use Rattle.std.specs.Int.Bits.{xor_zero_l}

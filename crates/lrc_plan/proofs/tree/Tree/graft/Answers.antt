@@ -1,5 +1,4 @@
-use Rattle.std.proofs.Common.{◌≡◌, arith}
-use Rattle.lrc_plan.specs.Form.{place_total}
+use Rattle.std.proofs.Common.{arith}
 use Rattle.lrc_plan.specs.Tree.{form_of}
 use Rattle.lrc_plan.proofs.Grafts.{place_total-none, grafted-none}
 use Rattle.lrc_plan.proofs.tree.Tree.graft.Goals as goal
