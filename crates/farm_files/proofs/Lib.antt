@@ -1,3 +1,4 @@
+pub mod Parts
 pub mod Five
 pub mod Fuel
 pub mod SpacedNames

@@ -22,9 +22,9 @@ then_one os (Ok o) = Ok (os ++ o ∷ [])
 then_one os (Err e) = Err e
 
 abbrev after : ℕ → List Record → List (List ℕ) → Result (List Record) ListFault
-after n os row = cond (nat_lt order_limit n) (Err fault.TooMany) (then_one os (order_at n row))
+after n os row = cond (nat_lt order_limit n) (Err fault.TooManyOrders) (then_one os (order_at n row))
 
-first_one : (b : Bool) (x : Result Record ListFault) → cond b (Err fault.TooMany) (and_then x (Ok [])) ≡ cond b (Err fault.TooMany) (then_one [] x)
+first_one : (b : Bool) (x : Result Record ListFault) → cond b (Err fault.TooManyOrders) (and_then x (Ok [])) ≡ cond b (Err fault.TooManyOrders) (then_one [] x)
 first_one true x = refl
 first_one false (Ok o) = refl
 first_one false (Err e) = refl
@@ -38,20 +38,20 @@ record Parts (b : Bool) (x : Result Record ListFault) (y : Result (List Record) 
   others : y ≡ Ok rest
   whole : os ≡ one ∷ rest
 
-parts : (b : Bool) (x : Result Record ListFault) (y : Result (List Record) ListFault) (os : List Record) → cond b (Err fault.TooMany) (and_then x y) ≡ Ok os → Parts b x y os
+parts : (b : Bool) (x : Result Record ListFault) (y : Result (List Record) ListFault) (os : List Record) → cond b (Err fault.TooManyOrders) (and_then x y) ≡ Ok os → Parts b x y os
 parts true x y os e = cc
 parts false (Err f) y os e = cc
 parts false (Ok o) (Err f) os e = cc
 parts false (Ok o) (Ok rest) os e = record { one = o; rest = rest; within = refl; first = refl; others = refl; whole = cc }
 
-ahead : (o : Record) (os : List Record) (b : Bool) (x : Result Record ListFault) → and_then (Ok o) (cond b (Err fault.TooMany) (then_one os x)) ≡ cond b (Err fault.TooMany) (then_one (o ∷ os) x)
+ahead : (o : Record) (os : List Record) (b : Bool) (x : Result Record ListFault) → and_then (Ok o) (cond b (Err fault.TooManyOrders) (then_one os x)) ≡ cond b (Err fault.TooManyOrders) (then_one (o ∷ os) x)
 ahead o os true x = refl
 ahead o os false (Ok y) = refl
 ahead o os false (Err e) = refl
 
 over : (b : Bool) (x : Result Record ListFault) (y : Result (List Record) ListFault) (one : Record) (rest os : List Record) (b2 : Bool) (x2 : Result Record ListFault)
-    → b ≡ false → x ≡ Ok one → y ≡ cond b2 (Err fault.TooMany) (then_one rest x2) → os ≡ one ∷ rest
-    → cond b (Err fault.TooMany) (and_then x y) ≡ cond b2 (Err fault.TooMany) (then_one os x2)
+    → b ≡ false → x ≡ Ok one → y ≡ cond b2 (Err fault.TooManyOrders) (then_one rest x2) → os ≡ one ∷ rest
+    → cond b (Err fault.TooManyOrders) (and_then x y) ≡ cond b2 (Err fault.TooManyOrders) (then_one os x2)
 over b x y one rest os b2 x2 hb hx hy ho = rw (hb, hx, hy, ho) (ahead one rest b2 x2)
 
 pub orders_push : (n : ℕ) (rows : Rows) (os : List Record) (row : List (List ℕ)) → orders n rows ≡ Ok os → orders n (rows ++ row ∷ []) ≡ after (n + length rows) os row
@@ -86,7 +86,7 @@ push_order rows os row number o e some few so is =
     so_far_of rows row (os ++ o ∷ []) (push_any rows os row number e some so ∙ rw (low, is) refl)
 
 pub push_many : (rows : Rows) (os : List Record) (row : List (List ℕ)) (number : ℕ) → length rows ≡ number → 4096 < number → SoFar rows os
-    → list_of_rows (rows ++ row ∷ []) ≡ Err fault.TooMany
+    → list_of_rows (rows ++ row ∷ []) ≡ Err fault.TooManyOrders
 push_many rows os row number e many so =
     let some : number ≡ 0 → ⊥ = omega arith in
     let high : nat_lt order_limit number ≡ true = lt-ltb 4096 number many in
@@ -95,9 +95,9 @@ push_many rows os row number e many so =
 pub push_fault : (f : ListFault) (rows : Rows) (os : List Record) (row : List (List ℕ)) (number : ℕ) → length rows ≡ number → (number ≡ 0 → ⊥) → number ≤ 4096 → SoFar rows os
     → IsRecordFault f number row → Stops f (rows ++ row ∷ [])
 push_fault fault.OutOfMemory rows os row number e some few so is = tt
-push_fault fault.TooLong rows os row number e some few so is = is
+push_fault fault.InputTooLong rows os row number e some few so is = is
 push_fault fault.BadHeader rows os row number e some few so is = absurd is
-push_fault fault.TooMany rows os row number e some few so is = absurd is
+push_fault fault.TooManyOrders rows os row number e some few so is = absurd is
 push_fault (fault.BadRecord n) rows os row number e some few so is =
     let low : nat_lt order_limit number ≡ false = le-ltb 4096 number few in push_any rows os row number e some so ∙ rw (low, is) refl
 push_fault (fault.Refused n k) rows os row number e some few so is =
@@ -118,7 +118,7 @@ failed_more n [] more f e = cc
 failed_more n (row ∷ rows) more f e = by (nat_lt order_limit n) (order_at n row) (orders (n + 1) rows) (failed_more (n + 1) rows more f) e
   where
     by : (b : Bool) (x : Result Record ListFault) (y : Result (List Record) ListFault) → (y ≡ Err f → orders (n + 1) (rows ++ more) ≡ Err f)
-        → cond b (Err fault.TooMany) (and_then x y) ≡ Err f → cond b (Err fault.TooMany) (and_then x (orders (n + 1) (rows ++ more))) ≡ Err f
+        → cond b (Err fault.TooManyOrders) (and_then x y) ≡ Err f → cond b (Err fault.TooManyOrders) (and_then x (orders (n + 1) (rows ++ more))) ≡ Err f
     by true x y h k = k
     by false (Err g) y h k = k
     by false (Ok o) (Err g) h k = let same : g ≡ f = cc in rw (h (ap Err same)) refl
@@ -147,9 +147,9 @@ first_fault bytes rows s rest f small some reached e =
 pub explain : (f : ListFault) (bytes : List ℕ) (rows : Rows) (s : State) (rest : List ℕ) → length bytes ≤ list_limit → 0 < length rows
     → Reached default_config st.StartRecord (strip_bom bytes) rows s rest → Stops f rows → IsFaultOf f (list_of bytes)
 explain fault.OutOfMemory bytes rows s rest small some reached stops = tt
-explain fault.TooLong bytes rows s rest small some reached stops = absurd stops
+explain fault.InputTooLong bytes rows s rest small some reached stops = absurd stops
 explain fault.BadHeader bytes rows s rest small some reached stops = first_fault bytes rows s rest fault.BadHeader small some reached stops
-explain fault.TooMany bytes rows s rest small some reached stops = first_fault bytes rows s rest fault.TooMany small some reached stops
+explain fault.TooManyOrders bytes rows s rest small some reached stops = first_fault bytes rows s rest fault.TooManyOrders small some reached stops
 explain (fault.BadRecord n) bytes rows s rest small some reached stops = first_fault bytes rows s rest (fault.BadRecord n) small some reached stops
 explain (fault.Refused n k) bytes rows s rest small some reached stops = first_fault bytes rows s rest (fault.Refused n k) small some reached stops
 
@@ -157,6 +157,6 @@ explain (fault.Refused n k) bytes rows s rest small some reached stops = first_f
 pub lists_all : (bytes : List ℕ) (rows : Rows) → length bytes ≤ list_limit → AreRecords default_config st.StartRecord (strip_bom bytes) rows → list_of bytes ≡ list_of_rows rows
 lists_all bytes rows small all = within bytes small ∙ ap list_of_rows (records_are (strip_bom bytes) rows all)
 
-pub too_long : (bytes : List ℕ) → list_limit < length bytes → list_of bytes ≡ Err fault.TooLong
+pub too_long : (bytes : List ℕ) → list_limit < length bytes → list_of bytes ≡ Err fault.InputTooLong
 unfolding list_of
 too_long bytes long = let high : nat_lt list_limit (length bytes) ≡ true = lt-ltb list_limit (length bytes) long in rw high refl

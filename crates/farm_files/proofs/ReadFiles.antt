@@ -103,8 +103,8 @@ pub list_refused : (f : ListFault) (told : Told) (rack n m : ℕ) (name bytes : 
     → ((t : Files) → told ≡ Some t → Some bytes ≡ option_map (take 1048577) (t name))
     → IsFaultOf f (list_of bytes) → IsListFault (serve_fault rack f) rack told n m
 list_refused list_fault.OutOfMemory told rack n m name bytes calm named read is = calm
-list_refused list_fault.TooLong told rack n m name bytes calm named read is = (refl, calm, λ t e. list_read t rack name bytes _ named (read t e) is)
+list_refused list_fault.InputTooLong told rack n m name bytes calm named read is = (refl, calm, λ t e. list_read t rack name bytes _ named (read t e) is)
 list_refused list_fault.BadHeader told rack n m name bytes calm named read is = (refl, calm, λ t e. list_read t rack name bytes _ named (read t e) is)
-list_refused list_fault.TooMany told rack n m name bytes calm named read is = (refl, calm, λ t e. list_read t rack name bytes _ named (read t e) is)
+list_refused list_fault.TooManyOrders told rack n m name bytes calm named read is = (refl, calm, λ t e. list_read t rack name bytes _ named (read t e) is)
 list_refused (list_fault.BadRecord k) told rack n m name bytes calm named read is = (refl, calm, λ t e. list_read t rack name bytes _ named (read t e) is)
 list_refused (list_fault.Refused k x) told rack n m name bytes calm named read is = (refl, calm, λ t e. list_read t rack name bytes _ named (read t e) is)

@@ -8,7 +8,7 @@ use Rattle.lrc_code.specs.declared.places.Place.{Place}
 use Rattle.lrc_code.specs.Requests.{Asked}
 use Rattle.farm_files.specs.Listed.{ListedRequest}
 use Rattle.farm_files.specs.Files.{Files}
-use Rattle.farm_files.specs.Serving.{AreReads, Reads, asked, asked_rack, failures, rack_failures, survivor_count, unread, unread_rack}
+use Rattle.farm_files.specs.Serving.{AreReads, Reads, asked, asked_rack, failures, rack_failures, unread, unread_rack}
 
 pub reads_push : (rs : List ListedRequest) (qs : List Reads) (r : ListedRequest) (q : Reads) → AllZip AreReads rs qs → AreReads r q → AllZip AreReads (rs ++ r ∷ []) (qs ++ q ∷ [])
 reads_push [] [] r q h k = (k, tt)
@@ -30,25 +30,6 @@ unread_push there (x ∷ rs) (y ∷ qs) r q h = ap (λ t. unread there x y ∷ t
 
 pub rack_failures_push : (qs : List Reads) (q : Reads) → rack_failures (qs ++ q ∷ []) ≡ rack_failures qs + failures q
 rack_failures_push qs q = sum_by-append failures qs (q ∷ []) ∙ (let e : sum_by failures (q ∷ []) ≡ failures q = omega arith in ap (λ n. rack_failures qs + n) e)
-
-pub count_push : (rs : List ListedRequest) (r : ListedRequest) → survivor_count (rs ++ r ∷ []) ≡ survivor_count rs + length r.survivors
-count_push rs r = sum_by-append (λ (x : ListedRequest). length x.survivors) rs (r ∷ []) ∙ (let e : sum_by (λ (x : ListedRequest). length x.survivors) (r ∷ []) ≡ length r.survivors = omega arith in ap (λ n. survivor_count rs + n) e)
-
-count_cons : (r : ListedRequest) (rs : List ListedRequest) → survivor_count (r ∷ rs) ≡ length r.survivors + survivor_count rs
-count_cons r rs = sum_by-append (λ (x : ListedRequest). length x.survivors) (r ∷ []) rs ∙ (let e : sum_by (λ (x : ListedRequest). length x.survivors) (r ∷ []) ≡ length r.survivors = omega arith in ap (λ n. n + survivor_count rs) e)
-
--- the listed survivors of the first requests and of the next are no more than those of all
-pub count_within : (rs : List (Bor ListedRequest)) (i : ℕ) (r : Bor ListedRequest) → i < length rs → r ≡ get_or rs i r
-    → survivor_count (map (λ x. x.now) (take i rs)) + length r.now.survivors ≤ survivor_count (map (λ x. x.now) rs)
-count_within [] i r h e = absurd (omega arith)
-count_within (x ∷ rs) zero r h e =
-    let all : survivor_count (map (λ (y : Bor ListedRequest). y.now) (x ∷ rs)) ≡ length x.now.survivors + survivor_count (map (λ (y : Bor ListedRequest). y.now) rs) = count_cons x.now (map (λ (y : Bor ListedRequest). y.now) rs) in
-    let one = ap (λ (y : Bor ListedRequest). length y.now.survivors) e in
-    omega (arith, all, one)
-count_within (x ∷ rs) (suc i) r h e =
-    let all : survivor_count (map (λ (y : Bor ListedRequest). y.now) (x ∷ rs)) ≡ length x.now.survivors + survivor_count (map (λ (y : Bor ListedRequest). y.now) rs) = count_cons x.now (map (λ (y : Bor ListedRequest). y.now) rs) in
-    let front : survivor_count (map (λ (y : Bor ListedRequest). y.now) (take (suc i) (x ∷ rs))) ≡ length x.now.survivors + survivor_count (map (λ (y : Bor ListedRequest). y.now) (take i rs)) = count_cons x.now (map (λ (y : Bor ListedRequest). y.now) (take i rs)) in
-    let rest = count_within rs i r (omega arith) e in omega (arith, all, front, rest)
 
 pub taken : (rack : List (Bor ListedRequest)) (i : ℕ) (r : Bor ListedRequest) → i < length rack → r ≡ get_or rack i r
     → map (λ x. x.now) (take (i + 1) rack) ≡ map (λ x. x.now) (take i rack) ++ r.now ∷ []

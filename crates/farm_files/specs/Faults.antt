@@ -48,11 +48,11 @@ IsListFault fault.NoThread rack there before after = ⊥
 
 -- a list's fault as serving's
 abbrev pub serve_fault : ℕ → ListFault → ServeFault
-serve_fault rack list_fault.TooLong = fault.List rack list_fault.TooLong
+serve_fault rack list_fault.InputTooLong = fault.List rack list_fault.InputTooLong
 serve_fault rack list_fault.BadHeader = fault.List rack list_fault.BadHeader
 serve_fault rack (list_fault.BadRecord n) = fault.List rack (list_fault.BadRecord n)
 serve_fault rack (list_fault.Refused n e) = fault.List rack (list_fault.Refused n e)
-serve_fault rack list_fault.TooMany = fault.List rack list_fault.TooMany
+serve_fault rack list_fault.TooManyOrders = fault.List rack list_fault.TooManyOrders
 serve_fault rack list_fault.OutOfMemory = fault.OutOfMemory
 
 -- how often the device failed in a call that ended in this fault

@@ -9,3 +9,4 @@ pub mod Names
 pub mod Named
 pub mod Serving
 pub mod Faults
+pub mod Parts

@@ -62,7 +62,7 @@ and_then (Ok o) (Ok os) = Ok (o ∷ os)
 -- the orders of the records from the n-th on
 abbrev pub orders : ℕ → List (List (List ℕ)) → Result (List Record) ListFault
 orders n [] = Ok []
-orders n (row ∷ rows) = if nat_lt order_limit n then Err fault.TooMany else and_then (order_at n row) (orders (n + 1) rows)
+orders n (row ∷ rows) = if nat_lt order_limit n then Err fault.TooManyOrders else and_then (order_at n row) (orders (n + 1) rows)
 
 -- the orders of a header and the records behind it
 abbrev pub list_of_rows : List (List (List ℕ)) → Result (List Record) ListFault
@@ -73,23 +73,23 @@ list_of_rows (row ∷ rows) = if pointwise bytes_eq row header then orders 1 row
 
 -- the orders of a list, or its first fault
 unfoldable pub list_of : List ℕ → Result (List Record) ListFault
-list_of bytes = if nat_lt list_limit (length bytes) then Err fault.TooLong else list_of_rows (records default_config (strip_bom bytes))
+list_of bytes = if nat_lt list_limit (length bytes) then Err fault.InputTooLong else list_of_rows (records default_config (strip_bom bytes))
 
 -- the fault is the list's; want of memory is nobody's
 abbrev pub IsFaultOf : ListFault → Result (List Record) ListFault → Type 0
 IsFaultOf fault.OutOfMemory r = Unit {0}
-IsFaultOf fault.TooLong r = r ≡ Err fault.TooLong
+IsFaultOf fault.InputTooLong r = r ≡ Err fault.InputTooLong
 IsFaultOf fault.BadHeader r = r ≡ Err fault.BadHeader
 IsFaultOf (fault.BadRecord n) r = r ≡ Err (fault.BadRecord n)
 IsFaultOf (fault.Refused n e) r = r ≡ Err (fault.Refused n e)
-IsFaultOf fault.TooMany r = r ≡ Err fault.TooMany
+IsFaultOf fault.TooManyOrders r = r ≡ Err fault.TooManyOrders
 
 -- why a record is refused
 abbrev pub IsRecordFault : ListFault → ℕ → List (List ℕ) → Type 0
 IsRecordFault fault.OutOfMemory n fields = Unit {0}
-IsRecordFault fault.TooLong n fields = ⊥
+IsRecordFault fault.InputTooLong n fields = ⊥
 IsRecordFault fault.BadHeader n fields = ⊥
-IsRecordFault fault.TooMany n fields = ⊥
+IsRecordFault fault.TooManyOrders n fields = ⊥
 IsRecordFault (fault.BadRecord m) n fields = order_at n fields ≡ Err (fault.BadRecord m)
 IsRecordFault (fault.Refused m e) n fields = order_at n fields ≡ Err (fault.Refused m e)
 
@@ -104,8 +104,8 @@ SoFar (row ∷ rows) os = list_of_rows (row ∷ rows) ≡ Ok os
 -- the records show the fault
 abbrev pub Stops : ListFault → List (List (List ℕ)) → Type 0
 Stops fault.OutOfMemory rows = Unit {0}
-Stops fault.TooLong rows = ⊥
+Stops fault.InputTooLong rows = ⊥
 Stops fault.BadHeader rows = list_of_rows rows ≡ Err fault.BadHeader
-Stops fault.TooMany rows = list_of_rows rows ≡ Err fault.TooMany
+Stops fault.TooManyOrders rows = list_of_rows rows ≡ Err fault.TooManyOrders
 Stops (fault.BadRecord n) rows = list_of_rows rows ≡ Err (fault.BadRecord n)
 Stops (fault.Refused n e) rows = list_of_rows rows ≡ Err (fault.Refused n e)

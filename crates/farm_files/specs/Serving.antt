@@ -71,10 +71,6 @@ unread_rack there (r ∷ rs) (q ∷ qs) = unread there r q ∷ unread_rack there
 abbrev pub rack_failures : List Reads → ℕ
 rack_failures reads = sum_by failures reads
 
--- how many survivors are listed
-abbrev pub survivor_count : List ListedRequest → ℕ
-survivor_count rs = sum_by (λ r. length r.survivors) rs
-
 -- ---- all racks
 
 abbrev pub AreAllReads : List (List Record) → List (List Reads) → Type 0

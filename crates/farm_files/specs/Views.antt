@@ -12,8 +12,8 @@ five f = f.order.now ∷ f.stripe.now ∷ f.target.now ∷ f.length.now ∷ f.su
 -- why a record that is to list a request is refused
 abbrev pub IsRebuildFault : ListFault → ℕ → Option ListedRequest → Type 0
 IsRebuildFault fault.OutOfMemory n r = Unit {0}
-IsRebuildFault fault.TooLong n r = ⊥
+IsRebuildFault fault.InputTooLong n r = ⊥
 IsRebuildFault fault.BadHeader n r = ⊥
-IsRebuildFault fault.TooMany n r = ⊥
+IsRebuildFault fault.TooManyOrders n r = ⊥
 IsRebuildFault (fault.BadRecord m) n r = rebuild_at n r ≡ Err (fault.BadRecord m)
 IsRebuildFault (fault.Refused m e) n r = rebuild_at n r ≡ Err (fault.Refused m e)

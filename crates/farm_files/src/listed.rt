@@ -1,5 +1,5 @@
 //! Requests as they are listed.
-ghost use Rattle.std.specs.Prelude.{◌≡◌, MatchResult, None, Some, Bool};
+ghost use Rattle.std.specs.Prelude.{◌≡◌, ◌≤◌, length, MatchResult, None, Some, Bool};
 ghost use Rattle.std.specs.List.{list_any};
 ghost use Rattle.std.specs.String.{string_bytes};
 ghost use Rattle.lrc_code.specs.Places.{same_place};
@@ -9,7 +9,7 @@ use lrc_code::{Place, RequestFault, is_stripe_name};
 use std::marker::Model;
 
 /// A request as it is listed, before its fragments are read. None of the first four refusals holds of it.
-#[derive(Drop)]
+#[derive(Debug, Drop)]
 pub struct Listed {
     stripe: String,
     target: Place,
@@ -98,7 +98,8 @@ impl Listed {
     }
 
     pub fn survivors(&self) -> &[Place]
-        ensures { result.now ≡ self.now.survivors }
+        ensures value { result.now ≡ self.now.survivors }
+        ensures few { length self.now.survivors ≤ 10 }
     {
         self.survivors.as_slice()
     }

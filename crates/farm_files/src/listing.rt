@@ -15,22 +15,37 @@ use crate::text::split_at_spaces;
 use lrc_code::text::parse_number;
 use lrc_code::{Place, RequestFault};
 use std::alloc::{AllocError, Global};
+use thiserror::Error;
 
-/// An order of a list.
-#[derive(Drop)]
+/// A record of a list.
+#[derive(Debug, Drop)]
 pub enum Record {
+    /// To rebuild a fragment.
     Rebuild(Listed),
+    /// To answer no record after this one.
     Close,
 }
 
-/// Why a list is refused. Records are numbered from 1 after the header.
-#[derive(Clone, Copy)]
+/// Why a list is refused: its first fault. Records are numbered from 1 after the header.
+#[derive(Clone, Copy, Debug, Error, PartialEq, Eq)]
 pub enum ListFault {
-    TooLong,
+    /// E25: the list has more than 1,048,576 bytes.
+    #[error("the list has more than 1048576 bytes")]
+    InputTooLong,
+    /// E19: the first record isn't the header, or there is none.
+    #[error("the first record is not the header")]
     BadHeader,
-    BadRecord(usize),
-    Refused(usize, RequestFault),
-    TooMany,
+    /// E20: a record that has neither the form of a rebuild nor that of a close.
+    #[error("record {number} is neither a rebuild nor a close")]
+    BadRecord { number: usize },
+    /// E21: a record whose request is refused.
+    #[error("the request of record {number} is refused: {fault}")]
+    Refused { number: usize, fault: RequestFault },
+    /// E26: there are more than 4,096 records.
+    #[error("the list has more than 4096 orders")]
+    TooManyOrders,
+    /// E16: memory was wanting.
+    #[error("out of memory")]
     OutOfMemory,
 }
 
@@ -44,7 +59,7 @@ pub fn read_list(alloc: Global, bytes: &[u8]) -> Result<Vec<Record>, ListFault>
     ensures fault { IfErr result (λ f. IsFaultOf f (list_of bytes.now)) }
 {
     if bytes.len() > LIST_LIMIT {
-        return Err(ListFault::TooLong);
+        return Err(ListFault::InputTooLong);
     }
     let rdr = ReaderBuilder::new()
         .has_headers(false)
@@ -83,7 +98,7 @@ fn take_row(
         };
     }
     if number > ORDER_LIMIT {
-        return Err(ListFault::TooMany);
+        return Err(ListFault::TooManyOrders);
     }
     let order = order_of(alloc, number, row)?;
     match list.push(order) {
@@ -154,7 +169,7 @@ fn order_of(alloc: Global, number: usize, row: &ByteRecord) -> Result<Record, Li
     ensures err { IfErr result (λ f. IsRecordFault f number (fields_of row.now)) }
 {
     let Some(fields) = five_fields(row) else {
-        return Err(ListFault::BadRecord(number));
+        return Err(ListFault::BadRecord { number });
     };
     if fields.order == b"rebuild".as_slice() {
         return rebuild_of(alloc, number, &fields);
@@ -162,7 +177,7 @@ fn order_of(alloc: Global, number: usize, row: &ByteRecord) -> Result<Record, Li
     if is_close(&fields) {
         Ok(Record::Close)
     } else {
-        Err(ListFault::BadRecord(number))
+        Err(ListFault::BadRecord { number })
     }
 }
 
@@ -182,25 +197,25 @@ fn rebuild_of(alloc: Global, number: usize, fields: &Fields<'_>) -> Result<Recor
     ensures err { IfErr result (λ f. IsRebuildFault f number (listed fields.now.stripe.now fields.now.target.now fields.now.length.now fields.now.survivors.now)) }
 {
     let Some(target) = Place::named(fields.target) else {
-        return Err(ListFault::BadRecord(number));
+        return Err(ListFault::BadRecord { number });
     };
     let Some(length) = parse_number(fields.length) else {
-        return Err(ListFault::BadRecord(number));
+        return Err(ListFault::BadRecord { number });
     };
     let survivors = match parse_places(alloc, fields.survivors) {
         Ok(Some(survivors)) => survivors,
-        Ok(None) => return Err(ListFault::BadRecord(number)),
+        Ok(None) => return Err(ListFault::BadRecord { number }),
         Err(_) => return Err(ListFault::OutOfMemory),
     };
     let Ok(stripe) = Vec::from_slice(alloc, fields.stripe) else {
         return Err(ListFault::OutOfMemory);
     };
     let Ok(stripe) = String::from_utf8(stripe) else {
-        return Err(ListFault::Refused(number, RequestFault::BadStripe));
+        return Err(ListFault::Refused { number, fault: RequestFault::BadStripe });
     };
     match Listed::new(stripe, target, length, survivors) {
         Ok(listed) => Ok(Record::Rebuild(listed)),
-        Err(fault) => Err(ListFault::Refused(number, fault)),
+        Err(fault) => Err(ListFault::Refused { number, fault }),
     }
 }
 

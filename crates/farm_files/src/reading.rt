@@ -1,5 +1,5 @@
 //! Reading the lists and the fragments.
-ghost use Rattle.std.specs.Prelude.{◌≡◌, ◌+◌, ◌++◌, ◌∷◌, [], OnOk, ◌<◌, ◌≤◌, ◌^◌, ℕ, List, Bool, Option, Some, None, Ok, Err, IfOk, IfErr, IfSome, MatchResult, if◌then◌else◌, is_some, length, map, option_map};
+ghost use Rattle.std.specs.Prelude.{◌≡◌, ◌+◌, ◌*◌, ◌++◌, ◌∷◌, [], OnOk, ◌<◌, ◌≤◌, ◌^◌, ℕ, List, Bool, Option, Some, None, Ok, Err, IfOk, IfErr, IfSome, MatchResult, if◌then◌else◌, is_some, length, map, option_map};
 ghost use Rattle.std.specs.List.{AllZip, filter_map};
 ghost use Rattle.lrc_code.specs.Survivors.{survivors_of};
 ghost use Rattle.farm_files.specs.Listing.{list_of};
@@ -7,7 +7,8 @@ ghost use Rattle.farm_files.specs.declared.listing.Record.{Record};
 ghost use Rattle.farm_files.specs.Files.{Files};
 ghost use Rattle.farm_files.specs.declared.faults.ServeFault.TheVariants as serving_fault;
 ghost use Rattle.farm_files.specs.Names.{list_name};
-ghost use Rattle.farm_files.specs.Serving.{AreLists, AreReads, Reads, asked, asked_rack, failures, fragment, rack_failures, survivor, survivor_count, unread, unread_rack};
+ghost use Rattle.farm_files.specs.Serving.{AreLists, AreReads, Reads, asked, asked_rack, failures, fragment, rack_failures, survivor, unread, unread_rack};
+ghost use Rattle.farm_files.specs.Parts.{ArePart};
 ghost use Rattle.farm_files.specs.Faults.{CountsFault, Explains, IsListFault, IsReadFault, serve_fault};
 
 use crate::faults::ServeFault;
@@ -58,11 +59,11 @@ fn list_fault(rack: usize, fault: ListFault) -> ServeFault
     ensures { result ≡ serve_fault rack fault }
 {
     match fault {
-        ListFault::TooLong => ServeFault::List(rack, ListFault::TooLong),
-        ListFault::BadHeader => ServeFault::List(rack, ListFault::BadHeader),
-        ListFault::BadRecord(n) => ServeFault::List(rack, ListFault::BadRecord(n)),
-        ListFault::Refused(n, e) => ServeFault::List(rack, ListFault::Refused(n, e)),
-        ListFault::TooMany => ServeFault::List(rack, ListFault::TooMany),
+        ListFault::InputTooLong => ServeFault::List { rack, fault: ListFault::InputTooLong },
+        ListFault::BadHeader => ServeFault::List { rack, fault: ListFault::BadHeader },
+        ListFault::BadRecord { number: n } => ServeFault::List { rack, fault: ListFault::BadRecord { number: n } },
+        ListFault::Refused { number: n, fault: e } => ServeFault::List { rack, fault: ListFault::Refused { number: n, fault: e } },
+        ListFault::TooManyOrders => ServeFault::List { rack, fault: ListFault::TooManyOrders },
         ListFault::OutOfMemory => ServeFault::OutOfMemory,
     }
 }
@@ -78,6 +79,7 @@ fn read_fragment<I: Shelf>(
     ensures same { I.files input.new ≡ I.files input.old }
     ensures read { IfOk result (λ v. (failed : Bool) × (I.failed input.new ≡ I.failed input.old + (if failed then 1 else 0))
         × ((there : Files) → I.files input.old ≡ Some there → option_map (λ b. b.items) v ≡ fragment there listed.now (place, failed))) }
+    ensures whole { IfOk result (λ v. IfSome v (λ b. length b.items ≡ listed.now.len)) }
     ensures few { I.failed input.new ≤ I.failed input.old + 1 }
 {
     let name = fragment_file(alloc, listed.stripe(), place)?;
@@ -100,11 +102,12 @@ fn read_survivors<I: Shelf>(
     input: &mut I,
     listed: &Listed,
 ) -> Result<(Vec<Fragment>, Vec<Place>), AllocError>
-    requires { I.failed input.old + length listed.now.survivors < 2 ^ 63 }
+    requires { I.failed input.old + 10 < 2 ^ 63 }
     ensures same { I.files input.new ≡ I.files input.old }
     ensures read { IfOk result (λ v. (reads : Reads) × AreReads listed.now reads × (I.failed input.new ≡ I.failed input.old + failures reads)
         × ((there : Files) → I.files input.old ≡ Some there → (survivors_of v.0.items ≡ filter_map (survivor there listed.now) reads) × (v.1.items ≡ unread there listed.now reads))) }
-    ensures few { I.failed input.new ≤ I.failed input.old + length listed.now.survivors }
+    ensures part { IfOk result (λ v. ArePart listed.now.len listed.now.survivors (survivors_of v.0.items)) }
+    ensures few { I.failed input.new ≤ I.failed input.old + 10 }
 {
     let mut fragments = Vec::new(alloc);
     let mut unread = Vec::new(alloc);
@@ -177,18 +180,18 @@ fn read_request<I: Shelf>(
     input: &mut I,
     listed: &Listed,
 ) -> Result<(Request, Vec<Place>), AllocError>
-    requires { I.failed input.old + length listed.now.survivors < 2 ^ 63 }
+    requires { I.failed input.old + 10 < 2 ^ 63 }
     ensures same { I.files input.new ≡ I.files input.old }
     ensures read { IfOk result (λ v. (reads : Reads) × AreReads listed.now reads × (I.failed input.new ≡ I.failed input.old + failures reads)
         × ((there : Files) → I.files input.old ≡ Some there → (v.0 ≡ asked there listed.now reads) × (v.1.items ≡ unread there listed.now reads))) }
-    ensures few { I.failed input.new ≤ I.failed input.old + length listed.now.survivors }
+    ensures few { I.failed input.new ≤ I.failed input.old + 10 }
 {
     let (fragments, unread) = read_survivors(alloc, input, listed)?;
     let stripe = String::from_str(alloc, listed.stripe())?;
-    match Request::new(stripe, listed.target(), listed.length(), fragments) {
-        Ok(request) => Ok((request, unread)),
-        Err(_) => Err(AllocError),
-    }
+    let Ok(request) = Request::new(stripe, listed.target(), listed.length(), fragments) else {
+        unreachable!();
+    };
+    Ok((request, unread))
 }
 
 // The requests of a rack with the survivors that were read, and the places of the others.
@@ -197,11 +200,11 @@ fn read_rack<I: Shelf>(
     input: &mut I,
     rack: &[&Listed],
 ) -> Result<(Vec<Request>, Vec<Vec<Place>>), AllocError>
-    requires { I.failed input.old + survivor_count (map (λ r. r.now) rack.now) < 2 ^ 63 }
+    requires { I.failed input.old + 10 * length rack.now < 2 ^ 63 }
     ensures same { I.files input.new ≡ I.files input.old }
     ensures read { IfOk result (λ v. (reads : List Reads) × AllZip AreReads (map (λ r. r.now) rack.now) reads × (I.failed input.new ≡ I.failed input.old + rack_failures reads)
         × ((there : Files) → I.files input.old ≡ Some there → (v.0.items ≡ asked_rack there (map (λ r. r.now) rack.now) reads) × (map (λ u. u.items) v.1.items ≡ unread_rack there (map (λ r. r.now) rack.now) reads))) }
-    ensures few { I.failed input.new ≤ I.failed input.old + survivor_count (map (λ r. r.now) rack.now) }
+    ensures few { I.failed input.new ≤ I.failed input.old + 10 * length rack.now }
 {
     let mut requests = Vec::new(alloc);
     let mut unread = Vec::new(alloc);

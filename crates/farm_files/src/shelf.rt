@@ -1,12 +1,18 @@
-//! Shelves: named files that may fail.
+//! Shelves: named files on a device that may fail.
 ghost use Rattle.std.specs.Prelude.{◌≡◌, ℕ, List, ◌<◌, ◌^◌, Option, None, IfOk, IfSome, take, option_map};
 ghost use Rattle.farm_files.specs.Files.{CountsFailure, Told, Writes};
 
 use std::alloc::Global;
+use thiserror::Error;
 
-#[derive(Clone, Copy, PartialEq, Eq, Debug)]
+/// Why a call of a shelf failed.
+#[derive(Clone, Copy, Debug, Error, PartialEq, Eq)]
 pub enum ShelfFault {
+    /// E24: the device failed in that call.
+    #[error("the device failed")]
     Device,
+    /// E16: memory was wanting.
+    #[error("out of memory")]
     OutOfMemory,
 }
 

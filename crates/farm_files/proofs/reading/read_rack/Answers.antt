@@ -1,28 +1,28 @@
 use Rattle.std.proofs.Common.{◌≡◌, ◌≤◌, ◌<◌, ◌+◌, ◌++◌, ◌∷◌, [], ◌∙◌, Bor, List, ℕ, arith, map, take}
 use Rattle.farm_files.specs.Listed.{ListedRequest}
-use Rattle.farm_files.specs.Serving.{rack_failures, survivor_count}
-use Rattle.farm_files.proofs.ReadRequests.{asked_more, count_push, count_within, rack_failures_push, reads_push, taken, unread_more}
+use Rattle.farm_files.specs.Serving.{rack_failures}
+use Rattle.farm_files.proofs.ReadRequests.{asked_more, rack_failures_push, reads_push, taken, unread_more}
 use Rattle.farm_files.proofs.reading.read_rack.Goals as goal
 
 pub read_request-requires : goal.read_request-requires
 read_request-requires g c =
     let (reads, are, same, failed, few, told) = c.loop-index.invariant in
-    omega (arith, few, count_within c.args.rack.now c.loop-index.index c.index-rack-index.result c.loop-index-test.true c.index-rack-index.is, c.requires)
+    omega (arith, few, c.requires, c.loop-index-test.true)
 
 pub returns-in_err-request-clause-few : goal.returns-in_err-request-clause-few
 returns-in_err-request-clause-few g c =
     let (reads, are, same, failed, few, told) = c.loop-index.invariant in
-    omega (arith, few, c.in_err-request.ensures.few, count_within c.args.rack.now c.loop-index.index c.index-rack-index.result c.loop-index-test.true c.index-rack-index.is)
+    omega (arith, few, c.in_err-request.ensures.few, c.loop-index-test.true)
 
 pub returns-in_err-push-clause-few : goal.returns-in_err-push-clause-few
 returns-in_err-push-clause-few g c =
     let (reads, are, same, failed, few, told) = c.loop-index.invariant in
-    omega (arith, few, c.in_ok-request.ensures.few, count_within c.args.rack.now c.loop-index.index c.index-rack-index.result c.loop-index-test.true c.index-rack-index.is)
+    omega (arith, few, c.in_ok-request.ensures.few, c.loop-index-test.true)
 
 pub returns-in_err-push-2-clause-few : goal.returns-in_err-push-2-clause-few
 returns-in_err-push-2-clause-few g c =
     let (reads, are, same, failed, few, told) = c.loop-index.invariant in
-    omega (arith, few, c.in_ok-request.ensures.few, count_within c.args.rack.now c.loop-index.index c.index-rack-index.result c.loop-index-test.true c.index-rack-index.is)
+    omega (arith, few, c.in_ok-request.ensures.few, c.loop-index-test.true)
 
 pub loop-index-preserved : goal.loop-index-preserved
 loop-index-preserved g c =
@@ -33,7 +33,7 @@ loop-index-preserved g c =
     let more = taken c.args.rack.now c.loop-index.index c.index-rack-index.result c.loop-index-test.true c.index-rack-index.is in
     rw more (reads ++ q ∷ [], reads_push rs reads r q are is, c.in_ok-request.ensures.same ∙ same,
       omega (arith, rose, failed, rack_failures_push reads q),
-      omega (arith, few, c.in_ok-request.ensures.few, count_push rs r),
+      omega (arith, few, c.in_ok-request.ensures.few),
       λ there e.
           let before = told there e in
           let now = gives there (same ∙ e) in

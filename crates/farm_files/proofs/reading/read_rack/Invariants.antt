@@ -1,7 +1,7 @@
-use Rattle.std.proofs.Common.{◌≡◌, ◌≤◌, ◌+◌, List, Some, take, map}
+use Rattle.std.proofs.Common.{◌≡◌, ◌≤◌, ◌+◌, ◌*◌, List, Some, take, map}
 use Rattle.std.specs.List.{AllZip}
 use Rattle.farm_files.specs.Files.{Files}
-use Rattle.farm_files.specs.Serving.{AreReads, Reads, asked_rack, rack_failures, survivor_count, unread_rack}
+use Rattle.farm_files.specs.Serving.{AreReads, Reads, asked_rack, rack_failures, unread_rack}
 use Rattle.farm_files.proofs.reading.read_rack.Given as goal
 
 abbrev pub invariant-loop-index : goal.invariant-loop-index
@@ -10,6 +10,6 @@ invariant-loop-index g l =
     × AllZip AreReads (map (λ r. r.now) (take l.index l.rack)) reads
     × (g.I.Shelf.files l.input ≡ g.I.Shelf.files l.fn.input)
     × (g.I.Shelf.failed l.input ≡ g.I.Shelf.failed l.fn.input + rack_failures reads)
-    × (g.I.Shelf.failed l.input ≤ g.I.Shelf.failed l.fn.input + survivor_count (map (λ r. r.now) (take l.index l.rack)))
+    × (g.I.Shelf.failed l.input ≤ g.I.Shelf.failed l.fn.input + 10 * l.index)
     × ((there : Files) → g.I.Shelf.files l.fn.input ≡ Some there
         → (l.requests.items ≡ asked_rack there (map (λ r. r.now) (take l.index l.rack)) reads) × (map (λ u. u.items) l.unread.items ≡ unread_rack there (map (λ r. r.now) (take l.index l.rack)) reads))

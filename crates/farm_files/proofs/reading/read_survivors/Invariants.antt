@@ -3,6 +3,7 @@ use Rattle.std.specs.List.{filter_map}
 use Rattle.lrc_code.specs.Survivors.{survivors_of}
 use Rattle.farm_files.specs.Files.{Files}
 use Rattle.farm_files.specs.Serving.{Reads, failures, survivor, unread}
+use Rattle.farm_files.specs.Parts.{ArePart}
 use Rattle.farm_files.proofs.reading.read_survivors.Given as goal
 
 abbrev pub invariant-loop-index : goal.invariant-loop-index
@@ -12,5 +13,6 @@ invariant-loop-index g l =
     × (g.I.Shelf.files l.input ≡ g.I.Shelf.files l.fn.input)
     × (g.I.Shelf.failed l.input ≡ g.I.Shelf.failed l.fn.input + failures reads)
     × (g.I.Shelf.failed l.input ≤ g.I.Shelf.failed l.fn.input + l.index)
+    × ArePart l.listed.len (take l.index l.places) (survivors_of l.fragments.items)
     × ((there : Files) → g.I.Shelf.files l.fn.input ≡ Some there
         → (survivors_of l.fragments.items ≡ filter_map (survivor there l.listed) reads) × (l.unread.items ≡ unread there l.listed reads))
