@@ -5,14 +5,15 @@ ghost use Rattle.lrc_field.specs.Field.{times};
 ghost use Rattle.lrc_plan.specs.Form.{meaning};
 ghost use Rattle.lrc_plan.specs.Tree.{form_of};
 ghost use Rattle.lrc_plan.specs.Evaluation.{byte_at, CanEvaluate, IsValue};
-ghost use Rattle.lrc_plan.specs.EvaluationParts.{AreWhole, AreZeros};
+ghost use Rattle.lrc_plan.specs.EvaluationParts.{AreWhole, AreZeros, IsScaledValue};
 
 use crate::tree::Tree;
 use lrc_code::Request;
 use lrc_field::{Gf, add_into, scale_add_into};
 use std::alloc::{AllocError, Allocator, Global};
 
-/// The tree's value at each position of the request.
+/// The tree's value at each position of the request, in one vector of the request's length. The leaves are
+/// survivors of the request.
 pub fn evaluate<A: Allocator>(
     alloc: Global,
     tree: &Tree<A>,
@@ -25,7 +26,7 @@ pub fn evaluate<A: Allocator>(
     Ok(bytes)
 }
 
-// `evaluate` in any allocator. One vector serves the whole tree.
+// `evaluate` in any allocator.
 pub(crate) fn evaluate_in<A: Allocator, B: Allocator>(
     alloc: B,
     tree: &Tree<A>,
@@ -34,8 +35,23 @@ pub(crate) fn evaluate_in<A: Allocator, B: Allocator>(
     requires { CanEvaluate request.now (form_of tree.now) }
     ensures { IfOk result (λ v. IsValue request.now (form_of tree.now) v.items) }
 {
+    let _ = request.length();
+    let bytes = evaluate_scaled(alloc, tree, Gf::new(1), request)?;
+    Ok(bytes)
+}
+
+// A factor times the tree's value at each position.
+pub(crate) fn evaluate_scaled<A: Allocator, B: Allocator>(
+    alloc: B,
+    tree: &Tree<A>,
+    factor: Gf,
+    request: &Request,
+) -> Result<Vec<u8, B>, AllocError>
+    requires { CanEvaluate request.now (form_of tree.now) }
+    ensures { IfOk result (λ v. IsScaledValue factor request.now (form_of tree.now) v.items) }
+{
     let mut bytes = zeros(alloc, request.length() as usize)?;
-    add_value(tree, request, bytes.as_mut_slice());
+    add_scaled(tree, factor, request, bytes.as_mut_slice());
     Ok(bytes)
 }
 
@@ -101,9 +117,9 @@ pub(crate) fn are_zeros(bytes: &[u8]) -> bool
     ensures yes { result ≡ true → AreZeros bytes.now }
     ensures no { result ≡ false → ¬ AreZeros bytes.now }
 {
-    let mut union = 0u8;
+    let mut bits = 0u8;
     for byte in bytes {
-        union |= *byte;
+        bits |= *byte;
     }
-    union == 0
+    bits == 0
 }

@@ -18,7 +18,7 @@ use lrc_code::{Place, PlaceSet, Reduced};
 use lrc_field::Gf;
 use std::alloc::{AllocError, Allocator};
 
-// The three other members of the place's group.
+// The three other members of the place's group, if it is in one.
 fn others_in_group(place: Place) -> Option<(Place, Place, Place)>
     ensures { MatchOption result (IsNone (group_of place)) (λ m. group_others narrow place ≡ m.0 ∷ m.1 ∷ m.2 ∷ []) }
 {
@@ -35,7 +35,7 @@ fn others_in_group(place: Place) -> Option<(Place, Place, Place)>
     }
 }
 
-// The target's group_others, where all three survive.
+// The others of the target's group, where all three survive.
 fn surviving_others(survivors: PlaceSet, target: Place) -> Option<(Place, Place, Place)>
     ensures { MatchOption result (¬ IsLocal narrow (is_in survivors) target) (λ m. (group_others narrow target ≡ m.0 ∷ m.1 ∷ m.2 ∷ [])
         × (is_in survivors m.0 ≡ true) × (is_in survivors m.1 ≡ true) × (is_in survivors m.2 ≡ true)) }
@@ -87,7 +87,7 @@ fn row_value<A: Allocator + Clone>(
     Ok(tree)
 }
 
-// The target's tree: of its three group_others where they survive, else of its row.
+// The target's tree: the sum of the three others of its group where they survive, else of its row.
 pub(crate) fn value_of<A: Allocator + Clone>(
     alloc: &A,
     reduced: &Reduced,

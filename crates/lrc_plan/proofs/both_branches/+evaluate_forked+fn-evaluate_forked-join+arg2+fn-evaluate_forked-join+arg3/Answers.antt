@@ -4,7 +4,7 @@ use Rattle.lrc_plan.specs.Tree.{form_of}
 use Rattle.lrc_plan.specs.EvaluationParts.{IsScaledValue}
 use Rattle.lrc_plan.proofs.EvaluationSteps.{written}
 use Rattle.lrc_plan.proofs.ScaledValues.{scaled_further, scaled_sum}
-use Rattle.lrc_plan.proofs.both_branches.+evaluate_scaled+fn-evaluate_scaled-join+arg2+fn-evaluate_scaled-join+arg3.Goals as goal
+use Rattle.lrc_plan.proofs.both_branches.+evaluate_forked+fn-evaluate_forked-join+arg2+fn-evaluate_forked-join+arg3.Goals as goal
 
 pub returns-in_ok-bytes-in-Scale : goal.returns-in_ok-bytes-in-Scale
 returns-in_ok-bytes-in-Scale g t c = rw c.in-Scale.is (scaled_further _ _ _ _ _ _ c.mul.ensures.value (rw c.deref.ensures at c.in_ok-bytes-in-Scale.ensures))

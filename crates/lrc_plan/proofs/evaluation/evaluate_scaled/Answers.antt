@@ -1,7 +1,7 @@
 use Rattle.std.proofs.Common.{◌≡◌, length, drop, arith, ap, get_or}
 use Rattle.lrc_plan.proofs.EvaluationSteps.{written, zero_plus}
 use Rattle.lrc_plan.proofs.FittingStripes.{whole}
-use Rattle.lrc_plan.proofs.both_branches.evaluate_alone.Goals as goal
+use Rattle.lrc_plan.proofs.evaluation.evaluate_scaled.Goals as goal
 
 pub add_scaled-requires-clause-whole : goal.add_scaled-requires-clause-whole
 add_scaled-requires-clause-whole g c = whole c.args.request.now c.length.ensures.accepted c.length.ensures.bytes
