@@ -4,6 +4,7 @@ pub mod Extensions
 pub mod Evaluation
 pub mod EvaluationParts
 pub mod Planned
+pub mod PlanForms
 pub mod Rows
 pub mod ReducedRows
 pub mod Sums

@@ -1,11 +1,9 @@
 //! What a tree gives at each position of a request.
-ghost use Rattle.std.specs.Prelude.{◌≡◌, ◌<◌, ℕ, true, false, length, slice_index, IfOk};
-ghost use Rattle.std.specs.Int.Bits.{bit_xor};
-ghost use Rattle.lrc_field.specs.Field.{times};
+ghost use Rattle.std.specs.Prelude.{◌≡◌, ◌<◌, ℕ, true, false, length, IfOk};
 ghost use Rattle.lrc_plan.specs.Form.{meaning};
 ghost use Rattle.lrc_plan.specs.Tree.{form_of};
 ghost use Rattle.lrc_plan.specs.Evaluation.{byte_at, CanEvaluate, IsValue};
-ghost use Rattle.lrc_plan.specs.EvaluationParts.{AreWhole, AreZeros, IsScaledValue};
+ghost use Rattle.lrc_plan.specs.EvaluationParts.{AreWhole, AreZeros, IsProductAdded, IsScaledValue, IsValueAdded};
 
 use crate::tree::Tree;
 use lrc_code::Request;
@@ -83,8 +81,10 @@ pub(crate) fn add_scaled<A: Allocator>(
     requires can { CanEvaluate request.now (form_of tree.now) }
     requires whole { AreWhole request.now }
     requires length { length dst.old ≡ request.now.len }
-    ensures small { (i : ℕ) → i < length dst.old → meaning (byte_at request.now i) (form_of tree.now) < 256 }
-    ensures sum { (i : ℕ) → i < length dst.old → slice_index dst.new i ≡ bit_xor (slice_index dst.old i) (times factor (meaning (byte_at request.now i) (form_of tree.now))) }
+    ensures small {
+        (i : ℕ) → i < length dst.old → meaning (byte_at request.now i) (form_of tree.now) < 256
+    }
+    ensures sum { IsValueAdded factor request.now (form_of tree.now) dst.old dst.new }
 {
     match tree {
         Tree::Leaf(place) => {
@@ -103,7 +103,7 @@ pub(crate) fn add_scaled<A: Allocator>(
 // Adds a factor times the bytes. The factor 01 needs no products.
 fn add_product(dst: &mut [u8], factor: Gf, src: &[u8])
     requires { length dst.old ≡ length src.now }
-    ensures { (i : ℕ) → i < length src.now → slice_index dst.new i ≡ bit_xor (slice_index dst.old i) (times factor (slice_index src.now i)) }
+    ensures { IsProductAdded factor src.now dst.old dst.new }
 {
     if factor.byte() == 1 {
         add_into(dst, src);

@@ -1,6 +1,5 @@
 //! Answers to requests.
-ghost use Rattle.std.specs.Prelude.{◌≡◌, ℕ, true, false, IfOk, IsNone, All, map, length, vec_len};
-ghost use Rattle.std.specs.Option.{option_map};
+ghost use Rattle.std.specs.Prelude.{◌≡◌, ℕ, true, false, IfOk, IsNone, All, length, vec_len};
 ghost use Rattle.lrc_code.specs.declared.places.Place.{Place};
 ghost use Rattle.lrc_code.specs.Code.{narrow};
 ghost use Rattle.lrc_code.specs.Answers.{IsAnswer};
@@ -8,6 +7,7 @@ ghost use Rattle.lrc_code.specs.Requests.{is_among};
 ghost use Rattle.lrc_code.specs.Sets.{is_in};
 ghost use Rattle.lrc_plan.specs.Tree.{form_of};
 ghost use Rattle.lrc_plan.specs.Planned.{IsPlan};
+ghost use Rattle.lrc_plan.specs.PlanForms.{value_form, check_forms};
 ghost use Rattle.lrc_plan.specs.Evaluation.{CanEvaluate};
 ghost use Rattle.lrc_plan.specs.EvaluationParts.{AreZeros, IsZero};
 ghost use Rattle.lrc_plan.specs.Solved.{outcome_of};
@@ -62,7 +62,7 @@ fn apply<A: Allocator, B: Allocator>(
     request: &Request,
 ) -> Result<Solved<B>, AllocError>
     requires survivors { (p : Place) → is_in survivors p ≡ is_among p request.now.survivors }
-    requires plan { IsPlan narrow (is_in survivors) request.now.target (option_map form_of plan.now.value) (map form_of plan.now.checks.items) }
+    requires plan { IsPlan narrow (is_in survivors) request.now.target (value_form plan.now) (check_forms plan.now) }
     ensures { IfOk result (λ s. IsAnswer narrow request.now (outcome_of s)) }
 {
     let length = request.length() as usize;
@@ -85,7 +85,7 @@ fn apply<A: Allocator, B: Allocator>(
 
 fn has_no_trees<A: Allocator>(plan: &Plan<A>) -> bool
     ensures checks { result ≡ true → vec_len plan.now.checks ≡ 0 }
-    ensures value { result ≡ true → IsNone (option_map form_of plan.now.value) }
+    ensures value { result ≡ true → IsNone (value_form plan.now) }
 {
     plan.checks.is_empty() && plan.value.is_none()
 }

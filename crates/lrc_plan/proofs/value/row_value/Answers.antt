@@ -27,5 +27,5 @@ returns-clause-value g c =
     determined_value survives coef (pivot_of c.args.reduced.now) c.requires.reduced c.in-Some.row c.args.target (λ p. slice_index (slice_set row c.index.result c.new.result) (index_of p)) (option_map form_of c.in_ok-tree.tree)
     c.in-Some.ensures.0 c.in-Some.ensures.1 c.requires.lost
     (λ p. cut_is row c.index.result c.new.result c.args.target p c.index.ensures.value c.new.ensures ∙ ap (cond (same_place c.args.target p) 0) (c.row_of-coefficients.ensures p))
-    (at_places (λ p. survives p ≡ false → same_place c.args.target p ≡ false → coef c.in-Some.row p ≡ 0) c.if-not-determines.ensures.yes)
+    c.if-not-determines.ensures.yes
     c.in_ok-tree.ensures.value (some_map form_of (λ f. (p : Place) → has_leaf f p ≡ true → slice_index (slice_set row c.index.result c.new.result) (index_of p) ≢ 0) c.in_ok-tree.tree c.in_ok-tree.ensures.leaves)
