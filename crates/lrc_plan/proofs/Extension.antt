@@ -22,7 +22,8 @@ one-ne-zero : ◌≡◌ {A = ℕ} 1 0 → ⊥
 one-ne-zero e = absurd (omega (arith, e))
 
 -- a row's sum is linear
-pub row_sum-add : (coef : ℕ → Place → ℕ) (r : ℕ) (b d : Place → ℕ) → row_sum coef r (λ p. bit_xor (b p) (d p)) ≡ bit_xor (row_sum coef r b) (row_sum coef r d)
+pub row_sum-add : (coef : ℕ → Place → ℕ) (r : ℕ) (b d : Place → ℕ)
+    → row_sum coef r (λ p. bit_xor (b p) (d p)) ≡ bit_xor (row_sum coef r b) (row_sum coef r d)
 row_sum-add coef r b d =
     sum_over-same narrow_places (λ p. times (coef r p) (bit_xor (b p) (d p))) (λ p. bit_xor (times (coef r p) (b p)) (times (coef r p) (d p))) (λ p. times-xor (coef r p) (b p) (d p))
     ∙ sum_over-add narrow_places (λ p. times (coef r p) (b p)) (λ p. times (coef r p) (d p))
@@ -32,7 +33,8 @@ mul-cond c v true = refl
 mul-cond c v false = times-zero_r c
 
 -- the sum of a row over a single place
-pub row_sum-single : (coef : ℕ → Place → ℕ) (r : ℕ) (q : Place) (v : ℕ) → row_sum coef r (λ p. cond (same_place q p) v 0) ≡ times (coef r q) v
+pub row_sum-single : (coef : ℕ → Place → ℕ) (r : ℕ) (q : Place) (v : ℕ)
+    → row_sum coef r (λ p. cond (same_place q p) v 0) ≡ times (coef r q) v
 row_sum-single coef r q v =
     sum_over-same narrow_places (λ p. times (coef r p) (cond (same_place q p) v 0)) (λ p. cond (same_place q p) (times (coef r p) v) 0) (λ p. mul-cond (coef r p) v (same_place q p))
     ∙ sum_over-single q (λ p. times (coef r p) v)
@@ -51,8 +53,11 @@ abbrev pub term : Option Place → (Place → ℕ) → ℕ → ℕ
 term None c v = 0
 term (Some q) c v = times (c q) v
 
-row_sum-part : (coef : ℕ → Place → ℕ) (r : ℕ) (o : Option Place) (v : ℕ) → row_sum coef r (part o v) ≡ term o (coef r) v
-row_sum-part coef r None v = sum_over-same narrow_places (λ p. times (coef r p) 0) (λ p. 0) (λ p. times-zero_r (coef r p)) ∙ zeros narrow_places
+row_sum-part : (coef : ℕ → Place → ℕ) (r : ℕ) (o : Option Place) (v : ℕ)
+    → row_sum coef r (part o v) ≡ term o (coef r) v
+row_sum-part coef r None v =
+    sum_over-same narrow_places (λ p. times (coef r p) 0) (λ p. 0) (λ p. times-zero_r (coef r p))
+    ∙ zeros narrow_places
 row_sum-part coef r (Some q) v = row_sum-single coef r q v
 
 module _ (survives : Place → Bool) (coef : ℕ → Place → ℕ) (pivot : ℕ → Option Place) (red : AreReduced survives coef pivot) (s : Place → ℕ) (small : GivesBytes s) (f : Place) (x : ℕ) (x_small : x < 256) where
@@ -78,7 +83,8 @@ module _ (survives : Place → Bool) (coef : ℕ → Place → ℕ) (pivot : ℕ
       row_sum-add coef r (part (pivot 0) (val 0)) (λ p. bit_xor (part (pivot 1) (val 1) p) (bit_xor (part (pivot 2) (val 2) p) (part (pivot 3) (val 3) p)))
       ∙ cc (row_sum-add coef r (part (pivot 1) (val 1)) (λ p. bit_xor (part (pivot 2) (val 2) p) (part (pivot 3) (val 3) p)), row_sum-add coef r (part (pivot 2) (val 2)) (part (pivot 3) (val 3)), row_sum-part coef r (pivot 0) (val 0), row_sum-part coef r (pivot 1) (val 1), row_sum-part coef r (pivot 2) (val 2), row_sum-part coef r (pivot 3) (val 3))
 
-  pub row_sum-extension : (r : ℕ) → row_sum coef r extension ≡ bit_xor (row_sum coef r kept) (bit_xor (terms r) (times (coef r f) x))
+  pub row_sum-extension : (r : ℕ)
+      → row_sum coef r extension ≡ bit_xor (row_sum coef r kept) (bit_xor (terms r) (times (coef r f) x))
   row_sum-extension r =
       row_sum-add coef r kept (λ p. bit_xor (parts p) (cond (same_place f p) x 0))
       ∙ ap (λ y. bit_xor (row_sum coef r kept) y) (row_sum-add coef r parts (λ p. cond (same_place f p) x 0) ∙ cc (sum_parts r, row_sum-single coef r f x))
@@ -89,15 +95,18 @@ module _ (survives : Place → Bool) (coef : ℕ → Place → ℕ) (pivot : ℕ
   other r j hr hj d (Some q) e v = ap (λ c. times c v) (red.alone j r q hj hr e (λ k. d (sym k))) ∙ times-zero v
 
   -- at a row without a pivot no pivot adds anything
-  free_other : (r j : ℕ) → r < 4 → j < 4 → pivot r ≡ None → (o : Option Place) → pivot j ≡ o → (v : ℕ) → term o (coef r) v ≡ 0
+  free_other : (r j : ℕ) → r < 4 → j < 4 → pivot r ≡ None → (o : Option Place) → pivot j ≡ o → (v : ℕ)
+      → term o (coef r) v ≡ 0
   free_other r j hr hj n None e v = refl
-  free_other r j hr hj n (Some q) e v = ap (λ c. times c v) (red.free r q hr n (red.lost j q hj e)) ∙ times-zero v
+  free_other r j hr hj n (Some q) e v =
+      ap (λ c. times c v) (red.free r q hr n (red.lost j q hj e)) ∙ times-zero v
 
   -- a row's own pivot adds its value
   own : (r : ℕ) → r < 4 → (q : Place) → pivot r ≡ Some q → (v : ℕ) → v < 256 → term (pivot r) (coef r) v ≡ v
   own r hr q e v k = ap (λ o. term o (coef r) v) e ∙ ap (λ c. times c v) (red.one r q hr e) ∙ times-one v k
 
-  row_small : (ps : List Place) (r : ℕ) (b : Place → ℕ) → GivesBytes b → sum_over ps (λ p. times (coef r p) (b p)) < 256
+  row_small : (ps : List Place) (r : ℕ) (b : Place → ℕ) → GivesBytes b
+      → sum_over ps (λ p. times (coef r p) (b p)) < 256
   row_small [] r b h = omega arith
   row_small (p ∷ ps) r b h = xor_lt 8 _ _ (times_lt _ _) (row_small ps r b h)
 
@@ -164,22 +173,30 @@ module _ (survives : Place → Bool) (coef : ℕ → Place → ℕ) (pivot : ℕ
   at_free r h n = four-0 _ _ _ _ _ (free_other r 0 h (omega arith) n _ refl _) (free_other r 1 h (omega arith) n _ refl _) (free_other r 2 h (omega arith) n _ refl _) (free_other r 3 h (omega arith) n _ refl _)
 
   cancel : (a b : ℕ) → bit_xor a (bit_xor (bit_xor a b) b) ≡ 0
-  cancel a b = ap (λ y. bit_xor a y) (xor_assoc a b b ∙ ap (λ y. bit_xor a y) (xor_self b) ∙ xor_zero_r a) ∙ xor_self a
+  cancel a b =
+      ap (λ y. bit_xor a y) (xor_assoc a b b ∙ ap (λ y. bit_xor a y) (xor_self b) ∙ xor_zero_r a) ∙ xor_self a
 
   -- a row with a pivot holds
   pub holds_at_pivot : (r : ℕ) → r < 4 → (q : Place) → pivot r ≡ Some q → row_sum coef r extension ≡ 0
-  holds_at_pivot r h q e = row_sum-extension r ∙ ap (λ y. bit_xor (row_sum coef r kept) (bit_xor y (times (coef r f) x))) (at_pivot r h q e) ∙ cancel (row_sum coef r kept) (times (coef r f) x)
+  holds_at_pivot r h q e =
+      row_sum-extension r
+      ∙ ap (λ y. bit_xor (row_sum coef r kept) (bit_xor y (times (coef r f) x))) (at_pivot r h q e)
+      ∙ cancel (row_sum coef r kept) (times (coef r f) x)
 
   -- a row without one says what it says of the survivors
-  pub same_at_free : (r : ℕ) → r < 4 → pivot r ≡ None → (survives f ≡ false) ⊎ (x ≡ 0) → row_sum coef r extension ≡ row_sum coef r kept
-  same_at_free r h n w = row_sum-extension r ∙ ap (λ y. bit_xor (row_sum coef r kept) y) (cc (at_free r h n, nothing w, xor_zero_r 0)) ∙ xor_zero_r _
+  pub same_at_free : (r : ℕ) → r < 4 → pivot r ≡ None → (survives f ≡ false) ⊎ (x ≡ 0)
+      → row_sum coef r extension ≡ row_sum coef r kept
+  same_at_free r h n w =
+      row_sum-extension r
+      ∙ ap (λ y. bit_xor (row_sum coef r kept) y) (cc (at_free r h n, nothing w, xor_zero_r 0)) ∙ xor_zero_r _
     where
       nothing : (survives f ≡ false) ⊎ (x ≡ 0) → times (coef r f) x ≡ 0
       nothing (inl l) = ap (λ c. times c x) (red.free r f h n l) ∙ times-zero x
       nothing (inr z) = ap (λ y. times (coef r f) y) z ∙ times-zero_r (coef r f)
 
   -- a survivor keeps its byte
-  no_part : (j : ℕ) → j < 4 → (o : Option Place) → pivot j ≡ o → (v : ℕ) (p : Place) → survives p ≡ true → part o v p ≡ 0
+  no_part : (j : ℕ) → j < 4 → (o : Option Place) → pivot j ≡ o → (v : ℕ) (p : Place) → survives p ≡ true
+      → part o v p ≡ 0
   no_part j h None e v p k = refl
   no_part j h (Some q) e v p k = elim (eqb_tells (index_of q) (index_of p)) as (λ _. cond (same_place q p) v 0 ≡ 0) [
     | inl w ↦ absurd (true_not_false (sym k ∙ ap survives (sym (same_place-eq q p w.0)) ∙ red.lost j q h e))
@@ -207,7 +224,8 @@ module _ (survives : Place → Bool) (coef : ℕ → Place → ℕ) (pivot : ℕ
       three _ _ _ _ (ap (λ t. cond t (s p) 0) k) (four-0 _ _ _ _ _ (no_part 0 (omega arith) _ refl _ p k) (no_part 1 (omega arith) _ refl _ p k) (no_part 2 (omega arith) _ refl _ p k) (no_part 3 (omega arith) _ refl _ p k)) (no_free p w k)
 
   -- the extension is one, where the rows without a pivot hold of the survivors
-  pub is_extension : (survives f ≡ false) ⊎ (x ≡ 0) → ((r : ℕ) → r < 4 → pivot r ≡ None → row_sum coef r kept ≡ 0) → Extends narrow survives s extension
+  pub is_extension : (survives f ≡ false) ⊎ (x ≡ 0)
+      → ((r : ℕ) → r < 4 → pivot r ≡ None → row_sum coef r kept ≡ 0) → Extends narrow survives s extension
   is_extension w hold = record {
     bytes = extension-small;
     solves = (red.same extension extension-small).1 (λ r h. row r h (pivot r) refl);
@@ -243,7 +261,8 @@ module _ (survives : Place → Bool) (coef : ℕ → Place → ℕ) (pivot : ℕ
   ]
     where
       mine : (j : ℕ) → pivot j ≡ Some t → part (pivot j) (val j) t ≡ val j
-      mine j k = ap (λ o. part o (val j) t) k ∙ ap (λ b. cond b (val j) 0) (eq-eqb (index_of t) (index_of t) refl)
+      mine j k =
+          ap (λ o. part o (val j) t) k ∙ ap (λ b. cond b (val j) 0) (eq-eqb (index_of t) (index_of t) refl)
 
       others : (j : ℕ) → j < 4 → j ≢ r → (o : Option Place) → pivot j ≡ o → part o (val j) t ≡ 0
       others j hj d None k = refl
@@ -257,7 +276,8 @@ module _ (survives : Place → Bool) (coef : ℕ → Place → ℕ) (pivot : ℕ
   bare p = cond (survives p) (s p) 0
 
   -- a row that is 0 at lost places reads the survivors alone
-  pub reads_survivors : (c e : Place → ℕ) → ((p : Place) → survives p ≡ true → e p ≡ s p) → ((p : Place) → survives p ≡ false → c p ≡ 0)
+  pub reads_survivors : (c e : Place → ℕ) → ((p : Place) → survives p ≡ true → e p ≡ s p)
+      → ((p : Place) → survives p ≡ false → c p ≡ 0)
       → sum_over narrow_places (λ p. times (c p) (e p)) ≡ sum_over narrow_places (λ p. times (c p) (s p))
   reads_survivors c e k z = sum_over-same narrow_places _ _ (λ p. at p (survives p) refl)
     where
@@ -269,14 +289,20 @@ module _ (survives : Place → Bool) (coef : ℕ → Place → ℕ) (pivot : ℕ
   pub has_extension : ((e : Place → ℕ) × Extends narrow survives s e) ↔ ((r : ℕ) → r < 4 → pivot r ≡ None → row_sum coef r s ≡ 0)
   has_extension = (there, back)
     where
-      there : (e : Place → ℕ) × Extends narrow survives s e → (r : ℕ) → r < 4 → pivot r ≡ None → row_sum coef r s ≡ 0
-      there (e, x) r h n = sym (reads_survivors (coef r) e x.kept (λ p l. red.free r p h n l)) ∙ (red.same e x.bytes).0 x.solves r h
+      there : (e : Place → ℕ) × Extends narrow survives s e → (r : ℕ) → r < 4 → pivot r ≡ None
+          → row_sum coef r s ≡ 0
+      there (e, x) r h n =
+          sym (reads_survivors (coef r) e x.kept (λ p l. red.free r p h n l))
+          ∙ (red.same e x.bytes).0 x.solves r h
 
-      back : ((r : ℕ) → r < 4 → pivot r ≡ None → row_sum coef r s ≡ 0) → (e : Place → ℕ) × Extends narrow survives s e
+      back : ((r : ℕ) → r < 4 → pivot r ≡ None → row_sum coef r s ≡ 0)
+          → (e : Place → ℕ) × Extends narrow survives s e
       back k = (extension survives coef pivot red s small X0 0 (omega arith), is_extension survives coef pivot red s small X0 0 (omega arith) (inr refl) (λ r h n. reads_survivors (coef r) (λ p. cond (survives p) (s p) 0) (λ p t. ap (λ b. cond b (s p) 0) t) (λ p l. red.free r p h n l) ∙ k r h n))
 
   -- the target's byte, where its row is 0 at every other lost place
-  pub determined : (r : ℕ) (t : Place) (e : Place → ℕ) → r < 4 → pivot r ≡ Some t → ((p : Place) → survives p ≡ false → same_place t p ≡ false → coef r p ≡ 0) → Extends narrow survives s e
+  pub determined : (r : ℕ) (t : Place) (e : Place → ℕ) → r < 4 → pivot r ≡ Some t
+      → ((p : Place) → survives p ≡ false → same_place t p ≡ false → coef r p ≡ 0)
+      → Extends narrow survives s e
       → sum_over narrow_places (λ p. times (cond (same_place t p) 0 (coef r p)) (s p)) ≡ e t
   determined r t e h n z x =
       reads_back ∙ sum_is (sum_over narrow_places (λ p. times (cut p) (e p))) (e t) (sym split_row ∙ (red.same e x.bytes).0 x.solves r h)
@@ -285,7 +311,9 @@ module _ (survives : Place → Bool) (coef : ℕ → Place → ℕ) (pivot : ℕ
       cut p = cond (same_place t p) 0 (coef r p)
 
       sum_is : (a b : ℕ) → bit_xor a b ≡ 0 → a ≡ b
-      sum_is a b k = sym (xor_zero_r a) ∙ ap (λ y. bit_xor a y) (sym (xor_self b)) ∙ sym (xor_assoc a b b) ∙ ap (λ y. bit_xor y b) k ∙ xor_zero_l b
+      sum_is a b k =
+          sym (xor_zero_r a) ∙ ap (λ y. bit_xor a y) (sym (xor_self b)) ∙ sym (xor_assoc a b b)
+          ∙ ap (λ y. bit_xor y b) k ∙ xor_zero_l b
 
       cut_lost : (p : Place) (u : Bool) → same_place t p ≡ u → survives p ≡ false → cond u 0 (coef r p) ≡ 0
       cut_lost p true k l = refl
@@ -319,7 +347,9 @@ module _ (survives : Place → Bool) (coef : ℕ → Place → ℕ) (pivot : ℕ
   same_cond false = refl
 
   nil_row : (r : ℕ) → row_sum coef r (λ p. cond (survives p) 0 0) ≡ 0
-  nil_row r = sum_over-same narrow_places _ (λ p. 0) (λ p. ap (λ y. times (coef r p) y) (same_cond (survives p)) ∙ times-zero_r (coef r p)) ∙ zeros narrow_places
+  nil_row r =
+      sum_over-same narrow_places _ (λ p. 0) (λ p. ap (λ y. times (coef r p) y) (same_cond (survives p)) ∙ times-zero_r (coef r p))
+      ∙ zeros narrow_places
 
   -- nothing, changed at one place
   abbrev moved : Place → (x : ℕ) → x < 256 → Place → ℕ
@@ -332,7 +362,8 @@ module _ (survives : Place → Bool) (coef : ℕ → Place → ℕ) (pivot : ℕ
   first_zero a b c v p q = ap (λ y. bit_xor y (bit_xor b c)) p ∙ xor_zero_l (bit_xor b c) ∙ q
 
   -- a lost place that is no pivot takes any byte
-  pub free_differs : (t : Place) → survives t ≡ false → ((j : ℕ) → j < 4 → pivot j ≢ Some t) → ExtensionsDiffer narrow survives t
+  pub free_differs : (t : Place) → survives t ≡ false → ((j : ℕ) → j < 4 → pivot j ≢ Some t)
+      → ExtensionsDiffer narrow survives t
   free_differs t l none = (nil, moved t 0 (omega arith), moved t 1 (lit< tt), nil_small, moves t 0 (omega arith) l, moves t 1 (lit< tt) l, λ e. one-ne-zero (sym (value 1 (lit< tt)) ∙ sym e ∙ value 0 (omega arith)))
     where
       value : (x : ℕ) (h : x < 256) → moved t x h t ≡ x
@@ -340,7 +371,8 @@ module _ (survives : Place → Bool) (coef : ℕ → Place → ℕ) (pivot : ℕ
           (ap (λ y. bit_xor y (cond (same_place t t) x 0)) (no_parts survives coef pivot red nil nil_small t x h t none) ∙ xor_zero_l (cond (same_place t t) x 0) ∙ ap (λ b. cond b x 0) (eq-eqb (index_of t) (index_of t) refl))
 
   -- so does a pivot whose row has another lost place
-  pub pivot_differs : (r : ℕ) (t f : Place) → r < 4 → pivot r ≡ Some t → survives f ≡ false → same_place f t ≡ false → coef r f ≢ 0 → ExtensionsDiffer narrow survives t
+  pub pivot_differs : (r : ℕ) (t f : Place) → r < 4 → pivot r ≡ Some t → survives f ≡ false
+      → same_place f t ≡ false → coef r f ≢ 0 → ExtensionsDiffer narrow survives t
   pivot_differs r t f h e l apart c = (nil, moved f 0 (omega arith), moved f 1 (lit< tt), nil_small, moves f 0 (omega arith) l, moves f 1 (lit< tt) l, λ k. c (sym (times-one_r (coef r f) (red.small r f)) ∙ sym (value 1 (lit< tt)) ∙ sym k ∙ value 0 (omega arith) ∙ times-zero_r (coef r f)))
     where
       value : (x : ℕ) (h : x < 256) → moved f x h t ≡ times (coef r f) x

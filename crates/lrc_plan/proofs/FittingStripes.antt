@@ -25,7 +25,8 @@ use Rattle.lrc_plan.specs.EvaluationParts.{AreWhole, IsZero}
 use Rattle.lrc_plan.specs.Planned.{LeavesSurvive, ExtensionsDiffer, AreChecks}
 
 -- a stripe that equals survivors has at their places what survives there
-stripe_bytes : (st : Place → List ℕ) (ss : List Survivor) → All (λ x. st x.place ≡ x.bytes) ss → (p : Place) → is_among p ss ≡ true → st p ≡ bytes_of ss p
+stripe_bytes : (st : Place → List ℕ) (ss : List Survivor) → All (λ x. st x.place ≡ x.bytes) ss → (p : Place)
+    → is_among p ss ≡ true → st p ≡ bytes_of ss p
 stripe_bytes st [] h p a = absurd (cc)
 stripe_bytes st (s ∷ ss) h p a = elim (cases_Bool (same_place p s.place)) as (λ _. st p ≡ bytes_of (s ∷ ss) p) [
   | inl t ↦ ap st (same_place-eq p s.place t) ∙ h 0 s (omega arith) ∙ sym (ap (λ b. cond b s.bytes (bytes_of ss p)) t)
@@ -36,10 +37,12 @@ map_same : (ps : List Place) (b d : Place → ℕ) → ((p : Place) → b p ≡ 
 map_same [] b d h = refl
 map_same (p ∷ ps) b d h = ap₂ (λ x xs. x ∷ xs) (h p) (map_same ps b d h)
 
-solves_same : (rows : List (List ℕ)) (ps : List Place) (b d : Place → ℕ) → ((p : Place) → b p ≡ d p) → Solves rows ps b → Solves rows ps d
+solves_same : (rows : List (List ℕ)) (ps : List Place) (b d : Place → ℕ) → ((p : Place) → b p ≡ d p)
+    → Solves rows ps b → Solves rows ps d
 solves_same rows ps b d h s = λ k row lt. ap (combination (get_or rows k row)) (sym (map_same ps b d h)) ∙ s k row lt
 
-pub All-of_map : {X : Type 0} (P : Form → Type 0) (f : X → Form) (xs : List X) → All P (map f xs) → All (λ x. P (f x)) xs
+pub All-of_map : {X : Type 0} (P : Form → Type 0) (f : X → Form) (xs : List X) → All P (map f xs)
+    → All (λ x. P (f x)) xs
 All-of_map P f xs h = λ k d lt. subst P (get_or-map f xs k d (f d) lt) (h k (f d) (subst (λ n. k < n) (sym (length-map xs f)) lt))
 
 module _ (r : Asked) (accepted : refusal r ≡ None) (bytes : All (λ s. AreBytes s.bytes) r.survivors) where
@@ -61,7 +64,8 @@ module _ (r : Asked) (accepted : refusal r ≡ None) (bytes : All (λ s. AreByte
     fits_at : (st : Place → List ℕ) → Fits narrow r st → (p : Place) → (length (st p) ≡ r.len) × AreBytes (st p)
     fits_at st f p = at_places (λ q. (length (st q) ≡ r.len) × AreBytes (st q)) (λ k d lt. f.in_code.is_stripe k d lt) p
 
-    fits_extends : (st : Place → List ℕ) → Fits narrow r st → (i : ℕ) → i < r.len → Extends narrow survives (byte_at r i) (bytes_at st i)
+    fits_extends : (st : Place → List ℕ) → Fits narrow r st → (i : ℕ) → i < r.len
+        → Extends narrow survives (byte_at r i) (bytes_at st i)
     fits_extends st f i h = record {
       bytes = λ p. (fits_at st f p).1 i 0 (subst (λ n. i < n) (sym (fits_at st f p).0) h);
       solves = f.in_code.solves i h;
@@ -79,7 +83,8 @@ module _ (r : Asked) (accepted : refusal r ≡ None) (bytes : All (λ s. AreByte
     length-made : (e : ℕ → Place → ℕ) (p : Place) → length (made e p) ≡ r.len
     length-made e p = length-map-range_with_len (λ j. e j p) 0 r.len
 
-    made_fits : (e : ℕ → Place → ℕ) → ((i : ℕ) → i < r.len → Extends narrow survives (byte_at r i) (e i)) → Fits narrow r (made e)
+    made_fits : (e : ℕ → Place → ℕ) → ((i : ℕ) → i < r.len → Extends narrow survives (byte_at r i) (e i))
+        → Fits narrow r (made e)
     made_fits e x = record {
       in_code = record {
         is_stripe = λ k d lt. stripe (get_or narrow_places k d);
@@ -91,9 +96,12 @@ module _ (r : Asked) (accepted : refusal r ≡ None) (bytes : All (λ s. AreByte
         stripe : (p : Place) → (length (made e p) ≡ r.len) × AreBytes (made e p)
         stripe p = (length-made e p, λ k d lt. (let h : k < r.len = subst (λ n. k < n) (length-made e p) lt in subst (λ v. v < 256) (sym (made_at e k p d h)) ((x k h).bytes p)))
 
-        survivor : (y : Survivor) → is_among y.place r.survivors ≡ true → made e y.place ≡ bytes_of r.survivors y.place
+        survivor : (y : Survivor) → is_among y.place r.survivors ≡ true
+            → made e y.place ≡ bytes_of r.survivors y.place
         survivor y a = ext_get_or 0 (made e y.place) (bytes_of r.survivors y.place) (length-made e y.place ∙ sym (accepted_lengths r accepted y.place a))
-            (λ i lt. let h : i < r.len = subst (λ n. i < n) (length-made e y.place) lt in made_at e i y.place 0 h ∙ (x i h).kept y.place (same y.place ∙ a))
+            (λ i lt. let h : i < r.len =
+            subst (λ n. i < n) (length-made e y.place) lt in made_at e i y.place 0 h
+            ∙ (x i h).kept y.place (same y.place ∙ a))
 
     module _ (checks : List Form) (of_survivors : AreChecks narrow survives checks) where
       -- ---- some check isn't 0
@@ -111,7 +119,8 @@ module _ (r : Asked) (accepted : refusal r ≡ None) (bytes : All (λ s. AreByte
         pick i (inl lt) = (extension i lt).0
         pick i (inr le) = λ p. 0
 
-        pick_is : (i : ℕ) (w : (i < r.len) ⊎ (r.len ≤ i)) → i < r.len → Extends narrow survives (byte_at r i) (pick i w)
+        pick_is : (i : ℕ) (w : (i < r.len) ⊎ (r.len ≤ i)) → i < r.len
+            → Extends narrow survives (byte_at r i) (pick i w)
         unfolding pick extension
         pick_is i (inl lt) h = (extension i lt).1
         pick_is i (inr le) h = absurd (omega (arith, le, h))
@@ -123,7 +132,9 @@ module _ (r : Asked) (accepted : refusal r ≡ None) (bytes : All (λ s. AreByte
         unfolding chosen pick
         chosen_is i h = pick_is i (cases_lt i r.len) h
 
-        pub rebuilt : (t : Form) → ((s e : Place → ℕ) → GivesBytes s → Extends narrow survives s e → meaning s t ≡ e r.target) → (out : List ℕ) → IsValue r t out → IsAnswer narrow r (Rebuilt out)
+        pub rebuilt : (t : Form)
+            → ((s e : Place → ℕ) → GivesBytes s → Extends narrow survives s e → meaning s t ≡ e r.target)
+            → (out : List ℕ) → IsValue r t out → IsAnswer narrow r (Rebuilt out)
         rebuilt t right out v = (
           (made chosen, made_fits chosen chosen_is),
           (λ st f. ext_get_or 0 (st r.target) out ((fits_at st f r.target).0 ∙ sym v.len)

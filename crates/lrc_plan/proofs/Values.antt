@@ -56,20 +56,34 @@ list_sum e (p ∷ []) = e p
 list_sum e (p ∷ q ∷ ps) = bit_xor (e p) (list_sum e (q ∷ ps))
 
 -- a member of a group is the sum of the three others
-from_others : (e : Place → ℕ) → GivesBytes e → Solves narrow.equations narrow.places e → (t a b c : Place) → group_others narrow t ≡ a ∷ b ∷ c ∷ [] → list_sum e (group_others narrow t) ≡ e t
-from_others e g w X0 a b c h = ap (λ x. bit_xor (e X1) (bit_xor (e X2) x)) ((equations-parities e g).0 w).local_x ∙ solve_1 (e X0) (e X1) (e X2)
-from_others e g w X1 a b c h = ap (λ x. bit_xor (e X0) (bit_xor (e X2) x)) ((equations-parities e g).0 w).local_x ∙ solve_2 (e X0) (e X1) (e X2)
-from_others e g w X2 a b c h = ap (λ x. bit_xor (e X0) (bit_xor (e X1) x)) ((equations-parities e g).0 w).local_x ∙ solve_3 (e X0) (e X1) (e X2)
+from_others : (e : Place → ℕ) → GivesBytes e → Solves narrow.equations narrow.places e → (t a b c : Place)
+    → group_others narrow t ≡ a ∷ b ∷ c ∷ [] → list_sum e (group_others narrow t) ≡ e t
+from_others e g w X0 a b c h =
+    ap (λ x. bit_xor (e X1) (bit_xor (e X2) x)) ((equations-parities e g).0 w).local_x
+    ∙ solve_1 (e X0) (e X1) (e X2)
+from_others e g w X1 a b c h =
+    ap (λ x. bit_xor (e X0) (bit_xor (e X2) x)) ((equations-parities e g).0 w).local_x
+    ∙ solve_2 (e X0) (e X1) (e X2)
+from_others e g w X2 a b c h =
+    ap (λ x. bit_xor (e X0) (bit_xor (e X1) x)) ((equations-parities e g).0 w).local_x
+    ∙ solve_3 (e X0) (e X1) (e X2)
 from_others e g w Px a b c h = sym ((equations-parities e g).0 w).local_x
-from_others e g w Y0 a b c h = ap (λ x. bit_xor (e Y1) (bit_xor (e Y2) x)) ((equations-parities e g).0 w).local_y ∙ solve_1 (e Y0) (e Y1) (e Y2)
-from_others e g w Y1 a b c h = ap (λ x. bit_xor (e Y0) (bit_xor (e Y2) x)) ((equations-parities e g).0 w).local_y ∙ solve_2 (e Y0) (e Y1) (e Y2)
-from_others e g w Y2 a b c h = ap (λ x. bit_xor (e Y0) (bit_xor (e Y1) x)) ((equations-parities e g).0 w).local_y ∙ solve_3 (e Y0) (e Y1) (e Y2)
+from_others e g w Y0 a b c h =
+    ap (λ x. bit_xor (e Y1) (bit_xor (e Y2) x)) ((equations-parities e g).0 w).local_y
+    ∙ solve_1 (e Y0) (e Y1) (e Y2)
+from_others e g w Y1 a b c h =
+    ap (λ x. bit_xor (e Y0) (bit_xor (e Y2) x)) ((equations-parities e g).0 w).local_y
+    ∙ solve_2 (e Y0) (e Y1) (e Y2)
+from_others e g w Y2 a b c h =
+    ap (λ x. bit_xor (e Y0) (bit_xor (e Y1) x)) ((equations-parities e g).0 w).local_y
+    ∙ solve_3 (e Y0) (e Y1) (e Y2)
 from_others e g w Py a b c h = sym ((equations-parities e g).0 w).local_y
 from_others e g w P0 a b c h = cc
 from_others e g w P1 a b c h = cc
 
 -- a tree that is right leaves no two extensions that differ
-right_is_one : (survives : Place → Bool) (target : Place) (t : Form) → ((s e : Place → ℕ) → GivesBytes s → Extends narrow survives s e → meaning s t ≡ e target)
+right_is_one : (survives : Place → Bool) (target : Place) (t : Form)
+    → ((s e : Place → ℕ) → GivesBytes s → Extends narrow survives s e → meaning s t ≡ e target)
     → IsNone (Some t) ↔ ExtensionsDiffer narrow survives target
 right_is_one survives target t r = (λ n. none_some n, λ (s, d, e, h, x, y, apart). absurd (apart (sym (r s d h x) ∙ r s e h y)))
   where
@@ -77,7 +91,8 @@ right_is_one survives target t r = (λ n. none_some n, λ (s, d, e, h, x, y, apa
     none_some n = cc
 
 -- a sum of three leaves has no other leaf
-three_leaves_survive : (survives : Place → Bool) (a b c : Place) → survives a ≡ true → survives b ≡ true → survives c ≡ true → LeavesSurvive survives (Sum (Leaf a) (Sum (Leaf b) (Leaf c)))
+three_leaves_survive : (survives : Place → Bool) (a b c : Place) → survives a ≡ true → survives b ≡ true
+    → survives c ≡ true → LeavesSurvive survives (Sum (Leaf a) (Sum (Leaf b) (Leaf c)))
 three_leaves_survive survives a b c x y z p l =
     elim (cases_Bool (same_place a p)) [
       | inl e ↦ ap survives (sym (same_place-eq a p e)) ∙ x
@@ -91,11 +106,13 @@ three_leaves_survive survives a b c x y z p l =
     last u v w n m l = sym (ap (λ x. v || w) n ∙ ap (λ x. x || w) m) ∙ sym (ap (λ x. x || (v || w)) n) ∙ l
 
 -- the local tree
-pub local_value : (survives : Place → Bool) (target a b c : Place) → group_others narrow target ≡ a ∷ b ∷ c ∷ [] → survives a ≡ true → survives b ≡ true → survives c ≡ true
+pub local_value : (survives : Place → Bool) (target a b c : Place)
+    → group_others narrow target ≡ a ∷ b ∷ c ∷ [] → survives a ≡ true → survives b ≡ true → survives c ≡ true
     → IsTargetValue narrow survives target (Some (Sum (Leaf a) (Sum (Leaf b) (Leaf c))))
 local_value survives target a b c m x y z = record { leaves = three_leaves_survive survives a b c x y z; right = right; several = right_is_one survives target (Sum (Leaf a) (Sum (Leaf b) (Leaf c))) right }
   where
-    right : (s e : Place → ℕ) → GivesBytes s → Extends narrow survives s e → bit_xor (s a) (bit_xor (s b) (s c)) ≡ e target
+    right : (s e : Place → ℕ) → GivesBytes s → Extends narrow survives s e
+        → bit_xor (s a) (bit_xor (s b) (s c)) ≡ e target
     right s e h k = cc (k.kept a x, k.kept b y, k.kept c z, ap (list_sum e) m, from_others e k.bytes k.solves target a b c m)
 
 -- the tree of the target's row
@@ -108,14 +125,20 @@ pub determined_value : (survives : Place → Bool) (coef : ℕ → Place → ℕ
     → IsTargetValue narrow survives t value
 determined_value survives coef pivot red r t cut value hr e lost is z sum leaves = given value sum leaves
   where
-    means : (v : Option Form) → ((b : Place → ℕ) → GivesBytes b → sum_meaning b v ≡ sum_over narrow_places (λ p. times (cut p) (b p))) → (s d : Place → ℕ) → GivesBytes s → Extends narrow survives s d → sum_meaning s v ≡ d t
-    means v k s d h x = k s h ∙ sum_over-same narrow_places _ _ (λ p. ap (λ c. times c (s p)) (is p)) ∙ determined survives coef pivot red s h r t d hr e z x
+    means : (v : Option Form)
+        → ((b : Place → ℕ) → GivesBytes b → sum_meaning b v ≡ sum_over narrow_places (λ p. times (cut p) (b p)))
+        → (s d : Place → ℕ) → GivesBytes s → Extends narrow survives s d → sum_meaning s v ≡ d t
+    means v k s d h x =
+        k s h ∙ sum_over-same narrow_places _ _ (λ p. ap (λ c. times c (s p)) (is p))
+        ∙ determined survives coef pivot red s h r t d hr e z x
 
     zero_lost : (p : Place) (u : Bool) → same_place t p ≡ u → survives p ≡ false → cut p ≡ 0
     zero_lost p true k l = is p ∙ ap (λ b. cond b 0 (coef r p)) k
     zero_lost p false k l = is p ∙ ap (λ b. cond b 0 (coef r p)) k ∙ z p l k
 
-    given : (v : Option Form) → ((b : Place → ℕ) → GivesBytes b → sum_meaning b v ≡ sum_over narrow_places (λ p. times (cut p) (b p))) → IfSome v (λ f. (p : Place) → has_leaf f p ≡ true → cut p ≢ 0) → IsTargetValue narrow survives t v
+    given : (v : Option Form)
+        → ((b : Place → ℕ) → GivesBytes b → sum_meaning b v ≡ sum_over narrow_places (λ p. times (cut p) (b p)))
+        → IfSome v (λ f. (p : Place) → has_leaf f p ≡ true → cut p ≢ 0) → IsTargetValue narrow survives t v
     given None k l = absurd (word_apart t (sym (means None k word word word_small (record { bytes = word_small; solves = word_solves; kept = λ p h. refl }))))
     given (Some f) k l = record {
       leaves = λ p h. true_from_ne_false (survives p) (λ n. l p h (zero_lost p (same_place t p) refl n));
@@ -124,7 +147,8 @@ determined_value survives coef pivot red r t cut value hr e lost is z sum leaves
     }
 
 -- no tree
-pub none_value : (survives : Place → Bool) (t : Place) → ExtensionsDiffer narrow survives t → IsTargetValue narrow survives t None
+pub none_value : (survives : Place → Bool) (t : Place) → ExtensionsDiffer narrow survives t
+    → IsTargetValue narrow survives t None
 none_value survives t d = record { leaves = tt; right = tt; several = (λ n. d, λ x. refl) }
 
 -- a 00 that was written, or lies past the end
@@ -138,12 +162,14 @@ zero_at row i k z e h = elim (Decides-cases i (length row)) as (λ _. slice_inde
     Decides-cases a b = elim (cases_Bool (nat_lt a b)) [ inl t ↦ inl (ltb-true a b t) | inr t ↦ inr (ltb-false a b t) ]
 
 -- the row with the target's coefficient cut
-pub cut_is : (row : List ℕ) (i z : ℕ) (t p : Place) → i ≡ index_of t → z ≡ 0 → slice_index (slice_set row i z) (index_of p) ≡ cond (same_place t p) 0 (slice_index row (index_of p))
+pub cut_is : (row : List ℕ) (i z : ℕ) (t p : Place) → i ≡ index_of t → z ≡ 0
+    → slice_index (slice_set row i z) (index_of p) ≡ cond (same_place t p) 0 (slice_index row (index_of p))
 cut_is row i z t p e k = elim (eqb_tells (index_of t) (index_of p)) as (λ _. slice_index (slice_set row i z) (index_of p) ≡ cond (same_place t p) 0 (slice_index row (index_of p))) [
   | inl w ↦ zero_at row i (index_of p) z (sym w.1 ∙ sym e) k ∙ ap (λ b. cond b 0 (slice_index row (index_of p))) (sym w.0)
   | inr w ↦ get_or-set_other row i (index_of p) z 0 (λ x. w.1 (sym (x ∙ e))) ∙ ap (λ b. cond b 0 (slice_index row (index_of p))) (sym w.0)
 ]
 
-pub some_map : {X : Type 0} (f : X → Form) (P : Form → Type 0) (o : Option X) → IfSome o (λ t. P (f t)) → IfSome (option_map f o) P
+pub some_map : {X : Type 0} (f : X → Form) (P : Form → Type 0) (o : Option X) → IfSome o (λ t. P (f t))
+    → IfSome (option_map f o) P
 some_map f P None h = tt
 some_map f P (Some t) h = h

@@ -57,14 +57,14 @@ pub record IsTargetValue (code : Code) (survives : Place → Bool) (target : Pla
     : Type 0 where
   pub leaves : IfSome value (LeavesSurvive survives)
   pub right : IfSome value (λ t.
-    (s e : Place → ℕ) → GivesBytes s → Extends code survives s e → meaning s t ≡ e target)
+      (s e : Place → ℕ) → GivesBytes s → Extends code survives s e → meaning s t ≡ e target)
   pub several : IsNone value ↔ ExtensionsDiffer code survives target
 
 -- the checks of survivors' bytes
 pub record AreChecks (code : Code) (survives : Place → Bool) (checks : List Form) : Type 0 where
   pub leaves : All (LeavesSurvive survives) checks
   pub possible : (s : Place → ℕ) → GivesBytes s
-    → ((e : Place → ℕ) × Extends code survives s e) ↔ All (λ t. meaning s t ≡ 0) checks
+      → ((e : Place → ℕ) × Extends code survives s e) ↔ All (λ t. meaning s t ≡ 0) checks
 
 -- what a plan for a target promises
 pub record IsPlan (code : Code) (survives : Place → Bool) (target : Place)

@@ -55,22 +55,14 @@ fn evaluate_forked<R: Threads + Sync, A: Allocator + Sync>(
             let (first, second) = join(
                 rt,
                 || -> Result<Vec<u8>, AllocError>
-                    requires {
-                        IsSync R.row × IsSync A.row × CanEvaluate request.now (form_of left.now.value)
-                    }
-                    ensures {
-                        IfOk result (λ v.
-                            IsScaledValue factor request.entry.now (form_of left.entry.now.value) v.items)
-                    }
+                    requires { IsSync R.row × IsSync A.row × CanEvaluate request.now (form_of left.now.value) }
+                    ensures { IfOk result (λ v.
+                        IsScaledValue factor request.entry.now (form_of left.entry.now.value) v.items) }
                 { evaluate_forked(rt, alloc, left, factor, request, fewer) },
                 || -> Result<Vec<u8>, AllocError>
-                    requires {
-                        IsSync R.row × IsSync A.row × CanEvaluate request.now (form_of right.now.value)
-                    }
-                    ensures {
-                        IfOk result (λ v.
-                            IsScaledValue factor request.entry.now (form_of right.entry.now.value) v.items)
-                    }
+                    requires { IsSync R.row × IsSync A.row × CanEvaluate request.now (form_of right.now.value) }
+                    ensures { IfOk result (λ v.
+                        IsScaledValue factor request.entry.now (form_of right.entry.now.value) v.items) }
                 { evaluate_forked(rt, alloc, right, factor, request, fewer) },
             );
             let mut sum = first?;

@@ -44,14 +44,10 @@ fn add_check<A: Allocator + Clone>(
 ) -> Result<(), AllocError>
     requires row { row < 4 }
     requires reduced { AreReduced (is_in survivors) (coef_of reduced.now) (pivot_of reduced.now) }
-    requires below {
-        AreChecksBelow (is_in survivors) (coef_of reduced.now) (pivot_of reduced.now)
-            row (map form_of checks.old.items)
-    }
-    ensures {
-        OnOk result (AreChecksBelow (is_in survivors) (coef_of reduced.now) (pivot_of reduced.now)
-            (row + 1) (map form_of checks.new.items))
-    }
+    requires below { AreChecksBelow (is_in survivors) (coef_of reduced.now) (pivot_of reduced.now)
+        row (map form_of checks.old.items) }
+    ensures { OnOk result (AreChecksBelow (is_in survivors) (coef_of reduced.now) (pivot_of reduced.now)
+        (row + 1) (map form_of checks.new.items)) }
 {
     match reduced.pivot(row) {
         Some(_) => Ok(()),

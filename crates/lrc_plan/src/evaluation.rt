@@ -81,9 +81,7 @@ pub(crate) fn add_scaled<A: Allocator>(
     requires can { CanEvaluate request.now (form_of tree.now) }
     requires whole { AreWhole request.now }
     requires length { length dst.old ≡ request.now.len }
-    ensures small {
-        (i : ℕ) → i < length dst.old → meaning (byte_at request.now i) (form_of tree.now) < 256
-    }
+    ensures small { (i : ℕ) → i < length dst.old → meaning (byte_at request.now i) (form_of tree.now) < 256 }
     ensures sum { IsValueAdded factor request.now (form_of tree.now) dst.old dst.new }
 {
     match tree {

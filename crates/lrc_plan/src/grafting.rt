@@ -78,9 +78,7 @@ impl<A: Allocator> Tree<A> {
     where
         A: Clone,
         requires { All (λ t. form_of t ≡ form_of scion.now) copies.old.items }
-        ensures enough {
-            OnOk result (vec_len copies.new ≡ vec_len copies.old + place_total (form_of self.now) place)
-        }
+        ensures enough { OnOk result (vec_len copies.new ≡ vec_len copies.old + place_total (form_of self.now) place) }
         ensures alike { OnOk result (All (λ t. form_of t ≡ form_of scion.now) copies.new.items) }
     {
         match self {

@@ -16,9 +16,7 @@ use std::alloc::{AllocError, Allocator};
 
 // A scalar times a place's byte.
 fn product<A: Allocator>(alloc: A, scalar: Gf, place: Place) -> Result<Tree<A>, AllocError>
-    ensures value {
-        IfOk result (λ t. (b : Place → ℕ) → GivesBytes b → meaning b (form_of t) ≡ times scalar (b place))
-    }
+    ensures value { IfOk result (λ t. (b : Place → ℕ) → GivesBytes b → meaning b (form_of t) ≡ times scalar (b place)) }
     ensures depth { IfOk result (λ t. depth (form_of t) ≤ 2) }
     ensures leaf { IfOk result (λ t. (p : Place) → has_leaf (form_of t) p ≡ true → p ≡ place) }
 {
@@ -37,13 +35,9 @@ pub(crate) fn row_tree<A: Allocator + Clone>(
 ) -> Result<Option<Tree<A>>, AllocError>
     ensures value { IfOk result (λ o. MeansRow row.now places.now (option_map form_of o)) }
     ensures depth { IfOk result (λ o. some_depth (option_map form_of o) ≤ length places.now + 2) }
-    ensures leaves {
-        IfOk result (λ o. IfSome o (λ t.
-            (p : Place) → has_leaf (form_of t) p ≡ true → slice_index row.now (index_of p) ≢ 0))
-    }
-    ensures none {
-        IfOk result (λ o. IsNone o → All (λ p. slice_index row.now (index_of p) ≡ 0) places.now)
-    }
+    ensures leaves { IfOk result (λ o. IfSome o (λ t.
+        (p : Place) → has_leaf (form_of t) p ≡ true → slice_index row.now (index_of p) ≢ 0)) }
+    ensures none { IfOk result (λ o. IsNone o → All (λ p. slice_index row.now (index_of p) ≡ 0) places.now) }
 {
     match places {
         [] => Ok(None),
@@ -66,17 +60,11 @@ fn added<A: Allocator + Clone>(
     own: Tree<A>,
     others: Option<Tree<A>>,
 ) -> Result<Option<Tree<A>>, AllocError>
-    ensures value {
-        IfOk result (λ o. MeansOneMore (form_of own) (option_map form_of others) (option_map form_of o))
-    }
-    ensures depth {
-        IfOk result (λ o. some_depth (option_map form_of o)
-            ≤ max (depth (form_of own)) (some_depth (option_map form_of others)) + 1)
-    }
-    ensures leaves {
-        IfOk result (λ o. IfSome o (λ t. (p : Place)
-            → has_leaf (form_of t) p ≡ (has_leaf (form_of own) p || some_leaf (option_map form_of others) p)))
-    }
+    ensures value { IfOk result (λ o. MeansOneMore (form_of own) (option_map form_of others) (option_map form_of o)) }
+    ensures depth { IfOk result (λ o. some_depth (option_map form_of o)
+        ≤ max (depth (form_of own)) (some_depth (option_map form_of others)) + 1) }
+    ensures leaves { IfOk result (λ o. IfSome o (λ t. (p : Place)
+        → has_leaf (form_of t) p ≡ (has_leaf (form_of own) p || some_leaf (option_map form_of others) p))) }
     ensures some { IfOk result IsSome }
 {
     match others {

@@ -60,11 +60,9 @@ pub(crate) fn count_without_pivot(reduced: &Reduced) -> usize
 
 // The row whose pivot the place is.
 pub(crate) fn row_with_pivot(reduced: &Reduced, place: Place) -> Option<usize>
-    ensures {
-        MatchOption result
-            ((r : ℕ) → r < 4 → pivot_of reduced.now r ≢ Some place)
-            (λ r. (r < 4) × (pivot_of reduced.now r ≡ Some place))
-    }
+    ensures { MatchOption result
+        ((r : ℕ) → r < 4 → pivot_of reduced.now r ≢ Some place)
+        (λ r. (r < 4) × (pivot_of reduced.now r ≡ Some place)) }
 {
     for row in 0..4usize {
         if reduced.pivot(row) == Some(place) {

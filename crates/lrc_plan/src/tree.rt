@@ -63,10 +63,8 @@ impl<A: Allocator> Tree<A> {
 
     // Adds the tree's coefficients, times a factor.
     fn add_coefficients(&self, factor: Gf, sums: &mut [Gf; 10])
-        ensures {
-            (b : Place → ℕ) → combination sums.new (map b narrow_places)
-            ≡ bit_xor (combination sums.old (map b narrow_places)) (times factor (meaning b (form_of self.now)))
-        }
+        ensures { (b : Place → ℕ) → combination sums.new (map b narrow_places)
+            ≡ bit_xor (combination sums.old (map b narrow_places)) (times factor (meaning b (form_of self.now))) }
     {
         match self {
             Tree::Leaf(place) => {

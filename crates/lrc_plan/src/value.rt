@@ -20,9 +20,7 @@ use std::alloc::{AllocError, Allocator};
 
 // The three other members of the place's group, if it is in one.
 fn others_in_group(place: Place) -> Option<(Place, Place, Place)>
-    ensures {
-        MatchOption result (IsNone (group_of place)) (λ m. group_others narrow place ≡ m.0 ∷ m.1 ∷ m.2 ∷ [])
-    }
+    ensures { MatchOption result (IsNone (group_of place)) (λ m. group_others narrow place ≡ m.0 ∷ m.1 ∷ m.2 ∷ []) }
 {
     match place {
         Place::X0 => Some((Place::X1, Place::X2, Place::Px)),
@@ -39,12 +37,10 @@ fn others_in_group(place: Place) -> Option<(Place, Place, Place)>
 
 // The others of the target's group, where all three survive.
 fn surviving_others(survivors: PlaceSet, target: Place) -> Option<(Place, Place, Place)>
-    ensures {
-        MatchOption result
-            (¬ IsLocal narrow (is_in survivors) target)
-            (λ m. (group_others narrow target ≡ m.0 ∷ m.1 ∷ m.2 ∷ [])
-                × (is_in survivors m.0 ≡ true) × (is_in survivors m.1 ≡ true) × (is_in survivors m.2 ≡ true))
-    }
+    ensures { MatchOption result
+        (¬ IsLocal narrow (is_in survivors) target)
+        (λ m. (group_others narrow target ≡ m.0 ∷ m.1 ∷ m.2 ∷ [])
+        × (is_in survivors m.0 ≡ true) × (is_in survivors m.1 ≡ true) × (is_in survivors m.2 ≡ true)) }
 {
     let (first, second, third) = others_in_group(target)?;
     if survivors.has(first) && survivors.has(second) && survivors.has(third) {
@@ -104,10 +100,8 @@ pub(crate) fn value_of<A: Allocator + Clone>(
     requires reduced { AreReduced (is_in survivors) (coef_of reduced.now) (pivot_of reduced.now) }
     ensures value { IfOk result (λ o. IsTargetValue narrow (is_in survivors) target (option_map form_of o)) }
     ensures shallow { IfOk result (λ o. IfSome (option_map form_of o) IsShallow) }
-    ensures local {
-        IfOk result (λ o. IsLocal narrow (is_in survivors) target
-            → IsSomeAnd (option_map form_of o) (IsLocalTree narrow target))
-    }
+    ensures local { IfOk result (λ o. IsLocal narrow (is_in survivors) target
+        → IsSomeAnd (option_map form_of o) (IsLocalTree narrow target)) }
 {
     match surviving_others(survivors, target) {
         Some((first, second, third)) => {

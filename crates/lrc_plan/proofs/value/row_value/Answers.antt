@@ -1,6 +1,6 @@
 use Rattle.lrc_code.specs.declared.places.Place.{Place}
 use Rattle.lrc_plan.specs.Form.{has_leaf}
-use Rattle.std.proofs.Common.{true, cond, ◌≢◌, ◌≡◌, ℕ, false, List, slice_index, slice_set, ap, ◌∙◌, refl}
+use Rattle.std.proofs.Common.{true, cond, ◌≢◌, ◌≡◌, ℕ, List, slice_index, slice_set, ap, ◌∙◌, refl}
 use Rattle.std.specs.Option.{option_map}
 use Rattle.lrc_code.specs.Sets.{is_in}
 use Rattle.lrc_code.specs.Places.{index_of, same_place}
@@ -8,7 +8,7 @@ use Rattle.lrc_plan.specs.Tree.{form_of}
 use Rattle.lrc_plan.specs.Rows.{coef_of, pivot_of}
 use Rattle.lrc_plan.proofs.Extension.{free_differs, pivot_differs}
 use Rattle.lrc_plan.proofs.Values.{none_value, determined_value, cut_is, some_map}
-use Rattle.lrc_code.proofs.PlaceSums.{same_place-sym, at_places}
+use Rattle.lrc_code.proofs.PlaceSums.{same_place-sym}
 use Rattle.lrc_plan.proofs.value.row_value.Goals as goal
 
 pub returns-in_default-clause-value : goal.returns-in_default-clause-value

@@ -24,7 +24,9 @@ scaled o f s m x e = ap (λ y. bit_xor o y) (ap (λ y. times y m) e ∙ times-as
 
 -- the two branches, one after the other
 summed : (o f m n x : ℕ) → x ≡ bit_xor o (times f m) → bit_xor x (times f n) ≡ bit_xor o (times f (bit_xor m n))
-summed o f m n x e = ap (λ y. bit_xor y (times f n)) e ∙ xor_assoc o (times f m) (times f n) ∙ ap (λ y. bit_xor o y) (sym (times-xor f m n))
+summed o f m n x e =
+    ap (λ y. bit_xor y (times f n)) e ∙ xor_assoc o (times f m) (times f n)
+    ∙ ap (λ y. bit_xor o y) (sym (times-xor f m n))
 
 pub returns-in-Leaf : goal.returns-in-Leaf
 returns-in-Leaf g t c = λ b. rw c.in-Leaf.is (added_at _ _ _ _ _ _ b c.told-sums c.index-i.ensures.value c.index-i.ensures.bound c.add.ensures)
