@@ -1,8 +1,8 @@
 //! The rows of a reduction.
-ghost use Rattle.std.specs.Prelude.{◌≡◌, ◌≢◌, ◌<◌, ℕ, true, false, Some, MatchOption, length, slice_index, slice_index_or};
+ghost use Rattle.std.specs.Prelude.{◌≡◌, ◌≢◌, ◌<◌, ℕ, true, false, Some, MatchOption, slice_index};
 ghost use Rattle.std.specs.Bool.{OnTrue};
 ghost use Rattle.lrc_code.specs.declared.places.Place.{Place};
-ghost use Rattle.lrc_code.specs.Places.{index_of, same_place};
+ghost use Rattle.lrc_code.specs.Places.{index_of};
 ghost use Rattle.lrc_code.specs.Sets.{is_in};
 ghost use Rattle.lrc_plan.specs.Rows.{coef_of, pivot_of};
 ghost use Rattle.lrc_plan.specs.Planned.{rows_without_pivot};

@@ -1,5 +1,5 @@
 //! Answers to requests.
-ghost use Rattle.std.specs.Prelude.{◌≡◌, ℕ, true, false, IfOk, IsNone, All, length, vec_len};
+ghost use Rattle.std.specs.Prelude.{◌≡◌, true, false, IfOk, IsNone, All, length, vec_len};
 ghost use Rattle.lrc_code.specs.declared.places.Place.{Place};
 ghost use Rattle.lrc_code.specs.Code.{narrow};
 ghost use Rattle.lrc_code.specs.Answers.{IsAnswer};
