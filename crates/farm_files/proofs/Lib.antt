@@ -12,3 +12,6 @@ pub mod ReadSurvivors
 pub mod ReadRequests
 pub mod ReadRacks
 pub mod Making
+pub mod ReadAllRacks
+pub mod MakingAll
+pub mod Answered

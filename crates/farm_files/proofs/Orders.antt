@@ -1,6 +1,6 @@
 -- One more record behind those so far.
 use Rattle.std.proofs.Common.{◌≡◌, ◌<◌, ◌≤◌, ◌+◌, ◌++◌, ◌∙◌, ℕ, Bool, true, false, cond, List, [], ◌∷◌, Result, Ok, Err, length, refl, sym, ap, arith, subst, inl, inr}
-use Rattle.std.proofs.lemmas.Bool.{le-ltb, lt-ltb}
+use Rattle.std.proofs.lemmas.Bool.{le-ltb, lt-ltb, ltb-false}
 use Rattle.std.specs.Prelude.{nat_lt}
 use Rattle.std.specs.Cmp.Lexicographic.{pointwise}
 use Rattle.std.specs.Str.{bytes_eq}
@@ -160,3 +160,31 @@ lists_all bytes rows small all = within bytes small ∙ ap list_of_rows (records
 pub too_long : (bytes : List ℕ) → list_limit < length bytes → list_of bytes ≡ Err fault.InputTooLong
 unfolding list_of
 too_long bytes long = let high : nat_lt list_limit (length bytes) ≡ true = lt-ltb list_limit (length bytes) long in rw high refl
+
+-- ---- how many orders there are
+
+orders_few : (n : ℕ) (rows : List (List (List ℕ))) (os : List Record) → n ≤ 4097 → orders n rows ≡ Ok os → n + length os ≤ 4097
+orders_few n [] os small e = let none : os ≡ [] = cc in let l = ap (λ (x : List Record). length x) none in omega (arith, l)
+orders_few n (row ∷ rows) os small e =
+    let p = parts (nat_lt order_limit n) (order_at n row) (orders (n + 1) rows) os e in
+    let low = ltb-false order_limit n p.within in
+    let l = ap (λ (x : List Record). length x) p.whole in
+    let later = orders_few (n + 1) rows p.rest (omega (arith, low)) p.others in
+    omega (arith, l, later)
+
+rows_few : (rows : List (List (List ℕ))) (os : List Record) → list_of_rows rows ≡ Ok os → length os ≤ 4096
+rows_few [] os e = cc
+rows_few (row ∷ rows) os e = by (pointwise bytes_eq row header) e
+  where
+    by : (b : Bool) → cond b (orders 1 rows) (Err fault.BadHeader) ≡ Ok os → length os ≤ 4096
+    by true h = let few = orders_few 1 rows os (omega arith) h in omega (arith, few)
+    by false h = cc
+
+-- a list has at most 4,096 orders
+pub list_few : (bytes : List ℕ) (os : List Record) → list_of bytes ≡ Ok os → length os ≤ 4096
+unfolding list_of
+list_few bytes os e = by (nat_lt list_limit (length bytes)) e
+  where
+    by : (b : Bool) → cond b (Err fault.InputTooLong) (list_of_rows (records default_config (strip_bom bytes))) ≡ Ok os → length os ≤ 4096
+    by true h = cc
+    by false h = rows_few (records default_config (strip_bom bytes)) os h

@@ -10,3 +10,4 @@ pub mod Named
 pub mod Serving
 pub mod Faults
 pub mod Parts
+pub mod Causes

@@ -1,5 +1,12 @@
 //! Why serving ends.
+ghost use Rattle.std.specs.Prelude.{◌≡◌};
+ghost use Rattle.farm_files.specs.declared.faults.ServeFault.TheVariants as fault;
+ghost use Rattle.farm_files.specs.Causes.{of_farm, of_shelf};
+
 use crate::listing::ListFault;
+use crate::shelf::ShelfFault;
+use farm_core::FarmError;
+use std::alloc::AllocError;
 use thiserror::Error;
 
 /// Why serving a folder ended.
@@ -23,4 +30,34 @@ pub enum ServeFault {
     /// E16: memory was wanting.
     #[error("out of memory")]
     OutOfMemory,
+}
+
+impl From<AllocError> for ServeFault {
+    ghost from_gives = { λ _ f. f ≡ fault.OutOfMemory };
+
+    fn from(_error: AllocError) -> ServeFault {
+        ServeFault::OutOfMemory
+    }
+}
+
+impl From<FarmError> for ServeFault {
+    ghost from_gives = { λ e f. f ≡ of_farm e };
+
+    fn from(error: FarmError) -> ServeFault {
+        match error {
+            FarmError::OutOfMemory => ServeFault::OutOfMemory,
+            FarmError::NoThread => ServeFault::NoThread,
+        }
+    }
+}
+
+impl From<ShelfFault> for ServeFault {
+    ghost from_gives = { λ e f. f ≡ of_shelf e };
+
+    fn from(error: ShelfFault) -> ServeFault {
+        match error {
+            ShelfFault::Device => ServeFault::Device,
+            ShelfFault::OutOfMemory => ServeFault::OutOfMemory,
+        }
+    }
 }

@@ -56,6 +56,7 @@ const ORDER_LIMIT: usize = 4096;
 /// The orders that a list has, or its first fault.
 pub fn read_list(alloc: Global, bytes: &[u8]) -> Result<Vec<Record>, ListFault>
     ensures read { IfOk result (λ v. list_of bytes.now ≡ Ok v.items) }
+    ensures few { IfOk result (λ v. length v.items ≤ 4096) }
     ensures fault { IfErr result (λ f. IsFaultOf f (list_of bytes.now)) }
 {
     if bytes.len() > LIST_LIMIT {

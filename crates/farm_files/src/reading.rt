@@ -1,13 +1,16 @@
 //! Reading the lists and the fragments.
 ghost use Rattle.std.specs.Prelude.{◌≡◌, ◌+◌, ◌*◌, ◌++◌, ◌∷◌, [], OnOk, ◌<◌, ◌≤◌, ◌^◌, ℕ, List, Bool, Option, Some, None, Ok, Err, IfOk, IfErr, IfSome, MatchResult, if◌then◌else◌, is_some, length, map, option_map};
-ghost use Rattle.std.specs.List.{AllZip, filter_map};
+ghost use Rattle.std.specs.List.{All, AllZip, filter_map};
+ghost use Rattle.farm_core.specs.Orders.{before_close};
+ghost use Rattle.farm_core.specs.declared.orders.Order.TheVariants.{Rebuild};
+ghost use Rattle.farm_files.specs.Report.{before_close as listed_before_close};
 ghost use Rattle.lrc_code.specs.Survivors.{survivors_of};
 ghost use Rattle.farm_files.specs.Listing.{list_of};
 ghost use Rattle.farm_files.specs.declared.listing.Record.{Record};
 ghost use Rattle.farm_files.specs.Files.{Files};
 ghost use Rattle.farm_files.specs.declared.faults.ServeFault.TheVariants as serving_fault;
 ghost use Rattle.farm_files.specs.Names.{list_name};
-ghost use Rattle.farm_files.specs.Serving.{AreLists, AreReads, Reads, asked, asked_rack, failures, fragment, rack_failures, survivor, unread, unread_rack};
+ghost use Rattle.farm_files.specs.Serving.{AreAllReads, AreLists, AreReads, Reads, all_failures, asked, asked_all, asked_rack, failures, fragment, rack_failures, survivor, unread, unread_all, unread_rack};
 ghost use Rattle.farm_files.specs.Parts.{ArePart};
 ghost use Rattle.farm_files.specs.Faults.{CountsFault, Explains, IsListFault, IsReadFault, serve_fault};
 
@@ -16,6 +19,8 @@ use crate::names::{fragment_file, list_file};
 use crate::listed::Listed;
 use crate::listing::{ListFault, Record, read_list};
 use crate::shelf::{Shelf, ShelfFault};
+use crate::report::requests_before_close;
+use farm_core::{Order, RackList, Racks};
 use lrc_code::{Fragment, Place, Request};
 use std::alloc::{AllocError, Global};
 
@@ -35,6 +40,7 @@ fn read_rack_list<I: Shelf>(
 ) -> Result<Option<Vec<Record>>, ServeFault>
     requires { I.failed input.old < 2 ^ 63 }
     ensures same { I.files input.new ≡ I.files input.old }
+    ensures few { IfOk result (λ list. IfSome list (λ l. length l.items ≤ 4096)) }
     ensures list { IfOk result (λ list. (there : Files) → I.files input.old ≡ Some there → option_map list_of (there (list_name rack)) ≡ option_map (λ v. Ok v.items) list) }
     ensures calm { IfOk result (λ list. I.failed input.new ≡ I.failed input.old) }
     ensures fault { IfErr result (λ f. IsListFault f rack (I.files input.old) (I.failed input.old) (I.failed input.new)) }
@@ -123,10 +129,12 @@ fn read_survivors<I: Shelf>(
 }
 
 // The lists of all racks.
-fn read_lists<I: Shelf>(alloc: Global, input: &mut I) -> Result<Vec<Vec<Record>>, ServeFault>
+pub(crate) fn read_lists<I: Shelf>(alloc: Global, input: &mut I) -> Result<Vec<Vec<Record>>, ServeFault>
     requires { I.failed input.old < 2 ^ 62 }
     ensures same { I.files input.new ≡ I.files input.old }
     ensures lists { IfOk result (λ v. (there : Files) → I.files input.old ≡ Some there → AreLists there (map (λ l. l.items) v.items)) }
+    ensures racks { IfOk result (λ v. length v.items ≤ 16) }
+    ensures orders { IfOk result (λ v. All (λ l. length l.items ≤ 4096) v.items) }
     ensures calm { IfOk result (λ v. I.failed input.new ≡ I.failed input.old) }
     ensures why { IfErr result (λ f. (there : Files) → I.files input.old ≡ Some there → Explains f there) }
     ensures fault { IfErr result (λ f. CountsFault f (I.failed input.old) (I.failed input.new)) }
@@ -194,24 +202,77 @@ fn read_request<I: Shelf>(
     Ok((request, unread))
 }
 
-// The requests of a rack with the survivors that were read, and the places of the others.
+// The orders of a rack's requests with the survivors that were read, and the places of the others.
 fn read_rack<I: Shelf>(
     alloc: Global,
     input: &mut I,
     rack: &[&Listed],
-) -> Result<(Vec<Request>, Vec<Vec<Place>>), AllocError>
-    requires { I.failed input.old + 10 * length rack.now < 2 ^ 63 }
+) -> Result<(RackList, Vec<Vec<Place>>), AllocError>
+    requires room { I.failed input.old + 10 * length rack.now < 2 ^ 63 }
+    requires orders { length rack.now ≤ 4096 }
     ensures same { I.files input.new ≡ I.files input.old }
     ensures read { IfOk result (λ v. (reads : List Reads) × AllZip AreReads (map (λ r. r.now) rack.now) reads × (I.failed input.new ≡ I.failed input.old + rack_failures reads)
-        × ((there : Files) → I.files input.old ≡ Some there → (v.0.items ≡ asked_rack there (map (λ r. r.now) rack.now) reads) × (map (λ u. u.items) v.1.items ≡ unread_rack there (map (λ r. r.now) rack.now) reads))) }
+        × ((there : Files) → I.files input.old ≡ Some there → (v.0 ≡ map Rebuild (asked_rack there (map (λ r. r.now) rack.now) reads)) × (map (λ u. u.items) v.1.items ≡ unread_rack there (map (λ r. r.now) rack.now) reads))) }
+    ensures sizes { IfOk result (λ v. (length (before_close v.0) ≡ length rack.now) × (length v.1.items ≡ length rack.now)) }
     ensures few { I.failed input.new ≤ I.failed input.old + 10 * length rack.now }
 {
-    let mut requests = Vec::new(alloc);
+    let mut orders = Vec::new(alloc);
     let mut unread = Vec::new(alloc);
     for index in 0..rack.len() {
         let (request, places) = read_request(alloc, input, rack[index])?;
-        requests.push(request)?;
+        orders.push(Order::Rebuild(request))?;
         unread.push(places)?;
     }
-    Ok((requests, unread))
+    let Ok(list) = RackList::new(orders) else {
+        unreachable!();
+    };
+    Ok((list, unread))
+}
+
+// The same of a rack's list, for its requests before the first close.
+fn read_listed_rack<I: Shelf>(
+    alloc: Global,
+    input: &mut I,
+    list: &[Record],
+) -> Result<(RackList, Vec<Vec<Place>>), AllocError>
+    requires room { I.failed input.old + 40960 < 2 ^ 63 }
+    requires orders { length list.now ≤ 4096 }
+    ensures same { I.files input.new ≡ I.files input.old }
+    ensures read { IfOk result (λ v. (reads : List Reads) × AllZip AreReads (listed_before_close list.now) reads × (I.failed input.new ≡ I.failed input.old + rack_failures reads)
+        × ((there : Files) → I.files input.old ≡ Some there → (before_close v.0 ≡ asked_rack there (listed_before_close list.now) reads) × (map (λ u. u.items) v.1.items ≡ unread_rack there (listed_before_close list.now) reads))) }
+    ensures sizes { IfOk result (λ v. (length (before_close v.0) ≡ length (listed_before_close list.now)) × (length v.1.items ≡ length (listed_before_close list.now))) }
+    ensures few { I.failed input.new ≤ I.failed input.old + 40960 }
+{
+    let requests = requests_before_close(alloc, list)?;
+    let read = read_rack(alloc, input, requests.as_slice())?;
+    Ok(read)
+}
+
+// The racks with the survivors that were read, and for each request the places of the others.
+pub(crate) fn read_racks<I: Shelf>(
+    alloc: Global,
+    input: &mut I,
+    lists: &[Vec<Record>],
+) -> Result<(Racks, Vec<Vec<Vec<Place>>>), AllocError>
+    requires room { I.failed input.old < 2 ^ 62 }
+    requires racks { length lists.now ≤ 16 }
+    requires orders { All (λ l. length l.items ≤ 4096) lists.now }
+    ensures same { I.files input.new ≡ I.files input.old }
+    ensures read { IfOk result (λ v. (reads : List (List Reads)) × AreAllReads (map (λ l. l.items) lists.now) reads × (I.failed input.new ≡ I.failed input.old + all_failures reads)
+        × ((there : Files) → I.files input.old ≡ Some there → (map before_close v.0 ≡ asked_all there (map (λ l. l.items) lists.now) reads)
+            × (map (λ us. map (λ u. u.items) us.items) v.1.items ≡ unread_all there (map (λ l. l.items) lists.now) reads))) }
+    ensures sizes { IfOk result (λ v. AllZip (λ l os. length (before_close os) ≡ length (listed_before_close l.items)) lists.now v.0
+        × AllZip (λ l us. length us.items ≡ length (listed_before_close l.items)) lists.now v.1.items) }
+{
+    let mut racks = Vec::new(alloc);
+    let mut unread = Vec::new(alloc);
+    for rack in 0..lists.len() {
+        let (list, places) = read_listed_rack(alloc, input, lists[rack].as_slice())?;
+        racks.push(list)?;
+        unread.push(places)?;
+    }
+    let Ok(racks) = Racks::new(racks) else {
+        unreachable!();
+    };
+    Ok((racks, unread))
 }

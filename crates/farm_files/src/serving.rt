@@ -1,5 +1,6 @@
 //! Serving a folder of lists.
-ghost use Rattle.std.specs.Prelude.{◌≡◌, ◌⊎◌, ℕ, List, ◌<◌, ◌+◌, ◌^◌, IfOk, IfErr, IfSome, length, option_map, sum_by};
+ghost use Rattle.std.specs.Prelude.{◌≡◌, ◌⊎◌, ℕ, List, ◌<◌, ◌+◌, ◌≤◌, ◌^◌, IfOk, IfErr, IfSome, length, map, option_map, sum_by};
+ghost use Rattle.std.specs.List.{All};
 ghost use Rattle.lrc_code.specs.declared.outcomes.Outcome.{Outcome};
 ghost use Rattle.farm_files.specs.declared.listing.Record.{Record};
 ghost use Rattle.farm_files.specs.Files.{put_all};
@@ -8,21 +9,34 @@ ghost use Rattle.farm_files.specs.Serving.{Reads, Serves, all_failures, written_
 ghost use Rattle.farm_files.specs.declared.faults.ServeFault.TheVariants as fault;
 
 use crate::faults::ServeFault;
+use crate::reading::{read_lists, read_racks};
 use crate::shelf::Shelf;
+use crate::writing::{make_files, write_files};
+use farm_core::{Pause, Settings, run};
+use lrc_code::Outcome;
 use std::alloc::Global;
+use std::sync::Wait;
+use std::thread::Threads;
 
-/// What was served.
-#[derive(Clone, Copy)]
+/// What was served: the number of racks, and of answers over all racks.
+#[derive(Clone, Copy, Debug, PartialEq, Eq)]
 pub struct Served {
     pub racks: usize,
     pub answers: u64,
 }
 
-/// Serves the lists of a folder. A stub: its body is open.
-pub fn serve<I: Shelf, O: Shelf>(
-    _alloc: Global,
+/// Serves the lists of one shelf, `rack0.csv`, `rack1.csv` and so on, by files on another: for each rack the rebuilt
+/// fragments of its requests before its list's close, in their order, then its report. Other files stay as they
+/// are. All names and bytes are made before the first write, so a fault before it leaves the output untouched; a
+/// fault in a write leaves the files before it whole and those after it untouched. A listed survivor that is absent,
+/// hasn't exactly the listed length or isn't given by the device is left out of its request, and named in the report.
+pub fn serve<R: Threads + Wait + Sync, I: Shelf, O: Shelf, P: Pause>(
+    rt: &R,
+    alloc: Global,
     input: &mut I,
     output: &mut O,
+    settings: Settings,
+    pause: &P,
 ) -> Result<Served, ServeFault>
     requires input_room { I.failed input.old < 2 ^ 62 }
     requires output_room { O.failed output.old < 2 ^ 62 }
@@ -37,7 +51,23 @@ pub fn serve<I: Shelf, O: Shelf>(
     ensures output { IfErr result (λ f. LeavesOutput f (I.files input.old) (O.files output.old) (O.files output.new)) }
     ensures device { IfErr result (λ f. f ≡ fault.Device → (I.failed input.old < I.failed input.new) ⊎ (O.failed output.old < O.failed output.new)) }
 {
-    let _ = &*input;
-    let _ = &*output;
-    Err(ServeFault::OutOfMemory)
+    let lists = read_lists(alloc, input)?;
+    let (racks, unread) = read_racks(alloc, input, lists.as_slice())?;
+    let answers = run(rt, alloc, &racks, settings, pause)?;
+    let files = make_files(alloc, lists.as_slice(), answers.as_slice(), unread.as_slice())?;
+    write_files(alloc, output, files.as_slice())?;
+    Ok(Served { racks: lists.len(), answers: count_answers(answers.as_slice()) })
+}
+
+// The number of answers over all racks.
+fn count_answers(answers: &[Vec<Outcome>]) -> u64
+    requires racks { length answers.now ≤ 16 }
+    requires few { All (λ a. length a.items ≤ 4096) answers.now }
+    ensures { result ≡ sum_by (λ a. length a.items) answers.now }
+{
+    let mut count = 0;
+    for rack in answers {
+        count += rack.len() as u64;
+    }
+    count
 }

@@ -1,12 +1,15 @@
 //! Writing the files.
-ghost use Rattle.std.specs.Prelude.{◌≡◌, ◌++◌, ◌<◌, ◌^◌, IfErr, OnOk, length, map, option_map};
-ghost use Rattle.farm_files.specs.Files.{StopsWriting, put_all};
+ghost use Rattle.std.specs.Prelude.{◌≡◌, IfOk, ◌++◌, ◌<◌, ◌^◌, IfErr, OnOk, length, map, option_map};
+ghost use Rattle.std.specs.List.{AllZip};
+ghost use Rattle.farm_files.specs.Report.{before_close};
+ghost use Rattle.farm_files.specs.Files.{CountsFailure, StopsWriting, put_all};
 ghost use Rattle.farm_files.specs.Named.{named};
-ghost use Rattle.farm_files.specs.Serving.{rack_files, rebuilt_file};
+ghost use Rattle.farm_files.specs.Serving.{files_from, rack_files, rebuilt_file};
 
 use crate::names;
 use crate::listed::Listed;
-use crate::report::report_on;
+use crate::listing::Record;
+use crate::report::{report_on, requests_before_close};
 use crate::shelf::{Shelf, ShelfFault};
 use lrc_code::{Outcome, Place};
 use std::alloc::{AllocError, Global};
@@ -19,7 +22,7 @@ pub(crate) struct NamedFile {
 }
 
 // Writes the files in order, up to the first write that fails.
-fn write_files<O: Shelf>(
+pub(crate) fn write_files<O: Shelf>(
     alloc: Global,
     output: &mut O,
     files: &[NamedFile],
@@ -27,6 +30,7 @@ fn write_files<O: Shelf>(
     requires { O.failed output.old < 2 ^ 63 }
     ensures ok { OnOk result (O.files output.new ≡ option_map (λ old. put_all old (map named files.now)) (O.files output.old)) }
     ensures fault { IfErr result (λ f. StopsWriting f (map named files.now) (O.files output.old) (O.files output.new)) }
+    ensures failure { CountsFailure result (O.failed output.old) (O.failed output.new) }
 {
     for file in files {
         output.write(alloc, file.name.as_str(), file.bytes.as_slice())?;
@@ -84,4 +88,23 @@ fn push_rack(
     let name = names::report_file(alloc, rack)?;
     files.push(NamedFile { name, bytes })?;
     Ok(())
+}
+
+// The files of all racks, in the order in which they are written.
+pub(crate) fn make_files(
+    alloc: Global,
+    lists: &[Vec<Record>],
+    answers: &[Vec<Outcome>],
+    unread: &[Vec<Vec<Place>>],
+) -> Result<Vec<NamedFile>, AllocError>
+    requires answers { AllZip (λ l os. length os.items ≡ length (before_close l.items)) lists.now answers.now }
+    requires unread { AllZip (λ l us. length us.items ≡ length (before_close l.items)) lists.now unread.now }
+    ensures { IfOk result (λ v. map named v.items ≡ files_from 0 (map (λ l. l.items) lists.now) (map (λ os. os.items) answers.now) (map (λ us. map (λ u. u.items) us.items) unread.now)) }
+{
+    let mut files = Vec::new(alloc);
+    for rack in 0..lists.len() {
+        let requests = requests_before_close(alloc, lists[rack].as_slice())?;
+        push_rack(alloc, &mut files, rack, requests.as_slice(), answers[rack].as_slice(), unread[rack].as_slice())?;
+    }
+    Ok(files)
 }

@@ -5,7 +5,7 @@ use Rattle.csv.specs.Reading.{Reached, default_config, strip_bom}
 use Rattle.csv.specs.Records.{fields_of}
 use Rattle.csv.specs.declared.parser.State.TheVariants as st
 use Rattle.csv.proofs.ReadFacts.{rows-end, rows-more}
-use Rattle.farm_files.proofs.Orders.{explain, listed_all, lists_all, so_far_empty, too_long}
+use Rattle.farm_files.proofs.Orders.{explain, listed_all, lists_all, so_far_empty, too_long, list_few}
 use Rattle.farm_files.specs.Listing.{list_of_rows}
 use Rattle.farm_files.proofs.listing.read_list.Goals as goal
 
@@ -62,10 +62,8 @@ pub returns : goal.returns
 returns c =
     let (plain, ready, left, config, y, source, rows, reached, number, so, small, few) = c.loop-row.invariant in
     let s = rw c.in-None.is at ((c.next.ensures.steps left plain).0 ready) in
-    record {
-      read = lists_all c.args.bytes.now rows small (c.loop-row.row-iterator.rdr.state, y, reached, rows-end (λ (s : Bor (List ℕ)). Some s.now) c.loop-row.row-iterator.rdr c.next.new.self.rdr [] default_config y config source s) ∙ listed_all rows c.loop-row.list.items c.loop-row.number (sym number) c.if-number-eq0.false so;
-      fault = tt;
-    }
+    let read = lists_all c.args.bytes.now rows small (c.loop-row.row-iterator.rdr.state, y, reached, rows-end (λ (s : Bor (List ℕ)). Some s.now) c.loop-row.row-iterator.rdr c.next.new.self.rdr [] default_config y config source s) ∙ listed_all rows c.loop-row.list.items c.loop-row.number (sym number) c.if-number-eq0.false so in
+    record { read = read; few = list_few c.args.bytes.now c.loop-row.list.items read; fault = tt }
 
 pub returns-then-bytes-gt-LIST_LIMIT-clause-fault : goal.returns-then-bytes-gt-LIST_LIMIT-clause-fault
 returns-then-bytes-gt-LIST_LIMIT-clause-fault c = too_long c.args.bytes.now c.if-bytes-gt-LIST_LIMIT.true

@@ -1,4 +1,5 @@
-use Rattle.std.proofs.Common.{◌≡◌, Some, map, length}
+use Rattle.std.proofs.Common.{◌≡◌, ◌≤◌, Vec, Global, All, Some, map, length}
+use Rattle.farm_files.specs.declared.listing.Record.{Record}
 use Rattle.farm_files.specs.Files.{Files}
 use Rattle.farm_files.specs.Serving.{HaveLists}
 use Rattle.farm_files.proofs.reading.read_lists.Given as goal
@@ -8,4 +9,5 @@ invariant-loop-rack g l =
     (g.I.Shelf.files l.input ≡ g.I.Shelf.files l.fn.input)
     × (g.I.Shelf.failed l.input ≡ g.I.Shelf.failed l.fn.input)
     × (length l.lists.items ≡ l.rack)
+    × All (λ (v : Vec Record Global). length v.items ≤ 4096) l.lists.items
     × ((there : Files) → g.I.Shelf.files l.fn.input ≡ Some there → HaveLists there 0 (map (λ v. v.items) l.lists.items))

@@ -1,5 +1,7 @@
-use Rattle.std.proofs.Common.{◌≡◌, ◌≤◌, ◌+◌, ◌*◌, List, Some, take, map}
+use Rattle.std.proofs.Common.{◌≡◌, ◌≤◌, ◌+◌, ◌*◌, List, Some, take, map, length}
 use Rattle.std.specs.List.{AllZip}
+use Rattle.lrc_code.specs.Requests.{Asked}
+use Rattle.farm_core.specs.declared.orders.Order.TheVariants.{Rebuild}
 use Rattle.farm_files.specs.Files.{Files}
 use Rattle.farm_files.specs.Serving.{AreReads, Reads, asked_rack, rack_failures, unread_rack}
 use Rattle.farm_files.proofs.reading.read_rack.Given as goal
@@ -11,5 +13,6 @@ invariant-loop-index g l =
     × (g.I.Shelf.files l.input ≡ g.I.Shelf.files l.fn.input)
     × (g.I.Shelf.failed l.input ≡ g.I.Shelf.failed l.fn.input + rack_failures reads)
     × (g.I.Shelf.failed l.input ≤ g.I.Shelf.failed l.fn.input + 10 * l.index)
+    × ((requests : List Asked) × (l.orders.items ≡ map Rebuild requests) × (length requests ≡ l.index)) × (length l.unread.items ≡ l.index)
     × ((there : Files) → g.I.Shelf.files l.fn.input ≡ Some there
-        → (l.requests.items ≡ asked_rack there (map (λ r. r.now) (take l.index l.rack)) reads) × (map (λ u. u.items) l.unread.items ≡ unread_rack there (map (λ r. r.now) (take l.index l.rack)) reads))
+        → (l.orders.items ≡ map Rebuild (asked_rack there (map (λ r. r.now) (take l.index l.rack)) reads)) × (map (λ u. u.items) l.unread.items ≡ unread_rack there (map (λ r. r.now) (take l.index l.rack)) reads))
