@@ -30,7 +30,8 @@ stripe_bytes : (st : Place → List ℕ) (ss : List Survivor) → All (λ x. st 
 stripe_bytes st [] h p a = absurd (cc)
 stripe_bytes st (s ∷ ss) h p a = elim (cases_Bool (same_place p s.place)) as (λ _. st p ≡ bytes_of (s ∷ ss) p) [
   | inl t ↦ ap st (same_place-eq p s.place t) ∙ h 0 s (omega arith) ∙ sym (ap (λ b. cond b s.bytes (bytes_of ss p)) t)
-  | inr f ↦ stripe_bytes st ss (λ k d lt. h (suc k) d (omega arith)) p (sym (ap (λ b. b || is_among p ss) f) ∙ a) ∙ sym (ap (λ b. cond b s.bytes (bytes_of ss p)) f)
+  | inr f ↦ stripe_bytes st ss (λ k d lt. h (suc k) d (omega arith)) p
+      (sym (ap (λ b. b || is_among p ss) f) ∙ a) ∙ sym (ap (λ b. cond b s.bytes (bytes_of ss p)) f)
 ]
 
 map_same : (ps : List Place) (b d : Place → ℕ) → ((p : Place) → b p ≡ d p) → map b ps ≡ map d ps
@@ -43,7 +44,8 @@ solves_same rows ps b d h s = λ k row lt. ap (combination (get_or rows k row)) 
 
 pub All-of_map : {X : Type 0} (P : Form → Type 0) (f : X → Form) (xs : List X) → All P (map f xs)
     → All (λ x. P (f x)) xs
-All-of_map P f xs h = λ k d lt. subst P (get_or-map f xs k d (f d) lt) (h k (f d) (subst (λ n. k < n) (sym (length-map xs f)) lt))
+All-of_map P f xs h = λ k d lt. subst P (get_or-map f xs k d (f d) lt)
+    (h k (f d) (subst (λ n. k < n) (sym (length-map xs f)) lt))
 
 module _ (r : Asked) (accepted : refusal r ≡ None) (bytes : All (λ s. AreBytes s.bytes) r.survivors) where
   pub whole : AreWhole r
@@ -88,17 +90,25 @@ module _ (r : Asked) (accepted : refusal r ≡ None) (bytes : All (λ s. AreByte
     made_fits e x = record {
       in_code = record {
         is_stripe = λ k d lt. stripe (get_or narrow_places k d);
-        solves = λ k h. solves_same narrow_equations narrow_places (e k) (bytes_at (made e) k) (λ p. sym (made_at e k p 0 h)) (x k h).solves;
+        solves = λ k h. solves_same narrow_equations narrow_places (e k) (bytes_at (made e) k)
+            (λ p. sym (made_at e k p 0 h)) (x k h).solves;
       };
-      survivors = λ k d lt. survivor (get_or r.survivors k d) (among_at r.survivors k d lt) ∙ accepted_bytes r accepted k d lt;
+      survivors = λ k d lt. survivor (get_or r.survivors k d) (among_at r.survivors k d lt)
+          ∙ accepted_bytes r accepted k d lt;
     }
       where
         stripe : (p : Place) → (length (made e p) ≡ r.len) × AreBytes (made e p)
-        stripe p = (length-made e p, λ k d lt. (let h : k < r.len = subst (λ n. k < n) (length-made e p) lt in subst (λ v. v < 256) (sym (made_at e k p d h)) ((x k h).bytes p)))
+        stripe p = (
+          length-made e p,
+          λ k d lt.
+              (let h : k < r.len = subst (λ n. k < n) (length-made e p) lt in subst (λ v. v < 256)
+              (sym (made_at e k p d h)) ((x k h).bytes p)),
+        )
 
         survivor : (y : Survivor) → is_among y.place r.survivors ≡ true
             → made e y.place ≡ bytes_of r.survivors y.place
-        survivor y a = ext_get_or 0 (made e y.place) (bytes_of r.survivors y.place) (length-made e y.place ∙ sym (accepted_lengths r accepted y.place a))
+        survivor y a = ext_get_or 0 (made e y.place) (bytes_of r.survivors y.place)
+            (length-made e y.place ∙ sym (accepted_lengths r accepted y.place a))
             (λ i lt. let h : i < r.len =
             subst (λ n. i < n) (length-made e y.place) lt in made_at e i y.place 0 h
             ∙ (x i h).kept y.place (same y.place ∙ a))
@@ -107,7 +117,8 @@ module _ (r : Asked) (accepted : refusal r ≡ None) (bytes : All (λ s. AreByte
       -- ---- some check isn't 0
 
       pub contradiction : (¬ All (IsZero r) checks) → IsAnswer narrow r Contradiction
-      contradiction n st f = n (λ k d lt i h. (of_survivors.possible (byte_at r i) (byte_at-lt i)).0 (bytes_at st i, fits_extends st f i h) k d lt)
+      contradiction n st f = n (λ k d lt i h. (of_survivors.possible (byte_at r i) (byte_at-lt i)).0
+          (bytes_at st i, fits_extends st f i h) k d lt)
 
       -- ---- all checks are 0
 
@@ -144,7 +155,14 @@ module _ (r : Asked) (accepted : refusal r ≡ None) (bytes : All (λ s. AreByte
 
         -- a second stripe: the first and the sum of two extensions that differ
         pub several : ExtensionsDiffer narrow survives r.target → IsAnswer narrow r Several
-        several (s, d, e, hs, hd, he, apart) = (made chosen, made other, made_fits chosen chosen_is, made_fits other other_is, λ same_bytes. apart (equal same_bytes))
+        several (s, d, e, hs, hd, he, apart) = (
+          made chosen,
+          made other,
+          made_fits chosen chosen_is,
+          made_fits other other_is,
+          λ same_bytes.
+              apart (equal same_bytes),
+        )
           where
             other : ℕ → Place → ℕ
             other i p = bit_xor (chosen i p) (bit_xor (d p) (e p))
@@ -152,8 +170,11 @@ module _ (r : Asked) (accepted : refusal r ≡ None) (bytes : All (λ s. AreByte
             other_is : (i : ℕ) → i < r.len → Extends narrow survives (byte_at r i) (other i)
             other_is i h = record {
               bytes = λ p. xor_lt 8 _ _ ((chosen_is i h).bytes p) (xor_lt 8 _ _ (hd.bytes p) (he.bytes p));
-              solves = code-linear narrow (chosen i) (λ p. bit_xor (d p) (e p)) (chosen_is i h).solves (code-linear narrow d e hd.solves he.solves);
-              kept = λ p l. ap (bit_xor (chosen i p)) (ap₂ bit_xor (hd.kept p l) (he.kept p l) ∙ xor_self (s p)) ∙ xor_zero_r (chosen i p) ∙ (chosen_is i h).kept p l;
+              solves = code-linear narrow (chosen i) (λ p. bit_xor (d p) (e p)) (chosen_is i h).solves
+                  (code-linear narrow d e hd.solves he.solves);
+              kept = λ p l. ap (bit_xor (chosen i p))
+                  (ap₂ bit_xor (hd.kept p l) (he.kept p l) ∙ xor_self (s p)) ∙ xor_zero_r (chosen i p) ∙
+                  (chosen_is i h).kept p l;
             }
 
             no_change : (a w : ℕ) → a ≡ bit_xor a w → w ≡ 0
@@ -162,5 +183,8 @@ module _ (r : Asked) (accepted : refusal r ≡ None) (bytes : All (λ s. AreByte
             equal : made chosen r.target ≡ made other r.target → d r.target ≡ e r.target
             equal k =
                 let h : 0 < r.len = accepted_length r accepted in
-                let at : chosen 0 r.target ≡ other 0 r.target = sym (made_at chosen 0 r.target 0 h) ∙ ap (λ xs. get_or xs 0 0) k ∙ made_at other 0 r.target 0 h in
-                sym (xor_zero_r (d r.target)) ∙ ap (bit_xor (d r.target)) (sym (no_change (chosen 0 r.target) (bit_xor (d r.target) (e r.target)) at)) ∙ cancel (d r.target) (e r.target)
+                let at : chosen 0 r.target ≡ other 0 r.target = sym (made_at chosen 0 r.target 0 h) ∙ ap
+                (λ xs. get_or xs 0 0) k ∙ made_at other 0 r.target 0 h in
+                sym (xor_zero_r (d r.target)) ∙ ap (bit_xor (d r.target))
+                (sym (no_change (chosen 0 r.target) (bit_xor (d r.target) (e r.target)) at)) ∙ cancel
+                (d r.target) (e r.target)

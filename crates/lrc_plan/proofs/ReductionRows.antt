@@ -77,6 +77,7 @@ module _ (survives : Place → Bool) (r : Reduction) (red : IsReduction narrow (
     lost = λ i v h e. not_true (survives v) (pivot_is i v h e).0;
     one = λ i v h e. (pivot_is i v h e).1;
     alone = λ i q v h k e ne. (pivot_is i v h e).2 q (subst (λ n. q < n) (sym four) k) ne;
-    free = λ i p h e l. subst (IsPivot (λ p. not (survives p)) r.rows i) e (red.pivots i (in_equations i h)) p (ap not l);
+    free = λ i p h e l. subst (IsPivot (λ p. not (survives p)) r.rows i) e
+        (red.pivots i (in_equations i h)) p (ap not l);
     full = λ i h. red.full i (in_equations i h);
   }

@@ -17,7 +17,8 @@ pub scaled_once : (f : ℕ) (r : Asked) (t : Form) (bytes : List ℕ) → f ≡ 
     → ((i : ℕ) → GivesBytes (byte_at r i)) → IsScaledValue f r t bytes → IsValue r t bytes
 scaled_once f r t bytes e small v = record {
   len = v.len;
-  at = λ i h. v.at i h ∙ ap (λ g. times g (meaning (byte_at r i) t)) e ∙ times-one _ (meaning-lt (byte_at r i) (small i) t);
+  at = λ i h. v.at i h ∙ ap (λ g. times g (meaning (byte_at r i) t)) e ∙ times-one _
+      (meaning-lt (byte_at r i) (small i) t);
 }
 
 -- a scalar goes into the factor
@@ -33,5 +34,6 @@ pub scaled_sum : (f : ℕ) (r : Asked) (s t : Form) (xs ys zs : List ℕ) → Is
     → IsScaledValue f r t ys → zs ≡ sums xs ys → length zs ≡ r.len → IsScaledValue f r (Sum s t) zs
 scaled_sum f r s t xs ys zs v w e len = record {
   len = len;
-  at = λ i h. ap (λ bs. get_or bs i 0) e ∙ get_or-sums xs ys i (omega (arith, h, v.len)) (v.len ∙ sym w.len) ∙ ap₂ bit_xor (v.at i h) (w.at i h) ∙ sym (times-xor f _ _);
+  at = λ i h. ap (λ bs. get_or bs i 0) e ∙ get_or-sums xs ys i (omega (arith, h, v.len)) (v.len ∙ sym w.len)
+      ∙ ap₂ bit_xor (v.at i h) (w.at i h) ∙ sym (times-xor f _ _);
 }

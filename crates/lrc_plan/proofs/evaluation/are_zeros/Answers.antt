@@ -10,6 +10,8 @@ loop-byte-preserved c =
     let left = le_or_l c.loop-byte.bits byte in
     let right = le_or_r c.loop-byte.bits byte in
     record {
-      zeros = λ e i h. below_more (λ k. get_or c.args.bytes.now k 0 ≡ 0) at (c.loop-byte.invariant.zeros (omega (arith, left, e))) (omega (arith, right, e)) i h;
-      bits_zero = λ all. ap₂ bit_or (c.loop-byte.invariant.bits_zero (λ i h. all i (omega (arith, h)))) (all at (omega arith));
+      zeros = λ e i h. below_more (λ k. get_or c.args.bytes.now k 0 ≡ 0) at
+          (c.loop-byte.invariant.zeros (omega (arith, left, e))) (omega (arith, right, e)) i h;
+      bits_zero = λ all. ap₂ bit_or (c.loop-byte.invariant.bits_zero (λ i h. all i (omega (arith, h))))
+          (all at (omega arith));
     }
