@@ -1,7 +1,6 @@
 //! The checks of the survivors.
 ghost use Rattle.lrc_code.specs.Code.{narrow};
-ghost use Rattle.std.specs.Prelude.{◌≡◌, ◌<◌, ◌+◌, ℕ, map, All, IfOk, OnOk, vec_len};
-ghost use Rattle.lrc_code.specs.declared.places.Place.{Place};
+ghost use Rattle.std.specs.Prelude.{◌≡◌, ◌<◌, ◌+◌, map, All, IfOk, OnOk, vec_len};
 ghost use Rattle.lrc_code.specs.Sets.{is_in};
 ghost use Rattle.lrc_plan.specs.Tree.{form_of};
 ghost use Rattle.lrc_plan.specs.ReducedRows.{AreReduced};
@@ -44,8 +43,10 @@ fn add_check<A: Allocator + Clone>(
 ) -> Result<(), AllocError>
     requires row { row < 4 }
     requires reduced { AreReduced (is_in survivors) (coef_of reduced.now) (pivot_of reduced.now) }
-    requires below { AreChecksBelow (is_in survivors) (coef_of reduced.now) (pivot_of reduced.now) row (map form_of checks.old.items) }
-    ensures { OnOk result (AreChecksBelow (is_in survivors) (coef_of reduced.now) (pivot_of reduced.now) (row + 1) (map form_of checks.new.items)) }
+    requires below { AreChecksBelow (is_in survivors) (coef_of reduced.now) (pivot_of reduced.now)
+        row (map form_of checks.old.items) }
+    ensures { OnOk result (AreChecksBelow (is_in survivors) (coef_of reduced.now) (pivot_of reduced.now)
+        (row + 1) (map form_of checks.new.items)) }
 {
     match reduced.pivot(row) {
         Some(_) => Ok(()),

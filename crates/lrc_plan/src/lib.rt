@@ -1,5 +1,6 @@
-//! Plans: trees that give a lost fragment from survivors, what they give, and the answer to a request. The code is
-//! the (6,2,2) code of Huang et al., "Erasure Coding in Windows Azure Storage", USENIX ATC 2012, sections 2 and 3.
+//! Plans: trees that give a lost fragment from survivors, what they give, and the answer to a request. The code
+//! is the (6,2,2) code of Huang et al., "Erasure Coding in Windows Azure Storage", USENIX ATC 2012, sections 2
+//! and 3.
 #![tactic(auto)]
 
 mod both_branches;

@@ -29,9 +29,17 @@ fn worked_requests_are_answered(rt: HostRuntime) -> Result<(), AllocError> {
             assert!(&rt; false, "{} is refused", case.name);
             return Ok(());
         };
-        assert!(&rt; is_answered(alloc, alloc, &request, case.answer)?, "{}", case.name);
+        assert!(&rt;
+            is_answered(alloc, alloc, &request, case.answer)?,
+            "{}",
+            case.name
+        );
         let bump = Bump::new(alloc);
-        assert!(&rt; is_answered(alloc, &bump, &request, case.answer)?, "{}, in an arena", case.name);
+        assert!(&rt;
+            is_answered(alloc, &bump, &request, case.answer)?,
+            "{}, in an arena",
+            case.name
+        );
     }
     Ok(())
 }

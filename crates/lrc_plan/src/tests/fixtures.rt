@@ -32,7 +32,11 @@ pub const CASES: [Case; 15] = [
         name: "the three others of the group alone",
         target: Place::X0,
         length: 1,
-        survivors: &[(Place::X1, b"\x02"), (Place::X2, b"\x03"), (Place::Px, b"\x00")],
+        survivors: &[
+            (Place::X1, b"\x02"),
+            (Place::X2, b"\x03"),
+            (Place::Px, b"\x00"),
+        ],
         answer: Answer::Rebuilt(b"\x01"),
     },
     Case {
@@ -128,7 +132,11 @@ pub const CASES: [Case; 15] = [
         name: "an altered local parity that nothing shows",
         target: Place::X0,
         length: 1,
-        survivors: &[(Place::X1, b"\x02"), (Place::X2, b"\x03"), (Place::Px, b"\x01")],
+        survivors: &[
+            (Place::X1, b"\x02"),
+            (Place::X2, b"\x03"),
+            (Place::Px, b"\x01"),
+        ],
         answer: Answer::Rebuilt(b"\x00"),
     },
     Case {
@@ -216,7 +224,10 @@ pub const CASES: [Case; 15] = [
 pub fn request_of(alloc: Global, case: &Case) -> Result<Option<Request>, AllocError> {
     let mut survivors = Vec::new(alloc);
     for (place, bytes) in case.survivors {
-        survivors.push(Fragment { place: *place, bytes: bytes.to_vec(alloc)? })?;
+        survivors.push(Fragment {
+            place: *place,
+            bytes: bytes.to_vec(alloc)?,
+        })?;
     }
     Ok(Request::new("a".to_string(alloc)?, case.target, case.length, survivors).ok())
 }
@@ -258,6 +269,10 @@ pub fn sum_of_leaves<A: Allocator + Clone>(
 }
 
 /// A scalar times a leaf.
-pub fn scaled_leaf<A: Allocator>(alloc: A, scalar: u8, place: Place) -> Result<Tree<A>, AllocError> {
+pub fn scaled_leaf<A: Allocator>(
+    alloc: A,
+    scalar: u8,
+    place: Place,
+) -> Result<Tree<A>, AllocError> {
     Ok(Tree::Scale(Gf::new(scalar), Box::new(alloc, Tree::Leaf(place))?))
 }

@@ -20,12 +20,14 @@ fn is_local<A: Allocator + Clone>(
         return Ok(false);
     };
     let leaves = value.leaves();
-    Ok(value.leaf_count() == 3
-        && leaves.len() == 3
-        && leaves.has(Place::X1)
-        && leaves.has(Place::X2)
-        && leaves.has(Place::Px)
-        && plan.checks.len() == checks)
+    Ok(
+        value.leaf_count() == 3
+            && leaves.len() == 3
+            && leaves.has(Place::X1)
+            && leaves.has(Place::X2)
+            && leaves.has(Place::Px)
+            && plan.checks.len() == checks,
+    )
 }
 
 fn local_plans<A: Allocator + Clone>(alloc: &A) -> Result<bool, AllocError> {
@@ -53,10 +55,12 @@ fn grafts<A: Allocator + Clone>(alloc: &A) -> Result<bool, AllocError> {
     };
     let leaves = tree.leaves();
     let coefficients = tree.coefficients();
-    Ok(tree.leaf_count() == 2
-        && leaves.len() == 1
-        && leaves.has(Place::X2)
-        && coefficients.iter().all(|c| c.byte() == 0))
+    Ok(
+        tree.leaf_count() == 2
+            && leaves.len() == 1
+            && leaves.has(Place::X2)
+            && coefficients.iter().all(|c| c.byte() == 0),
+    )
 }
 
 // A place that the host hasn't: the host comes back.

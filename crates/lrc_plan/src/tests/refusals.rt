@@ -58,7 +58,9 @@ fn nodes_below<A: Allocator>(tree: &Tree<A>) -> usize {
     match tree {
         Tree::Leaf(_) => 0,
         Tree::Scale(_, below) => nodes_below(below).wrapping_add(1),
-        Tree::Sum(left, right) => nodes_below(left).wrapping_add(nodes_below(right)).wrapping_add(2),
+        Tree::Sum(left, right) => nodes_below(left)
+            .wrapping_add(nodes_below(right))
+            .wrapping_add(2),
     }
 }
 
@@ -83,7 +85,11 @@ fn are_same_plans<A: Allocator, B: Allocator>(one: &Plan<A>, other: &Plan<B>) ->
     };
     values
         && one.checks.len() == other.checks.len()
-        && one.checks.iter().zip(other.checks.iter()).all(|(one, other)| are_same(one, other))
+        && one
+            .checks
+            .iter()
+            .zip(other.checks.iter())
+            .all(|(one, other)| are_same(one, other))
 }
 
 // 03 * (x1 + x2)
@@ -181,7 +187,11 @@ fn plan_refused_answers_want_of_memory(rt: HostRuntime) -> Result<(), AllocError
             assert!(&rt; false, "{} is refused", case.name);
             return Ok(());
         };
-        assert!(&rt; plans_in_turn(alloc, request.survivors(), case.target)?, "{}", case.name);
+        assert!(&rt;
+            plans_in_turn(alloc, request.survivors(), case.target)?,
+            "{}",
+            case.name
+        );
     }
     Ok(())
 }
@@ -261,7 +271,11 @@ fn answers_in_turn(alloc: Global, request: &Request, answer: Answer) -> Result<b
     }
     let plan = plan(alloc, survivors, target)?;
     let planned = allocations(&plan);
-    let bytes = if plan.checks.is_empty() && plan.value.is_none() { 0usize } else { 1 };
+    let bytes = if plan.checks.is_empty() && plan.value.is_none() {
+        0usize
+    } else {
+        1
+    };
     let mut refused = Refused { next: 0 };
     for size in (0..2 * LARGEST).step_by(8) {
         let Ok(heap) = LocalHeap::new(alloc, size) else {
@@ -273,7 +287,9 @@ fn answers_in_turn(alloc: Global, request: &Request, answer: Answer) -> Result<b
         let number = fitting(&heap, plan.checks.len()).min(planned);
         match solve_in(&heap, &heap, request) {
             Ok(solved) => {
-                return Ok(refused.next == planned.wrapping_add(bytes) && is_answer(&solved, answer));
+                return Ok(
+                    refused.next == planned.wrapping_add(bytes) && is_answer(&solved, answer),
+                );
             }
             Err(AllocError) => {
                 if !refused.follows(number) {
@@ -296,7 +312,11 @@ fn solve_refused_answers_want_of_memory(rt: HostRuntime) -> Result<(), AllocErro
             assert!(&rt; false, "{} is refused", case.name);
             return Ok(());
         };
-        assert!(&rt; answers_in_turn(alloc, &request, case.answer)?, "{}", case.name);
+        assert!(&rt;
+            answers_in_turn(alloc, &request, case.answer)?,
+            "{}",
+            case.name
+        );
     }
     Ok(())
 }

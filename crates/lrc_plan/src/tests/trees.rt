@@ -1,5 +1,7 @@
 //! Trees copied out of an arena, and their evaluation.
-ghost use Rattle.std.specs.Prelude.{IfOk, IfSome};
+ghost use Rattle.std.specs.Prelude.{◌≡◌, IfOk, IfSome};
+ghost use Rattle.lrc_code.specs.declared.places.Place.TheVariants.{X1, X2, Px};
+ghost use Rattle.lrc_plan.specs.Form.{Leaf, Sum};
 ghost use Rattle.lrc_plan.specs.Evaluation.{CanEvaluate};
 ghost use Rattle.lrc_plan.specs.Tree.{form_of};
 
@@ -36,6 +38,15 @@ fn copy_outlives_its_arena(rt: HostRuntime) -> Result<(), AllocError> {
         assert!(&rt; coefficients[index].byte() == bytes[index], "at {index}");
     }
     Ok(())
+}
+
+// (x1 + x2) + px
+fn three_leaves(alloc: Global) -> Result<Tree<Global>, AllocError>
+    ensures { IfOk result (λ t. form_of t ≡ Sum (Sum (Leaf X1) (Leaf X2)) (Leaf Px)) }
+{
+    let left = Box::new(alloc, sum_of_leaves(alloc, Place::X1, Place::X2)?)?;
+    let right = Box::new(alloc, Tree::Leaf(Place::Px))?;
+    Ok(Tree::Sum(left, right))
 }
 
 // The value tree of a request, planned in an arena that then ends.
@@ -87,10 +98,38 @@ fn value_trees_give_the_same_bytes_at_any_forks(rt: HostRuntime) -> Result<(), A
             assert!(&rt; bytes.as_slice() == expected, "{}", case.name);
             rebuilt = rebuilt.wrapping_add(1);
         }
-        assert!(&rt; gives(&rt, alloc, &tree, &request, 0, &bytes)?, "{}, no fork", case.name);
-        assert!(&rt; gives(&rt, alloc, &tree, &request, 2, &bytes)?, "{}, 2 forks", case.name);
-        assert!(&rt; gives(&rt, alloc, &tree, &request, 255, &bytes)?, "{}, 255 forks", case.name);
+        assert!(&rt;
+            gives(&rt, alloc, &tree, &request, 0, &bytes)?,
+            "{}, no fork",
+            case.name
+        );
+        assert!(&rt;
+            gives(&rt, alloc, &tree, &request, 2, &bytes)?,
+            "{}, 2 forks",
+            case.name
+        );
+        assert!(&rt;
+            gives(&rt, alloc, &tree, &request, 255, &bytes)?,
+            "{}, 255 forks",
+            case.name
+        );
     }
     assert!(&rt; rebuilt == 9);
+    Ok(())
+}
+
+// Of few allocations, so that a script can refuse each of them in turn: the answer is then want of memory or these
+// bytes.
+#[test]
+fn evaluate_both_at_two_forks(rt: HostRuntime) -> Result<(), AllocError> {
+    let alloc = rt.alloc();
+    let Some(request) = request_of(alloc, &CASES[0])? else {
+        assert!(&rt; false, "the request is refused");
+        return Ok(());
+    };
+    let survivors = request.survivors();
+    assert!(&rt; survivors.has(Place::X1) && survivors.has(Place::X2) && survivors.has(Place::Px));
+    let tree = three_leaves(alloc)?;
+    assert!(&rt; gives(&rt, alloc, &tree, &request, 2, b"\x01")?);
     Ok(())
 }
