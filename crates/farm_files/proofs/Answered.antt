@@ -45,7 +45,7 @@ pub answers_few : (lists : List (Vec Record Global)) (answers : List (Vec Outcom
     → AllZip (λ l os. length os.items ≡ length (listed_before_close l.items)) lists answers → All (λ (a : Vec Outcome Global). length a.items ≤ 4096) answers
 answers_few lists answers few sized =
     All-from_recursion (λ (a : Vec Outcome Global). length a.items ≤ 4096) answers
-      (few_each lists answers (recursion_from_All (λ (l : Vec Record Global). length l.items ≤ 4096) lists few) sized)
+    (few_each lists answers (recursion_from_All (λ (l : Vec Record Global). length l.items ≤ 4096) lists few) sized)
 
 pub total_is : (answers : List (Vec Outcome Global)) → sum_by (λ a. length a.items) answers ≡ sum_by (λ (a : List Outcome). length a) (map (λ a. a.items) answers)
 total_is [] = refl
@@ -77,7 +77,8 @@ pub serves : (there : Files) (lists : List (List Record)) (reads : List (List Re
 serves there lists reads racks answers listed read asked right = record {
   listed = listed;
   read = read;
-  answered = subst (λ (rs : List (List Asked)). AreAllAnswers rs answers) asked right }
+  answered = subst (λ (rs : List (List Asked)). AreAllAnswers rs answers) asked right;
+}
 
 -- ---- where the input tells its files
 

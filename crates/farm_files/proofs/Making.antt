@@ -33,7 +33,7 @@ rebuilt_step k requests os i r o old before after within h er eo so grew =
     let even : length (take i os) ≡ length (take i rs) = omega (arith, length-take i rs, length-take i os, size) in
     grew ∙ ap (λ t. t ++ rebuilt_file k i r.now o) so ∙ append_assoc old (rebuilt_files k 0 (take i rs) (take i os)) (rebuilt_file k i r.now o)
     ∙ ap (λ t. old ++ t) (sym (ap (λ x. rebuilt_files k 0 x (take (i + 1) os)) a ∙ ap (λ x. rebuilt_files k 0 (take i rs ++ r.now ∷ []) x) b ∙ rebuilt_push k 0 (take i rs) (take i os) r.now o even
-      ∙ ap (λ n. rebuilt_files k 0 (take i rs) (take i os) ++ rebuilt_file k n r.now o) front))
+    ∙ ap (λ n. rebuilt_files k 0 (take i rs) (take i os) ++ rebuilt_file k n r.now o) front))
 
 -- all of them, and the report
 pub rack_done : (k : ℕ) (requests : List (Bor ListedRequest)) (os : List Outcome) (us : List (List Place)) (n : ℕ) (old before after : List (List ℕ × List ℕ)) (name bytes : List ℕ)

@@ -62,11 +62,11 @@ files_step lists answers unread i l o u before after within sa su el eo eu so gr
     let front : 0 + length (map records (take i lists)) ≡ i = omega (arith, size_l) in
     grew ∙ ap (λ t. t ++ rack_files i (before_close l.items) o.items (places u)) so
     ∙ sym
-        (ap (λ x. files_from 0 x (map outcomes (take (i + 1) answers)) (map places (take (i + 1) unread))) more_l
-         ∙ ap (λ x. files_from 0 (ls ++ l.items ∷ []) x (map places (take (i + 1) unread))) more_o
-         ∙ ap (λ x. files_from 0 (ls ++ l.items ∷ []) (os ++ o.items ∷ []) x) more_u
-         ∙ files_push 0 ls os us l.items o.items (places u) (size_o ∙ sym size_l) (size_u ∙ sym size_l)
-         ∙ ap (λ n. files_from 0 ls os us ++ rack_files n (before_close l.items) o.items (places u)) front)
+    (ap (λ x. files_from 0 x (map outcomes (take (i + 1) answers)) (map places (take (i + 1) unread))) more_l
+    ∙ ap (λ x. files_from 0 (ls ++ l.items ∷ []) x (map places (take (i + 1) unread))) more_o
+    ∙ ap (λ x. files_from 0 (ls ++ l.items ∷ []) (os ++ o.items ∷ []) x) more_u
+    ∙ files_push 0 ls os us l.items o.items (places u) (size_o ∙ sym size_l) (size_u ∙ sym size_l)
+    ∙ ap (λ n. files_from 0 ls os us ++ rack_files n (before_close l.items) o.items (places u)) front)
 
 pub files_done : (lists : List (Vec Record Global)) (answers : List (Vec Outcome Global)) (unread : List (Vec (Vec Place Global) Global)) (n : ℕ) (all : List (List ℕ × List ℕ))
     → length lists ≤ n → length answers ≡ length lists → length unread ≡ length lists

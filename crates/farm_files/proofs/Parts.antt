@@ -23,16 +23,16 @@ or_parts false b h = (refl, h)
 pub part_skips : (len : ℕ) (ps : List Place) (p : Place) (ss : List Survivor) → ArePart len ps ss → ArePart len (ps ++ p ∷ []) ss
 part_skips len [] p ss part = inl part
 part_skips len (q ∷ ps) p ss part = elim part [
-    inl less ↦ inl (part_skips len ps p ss less)
+  | inl less ↦ inl (part_skips len ps p ss less)
   | inr here ↦ inr (here.0, here.1, here.2, here.3, here.4, part_skips len ps p here.1 here.5)
-  ]
+]
 
 pub part_takes : (len : ℕ) (ps : List Place) (p : Place) (ss : List Survivor) (s : Survivor) → s.place ≡ p → length s.bytes ≡ len → ArePart len ps ss → ArePart len (ps ++ p ∷ []) (ss ++ s ∷ [])
 part_takes len [] p ss s at long part = inr (s, [], ap (λ t. t ++ s ∷ []) part, at, long, refl)
 part_takes len (q ∷ ps) p ss s at long part = elim part [
-    inl less ↦ inl (part_takes len ps p ss s at long less)
+  | inl less ↦ inl (part_takes len ps p ss s at long less)
   | inr here ↦ inr (here.0, here.1 ++ s ∷ [], ap (λ t. t ++ s ∷ []) here.2, here.3, here.4, part_takes len ps p here.1 s at long here.5)
-  ]
+]
 
 pub part_skipped : (len : ℕ) (ps : List Place) (i : ℕ) (d : Place) (ss after : List Survivor) → i < length ps → after ≡ ss → ArePart len (take i ps) ss → ArePart len (take (i + 1) ps) after
 part_skipped len ps i d ss after within same part = rw (take_more ps i d within, same) (part_skips len (take i ps) (get_or ps i d) ss part)
@@ -48,8 +48,8 @@ not_among len [] ss q part none = ap (is_among q) part
 not_among len (p ∷ ps) ss q part none =
     let parts = or_parts (same_place q p) (is_listed q ps) none in
     elim part [
-      inl less ↦ not_among len ps ss q less parts.1
-    | inr here ↦ ap (is_among q) here.2 ∙ ap₂ (λ a b. a || b) (ap (same_place q) here.3 ∙ parts.0) (not_among len ps here.1 q here.5 parts.1)
+      | inl less ↦ not_among len ps ss q less parts.1
+      | inr here ↦ ap (is_among q) here.2 ∙ ap₂ (λ a b. a || b) (ap (same_place q) here.3 ∙ parts.0) (not_among len ps here.1 q here.5 parts.1)
     ]
 
 not_repeated : (len : ℕ) (ps : List Place) (ss : List Survivor) → ArePart len ps ss → stands_twice ps ≡ false → is_repeated ss ≡ false
@@ -57,16 +57,16 @@ not_repeated len [] ss part none = ap is_repeated part
 not_repeated len (p ∷ ps) ss part none =
     let parts = or_parts (is_listed p ps) (stands_twice ps) none in
     elim part [
-      inl less ↦ not_repeated len ps ss less parts.1
-    | inr here ↦ ap is_repeated here.2 ∙ ap₂ (λ a b. a || b) (ap (λ (q : Place). is_among q here.1) here.3 ∙ not_among len ps here.1 p here.5 parts.0) (not_repeated len ps here.1 here.5 parts.1)
+      | inl less ↦ not_repeated len ps ss less parts.1
+      | inr here ↦ ap is_repeated here.2 ∙ ap₂ (λ a b. a || b) (ap (λ (q : Place). is_among q here.1) here.3 ∙ not_among len ps here.1 p here.5 parts.0) (not_repeated len ps here.1 here.5 parts.1)
     ]
 
 same_lengths : (len : ℕ) (ps : List Place) (ss : List Survivor) → ArePart len ps ss → has_other_length len ss ≡ false
 same_lengths len [] ss part = ap (has_other_length len) part
 same_lengths len (p ∷ ps) ss part = elim part [
-    inl less ↦ same_lengths len ps ss less
+  | inl less ↦ same_lengths len ps ss less
   | inr here ↦ ap (has_other_length len) here.2 ∙ ap₂ (λ a b. a || b) (ap not (eq-eqb (length here.0.bytes) len here.4)) (same_lengths len ps here.1 here.5)
-  ]
+]
 
 -- what isn't refused as it is listed
 pub record Passes (r : ListedRequest) : Type 0 where
@@ -98,9 +98,9 @@ pub never_refused : (r : ListedRequest) (stripe : List ℕ) (target : Place) (le
 never_refused r stripe target len ss f e part a b c refused =
     let asked : ℕ → Asked = λ n. record { stripe = r.stripe; target = r.target; len = n; survivors = ss } in
     let same : refusal (record { stripe = stripe; target = target; len = len; survivors = ss }) ≡ None =
-        ap (λ (s : List ℕ). refusal (record { stripe = s; target = target; len = len; survivors = ss })) a
-        ∙ ap (λ (p : Place). refusal (record { stripe = r.stripe; target = p; len = len; survivors = ss })) b
-        ∙ ap (λ n. refusal (asked n)) c ∙ part_accepted r ss e part in
+    ap (λ (s : List ℕ). refusal (record { stripe = s; target = target; len = len; survivors = ss })) a
+    ∙ ap (λ (p : Place). refusal (record { stripe = r.stripe; target = p; len = len; survivors = ss })) b
+    ∙ ap (λ n. refusal (asked n)) c ∙ part_accepted r ss e part in
     none_some f (sym same ∙ refused)
   where
     none_some : (g : RequestFault) → None ≡ Some g → ⊥

@@ -87,7 +87,7 @@ unfolding encode_with
 plain_hex t [] p = refl
 plain_hex t (b ∷ bytes) p =
     plain_cons (get_or t (b / 16) 0) (get_or t (b % 16) 0 ∷ encode_with t bytes) (plain_at t (b / 16) p)
-      (plain_cons (get_or t (b % 16) 0) (encode_with t bytes) (plain_at t (b % 16) p) (plain_hex t bytes p))
+    (plain_cons (get_or t (b % 16) 0) (encode_with t bytes) (plain_at t (b % 16) p) (plain_hex t bytes p))
 
 plain_place : (p : Place) → IsPlain (name_of p)
 plain_place place.X0 = refl

@@ -63,4 +63,4 @@ pub sizes_push : {V : Type 0} (R : Vec Record Global → V → Type 0) (lists : 
     → AllZip R (take i lists) before → R (get_or lists i d) x → AllZip R (take (i + 1) lists) after
 sizes_push {V} R lists i d before after x within grew so here =
     subst (λ (ls : List (Vec Record Global)). AllZip R ls after) (sym (take_more lists i d within))
-      (subst (λ (vs : List V). AllZip R (take i lists ++ get_or lists i d ∷ []) vs) (sym grew) (all_zip_push R (take i lists) before (get_or lists i d) x so here))
+    (subst (λ (vs : List V). AllZip R (take i lists ++ get_or lists i d ∷ []) vs) (sym grew) (all_zip_push R (take i lists) before (get_or lists i d) x so here))

@@ -71,9 +71,10 @@ other_from : (x : Option (List ℕ)) (bytes : List ℕ) (len : ℕ) → len ≤ 
 other_from None bytes len small e h = cc
 other_from (Some b) bytes len small e h =
     let same : bytes ≡ take 65537 b = cc in
-    elim (eqb_tells (length b) len) as (λ _. counted len b ≡ None)
-      [ inl p ↦ absurd (h (ap length (same ∙ take_all 65537 b (omega (arith, p.1))) ∙ p.1))
-      | inr p ↦ rw (p.0) refl ]
+    elim (eqb_tells (length b) len) as (λ _. counted len b ≡ None) [
+      | inl p ↦ absurd (h (ap length (same ∙ take_all 65537 b (omega (arith, p.1))) ∙ p.1))
+      | inr p ↦ rw (p.0) refl
+    ]
 
 pub fragment_read : (there : Files) (r : ListedRequest) (p : Place) (name bytes : List ℕ) → r.len ≤ 65536 → name ≡ fragment_name r.stripe p → Some bytes ≡ option_map (take 65537) (there name) → length bytes ≡ r.len
     → Some bytes ≡ fragment there r (p, false)

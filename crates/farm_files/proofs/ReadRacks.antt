@@ -28,7 +28,7 @@ pub racks_push : (there : Files) (lists : List (Vec Record Global)) (list : Vec 
 racks_push there lists list k e have is =
     let P : List (List Record) → Type 0 = λ ls. HaveLists there 0 ls in
     subst P (sym (map-append (λ (v : Vec Record Global). v.items) lists (list ∷ [])))
-      (lists_push there 0 (map (λ v. v.items) lists) list.items k (omega (arith, e, length-map lists (λ (v : Vec Record Global). v.items))) have is)
+    (lists_push there 0 (map (λ v. v.items) lists) list.items k (omega (arith, e, length-map lists (λ (v : Vec Record Global). v.items))) have is)
 
 pub racks_all : (there : Files) (lists : List (Vec Record Global)) (k : ℕ) → length lists ≡ k → 0 < k → k ≤ 16 → HaveLists there 0 (map (λ v. v.items) lists) → there (list_name k) ≡ None
     → AreLists there (map (λ v. v.items) lists)

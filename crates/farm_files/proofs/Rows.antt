@@ -35,8 +35,8 @@ report_more rs os us i r o u within h k =
     let pushed = rows_push 0 (take i rs) (take i os) (take i us) (get_or rs i r) (get_or os i o) (get_or us i u) lo lu in
     let place : 0 + length (take i rs) ≡ i = omega arith in
     rw (a, b, c) (ap (λ rows. flat_map report_line (report_header ∷ rows)) (rw place at pushed)
-      ∙ flat_map-append report_line (report_header ∷ report_rows 0 (take i rs) (take i os) (take i us)) (report_row i (get_or rs i r) (get_or os i o) (get_or us i u) ∷ [])
-      ∙ ap (λ t. flat_map report_line (report_header ∷ report_rows 0 (take i rs) (take i os) (take i us)) ++ t) (append-nil (report_line (report_row i (get_or rs i r) (get_or os i o) (get_or us i u)))))
+    ∙ flat_map-append report_line (report_header ∷ report_rows 0 (take i rs) (take i os) (take i us)) (report_row i (get_or rs i r) (get_or os i o) (get_or us i u) ∷ [])
+    ∙ ap (λ t. flat_map report_line (report_header ∷ report_rows 0 (take i rs) (take i os) (take i us)) ++ t) (append-nil (report_line (report_row i (get_or rs i r) (get_or os i o) (get_or us i u)))))
 
 -- names with a space between two, one more
 joined_push : (xs : List (List ℕ)) (y : List ℕ) → 0 < length xs → join_with_byte 32 (xs ++ y ∷ []) ≡ join_with_byte 32 xs ++ 32 ∷ y

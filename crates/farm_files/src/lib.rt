@@ -12,6 +12,8 @@ mod reading;
 mod report;
 mod serving;
 mod shelf;
+#[cfg(test)]
+mod tests;
 mod text;
 mod writing;
 

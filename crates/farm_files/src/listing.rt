@@ -10,8 +10,8 @@ ghost use Rattle.farm_files.specs.Listing.{IsFaultOf, IsNotFive, IsRecordFault, 
 ghost use Rattle.farm_files.specs.Views.{IsRebuildFault, five};
 
 use crate::listed::Listed;
-use csv::{ByteRecord, ReaderBuilder};
 use crate::text::split_at_spaces;
+use csv::{ByteRecord, ReaderBuilder};
 use lrc_code::text::parse_number;
 use lrc_code::{Place, RequestFault};
 use std::alloc::{AllocError, Global};
@@ -212,7 +212,10 @@ fn rebuild_of(alloc: Global, number: usize, fields: &Fields<'_>) -> Result<Recor
         return Err(ListFault::OutOfMemory);
     };
     let Ok(stripe) = String::from_utf8(stripe) else {
-        return Err(ListFault::Refused { number, fault: RequestFault::BadStripe });
+        return Err(ListFault::Refused {
+            number,
+            fault: RequestFault::BadStripe,
+        });
     };
     match Listed::new(stripe, target, length, survivors) {
         Ok(listed) => Ok(Record::Rebuild(listed)),

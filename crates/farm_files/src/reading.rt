@@ -15,11 +15,11 @@ ghost use Rattle.farm_files.specs.Parts.{ArePart};
 ghost use Rattle.farm_files.specs.Faults.{CountsFault, Explains, IsListFault, IsReadFault, serve_fault};
 
 use crate::faults::ServeFault;
-use crate::names::{fragment_file, list_file};
 use crate::listed::Listed;
 use crate::listing::{ListFault, Record, read_list};
-use crate::shelf::{Shelf, ShelfFault};
+use crate::names::{fragment_file, list_file};
 use crate::report::requests_before_close;
+use crate::shelf::{Shelf, ShelfFault};
 use farm_core::{Order, RackList, Racks};
 use lrc_code::{Fragment, Place, Request};
 use std::alloc::{AllocError, Global};
@@ -65,11 +65,32 @@ fn list_fault(rack: usize, fault: ListFault) -> ServeFault
     ensures { result ≡ serve_fault rack fault }
 {
     match fault {
-        ListFault::InputTooLong => ServeFault::List { rack, fault: ListFault::InputTooLong },
-        ListFault::BadHeader => ServeFault::List { rack, fault: ListFault::BadHeader },
-        ListFault::BadRecord { number: n } => ServeFault::List { rack, fault: ListFault::BadRecord { number: n } },
-        ListFault::Refused { number: n, fault: e } => ServeFault::List { rack, fault: ListFault::Refused { number: n, fault: e } },
-        ListFault::TooManyOrders => ServeFault::List { rack, fault: ListFault::TooManyOrders },
+        ListFault::InputTooLong => ServeFault::List {
+            rack,
+            fault: ListFault::InputTooLong,
+        },
+        ListFault::BadHeader => ServeFault::List {
+            rack,
+            fault: ListFault::BadHeader,
+        },
+        ListFault::BadRecord { number: n } => ServeFault::List {
+            rack,
+            fault: ListFault::BadRecord { number: n },
+        },
+        ListFault::Refused {
+            number: n,
+            fault: e,
+        } => ServeFault::List {
+            rack,
+            fault: ListFault::Refused {
+                number: n,
+                fault: e,
+            },
+        },
+        ListFault::TooManyOrders => ServeFault::List {
+            rack,
+            fault: ListFault::TooManyOrders,
+        },
         ListFault::OutOfMemory => ServeFault::OutOfMemory,
     }
 }
@@ -129,7 +150,10 @@ fn read_survivors<I: Shelf>(
 }
 
 // The lists of all racks.
-pub(crate) fn read_lists<I: Shelf>(alloc: Global, input: &mut I) -> Result<Vec<Vec<Record>>, ServeFault>
+pub(crate) fn read_lists<I: Shelf>(
+    alloc: Global,
+    input: &mut I,
+) -> Result<Vec<Vec<Record>>, ServeFault>
     requires { I.failed input.old < 2 ^ 62 }
     ensures same { I.files input.new ≡ I.files input.old }
     ensures lists { IfOk result (λ v. (there : Files) → I.files input.old ≡ Some there → AreLists there (map (λ l. l.items) v.items)) }
@@ -260,7 +284,7 @@ pub(crate) fn read_racks<I: Shelf>(
     ensures same { I.files input.new ≡ I.files input.old }
     ensures read { IfOk result (λ v. (reads : List (List Reads)) × AreAllReads (map (λ l. l.items) lists.now) reads × (I.failed input.new ≡ I.failed input.old + all_failures reads)
         × ((there : Files) → I.files input.old ≡ Some there → (map before_close v.0 ≡ asked_all there (map (λ l. l.items) lists.now) reads)
-            × (map (λ us. map (λ u. u.items) us.items) v.1.items ≡ unread_all there (map (λ l. l.items) lists.now) reads))) }
+        × (map (λ us. map (λ u. u.items) us.items) v.1.items ≡ unread_all there (map (λ l. l.items) lists.now) reads))) }
     ensures sizes { IfOk result (λ v. AllZip (λ l os. length (before_close os) ≡ length (listed_before_close l.items)) lists.now v.0
         × AllZip (λ l us. length us.items ≡ length (listed_before_close l.items)) lists.now v.1.items) }
 {

@@ -9,8 +9,8 @@ ghost use Rattle.farm_files.specs.Report.{before_close, digest, outcome_name, re
 
 use crate::listed::Listed;
 use crate::listing::Record;
-use csv::{Error, WriterBuilder};
 use crate::text::decimal_text;
+use csv::{Error, WriterBuilder};
 use lrc_code::{Outcome, Place};
 use sha2::{Digest, Sha256};
 use std::alloc::{AllocError, Global};

@@ -46,7 +46,7 @@ pub fn serve<R: Threads + Wait + Sync, I: Shelf, O: Shelf, P: Pause>(
         × (served.racks ≡ length lists)
         × (served.answers ≡ sum_by (λ a. length a) answers)
         × IfSome (I.files input.old) (λ there. Serves there lists reads answers
-            × (O.files output.new ≡ option_map (λ old. put_all old (written_files there lists reads answers)) (O.files output.old)))) }
+        × (O.files output.new ≡ option_map (λ old. put_all old (written_files there lists reads answers)) (O.files output.old)))) }
     ensures why { IfErr result (λ f. IfSome (I.files input.old) (λ there. Explains f there)) }
     ensures output { IfErr result (λ f. LeavesOutput f (I.files input.old) (O.files output.old) (O.files output.new)) }
     ensures device { IfErr result (λ f. f ≡ fault.Device → (I.failed input.old < I.failed input.new) ⊎ (O.failed output.old < O.failed output.new)) }
@@ -54,9 +54,17 @@ pub fn serve<R: Threads + Wait + Sync, I: Shelf, O: Shelf, P: Pause>(
     let lists = read_lists(alloc, input)?;
     let (racks, unread) = read_racks(alloc, input, lists.as_slice())?;
     let answers = run(rt, alloc, &racks, settings, pause)?;
-    let files = make_files(alloc, lists.as_slice(), answers.as_slice(), unread.as_slice())?;
+    let files = make_files(
+        alloc,
+        lists.as_slice(),
+        answers.as_slice(),
+        unread.as_slice(),
+    )?;
     write_files(alloc, output, files.as_slice())?;
-    Ok(Served { racks: lists.len(), answers: count_answers(answers.as_slice()) })
+    Ok(Served {
+        racks: lists.len(),
+        answers: count_answers(answers.as_slice()),
+    })
 }
 
 // The number of answers over all racks.

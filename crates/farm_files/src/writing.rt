@@ -6,9 +6,9 @@ ghost use Rattle.farm_files.specs.Files.{CountsFailure, StopsWriting, put_all};
 ghost use Rattle.farm_files.specs.Named.{named};
 ghost use Rattle.farm_files.specs.Serving.{files_from, rack_files, rebuilt_file};
 
-use crate::names;
 use crate::listed::Listed;
 use crate::listing::Record;
+use crate::names;
 use crate::report::{report_on, requests_before_close};
 use crate::shelf::{Shelf, ShelfFault};
 use lrc_code::{Outcome, Place};
@@ -104,7 +104,14 @@ pub(crate) fn make_files(
     let mut files = Vec::new(alloc);
     for rack in 0..lists.len() {
         let requests = requests_before_close(alloc, lists[rack].as_slice())?;
-        push_rack(alloc, &mut files, rack, requests.as_slice(), answers[rack].as_slice(), unread[rack].as_slice())?;
+        push_rack(
+            alloc,
+            &mut files,
+            rack,
+            requests.as_slice(),
+            answers[rack].as_slice(),
+            unread[rack].as_slice(),
+        )?;
     }
     Ok(files)
 }

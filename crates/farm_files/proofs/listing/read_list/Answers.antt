@@ -38,9 +38,20 @@ loop-row-preserved c =
     let (plain, ready, left, config, y, source, rows, reached, number, so, small, few) = c.loop-row.invariant in
     let s = rw (c.in-Some.is, c.in-Ok.is) at ((c.next.ensures.steps left plain).0 ready) in
     let m = rows-more (λ (s : Bor (List ℕ)). Some s.now) c.loop-row.row-iterator.rdr c.next.new.self.rdr (fields_of c.in-Ok.row) default_config st.StartRecord (strip_bom c.args.bytes.now) y rows config source reached s.0 in
-    let took = c.in_ok-take_row.ensures.ok in
-    (s.0.3 ∙ plain, inl s.1, s.2, s.0.2 ∙ config, m.0, m.1, rows ++ fields_of c.in-Ok.row ∷ [], m.2,
-     omega (arith, length-append rows (fields_of c.in-Ok.row ∷ []), number), took.1 rows (sym number) so, small, omega (arith, took.0))
+    let took = c.in_ok-take_row.ensures.ok in (
+      s.0.3 ∙ plain,
+      inl s.1,
+      s.2,
+      s.0.2 ∙ config,
+      m.0,
+      m.1,
+      rows ++ fields_of c.in-Ok.row ∷ [],
+      m.2,
+      omega (arith, length-append rows (fields_of c.in-Ok.row ∷ []), number),
+      took.1 rows (sym number) so,
+      small,
+      omega (arith, took.0),
+    )
 
 pub returns-in_err-take_row-clause-fault : goal.returns-in_err-take_row-clause-fault
 returns-in_err-take_row-clause-fault c =

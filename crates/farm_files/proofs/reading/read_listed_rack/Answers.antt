@@ -32,9 +32,13 @@ returns-clause-few g c = omega (arith, few g (goal.at.returns-clause-few g c).Af
 pub returns-clause-read : goal.returns-clause-read
 returns-clause-read g c =
     let same = the_listed g (goal.at.returns-clause-read g c).After-as_slice in
-    let (reads, are, rose, told) = c.in_ok-read.ensures.read in
-    (reads, subst (λ (rs : List ListedRequest). AllZip AreReads rs reads) same are, rose,
-     λ there e.
-         let t = told there e in
-         (all_served c.in_ok-read.read.0 _ t.0 ∙ ap (λ (rs : List ListedRequest). asked_rack there rs reads) same,
-          t.1 ∙ ap (λ (rs : List ListedRequest). unread_rack there rs reads) same))
+    let (reads, are, rose, told) = c.in_ok-read.ensures.read in (
+      reads,
+      subst (λ (rs : List ListedRequest). AllZip AreReads rs reads) same are,
+      rose,
+      λ there e.
+          let t = told there e in (
+            all_served c.in_ok-read.read.0 _ t.0 ∙ ap (λ (rs : List ListedRequest). asked_rack there rs reads) same,
+            t.1 ∙ ap (λ (rs : List ListedRequest). unread_rack there rs reads) same,
+          ),
+    )

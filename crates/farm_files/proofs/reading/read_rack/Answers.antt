@@ -36,22 +36,37 @@ loop-index-preserved g c =
     let rs : List ListedRequest = map (λ (x : Bor ListedRequest). x.now) (take c.loop-index.index c.args.rack.now) in
     let r : ListedRequest = c.index-rack-index.result.now in
     let more = taken c.args.rack.now c.loop-index.index c.index-rack-index.result c.loop-index-test.true c.index-rack-index.is in
-    rw more (reads ++ q ∷ [], reads_push rs reads r q are is, c.in_ok-request.ensures.same ∙ same,
+    rw more (
+      reads ++ q ∷ [],
+      reads_push rs reads r q are is,
+      c.in_ok-request.ensures.same ∙ same,
       omega (arith, rose, failed, rack_failures_push reads q),
       omega (arith, few, c.in_ok-request.ensures.few),
-      (made.0 ++ c.in_ok-request.request ∷ [], orders_push c.loop-index.orders.items c.push.new.self.items made.0 c.in_ok-request.request made.1 c.in_ok-push.ensures.items,
-       omega (arith, made.2, length-append made.0 (c.in_ok-request.request ∷ []))),
+      (
+        made.0 ++ c.in_ok-request.request ∷ [],
+        orders_push c.loop-index.orders.items c.push.new.self.items made.0 c.in_ok-request.request made.1 c.in_ok-push.ensures.items,
+        omega (arith, made.2, length-append made.0 (c.in_ok-request.request ∷ [])),
+      ),
       ap length c.in_ok-push-2.ensures.items ∙ omega (arith, left, length-append c.loop-index.unread.items (c.in_ok-request.places ∷ [])),
       λ there e.
           let before = told there e in
-          let now = gives there (same ∙ e) in
-          (orders_more there rs reads r q c.loop-index.orders.items c.push.new.self.items c.in_ok-request.request are c.in_ok-push.ensures.items before.0 now.0,
-           unread_more there rs reads r q c.loop-index.unread.items c.push-in-loop-index.new.self.items c.in_ok-request.places are c.in_ok-push-2.ensures.items before.1 now.1))
+          let now = gives there (same ∙ e) in (
+            orders_more there rs reads r q c.loop-index.orders.items c.push.new.self.items c.in_ok-request.request are c.in_ok-push.ensures.items before.0 now.0,
+            unread_more there rs reads r q c.loop-index.unread.items c.push-in-loop-index.new.self.items c.in_ok-request.places are c.in_ok-push-2.ensures.items before.1 now.1,
+          ),
+    )
 
 pub loop-index-init : goal.loop-index-init
-loop-index-init g c =
-    ([], tt, refl, omega arith, omega arith, ([], c.new-orders.ensures.items, refl), ap length c.new-unread.ensures.items,
-     λ there e. (c.new-orders.ensures.items, ap (map (λ (u : Vec Place Global). u.items)) c.new-unread.ensures.items))
+loop-index-init g c = (
+  [],
+  tt,
+  refl,
+  omega arith,
+  omega arith,
+  ([], c.new-orders.ensures.items, refl),
+  ap length c.new-unread.ensures.items,
+  λ there e. (c.new-orders.ensures.items, ap (map (λ (u : Vec Place Global). u.items)) c.new-unread.ensures.items),
+)
 
 pub returns-clause-sizes : goal.returns-clause-sizes
 returns-clause-sizes g c =

@@ -20,5 +20,5 @@ invariant-loop-rack g l =
     × AllZip (λ (list : Vec Record Global) (orders : List Order). length (before_close orders) ≡ length (listed_before_close list.items)) (take l.rack l.lists) l.racks.items
     × AllZip (λ (list : Vec Record Global) (us : Vec (Vec Place Global) Global). length us.items ≡ length (listed_before_close list.items)) (take l.rack l.lists) l.unread.items
     × ((there : Files) → g.I.Shelf.files l.fn.input ≡ Some there
-        → (map before_close l.racks.items ≡ asked_all there (map (λ l. l.items) (take l.rack l.lists)) reads)
-        × (map (λ us. map (λ u. u.items) us.items) l.unread.items ≡ unread_all there (map (λ l. l.items) (take l.rack l.lists)) reads))
+    → (map before_close l.racks.items ≡ asked_all there (map (λ l. l.items) (take l.rack l.lists)) reads)
+    × (map (λ us. map (λ u. u.items) us.items) l.unread.items ≡ unread_all there (map (λ l. l.items) (take l.rack l.lists)) reads))

@@ -15,4 +15,4 @@ invariant-loop-index g l =
     × (g.I.Shelf.failed l.input ≤ g.I.Shelf.failed l.fn.input + l.index)
     × ArePart l.listed.len (take l.index l.places) (survivors_of l.fragments.items)
     × ((there : Files) → g.I.Shelf.files l.fn.input ≡ Some there
-        → (survivors_of l.fragments.items ≡ filter_map (survivor there l.listed) reads) × (l.unread.items ≡ unread there l.listed reads))
+    → (survivors_of l.fragments.items ≡ filter_map (survivor there l.listed) reads) × (l.unread.items ≡ unread there l.listed reads))

@@ -14,4 +14,4 @@ returns c =
     let digest = c.as_bytes-5.ensures.value ∙ c.in_ok-digest.ensures in
     let unread = c.as_slice.ensures.value ∙ c.in_ok-unread.ensures in
     c.in_ok-extend_from_slice.ensures.items ∙ ap (λ t. c.args.text.now.items ++ t) (c.as_slice-2.ensures.value ∙ c.in_ok-line.ensures
-      ∙ row_fields c.args.number c.args.listed.now c.args.outcome.now c.args.unread.now _ _ _ _ _ _ _ (omega arith) c.length.ensures.accepted number stripe target length c.outcome_word.ensures digest unread)
+    ∙ row_fields c.args.number c.args.listed.now c.args.outcome.now c.args.unread.now _ _ _ _ _ _ _ (omega arith) c.length.ensures.accepted number stripe target length c.outcome_word.ensures digest unread)

@@ -27,14 +27,14 @@ sized : (g : Over) (c : After-as_slice-4 g) → AllZip Sized c.in_ok-lists.lists
 unfolding Sized
 sized g c =
     answers_sized c.in_ok-lists.lists.items c.in_ok-racks.racks c.in_ok-answers.answers.items
-      (subst (λ (ls : List (Vec Record Global)). AllZip (λ (l : Vec Record Global) (os : List Order). length (before_close os) ≡ length (listed_before_close l.items)) ls c.in_ok-racks.racks) c.as_slice.ensures.value c.in_ok-racks.ensures.sizes.0)
-      c.in_ok-answers.ensures
+    (subst (λ (ls : List (Vec Record Global)). AllZip (λ (l : Vec Record Global) (os : List Order). length (before_close os) ≡ length (listed_before_close l.items)) ls c.in_ok-racks.racks) c.as_slice.ensures.value c.in_ok-racks.ensures.sizes.0)
+    c.in_ok-answers.ensures
 
 -- as they are handed on
 lent : (g : Over) (c : After-as_slice-4 g) → AllZip Sized c.as_slice-2.result.now c.as_slice-3.result.now
 lent g c =
     subst (λ (ls : List (Vec Record Global)). AllZip Sized ls c.as_slice-3.result.now) (sym c.as_slice-2.ensures.value)
-      (subst (λ (os : List (Vec Outcome Global)). AllZip Sized c.in_ok-lists.lists.items os) (sym c.as_slice-3.ensures.value) (sized g c))
+    (subst (λ (os : List (Vec Outcome Global)). AllZip Sized c.in_ok-lists.lists.items os) (sym c.as_slice-3.ensures.value) (sized g c))
 
 pub make_files-requires-clause-answers : goal.make_files-requires-clause-answers
 unfolding Sized
@@ -49,7 +49,7 @@ told_serves g c there e =
     let same : map (λ (l : Vec Record Global). l.items) c.as_slice.result.now ≡ lists = ap (map (λ (l : Vec Record Global). l.items)) c.as_slice.ensures.value in
     let t = told there (c.in_ok-lists.ensures.same ∙ e) in
     serves there lists reads c.in_ok-racks.racks (map (λ (a : Vec Outcome Global). a.items) c.in_ok-answers.answers.items) (c.in_ok-lists.ensures.lists there e)
-      (subst (λ (ls : List (List Record)). AreAllReads ls reads) same are) (t.0 ∙ ap (λ (ls : List (List Record)). asked_all there ls reads) same) c.in_ok-answers.ensures
+    (subst (λ (ls : List (List Record)). AreAllReads ls reads) same are) (t.0 ∙ ap (λ (ls : List (List Record)). asked_all there ls reads) same) c.in_ok-answers.ensures
 
 -- the files that are made are those that serving writes
 told_files : (g : Over) (c : After-as_slice-5 g) (there : Files) → g.I.Shelf.files c.args.input.now ≡ Some there
@@ -59,22 +59,25 @@ told_files g c there e =
     let same : map (λ (l : Vec Record Global). l.items) c.as_slice.result.now ≡ map (λ (l : Vec Record Global). l.items) c.in_ok-lists.lists.items = ap (map (λ (l : Vec Record Global). l.items)) c.as_slice.ensures.value in
     let t = told there (c.in_ok-lists.ensures.same ∙ e) in
     written_is there c.in_ok-lists.lists.items c.as_slice-2.result.now c.in_ok-answers.answers.items c.as_slice-3.result.now c.in_ok-racks.unread.items c.as_slice-4.result.now reads (map named c.as_slice-5.result.now)
-      c.as_slice-2.ensures.value c.as_slice-3.ensures.value c.as_slice-4.ensures.value (t.1 ∙ ap (λ (ls : List (List Record)). unread_all there ls reads) same)
-      (ap (map named) c.as_slice-5.ensures.value ∙ c.in_ok-files.ensures)
+    c.as_slice-2.ensures.value c.as_slice-3.ensures.value c.as_slice-4.ensures.value (t.1 ∙ ap (λ (ls : List (List Record)). unread_all there ls reads) same)
+    (ap (map named) c.as_slice-5.ensures.value ∙ c.in_ok-files.ensures)
 
 pub returns-in_err-write_files-clause-output : goal.returns-in_err-write_files-clause-output
 returns-in_err-write_files-clause-output g c =
     let p = err_from_is_err_and c.from_residual-in_err-write_files.result c.from_residual-in_err-write_files.ensures.1 in
     let at = goal.at.returns-in_err-write_files-clause-output g c in
     rw (p.1, p.2)
-      (write_leaves c.in_err-write_files.field-0.0 (g.I.Shelf.files c.args.input.now) (g.O.Shelf.files c.args.output.now) (g.O.Shelf.files c.write_files.new.output)
-        (where_told (g.I.Shelf.files c.args.input.now)
-          (λ t. (lists : List (List Record)) × (reads : List (List Reads)) × (answers : List (List Outcome)) × Serves t lists reads answers
-            × StopsWriting c.in_err-write_files.field-0.0 (written_files t lists reads answers) (g.O.Shelf.files c.args.output.now) (g.O.Shelf.files c.write_files.new.output))
-          (λ t e.
-            (map (λ (l : Vec Record Global). l.items) c.in_ok-lists.lists.items, c.in_ok-racks.ensures.read.0, map (λ (a : Vec Outcome Global). a.items) c.in_ok-answers.answers.items,
-             told_serves g at.After-as_slice-4 t e,
-             subst (λ fs. StopsWriting c.in_err-write_files.field-0.0 fs (g.O.Shelf.files c.args.output.now) (g.O.Shelf.files c.write_files.new.output)) (told_files g at.After-as_slice-5 t e) c.in_err-write_files.ensures.fault))))
+    (write_leaves c.in_err-write_files.field-0.0 (g.I.Shelf.files c.args.input.now) (g.O.Shelf.files c.args.output.now) (g.O.Shelf.files c.write_files.new.output)
+    (where_told (g.I.Shelf.files c.args.input.now)
+    (λ t. (lists : List (List Record)) × (reads : List (List Reads)) × (answers : List (List Outcome)) × Serves t lists reads answers
+    × StopsWriting c.in_err-write_files.field-0.0 (written_files t lists reads answers) (g.O.Shelf.files c.args.output.now) (g.O.Shelf.files c.write_files.new.output))
+    (λ t e. (
+      map (λ (l : Vec Record Global). l.items) c.in_ok-lists.lists.items,
+      c.in_ok-racks.ensures.read.0,
+      map (λ (a : Vec Outcome Global). a.items) c.in_ok-answers.answers.items,
+      told_serves g at.After-as_slice-4 t e,
+      subst (λ fs. StopsWriting c.in_err-write_files.field-0.0 fs (g.O.Shelf.files c.args.output.now) (g.O.Shelf.files c.write_files.new.output)) (told_files g at.After-as_slice-5 t e) c.in_err-write_files.ensures.fault,
+    ))))
 
 pub count_answers-requires-clause-racks : goal.count_answers-requires-clause-racks
 count_answers-requires-clause-racks g c =
@@ -86,18 +89,24 @@ pub count_answers-requires-clause-few : goal.count_answers-requires-clause-few
 unfolding Sized
 count_answers-requires-clause-few g c =
     subst (λ (os : List (Vec Outcome Global)). All (λ (a : Vec Outcome Global). length a.items ≤ 4096) os) (sym c.as_slice-6.ensures.value)
-      (answers_few c.in_ok-lists.lists.items c.in_ok-answers.answers.items c.in_ok-lists.ensures.orders (sized g (goal.at.count_answers-requires-clause-few g c).After-as_slice-4))
+    (answers_few c.in_ok-lists.lists.items c.in_ok-answers.answers.items c.in_ok-lists.ensures.orders (sized g (goal.at.count_answers-requires-clause-few g c).After-as_slice-4))
 
 pub returns-clause-served : goal.returns-clause-served
 returns-clause-served g c =
     let at = goal.at.returns-clause-served g c in
     let (reads, are, rose, told) = c.in_ok-racks.ensures.read in
     let lists : List (List Record) = map (λ (l : Vec Record Global). l.items) c.in_ok-lists.lists.items in
-    let answers : List (List Outcome) = map (λ (a : Vec Outcome Global). a.items) c.in_ok-answers.answers.items in
-    (lists, reads, answers, omega (arith, rose, c.in_ok-lists.ensures.calm), omega (arith, length-map c.in_ok-lists.lists.items (λ (l : Vec Record Global). l.items), c.len.ensures),
-     c.count_answers.ensures ∙ ap (sum_by (λ (a : Vec Outcome Global). length a.items)) c.as_slice-6.ensures.value ∙ total_is c.in_ok-answers.answers.items,
-     where_told (g.I.Shelf.files c.args.input.now)
-       (λ there. Serves there lists reads answers × (g.O.Shelf.files c.write_files.new.output ≡ option_map (λ old. put_all old (written_files there lists reads answers)) (g.O.Shelf.files c.args.output.now)))
-       (λ there e.
-         (told_serves g at.After-as_slice-4 there e,
-          c.in_ok-write_files.ensures.ok ∙ ap (λ fs. option_map (λ old. put_all old fs) (g.O.Shelf.files c.args.output.now)) (told_files g at.After-as_slice-5 there e))))
+    let answers : List (List Outcome) = map (λ (a : Vec Outcome Global). a.items) c.in_ok-answers.answers.items in (
+      lists,
+      reads,
+      answers,
+      omega (arith, rose, c.in_ok-lists.ensures.calm),
+      omega (arith, length-map c.in_ok-lists.lists.items (λ (l : Vec Record Global). l.items), c.len.ensures),
+      c.count_answers.ensures ∙ ap (sum_by (λ (a : Vec Outcome Global). length a.items)) c.as_slice-6.ensures.value ∙ total_is c.in_ok-answers.answers.items,
+      where_told (g.I.Shelf.files c.args.input.now)
+          (λ there. Serves there lists reads answers × (g.O.Shelf.files c.write_files.new.output ≡ option_map (λ old. put_all old (written_files there lists reads answers)) (g.O.Shelf.files c.args.output.now)))
+          (λ there e. (
+            told_serves g at.After-as_slice-4 there e,
+            c.in_ok-write_files.ensures.ok ∙ ap (λ fs. option_map (λ old. put_all old fs) (g.O.Shelf.files c.args.output.now)) (told_files g at.After-as_slice-5 there e),
+          )),
+    )

@@ -29,13 +29,13 @@ bounds-unread-rack c = omega (arith, all_zip-length _ c.args.lists.now c.args.un
 pub push_rack-requires-clause-outcomes : goal.push_rack-requires-clause-outcomes
 push_rack-requires-clause-outcomes c =
     let sized = all_zip-at (λ (l : Vec Record Global) (os : Vec Outcome Global). length os.items ≡ length (before_close l.items)) c.args.lists.now c.args.answers.now c.loop-rack.rack
-          c.index-lists-rack.result c.index-answers-rack.result c.loop-rack-test.true c.requires.answers in
+    c.index-lists-rack.result c.index-answers-rack.result c.loop-rack-test.true c.requires.answers in
     ap length c.as_slice-in-loop-rack-2.ensures.value ∙ ap (λ (v : Vec Outcome Global). length v.items) c.index-answers-rack.is ∙ sized ∙ sym (requests_counted c)
 
 pub push_rack-requires-clause-unread : goal.push_rack-requires-clause-unread
 push_rack-requires-clause-unread c =
     let sized = all_zip-at (λ (l : Vec Record Global) (us : Vec (Vec Place Global) Global). length us.items ≡ length (before_close l.items)) c.args.lists.now c.args.unread.now c.loop-rack.rack
-          c.index-lists-rack.result c.index-unread-rack.result c.loop-rack-test.true c.requires.unread in
+    c.index-lists-rack.result c.index-unread-rack.result c.loop-rack-test.true c.requires.unread in
     ap length c.as_slice-in-loop-rack-3.ensures.value ∙ ap (λ (v : Vec (Vec Place Global) Global). length v.items) c.index-unread-rack.is ∙ sized ∙ sym (requests_counted c)
 
 pub loop-rack-preserved : goal.loop-rack-preserved
@@ -43,16 +43,16 @@ loop-rack-preserved c =
     let within = c.loop-rack-test.true in
     let requests = listed_is (goal.at.loop-rack-preserved c).After-as_slice-in-loop-rack-3 in
     files_step c.args.lists.now c.args.answers.now c.args.unread.now c.loop-rack.rack c.index-lists-rack.result c.index-answers-rack.result c.index-unread-rack.result
-      (map named c.loop-rack.files.items) (map named c.push_rack.new.files.items) within
-      (all_zip-length _ c.args.lists.now c.args.answers.now c.requires.answers) (all_zip-length _ c.args.lists.now c.args.unread.now c.requires.unread)
-      c.index-lists-rack.is c.index-answers-rack.is c.index-unread-rack.is c.loop-rack.invariant
-      (c.in_ok-push_rack.ensures
-       ∙ ap (λ t. map named c.loop-rack.files.items ++ t)
-           (ap (λ rs. rack_files c.loop-rack.rack rs c.as_slice-in-loop-rack-2.result.now (map (λ u. u.items) c.as_slice-in-loop-rack-3.result.now)) requests
-            ∙ ap (λ os. rack_files c.loop-rack.rack (before_close c.index-lists-rack.result.items) os (map (λ u. u.items) c.as_slice-in-loop-rack-3.result.now)) c.as_slice-in-loop-rack-2.ensures.value
-            ∙ ap (λ (us : List (Vec Place Global)). rack_files c.loop-rack.rack (before_close c.index-lists-rack.result.items) c.index-answers-rack.result.items (map (λ u. u.items) us)) c.as_slice-in-loop-rack-3.ensures.value))
+    (map named c.loop-rack.files.items) (map named c.push_rack.new.files.items) within
+    (all_zip-length _ c.args.lists.now c.args.answers.now c.requires.answers) (all_zip-length _ c.args.lists.now c.args.unread.now c.requires.unread)
+    c.index-lists-rack.is c.index-answers-rack.is c.index-unread-rack.is c.loop-rack.invariant
+    (c.in_ok-push_rack.ensures
+    ∙ ap (λ t. map named c.loop-rack.files.items ++ t)
+    (ap (λ rs. rack_files c.loop-rack.rack rs c.as_slice-in-loop-rack-2.result.now (map (λ u. u.items) c.as_slice-in-loop-rack-3.result.now)) requests
+    ∙ ap (λ os. rack_files c.loop-rack.rack (before_close c.index-lists-rack.result.items) os (map (λ u. u.items) c.as_slice-in-loop-rack-3.result.now)) c.as_slice-in-loop-rack-2.ensures.value
+    ∙ ap (λ (us : List (Vec Place Global)). rack_files c.loop-rack.rack (before_close c.index-lists-rack.result.items) c.index-answers-rack.result.items (map (λ u. u.items) us)) c.as_slice-in-loop-rack-3.ensures.value))
 
 pub returns : goal.returns
 returns c =
     files_done c.args.lists.now c.args.answers.now c.args.unread.now c.loop-rack.rack (map named c.loop-rack.files.items) (omega (arith, c.loop-rack-test.false))
-      (all_zip-length _ c.args.lists.now c.args.answers.now c.requires.answers) (all_zip-length _ c.args.lists.now c.args.unread.now c.requires.unread) c.loop-rack.invariant
+    (all_zip-length _ c.args.lists.now c.args.answers.now c.requires.answers) (all_zip-length _ c.args.lists.now c.args.unread.now c.requires.unread) c.loop-rack.invariant

@@ -10,4 +10,4 @@ abbrev pub invariant-loop-rack : goal.invariant-loop-rack
 invariant-loop-rack l =
     map named l.files.items
     ≡ files_from 0 (map (λ (v : Vec Record Global). v.items) (take l.rack l.lists)) (map (λ (v : Vec Outcome Global). v.items) (take l.rack l.answers))
-        (map (λ (us : Vec (Vec Place Global) Global). map (λ (u : Vec Place Global). u.items) us.items) (take l.rack l.unread))
+    (map (λ (us : Vec (Vec Place Global) Global). map (λ (u : Vec Place Global). u.items) us.items) (take l.rack l.unread))

@@ -1,0 +1,6 @@
+//! Lists, reports, shelves and serving, with the bytes and digests of the formats.
+mod devices;
+mod folders;
+mod lists;
+mod serving;
+mod shared;

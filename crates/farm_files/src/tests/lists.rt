@@ -1,0 +1,174 @@
+//! Lists, record by record and fault by fault.
+use crate::{ListFault, Record, read_list};
+use lrc_code::{Place, RequestFault};
+use std::alloc::{AllocError, Global};
+
+const HEADER: &[u8] = b"order,stripe,target,length,survivors\n";
+
+// The header and these bytes behind it.
+fn list_with(alloc: Global, records: &[u8]) -> Result<Vec<u8>, AllocError> {
+    let mut bytes = Vec::from_slice(alloc, HEADER)?;
+    bytes.extend_from_slice(records)?;
+    Ok(bytes)
+}
+
+#[test]
+fn faults_of_records(rt: HostRuntime) -> Result<(), AllocError> {
+    let refused = |fault| ListFault::Refused { number: 1, fault };
+    let rows: [(&[u8], ListFault); 24] = [
+        (b"rebuild,abc,x0,3", ListFault::BadRecord { number: 1 }),
+        (
+            b"close,,,,\nbuild,abc,x0,3,",
+            ListFault::BadRecord { number: 2 },
+        ),
+        (b"rebuild,abc,q0,3,x1", ListFault::BadRecord { number: 1 }),
+        (
+            b"rebuild,abc,x0,3,x1  x2",
+            ListFault::BadRecord { number: 1 },
+        ),
+        (b"rebuild,abc,x0,3, x1", ListFault::BadRecord { number: 1 }),
+        (b"rebuild,abc,x0,3,x1 ", ListFault::BadRecord { number: 1 }),
+        (b"rebuild,abc,x0,3,x1,", ListFault::BadRecord { number: 1 }),
+        (b"rebuild,abc,x0,,", ListFault::BadRecord { number: 1 }),
+        (
+            b"rebuild,abc,x0,00000003,",
+            ListFault::BadRecord { number: 1 },
+        ),
+        (b"rebuild,abc,x0,+3,", ListFault::BadRecord { number: 1 }),
+        (b"rebuild,abc,X0,3,", ListFault::BadRecord { number: 1 }),
+        (b"Close,,,,", ListFault::BadRecord { number: 1 }),
+        (b"close,a,,,", ListFault::BadRecord { number: 1 }),
+        (b"close,,,, ", ListFault::BadRecord { number: 1 }),
+        (b"close\0,,,,", ListFault::BadRecord { number: 1 }),
+        (b"\"rebuild,abc,x0,3,", ListFault::BadRecord { number: 1 }),
+        (b"rebuild,ABC,x0,0,x1 x1", refused(RequestFault::BadStripe)),
+        (b"rebuild,\xff,x0,0,x1 x1", refused(RequestFault::BadStripe)),
+        (b"rebuild,a\0,x0,3,", refused(RequestFault::BadStripe)),
+        (b"rebuild,abc,x0,0,x1 x1", refused(RequestFault::BadLength)),
+        (b"rebuild,abc,x0,65537,", refused(RequestFault::BadLength)),
+        (b"rebuild,abc,x0,3,x0 x0", refused(RequestFault::Repeated)),
+        (b"rebuild,abc,x0,3,x0", refused(RequestFault::NotLost)),
+        (b"rebuild,,x0,3,", refused(RequestFault::BadStripe)),
+    ];
+    for (number, (records, fault)) in rows.into_iter().enumerate() {
+        let bytes = list_with(rt.alloc(), records)?;
+        assert_eq!(&rt;
+            read_list(rt.alloc(), &bytes).err(),
+            Some(fault),
+            "row {number}"
+        );
+    }
+    Ok(())
+}
+
+#[test]
+fn faults_of_headers(rt: HostRuntime) {
+    let rows: [&[u8]; 6] = [
+        b"",
+        b"\n\n",
+        b"order,stripe,target,length",
+        b"order,stripe,target,length,survivors,\n",
+        b"Order,stripe,target,length,survivors\n",
+        b" order,stripe,target,length,survivors\n",
+    ];
+    for (number, bytes) in rows.into_iter().enumerate() {
+        assert_eq!(&rt;
+            read_list(rt.alloc(), bytes).err(),
+            Some(ListFault::BadHeader),
+            "row {number}"
+        );
+    }
+}
+
+// One record is read, whatever ends the lines and whatever is quoted.
+#[test]
+fn records_as_they_may_be_written(rt: HostRuntime) {
+    let rows: [&[u8]; 6] = [
+        b"order,stripe,target,length,survivors\nrebuild,abc,x0,0000003,\n",
+        b"\xef\xbb\xbforder,stripe,target,length,survivors\r\nrebuild,abc,x0,3,\r\n",
+        b"order,stripe,target,length,survivors\rrebuild,abc,x0,3,\r",
+        b"\n\norder,stripe,target,length,survivors\n\n\nrebuild,abc,x0,3,",
+        b"\"order\",stripe,target,length,survivors\n\"rebuild\",\"abc\",x0,\"3\",\"\"\n",
+        b"order,stripe,target,length,survivors\nrebuild,abc,x0,3,\"",
+    ];
+    for (number, bytes) in rows.into_iter().enumerate() {
+        let list = read_list(rt.alloc(), bytes);
+        assert!(&rt;
+            list.as_ref().is_ok_and(|list| list.len() == 1),
+            "row {number}"
+        );
+        if let Ok(list) = list {
+            for record in &list {
+                let Record::Rebuild(listed) = record else {
+                    assert!(&rt; false, "row {number} has a close");
+                    continue;
+                };
+                assert!(&rt;
+                    listed.stripe() == "abc"
+                        && listed.target() == Place::X0
+                        && listed.length() == 3
+                        && listed.survivors().is_empty(),
+                    "row {number}"
+                );
+            }
+        }
+    }
+}
+
+#[test]
+fn survivors_in_their_order(rt: HostRuntime) {
+    let list = read_list(
+        rt.alloc(),
+        b"order,stripe,target,length,survivors\nrebuild,a-1,p1,65536,py x0 p0\nclose,,,,\n",
+    );
+    assert!(&rt; list.as_ref().is_ok_and(|list| list.len() == 2));
+    if let Ok(list) = list {
+        if let Some(Record::Rebuild(listed)) = list.first() {
+            assert_eq!(&rt;
+                listed.survivors(),
+                [Place::Py, Place::X0, Place::P0].as_slice()
+            );
+        }
+        assert!(&rt;
+            list.get(1)
+                .is_some_and(|record| matches!(record, Record::Close))
+        );
+    }
+}
+
+// The limits of bytes and of records, and just over them.
+#[test]
+fn limits(rt: HostRuntime) -> Result<(), AllocError> {
+    let mut bytes = Vec::from_slice(rt.alloc(), HEADER)?;
+    for _ in HEADER.len()..1_048_576 {
+        bytes.push(b'\n')?;
+    }
+    assert_eq!(&rt; read_list(rt.alloc(), &bytes).map(|list| list.len()), Ok(0));
+    bytes.push(b'\n')?;
+    assert_eq!(&rt;
+        read_list(rt.alloc(), &bytes).err(),
+        Some(ListFault::InputTooLong)
+    );
+
+    let mut bytes = Vec::from_slice(rt.alloc(), HEADER)?;
+    for _ in 0..4096 {
+        bytes.extend_from_slice(b"close,,,,\n")?;
+    }
+    assert_eq!(&rt;
+        read_list(rt.alloc(), &bytes).map(|list| list.len()),
+        Ok(4096)
+    );
+    let whole = bytes.len();
+    bytes.extend_from_slice(b"close,,,,\n")?;
+    assert_eq!(&rt;
+        read_list(rt.alloc(), &bytes).err(),
+        Some(ListFault::TooManyOrders)
+    );
+    bytes.truncate(whole);
+    bytes.extend_from_slice(b"x\n")?;
+    assert_eq!(&rt;
+        read_list(rt.alloc(), &bytes).err(),
+        Some(ListFault::TooManyOrders)
+    );
+    Ok(())
+}

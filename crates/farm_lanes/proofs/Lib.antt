@@ -1,0 +1,15 @@
+pub mod Lists
+pub mod Sums
+pub mod Numbers
+pub mod Lengths
+pub mod Greatest
+pub mod Shares
+pub mod GateKeeps
+pub mod Values
+pub mod Items
+pub mod LaneMeasures
+pub mod LaneKeeps
+pub mod LaneParts
+pub mod Opens
+pub mod Settles
+pub mod SmallLanes

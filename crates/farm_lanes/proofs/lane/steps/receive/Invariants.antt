@@ -1,0 +1,11 @@
+use Rattle.std.proofs.Common.{◌≡◌}
+use Rattle.crossbeam_channel.specs.Claims.{IsSeatAt, view}
+use Rattle.crossbeam_channel.specs.Ends.{receives_on}
+use Rattle.farm_lanes.proofs.lane.steps.receive.Given as goal
+
+abbrev pub invariant-loop : goal.invariant-loop
+invariant-loop g l = record {
+  seated : IsSeatAt (receives_on l.takes) l.pass;
+  known : view l.pass ≡ view l.fn.pass;
+  same : l.pass.id ≡ l.fn.pass.id;
+}

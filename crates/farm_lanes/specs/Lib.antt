@@ -1,0 +1,11 @@
+pub mod Lists
+pub mod Counting
+pub mod GateRecord
+pub mod SeatChanges
+pub mod GateRule
+pub mod GateView
+pub mod LaneRecord
+pub mod LaneRule
+pub mod LaneEnds
+pub mod LaneSettled
+pub mod LaneNames

@@ -1,0 +1,118 @@
+//! The rule that a lane's queue keeps, and its kinds of step: put, take, three cuts, join and read.
+use crate::lane::item::Item;
+use crossbeam_channel::protocol::{Join, Lesson, Outcome, Protocol, Split};
+use std::collections::LinkedList;
+use std::marker::{Brand, PhantomData};
+
+/// What is known of one end, or of several together: the list that each sender put, by sender, and what was taken. `parts` of the
+/// lane's `ends` are in it. It exists in proofs alone: no value of it is made.
+pub struct EndRecord<T> {
+    pub ends: u64,
+    pub parts: u64,
+    pub puts: LinkedList<(u64, LinkedList<Item<T>>)>,
+    pub taken: LinkedList<Item<T>>,
+}
+
+pub struct LaneRule;
+
+impl<T> Protocol<Item<T>, EndRecord<T>> for LaneRule {
+    ghost use Rattle.std.specs.Prelude.{[]};
+    ghost use Rattle.farm_lanes.specs.LaneRule.{KeepsLane, end_record};
+
+    ghost holds = { KeepsLane };
+
+    ghost first = { end_record 1 1 [] [] };
+}
+
+pub struct Puts;
+
+impl<T> Outcome<Item<T>, EndRecord<T>> for Puts {
+    ghost use Rattle.farm_lanes.specs.LaneRule as lane;
+
+    ghost then = { lane.Puts };
+}
+
+impl<T> Lesson<Item<T>, EndRecord<T>> for Puts {
+    ghost fact = { λ _ _. Unit {0} };
+}
+
+pub struct Takes;
+
+impl<T> Outcome<Item<T>, EndRecord<T>> for Takes {
+    ghost use Rattle.farm_lanes.specs.LaneRule as lane;
+
+    ghost then = { lane.Takes };
+}
+
+impl<T> Lesson<Item<T>, EndRecord<T>> for Takes {
+    ghost fact = { λ _ _. Unit {0} };
+}
+
+/// A read by which who holds all parts learns the whole.
+pub struct Tells;
+
+impl<T> Lesson<Item<T>, EndRecord<T>> for Tells {
+    ghost use Rattle.farm_lanes.specs.LaneRule as lane;
+
+    ghost fact = { lane.Tells };
+}
+
+/// How many ends a new lane has, and how many of them are put ends.
+pub trait EndCounts {
+    ghost use Rattle.std.specs.Prelude.{ℕ};
+
+    ghost ends: { ℕ };
+
+    ghost putters: { ℕ };
+}
+
+impl EndCounts for Brand {
+    ghost ends = { 0 };
+
+    ghost putters = { 0 };
+}
+
+/// The first cut of a lane, which names its ends and senders.
+pub struct NameEnds<Z>(PhantomData<Z>);
+
+impl<T, Z: EndCounts> Split<EndRecord<T>> for NameEnds<Z> {
+    ghost use Rattle.std.specs.Prelude.{[]};
+    ghost use Rattle.farm_lanes.specs.LaneRule.{end_record, empty_lists};
+
+    ghost left = { λ _. end_record Z.ends Z.ends (empty_lists 0 Z.putters) [] };
+
+    ghost right = { λ _. end_record 0 0 [] [] };
+}
+
+pub struct CutPut;
+
+impl<T> Split<EndRecord<T>> for CutPut {
+    ghost use Rattle.std.specs.Prelude.{◌-◌, []};
+    ghost use Rattle.farm_lanes.specs.LaneRule.{end_record, puts_rest, puts_first};
+
+    ghost left = { λ v. end_record v.ends (v.parts - 1) (puts_rest v.puts) v.taken };
+
+    ghost right = { λ v. end_record v.ends 1 (puts_first v.puts) [] };
+}
+
+pub struct CutTake;
+
+impl<T> Split<EndRecord<T>> for CutTake {
+    ghost use Rattle.std.specs.Prelude.{◌-◌, []};
+    ghost use Rattle.farm_lanes.specs.LaneRule.{end_record};
+
+    ghost left = { λ v. end_record v.ends (v.parts - 1) v.puts v.taken };
+
+    ghost right = { λ v. end_record v.ends 1 [] [] };
+}
+
+pub struct Together;
+
+impl<T> Join<EndRecord<T>> for Together {
+    ghost use Rattle.std.specs.Prelude.{[]};
+    ghost use Rattle.farm_lanes.specs.LaneRule.{end_record, joined};
+
+    ghost both = { joined };
+
+    ghost spent = { end_record 0 0 [] [] };
+}
