@@ -4,3 +4,4 @@ pub mod Reply
 pub mod Replies
 pub mod LineMode
 pub mod Laws
+pub mod FarmFaults

@@ -1,6 +1,7 @@
 //! The program `rebuild`: replies to the requests of its standard input, line by line.
 #![tactic(auto)]
 
+pub mod farm;
 pub mod line;
 #[cfg(test)]
 mod tests;

@@ -1,0 +1,45 @@
+-- How the command `farm` ends.
+use Rattle.std.specs.Prelude.{ℕ, List, ◌++◌, Result, Ok, Err, codes, decimal}
+use Rattle.lrc_code.specs.Requests.{code_of}
+use Rattle.farm_files.specs.Names.{list_name}
+use Rattle.farm_files.specs.declared.listing.ListFault.{ListFault}
+use Rattle.farm_files.specs.declared.listing.ListFault.TheVariants as list_fault
+use Rattle.farm_files.specs.declared.faults.ServeFault.{ServeFault}
+use Rattle.farm_files.specs.declared.faults.ServeFault.TheVariants.{List as OfList, TooManyRacks, NoRacks, Device, NoThread, OutOfMemory}
+use Rattle.farm_files.specs.declared.serving.Served.{Served}
+
+-- the exit status
+abbrev pub status_of : Result Served ServeFault → ℕ
+status_of (Ok served) = 0
+status_of (Err (OfList rack reason)) = 1
+status_of (Err TooManyRacks) = 1
+status_of (Err NoRacks) = 1
+status_of (Err Device) = 3
+status_of (Err OutOfMemory) = 4
+status_of (Err NoThread) = 4
+
+-- the start of a line on a record
+abbrev pub record_text : ℕ → List ℕ
+record_text number = codes "record " ++ decimal number
+
+-- a list's fault, told without the list's name
+abbrev pub reason_text : ListFault → List ℕ
+reason_text list_fault.OutOfMemory = codes "E16"
+reason_text list_fault.BadHeader = codes "E19"
+reason_text (list_fault.BadRecord number) = record_text number ++ codes ": E20"
+reason_text (list_fault.Refused number refusal) = record_text number ++ codes ": E21 E" ++ decimal (code_of refusal)
+reason_text list_fault.InputTooLong = codes "E25"
+reason_text list_fault.TooManyOrders = codes "E26"
+
+-- the line of a list's fault: the list's file, and what is wrong with it
+abbrev pub list_fault_text : ℕ → ListFault → List ℕ
+list_fault_text rack reason = list_name rack ++ codes ": " ++ reason_text reason
+
+-- the line of a fault
+abbrev pub fault_text : ServeFault → List ℕ
+fault_text (OfList rack reason) = list_fault_text rack reason
+fault_text TooManyRacks = codes "E18"
+fault_text NoRacks = codes "E23"
+fault_text Device = codes "E24"
+fault_text NoThread = codes "E17"
+fault_text OutOfMemory = codes "E16"

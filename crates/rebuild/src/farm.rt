@@ -1,0 +1,59 @@
+//! How the command `farm` ends: its exit statuses, and the lines that tell its faults.
+ghost use Rattle.std.specs.Prelude.{◌≡◌, ◌++◌, IfOk, OnOk, string_bytes};
+ghost use Rattle.rebuild.specs.FarmFaults.{fault_text, list_fault_text, reason_text, status_of};
+
+use farm_files::{ListFault, ServeFault, Served};
+use std::alloc::{AllocError, Global};
+use std::fmt::Write;
+
+/// The exit status of the command `farm`: 0 where the folder was served, 1 where a list was refused, there was none or
+/// there were too many, 3 for a failed device and 4 where memory or a thread was refused.
+pub fn farm_status(outcome: &Result<Served, ServeFault>) -> u8
+    ensures { result ≡ status_of outcome.now }
+{
+    match outcome {
+        Ok(_) => 0,
+        Err(ServeFault::List { .. } | ServeFault::TooManyRacks | ServeFault::NoRacks) => 1,
+        Err(ServeFault::Device) => 3,
+        Err(ServeFault::OutOfMemory | ServeFault::NoThread) => 4,
+    }
+}
+
+/// The line that tells a fault, without a line end: the list's file, the record and the numbers of the refusals.
+pub fn fault_line(alloc: Global, fault: &ServeFault) -> Result<String, AllocError>
+    ensures { IfOk result (λ line. string_bytes line ≡ fault_text fault.now) }
+{
+    match *fault {
+        ServeFault::List { rack, fault } => list_fault_line(alloc, rack, fault),
+        ServeFault::TooManyRacks => String::from_str(alloc, "E18"),
+        ServeFault::NoRacks => String::from_str(alloc, "E23"),
+        ServeFault::Device => String::from_str(alloc, "E24"),
+        ServeFault::NoThread => String::from_str(alloc, "E17"),
+        ServeFault::OutOfMemory => String::from_str(alloc, "E16"),
+    }
+}
+
+// The line that tells the fault of a rack's list.
+fn list_fault_line(alloc: Global, rack: usize, fault: ListFault) -> Result<String, AllocError>
+    ensures { IfOk result (λ line. string_bytes line ≡ list_fault_text rack fault) }
+{
+    let mut line = format!(in alloc; "rack{rack}.csv: ")?;
+    push_reason(&mut line, fault)?;
+    Ok(line)
+}
+
+// Adds what is wrong with a list.
+fn push_reason(line: &mut String, fault: ListFault) -> Result<(), AllocError>
+    ensures { OnOk result (string_bytes line.new ≡ string_bytes line.old ++ reason_text fault) }
+{
+    match fault {
+        ListFault::OutOfMemory => line.push_str("E16"),
+        ListFault::BadHeader => line.push_str("E19"),
+        ListFault::BadRecord { number } => write!(line, "record {number}: E20"),
+        ListFault::Refused { number, fault } => {
+            write!(line, "record {number}: E21 E{}", fault.code())
+        }
+        ListFault::InputTooLong => line.push_str("E25"),
+        ListFault::TooManyOrders => line.push_str("E26"),
+    }
+}
