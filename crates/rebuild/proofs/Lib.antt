@@ -5,3 +5,4 @@ pub mod Survivors
 pub mod WordsMade
 pub mod Answering
 pub mod Unique
+pub mod CommandLine

@@ -5,3 +5,4 @@ pub mod Replies
 pub mod LineMode
 pub mod Laws
 pub mod FarmFaults
+pub mod Command

@@ -1,47 +1,74 @@
-//! The program `rebuild`: replies to the requests of its standard input, line by line.
+//! The program `rebuild`: replies to the requests of its standard input, line by line, or serves a folder of request
+//! lists by its command `farm`.
 #![tactic(auto)]
 
+pub mod command;
 pub mod farm;
 pub mod line;
 #[cfg(test)]
 mod tests;
 
+use command::{Words, WordsFault, read_words};
+use farm::{farm_status, fault_line};
+use farm_core::{NoPause, Settings, SettingsFault};
+use farm_files::{FolderShelf, ServeFault, Served, serve};
 use line::{line_mode, line_status};
 use std::io::ErrorKind;
 use std::process::ExitCode;
+use std::rt::Files;
+use std::sync::Wait;
+use std::thread::Threads;
 use std::{env, io};
 
-/// The status of a command line that the program doesn't take.
+/// The status of success.
+const DONE: u8 = 0;
+
+/// The status of words or settings that the program doesn't take.
 const USAGE: u8 = 2;
+
+/// The status of a failed device.
+const DEVICE: u8 = 3;
 
 /// The status of want of memory.
 const OUT_OF_MEMORY: u8 = 4;
 
 fn main(rt: HostRuntime) -> ExitCode {
-    ExitCode::from(run(&rt))
+    let status = match given_words(&rt) {
+        Ok(Words::Lines) => answer_lines(&rt),
+        Ok(
+            Words::Farm {
+                input,
+                output,
+                workers,
+                queue,
+            },
+        ) => match Settings::new(workers, queue) {
+            Ok(settings) => answer_farm(&rt, input.as_str(), output.as_str(), settings),
+            Err(SettingsFault::BadWorkers) => refuse_words(&rt, "refused E11\n"),
+            Err(SettingsFault::BadQueue) => refuse_words(&rt, "refused E12\n"),
+        },
+        Ok(Words::Help(text)) => show(&rt, text.as_str()),
+        Err(WordsFault::Usage(text)) => refuse_words(&rt, text.as_str()),
+        Err(WordsFault::OutOfMemory) => tell_out_of_memory(&rt),
+    };
+    ExitCode::from(status)
 }
 
-// Does what the command line says, and gives the exit status.
-fn run(rt: &HostRuntime) -> u8 {
-    match has_words(rt) {
-        Ok(false) => answer_lines(rt),
-        Err(e) if e.kind() == ErrorKind::OutOfMemory => {
-            let _ = eprintln!(rt; "E16");
-            OUT_OF_MEMORY
+// What the words behind the program's name ask for.
+fn given_words(rt: &HostRuntime) -> Result<Words, WordsFault> {
+    let words = match command_words(rt) {
+        Ok(words) => words,
+        Err(e) if e.kind() == ErrorKind::OutOfMemory => return Err(WordsFault::OutOfMemory),
+        Err(_) => {
+            let text = String::from_str(rt.alloc(), "error: a word is not text\n")?;
+            return Err(WordsFault::Usage(text));
         }
-        // A word that isn't text is an error too.
-        _ => {
-            let _ = eprintln!(rt;
-                "rebuild takes no words; it replies to the lines of its standard input"
-            );
-            USAGE
-        }
-    }
+    };
+    read_words(rt.alloc(), words.as_slice())
 }
 
-// Whether words stand behind the program's name.
-fn has_words(rt: &HostRuntime) -> io::Result<bool> {
-    Ok(env::args(rt)?.len() > 1)
+fn command_words(rt: &HostRuntime) -> io::Result<Vec<String>> {
+    Ok(env::args(rt)?.skip(1).collect(rt.alloc())?)
 }
 
 // Replies to the lines of standard input on standard output, and gives the exit status.
@@ -51,4 +78,60 @@ fn answer_lines(rt: &HostRuntime) -> u8 {
         let _ = eprintln!(rt; "E{}", fault.code());
     }
     line_status(&answered)
+}
+
+// Serves one folder into another, tells how that ended, and gives the exit status.
+fn answer_farm<R>(rt: &R, input: &str, output: &str, settings: Settings) -> u8
+where
+    R: Threads + Wait + Sync + Files + Clone + Drop + Print + Eprint + AllocGlobal,
+{
+    let served = serve_folders(rt, input, output, settings);
+    match &served {
+        Ok(Served { racks, answers }) => {
+            if println!(rt; "served {racks} racks, {answers} answers").is_err() {
+                return DEVICE;
+            }
+        }
+        Err(fault) => {
+            let Ok(line) = fault_line(rt.alloc(), fault) else {
+                return OUT_OF_MEMORY;
+            };
+            let _ = eprintln!(rt; "{line}");
+        }
+    }
+    farm_status(&served)
+}
+
+fn serve_folders<R>(
+    rt: &R,
+    input: &str,
+    output: &str,
+    settings: Settings,
+) -> Result<Served, ServeFault>
+where
+    R: Threads + Wait + Sync + Files + Clone + Drop + AllocGlobal,
+{
+    let alloc = rt.alloc();
+    let mut input = FolderShelf::open(rt, alloc, input)?;
+    let mut output = FolderShelf::open(rt, alloc, output)?;
+    serve(rt, alloc, &mut input, &mut output, settings, &NoPause)
+}
+
+// Shows a text that was asked for.
+fn show(rt: &HostRuntime, text: &str) -> u8 {
+    match print!(rt; "{text}") {
+        Ok(()) => DONE,
+        Err(_) => DEVICE,
+    }
+}
+
+// Tells why words are refused.
+fn refuse_words(rt: &HostRuntime, text: &str) -> u8 {
+    let _ = eprint!(rt; "{text}");
+    USAGE
+}
+
+fn tell_out_of_memory(rt: &HostRuntime) -> u8 {
+    let _ = eprintln!(rt; "E16");
+    OUT_OF_MEMORY
 }

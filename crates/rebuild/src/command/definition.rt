@@ -1,0 +1,93 @@
+//! The definition of the command line.
+ghost use Rattle.std.specs.Prelude.{◌≡◌, false, IfOk};
+ghost use Rattle.clap.specs.Words.{app_of, rule_of};
+ghost use Rattle.rebuild.specs.Command.{farm, folder_rule, has_globals, number_rule, program};
+
+use clap::{Arg, Command};
+use std::alloc::{AllocError, Global};
+
+const VERSION: &str = "0.1.0";
+
+const ABOUT: &str =
+    "Rebuilds lost fragments of stripes coded by the (6,2,2) Local Reconstruction Code.";
+
+const AFTER_HELP: &str = "\
+Without a command, rebuild replies to each line of its standard input, as
+  <stripe> <target> <length> <place>=<hexadecimal bytes> ..
+Places: x0 x1 x2 y0 y1 y2 px py p0 p1.
+Example: echo 'a x0 1 x1=02 x2=03 px=00' | rebuild
+Exit status: 0 all lines answered, 1 a line refused, 2 words, 3 device, 4 memory.";
+
+const FARM_ABOUT: &str = "Serves a folder: rebuilds the fragments that its request lists ask for.";
+
+const FARM_AFTER_HELP: &str = "\
+Files of IN:
+  rack<k>.csv                    the request list of rack k, from rack0.csv on
+  <stripe>.<place>               a surviving fragment, as abc.x1
+Files written to OUT, those of these names replaced:
+  rack<k>-<n>.<stripe>.<place>   the fragment rebuilt for request n of rack k
+  rack<k>.report.csv             what came of each request of rack k
+Exit status: 0 served, 1 a list refused or none there, 2 words or settings,
+  3 device, 4 memory or threads.";
+
+const INPUT_HELP: &str = "Folder of request lists and surviving fragments";
+
+const OUTPUT_HELP: &str = "Folder for rebuilt fragments and reports; it must be there";
+
+const WORKERS_HELP: &str = "How many threads rebuild fragments, 1 to 16";
+
+const QUEUE_HELP: &str = "How many requests, and how many replies, may wait, 1 to 1024";
+
+/// The program's command line: no words' name of the program, and the command `farm`.
+pub(crate) fn program<'a>(alloc: Global) -> Result<Command<'a>, AllocError>
+    ensures { IfOk result (λ c. app_of c ≡ program) }
+{
+    let farm = farm_command(alloc)?;
+    Command::new(alloc, "rebuild")
+        .no_binary_name(true)
+        .version(VERSION)
+        .about(ABOUT)
+        .after_help(AFTER_HELP)
+        .subcommand(farm)
+}
+
+fn farm_command<'a>(alloc: Global) -> Result<Command<'a>, AllocError>
+    ensures app { IfOk result (λ c. app_of c ≡ farm) }
+    ensures local { IfOk result (λ c. has_globals c ≡ false) }
+{
+    Command::new(alloc, "farm")
+        .about(FARM_ABOUT)
+        .after_help(FARM_AFTER_HELP)
+        .arg(folder(alloc, "in", "IN", INPUT_HELP))?
+        .arg(folder(alloc, "out", "OUT", OUTPUT_HELP))?
+        .arg(number(alloc, "workers", "4", "N", WORKERS_HELP))?
+        .arg(number(alloc, "queue", "16", "Q", QUEUE_HELP))
+}
+
+fn folder<'a>(alloc: Global, id: &'a str, shown: &'a str, help: &'a str) -> Arg<'a>
+    ensures rule { rule_of result ≡ folder_rule id.entry.now }
+    ensures local { result.global ≡ false }
+{
+    Arg::new(alloc, id)
+        .required(true)
+        .value_name(shown)
+        .help(help)
+}
+
+fn number<'a>(
+    alloc: Global,
+    id: &'a str,
+    default: &'a str,
+    shown: &'a str,
+    help: &'a str,
+) -> Arg<'a>
+    ensures rule { rule_of result ≡ number_rule id.entry.now default.entry.now }
+    ensures local { result.global ≡ false }
+{
+    Arg::new(alloc, id)
+        .long(id)
+        .value_parser(clap::value_parser!(u16))
+        .default_value(default)
+        .value_name(shown)
+        .help(help)
+}
