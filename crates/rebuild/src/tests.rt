@@ -1,12 +1,14 @@
-//! Tests of line mode.
+//! Tests of line mode, of the command line and of how the command `farm` ends.
 use crate::line::{LineCount, LineFault, line_mode};
 use std::alloc::{AllocError, Global};
 use std::process::Abort;
 
 mod devices;
+mod ends;
 mod limits;
 mod rows;
 mod vectors;
+mod words;
 
 // What line mode writes for an input, and what it answers.
 fn run(alloc: Global, input: &[u8]) -> (Vec<u8>, Result<LineCount, LineFault>) {

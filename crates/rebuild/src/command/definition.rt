@@ -18,7 +18,9 @@ Places: x0 x1 x2 y0 y1 y2 px py p0 p1.
 Example: echo 'a x0 1 x1=02 x2=03 px=00' | rebuild
 Exit status: 0 all lines answered, 1 a line refused, 2 words, 3 device, 4 memory.";
 
-const FARM_ABOUT: &str = "Serves a folder: rebuilds the fragments that its request lists ask for.";
+const FARM_ABOUT: &str = "Rebuilds the fragments that the request lists of a folder ask for";
+
+const FARM_USAGE: &str = "rebuild farm [OPTIONS] <IN> <OUT>";
 
 const FARM_AFTER_HELP: &str = "\
 Files of IN:
@@ -27,18 +29,19 @@ Files of IN:
 Files written to OUT, those of these names replaced:
   rack<k>-<n>.<stripe>.<place>   the fragment rebuilt for request n of rack k
   rack<k>.report.csv             what came of each request of rack k
-Exit status: 0 served, 1 a list refused or none there, 2 words or settings,
-  3 device, 4 memory or threads.";
+Exit status: 0 served, 1 lists refused, 2 words, 3 device, 4 memory or threads.
+Faults: E11 workers, E12 queue, E18 over 16 lists, E19 header, E20 record,
+  E21 request, E23 no rack0.csv, E24 device, E25 or E26 list too long.";
 
 const INPUT_HELP: &str = "Folder of request lists and surviving fragments";
 
-const OUTPUT_HELP: &str = "Folder for rebuilt fragments and reports; it must be there";
+const OUTPUT_HELP: &str = "Folder for rebuilt fragments and reports, which must exist";
 
-const WORKERS_HELP: &str = "How many threads rebuild fragments, 1 to 16";
+const WORKERS_HELP: &str = "Threads that rebuild, 1 to 16";
 
-const QUEUE_HELP: &str = "How many requests, and how many replies, may wait, 1 to 1024";
+const QUEUE_HELP: &str = "Room of each queue, 1 to 1024";
 
-/// The program's command line: no words' name of the program, and the command `farm`.
+/// The command line, whose words don't hold the program's name.
 pub(crate) fn program<'a>(alloc: Global) -> Result<Command<'a>, AllocError>
     ensures { IfOk result (λ c. app_of c ≡ program) }
 {
@@ -57,6 +60,7 @@ fn farm_command<'a>(alloc: Global) -> Result<Command<'a>, AllocError>
 {
     Command::new(alloc, "farm")
         .about(FARM_ABOUT)
+        .override_usage(FARM_USAGE)
         .after_help(FARM_AFTER_HELP)
         .arg(folder(alloc, "in", "IN", INPUT_HELP))?
         .arg(folder(alloc, "out", "OUT", OUTPUT_HELP))?

@@ -1,0 +1,199 @@
+//! The words of the command line.
+use crate::command::{Words, WordsFault, read_words};
+use std::alloc::{AllocError, Global};
+use std::process::Abort;
+
+// What words ask for.
+fn read(alloc: Global, words: &[&str]) -> Result<Words, WordsFault> {
+    read_words(alloc, strings(alloc, words)?.as_slice())
+}
+
+fn strings(alloc: Global, words: &[&str]) -> Result<Vec<String>, AllocError> {
+    let mut strings = Vec::new(alloc);
+    for word in words {
+        strings.push(String::from_str(alloc, word)?)?;
+    }
+    Ok(strings)
+}
+
+// Asserts that words ask to serve the folder `a` into the folder `b`.
+fn assert_farm(rt: &(impl Abort + AllocGlobal), words: &[&str], workers: usize, queue: usize) {
+    match read(rt.alloc(), words) {
+        Ok(
+            Words::Farm {
+                input,
+                output,
+                workers: read_workers,
+                queue: read_queue,
+            },
+        ) => {
+            assert_eq!(rt; input.as_str(), "a");
+            assert_eq!(rt; output.as_str(), "b");
+            assert_eq!(rt; read_workers, workers);
+            assert_eq!(rt; read_queue, queue);
+        }
+        _ => panic!(rt; "no farm"),
+    }
+}
+
+fn assert_usage(rt: &(impl Abort + AllocGlobal), words: &[&str], text: &str) {
+    match read(rt.alloc(), words) {
+        Err(WordsFault::Usage(told)) => assert_eq!(rt; told.as_str(), text),
+        _ => panic!(rt; "no usage fault"),
+    }
+}
+
+fn assert_shown(rt: &(impl Abort + AllocGlobal), words: &[&str], text: &str) {
+    match read(rt.alloc(), words) {
+        Ok(Words::Help(shown)) => assert_eq!(rt; shown.as_str(), text),
+        _ => panic!(rt; "nothing shown"),
+    }
+}
+
+#[test]
+fn no_words_are_line_mode(rt: HostRuntime) {
+    assert!(rt; matches!(read_words(rt.alloc(), [].as_slice()), Ok(Words::Lines)));
+}
+
+#[test]
+fn farm_has_defaults(rt: HostRuntime) {
+    assert_farm(&rt, ["farm", "a", "b"].as_slice(), 4, 16);
+    assert_farm(&rt, ["farm", "a", "b", "--workers", "2"].as_slice(), 2, 16);
+    assert_farm(&rt, ["farm", "a", "b", "--queue", "3"].as_slice(), 4, 3);
+}
+
+#[test]
+fn options_stand_anywhere(rt: HostRuntime) {
+    for words in [
+        ["farm", "a", "b", "--workers", "7", "--queue", "9"].as_slice(),
+        ["farm", "--queue", "9", "--workers", "7", "a", "b"].as_slice(),
+        ["farm", "--workers=7", "a", "--queue=9", "b"].as_slice(),
+        ["farm", "a", "--workers", "+7", "b", "--queue=009"].as_slice(),
+        ["farm", "--workers=7", "--queue=9", "--", "a", "b"].as_slice(),
+    ] {
+        assert_farm(&rt, words, 7, 9);
+    }
+}
+
+/// Numbers out of a farm's limits are read; the settings refuse them.
+#[test]
+fn numbers_reach_65535(rt: HostRuntime) {
+    assert_farm(
+        &rt,
+        ["farm", "a", "b", "--workers", "0", "--queue", "1"].as_slice(),
+        0,
+        1,
+    );
+    assert_farm(
+        &rt,
+        ["farm", "a", "b", "--queue", "65535"].as_slice(),
+        4,
+        65535,
+    );
+}
+
+#[test]
+fn mistakes_are_told_with_a_hint(rt: HostRuntime) {
+    assert_usage(
+        &rt,
+        ["farm", "a"].as_slice(),
+        "error: the following required arguments were not provided:\n  <OUT>\n\nUsage: rebuild farm [OPTIONS] <IN> <OUT>\n\nFor more information, try '--help'.\n",
+    );
+    assert_usage(
+        &rt,
+        ["farm", "a", "b", "--queue", "65536"].as_slice(),
+        "error: invalid value '65536' for '--queue <Q>': 65536 is not in 0..=65535\n\nFor more information, try '--help'.\n",
+    );
+    assert_usage(
+        &rt,
+        ["shelf"].as_slice(),
+        "error: unrecognized subcommand 'shelf'\n\n  tip: a similar subcommand exists: 'help'\n\nUsage: rebuild [COMMAND]\n\nFor more information, try '--help'.\n",
+    );
+    assert_usage(
+        &rt,
+        ["--"].as_slice(),
+        "error: rebuild takes the command farm, or no words at all\n\nFor more information, try '--help'.\n",
+    );
+}
+
+#[test]
+fn other_mistakes_are_refused(rt: HostRuntime) {
+    for words in [
+        [""].as_slice(),
+        ["farm"].as_slice(),
+        ["farm", "a", "b", "c"].as_slice(),
+        ["farm", "a", "b", "--workers"].as_slice(),
+        ["farm", "a", "b", "--workers", "-1"].as_slice(),
+        ["farm", "a", "b", "--workers", "two"].as_slice(),
+        ["farm", "a", "b", "--workers", "1", "--workers", "1"].as_slice(),
+        ["farm", "a", "b", "--threads", "1"].as_slice(),
+        ["Farm", "a", "b"].as_slice(),
+    ] {
+        assert!(rt; matches!(read(rt.alloc(), words), Err(WordsFault::Usage(_))));
+    }
+}
+
+#[test]
+fn help_and_version_are_shown(rt: HostRuntime) {
+    assert_shown(&rt, ["--version"].as_slice(), "rebuild 0.1.0\n");
+    for words in [
+        ["--help"].as_slice(),
+        ["-h"].as_slice(),
+        ["help"].as_slice(),
+    ] {
+        assert_shown(&rt, words, HELP);
+    }
+    for words in [
+        ["farm", "--help"].as_slice(),
+        ["farm", "-h"].as_slice(),
+        ["help", "farm"].as_slice(),
+        ["farm", "a", "--help", "b"].as_slice(),
+    ] {
+        assert_shown(&rt, words, FARM_HELP);
+    }
+}
+
+const HELP: &str = "\
+Rebuilds lost fragments of stripes coded by the (6,2,2) Local Reconstruction Code.
+
+Usage: rebuild [COMMAND]
+
+Commands:
+  farm  Rebuilds the fragments that the request lists of a folder ask for
+  help  Print this message or the help of the given subcommand(s)
+
+Options:
+  -h, --help     Print help
+  -V, --version  Print version
+
+Without a command, rebuild replies to each line of its standard input, as
+  <stripe> <target> <length> <place>=<hexadecimal bytes> ..
+Places: x0 x1 x2 y0 y1 y2 px py p0 p1.
+Example: echo 'a x0 1 x1=02 x2=03 px=00' | rebuild
+Exit status: 0 all lines answered, 1 a line refused, 2 words, 3 device, 4 memory.
+";
+
+const FARM_HELP: &str = "\
+Rebuilds the fragments that the request lists of a folder ask for
+
+Usage: rebuild farm [OPTIONS] <IN> <OUT>
+
+Arguments:
+  <IN>   Folder of request lists and surviving fragments
+  <OUT>  Folder for rebuilt fragments and reports, which must exist
+
+Options:
+      --workers <N>  Threads that rebuild, 1 to 16 [default: 4]
+      --queue <Q>    Room of each queue, 1 to 1024 [default: 16]
+  -h, --help         Print help
+
+Files of IN:
+  rack<k>.csv                    the request list of rack k, from rack0.csv on
+  <stripe>.<place>               a surviving fragment, as abc.x1
+Files written to OUT, those of these names replaced:
+  rack<k>-<n>.<stripe>.<place>   the fragment rebuilt for request n of rack k
+  rack<k>.report.csv             what came of each request of rack k
+Exit status: 0 served, 1 lists refused, 2 words, 3 device, 4 memory or threads.
+Faults: E11 workers, E12 queue, E18 over 16 lists, E19 header, E20 record,
+  E21 request, E23 no rack0.csv, E24 device, E25 or E26 list too long.
+";
