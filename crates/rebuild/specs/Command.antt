@@ -1,5 +1,5 @@
 -- The command line, by the matches that clap's own definition of reading gives.
-use Rattle.std.specs.Prelude.{Bool, ◌≡◌, ◌≢◌, ◌<◌, ◌∷◌, ◌^◌, ◌⊎◌, ℕ, List, [], Option, Result, Ok, Some, codes, pos, true, map, string_bytes}
+use Rattle.std.specs.Prelude.{Bool, ◌≡◌, ◌≢◌, ◌<◌, ◌∷◌, ◌^◌, ◌⊎◌, ℕ, List, [], Option, Result, Ok, Some, codes, pos, true, string_bytes}
 use Rattle.std.specs.Str.Parse.{IsNumeral, digits_value, without_leading_plus}
 use Rattle.clap.specs.Words.{App, IsAmong, Row, Rule, Shape, Text, fault_of, first_of, new_app, new_rule, one_of, subcommand_of, with_rule, with_subcommand}
 use Rattle.clap.specs.declared.builder.value_parser.ValueParser.TheVariants.{Signed}

@@ -52,7 +52,9 @@ fn assert_shown(rt: &(impl Abort + AllocGlobal), words: &[&str], text: &str) {
 
 #[test]
 fn no_words_are_line_mode(rt: HostRuntime) {
-    assert!(rt; matches!(read_words(rt.alloc(), [].as_slice()), Ok(Words::Lines)));
+    let words = Vec::new(rt.alloc());
+    let read = read_words(rt.alloc(), words.as_slice());
+    assert!(rt; matches!(read, Ok(Words::Lines)));
 }
 
 #[test]

@@ -1,7 +1,7 @@
 use Rattle.std.proofs.Common.{◌≡◌, ◌∙◌, ap, ap₂, codes, true, []}
 use Rattle.std.proofs.lemmas.Result.{IfOk-weaker}
 use Rattle.clap.specs.Words.{App, app_of, new_app, with_subcommand}
-use Rattle.clap.specs.Simple.{Shape, app_of_fields}
+use Rattle.clap.specs.Simple.{app_of_fields}
 use Rattle.rebuild.specs.Command.{program_shape}
 use Rattle.rebuild.proofs.command.definition.program.Goals as goal
 
