@@ -59,7 +59,8 @@ GB/s: 10^9 bytes a second of the fragments that are read: for a kernel the one s
 Ours and plain C are built for $level; ISA-L chooses its instructions when it runs. The shortest of $passes times 40
 repetitions on one thread; $processor, load $load.
 In each call solve makes its plan, takes the memory of its answer and tests its checks. The peers are given the plan's
-coefficients and memory; they add up and test the same checks.
+coefficients and memory, and test the same checks. ISA-L makes the fragment and the checks in one call, which multiplies
+by zeros too; ours and plain C leave those out. The fragment from 3 of the group is one exclusive or.
 
 END
 awk -f bench/table.awk "$copy"/*.[1-9]
