@@ -60,7 +60,7 @@ Ours and plain C are built for $level; ISA-L chooses its instructions when it ru
 repetitions on one thread; $processor, load $load.
 In each call solve makes its plan, takes the memory of its answer and tests its checks. The peers are given the plan's
 coefficients and memory, and test the same checks. ISA-L makes the fragment and the checks in one call, which multiplies
-by zeros too; ours and plain C leave those out. The fragment from 3 of the group is one exclusive or.
+by zeros too (ours and plain C leave those out), and the fragment from 3 of the group by one xor_gen.
 
 END
 awk -f bench/table.awk "$copy"/*.[1-9]
