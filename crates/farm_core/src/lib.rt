@@ -8,6 +8,8 @@ mod pause;
 mod reply;
 mod row;
 mod settings;
+#[cfg(test)]
+mod tests;
 
 pub use collector::Collector;
 pub use farm::{FarmError, run};
