@@ -6,3 +6,12 @@ pub mod Rows
 pub mod Limits
 pub mod Progress
 pub mod Gather
+pub mod Refused
+pub mod Ends
+pub mod Jobs
+pub mod Work
+pub mod Feed
+pub mod Settled
+pub mod Put
+pub mod Cleared
+pub mod Threads

@@ -1,18 +1,15 @@
 //! The farm on one thread: it goes through the racks' requests in order.
 ghost use Rattle.std.specs.Prelude.{◌≡◌, ◌+◌, IfOk, map, slice_index_or, []};
-ghost use Rattle.lrc_code.specs.Answers.{IsAnswer};
-ghost use Rattle.lrc_code.specs.Code.{narrow};
 ghost use Rattle.farm_core.specs.Expected.{AreExpected};
 ghost use Rattle.farm_core.specs.Progress.{HasComeTo};
 
 use crate::collector::Collector;
 use crate::orders::{Order, RackList, Racks};
 use crate::pause::Pause;
-use crate::reply::{FinishFault, Reply};
+use crate::jobs::reply_to;
+use crate::reply::FinishFault;
 use crate::settings::Settings;
-use bumpalo::Bump;
-use lrc_code::{Outcome, Request};
-use lrc_plan::solve;
+use lrc_code::Outcome;
 use std::alloc::{AllocError, Global};
 use std::sync::Wait;
 use std::thread::Threads;
@@ -33,34 +30,6 @@ impl From<AllocError> for FarmError {
     fn from(_error: AllocError) -> FarmError {
         FarmError::OutOfMemory
     }
-}
-
-// The request's answer. Its plan is made in an arena of its own, which ends here.
-fn answer_in_arena(alloc: Global, request: &Request) -> Result<Outcome, AllocError>
-    ensures { IfOk result (IsAnswer narrow request.now) }
-{
-    let arena = Bump::new(alloc);
-    let outcome = solve(alloc, &arena, request)?;
-    Ok(outcome)
-}
-
-// The reply to a request.
-fn reply_to<'a, P: Pause>(
-    alloc: Global,
-    rack: usize,
-    number: u64,
-    request: &'a Request,
-    pause: &P,
-) -> Reply<'a>
-    ensures { (result.rack ≡ rack) × (result.number ≡ number) × (result.request ≡ request.now) }
-{
-    pause.before(rack, number);
-    let reply = match answer_in_arena(alloc, request) {
-        Ok(outcome) => Reply::done(rack, number, request, outcome),
-        Err(_) => Reply::starved(rack, number, request),
-    };
-    pause.after(rack, number);
-    reply
 }
 
 // Answers the requests of one rack, where those of the racks before it are answered.
