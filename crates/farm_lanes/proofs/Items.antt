@@ -7,7 +7,7 @@ use lib.ListN.{get_elem?}
 use Rattle.farm_lanes.specs.declared.lane.item.Item.{Item}
 use Rattle.farm_lanes.specs.declared.lane.rule.EndRecord.{EndRecord}
 use Rattle.farm_lanes.specs.LaneRecord.{sender_of, number_of, from_sender, times_of, Rises, EndsLast, is_end}
-use Rattle.farm_lanes.specs.LaneRule.{end_record, lists_of, put_length, put_weight, put_of, put_last, first_list}
+use Rattle.farm_lanes.specs.LaneRule.{lists_of, put_length, put_weight, put_of, put_last, first_list, put_on, IsPutRecord}
 use Rattle.farm_lanes.specs.Lists.{Each}
 use Rattle.farm_lanes.proofs.Numbers.{same_test, other_test, test_one}
 use Rattle.farm_lanes.proofs.Lists.{at_below, at_snoc_or}
@@ -69,11 +69,20 @@ module _ {T : Type 0} where
       (λ (is : (i ≡ length xs) × (x ≡ y)). let p = is.0 in let l = length-append xs (x ∷ []) in omega arith)
       (at_snoc_or xs x y i e)
 
-  pub after_put : (v w : EndRecord T) (s : ℕ) (x : Item T) → v.puts ≡ (s, put_of v) ∷ [] → w ≡ end_record v.ends v.parts (put_last v.puts x) v.taken → (w.puts ≡ (s, put_of w) ∷ []) × (put_of w ≡ put_of v ++ x ∷ []) × (length (put_of w) ≡ length (put_of v) + 1)
-  after_put v w s x mine is =
-      let q : w.puts ≡ (s, put_of v ++ x ∷ []) ∷ [] = ap (λ (u : EndRecord T). u.puts) is ∙ ap (λ ps. put_last ps x) mine in
-      let r : put_of w ≡ put_of v ++ x ∷ [] = ap first_list q in
-      (q ∙ ap (λ l. (s, l) ∷ []) (sym r), r, (let a = ap length r in let b = length-append (put_of v) (x ∷ []) in omega arith))
+  -- what a put leaves in the record of its end
+  pub after_put : (v w : EndRecord T) (s count : ℕ) (x : Item T) → IsPutRecord s count v → w ≡ put_on v x → IsPutRecord s (count + 1) w × (put_of w ≡ put_of v ++ x ∷ [])
+  after_put v w s count x was is =
+      let q : w.puts ≡ (s, put_of v ++ x ∷ []) ∷ [] = ap (λ (u : EndRecord T). u.puts) is ∙ ap (λ ps. put_last ps x) was.puts in
+      let r : put_of w ≡ put_of v ++ x ∷ [] = ap first_list q in (
+        record {
+          puts = q ∙ ap (λ l. (s, l) ∷ []) (sym r);
+          counted = let a = ap length r in let b = length-append (put_of v) (x ∷ []) in let c = was.counted in omega arith;
+          parts = ap (λ (u : EndRecord T). u.parts) is ∙ was.parts;
+          few = let a = ap (λ (u : EndRecord T). u.ends) is in let b = was.few in omega arith;
+          taken = ap (λ (u : EndRecord T). u.taken) is ∙ was.taken;
+        },
+        r,
+      )
 
   -- an item of the list stands in it
   pub times_here : (xs : List (Item T)) (i : ℕ) (y : Item T) → get_elem? xs i ≡ some y → 0 < times_of (sender_of y) (number_of y) xs

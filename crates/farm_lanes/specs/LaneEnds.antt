@@ -52,6 +52,13 @@ module _ {T : Type 0} where
   abbrev pub new_take : LaneName T → TakeView T
   new_take lane = take_end lane []
 
+  -- this end has put nothing yet; it has taken nothing yet
+  abbrev pub IsUnusedPut : PutView T → Type 0
+  IsUnusedPut e = e ≡ new_put e.lane e.sender
+
+  abbrev pub IsUnusedTake : TakeView T → Type 0
+  IsUnusedTake e = e ≡ new_take e.lane
+
   -- the end once this item was put too, or taken too
   abbrev pub with_put : PutView T → Item T → PutView T
   with_put e x = put_end e.lane e.sender (e.put ++ x ∷ [])

@@ -88,6 +88,14 @@ module _ {T : Type 0} where
   abbrev pub take_on : EndRecord T → Item T → EndRecord T
   take_on v x = end_record v.ends v.parts v.puts (v.taken ++ x ∷ [])
 
+  -- the record of a put end of this sender, which put so many items
+  pub record IsPutRecord (sender count : ℕ) (v : EndRecord T) : Type 0 where
+    pub puts : v.puts ≡ (sender, put_of v) ∷ []
+    pub counted : count ≡ length (put_of v)
+    pub parts : v.parts ≡ 1
+    pub few : v.ends ≤ 65536
+    pub taken : v.taken ≡ []
+
   -- a put end's step
   abbrev pub Puts : EndRecord T → Item T → EndRecord T → Type 0
   Puts v x w = w ≡ put_on v x

@@ -1,5 +1,5 @@
 use Rattle.std.proofs.Math.Seq.{take-append_seam}
-use Rattle.std.proofs.Common.{IsSomeAnd, arith, Option, Some, unwrap_or, [], slice_index, ◌≡◌, ◌<◌, List, length, take, ◌++◌, subst, ◌∙◌, ap, sym, ℕ}
+use Rattle.std.proofs.Common.{◌≡◌, ◌<◌, List, length, take, ◌++◌, subst, ◌∙◌, ap, sym, ℕ}
 use Rattle.std.specs.Int.Bits.{bit_xor}
 use Rattle.lrc_field.specs.Field.{times}
 use Rattle.std.specs.Int.Bits.{xor_zero_l, xor_assoc}
@@ -10,8 +10,11 @@ pub scaled_step : (o f s m x : ℕ) → x ≡ times f s → bit_xor o (times x m
 scaled_step o f s m x e = ap (λ y. bit_xor o y) (ap (λ y. times y m) e ∙ times-assoc f s m)
 
 -- the two branches, one after the other
-pub summed_step : (o f m n x : ℕ) → x ≡ bit_xor o (times f m) → bit_xor x (times f n) ≡ bit_xor o (times f (bit_xor m n))
-summed_step o f m n x e = ap (λ y. bit_xor y (times f n)) e ∙ xor_assoc o (times f m) (times f n) ∙ ap (λ y. bit_xor o y) (sym (times-xor f m n))
+pub summed_step : (o f m n x : ℕ) → x ≡ bit_xor o (times f m)
+    → bit_xor x (times f n) ≡ bit_xor o (times f (bit_xor m n))
+summed_step o f m n x e =
+    ap (λ y. bit_xor y (times f n)) e ∙ xor_assoc o (times f m) (times f n)
+    ∙ ap (λ y. bit_xor o y) (sym (times-xor f m n))
 
 -- what a `Vec` holds after a write through its slice
 pub written : (n : ℕ) (xs ys : List ℕ) → length xs ≡ n → take n (xs ++ ys) ≡ xs

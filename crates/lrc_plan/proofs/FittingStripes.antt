@@ -1,5 +1,5 @@
 -- From plans to answers: stripes made of extensions at each position.
-use Rattle.std.proofs.Common.{◌≡◌, ◌≢◌, ℕ, suc, zero, ◌+◌, ◌<◌, ◌≤◌, ◌^◌, List, [], ◌∷◌, length, map, get_or, Bool, true, false, cond, Option, Some, None, refl, ap, ap₂, sym, ◌∙◌, subst, arith, inl, inr, ◌⊎◌, All, lit<, zero-add}
+use Rattle.std.proofs.Common.{◌≡◌, ℕ, suc, ◌<◌, ◌≤◌, List, [], ◌∷◌, length, map, get_or, Bool, true, cond, None, refl, ap, ap₂, sym, ◌∙◌, subst, arith, inl, inr, ◌⊎◌, All, lit<, zero-add}
 use Rattle.std.specs.Prelude.{◌||◌}
 use Rattle.std.specs.List.{range_with_len}
 use Rattle.std.specs.Int.Bits.{bit_xor, xor_self, xor_zero_r}
@@ -11,35 +11,41 @@ use Rattle.lrc_field.proofs.Shift.{cancel}
 use Rattle.lrc_code.specs.declared.places.Place.{Place}
 use Rattle.lrc_code.specs.declared.outcomes.Outcome.TheVariants.{Rebuilt, Contradiction, Several}
 use Rattle.lrc_code.specs.Places.{same_place}
-use Rattle.lrc_code.specs.Code.{AreBytes, narrow, narrow_places, narrow_equations, combination, Solves, bytes_at, IsInCode}
+use Rattle.lrc_code.specs.Code.{AreBytes, narrow, narrow_places, narrow_equations, combination, Solves, bytes_at}
 use Rattle.lrc_code.specs.Requests.{Asked, Survivor, is_among, bytes_of, refusal}
 use Rattle.lrc_code.specs.Answers.{Fits, IsAnswer}
 use Rattle.lrc_code.specs.Sums.{GivesBytes}
 use Rattle.lrc_code.proofs.PlaceSums.{at_places, same_place-eq}
 use Rattle.lrc_code.proofs.CodeLaws.{code-linear}
 use Rattle.lrc_code.proofs.RequestLaws.{accepted_length, accepted_lengths, accepted_bytes, survivors_hold_bytes, among_at}
-use Rattle.lrc_plan.specs.Form.{Form, meaning, has_leaf}
+use Rattle.lrc_plan.specs.Form.{Form, meaning}
 use Rattle.lrc_plan.specs.Extensions.{Extends}
-use Rattle.lrc_plan.specs.Evaluation.{byte_at, AreWhole, CanEvaluate, IsValue, IsZero}
+use Rattle.lrc_plan.specs.Evaluation.{byte_at, CanEvaluate, IsValue}
+use Rattle.lrc_plan.specs.EvaluationParts.{AreWhole, IsZero}
 use Rattle.lrc_plan.specs.Planned.{LeavesSurvive, ExtensionsDiffer, AreChecks}
 
 -- a stripe that equals survivors has at their places what survives there
-stripe_bytes : (st : Place → List ℕ) (ss : List Survivor) → All (λ x. st x.place ≡ x.bytes) ss → (p : Place) → is_among p ss ≡ true → st p ≡ bytes_of ss p
+stripe_bytes : (st : Place → List ℕ) (ss : List Survivor) → All (λ x. st x.place ≡ x.bytes) ss → (p : Place)
+    → is_among p ss ≡ true → st p ≡ bytes_of ss p
 stripe_bytes st [] h p a = absurd (cc)
 stripe_bytes st (s ∷ ss) h p a = elim (cases_Bool (same_place p s.place)) as (λ _. st p ≡ bytes_of (s ∷ ss) p) [
   | inl t ↦ ap st (same_place-eq p s.place t) ∙ h 0 s (omega arith) ∙ sym (ap (λ b. cond b s.bytes (bytes_of ss p)) t)
-  | inr f ↦ stripe_bytes st ss (λ k d lt. h (suc k) d (omega arith)) p (sym (ap (λ b. b || is_among p ss) f) ∙ a) ∙ sym (ap (λ b. cond b s.bytes (bytes_of ss p)) f)
+  | inr f ↦ stripe_bytes st ss (λ k d lt. h (suc k) d (omega arith)) p
+      (sym (ap (λ b. b || is_among p ss) f) ∙ a) ∙ sym (ap (λ b. cond b s.bytes (bytes_of ss p)) f)
 ]
 
 map_same : (ps : List Place) (b d : Place → ℕ) → ((p : Place) → b p ≡ d p) → map b ps ≡ map d ps
 map_same [] b d h = refl
 map_same (p ∷ ps) b d h = ap₂ (λ x xs. x ∷ xs) (h p) (map_same ps b d h)
 
-solves_same : (rows : List (List ℕ)) (ps : List Place) (b d : Place → ℕ) → ((p : Place) → b p ≡ d p) → Solves rows ps b → Solves rows ps d
+solves_same : (rows : List (List ℕ)) (ps : List Place) (b d : Place → ℕ) → ((p : Place) → b p ≡ d p)
+    → Solves rows ps b → Solves rows ps d
 solves_same rows ps b d h s = λ k row lt. ap (combination (get_or rows k row)) (sym (map_same ps b d h)) ∙ s k row lt
 
-pub All-of_map : {X : Type 0} (P : Form → Type 0) (f : X → Form) (xs : List X) → All P (map f xs) → All (λ x. P (f x)) xs
-All-of_map P f xs h = λ k d lt. subst P (get_or-map f xs k d (f d) lt) (h k (f d) (subst (λ n. k < n) (sym (length-map xs f)) lt))
+pub All-of_map : {X : Type 0} (P : Form → Type 0) (f : X → Form) (xs : List X) → All P (map f xs)
+    → All (λ x. P (f x)) xs
+All-of_map P f xs h = λ k d lt. subst P (get_or-map f xs k d (f d) lt)
+    (h k (f d) (subst (λ n. k < n) (sym (length-map xs f)) lt))
 
 module _ (r : Asked) (accepted : refusal r ≡ None) (bytes : All (λ s. AreBytes s.bytes) r.survivors) where
   pub whole : AreWhole r
@@ -60,7 +66,8 @@ module _ (r : Asked) (accepted : refusal r ≡ None) (bytes : All (λ s. AreByte
     fits_at : (st : Place → List ℕ) → Fits narrow r st → (p : Place) → (length (st p) ≡ r.len) × AreBytes (st p)
     fits_at st f p = at_places (λ q. (length (st q) ≡ r.len) × AreBytes (st q)) (λ k d lt. f.in_code.is_stripe k d lt) p
 
-    fits_extends : (st : Place → List ℕ) → Fits narrow r st → (i : ℕ) → i < r.len → Extends narrow survives (byte_at r i) (bytes_at st i)
+    fits_extends : (st : Place → List ℕ) → Fits narrow r st → (i : ℕ) → i < r.len
+        → Extends narrow survives (byte_at r i) (bytes_at st i)
     fits_extends st f i h = record {
       bytes = λ p. (fits_at st f p).1 i 0 (subst (λ n. i < n) (sym (fits_at st f p).0) h);
       solves = f.in_code.solves i h;
@@ -78,27 +85,40 @@ module _ (r : Asked) (accepted : refusal r ≡ None) (bytes : All (λ s. AreByte
     length-made : (e : ℕ → Place → ℕ) (p : Place) → length (made e p) ≡ r.len
     length-made e p = length-map-range_with_len (λ j. e j p) 0 r.len
 
-    made_fits : (e : ℕ → Place → ℕ) → ((i : ℕ) → i < r.len → Extends narrow survives (byte_at r i) (e i)) → Fits narrow r (made e)
+    made_fits : (e : ℕ → Place → ℕ) → ((i : ℕ) → i < r.len → Extends narrow survives (byte_at r i) (e i))
+        → Fits narrow r (made e)
     made_fits e x = record {
       in_code = record {
         is_stripe = λ k d lt. stripe (get_or narrow_places k d);
-        solves = λ k h. solves_same narrow_equations narrow_places (e k) (bytes_at (made e) k) (λ p. sym (made_at e k p 0 h)) (x k h).solves;
+        solves = λ k h. solves_same narrow_equations narrow_places (e k) (bytes_at (made e) k)
+            (λ p. sym (made_at e k p 0 h)) (x k h).solves;
       };
-      survivors = λ k d lt. survivor (get_or r.survivors k d) (among_at r.survivors k d lt) ∙ accepted_bytes r accepted k d lt;
+      survivors = λ k d lt. survivor (get_or r.survivors k d) (among_at r.survivors k d lt)
+          ∙ accepted_bytes r accepted k d lt;
     }
       where
         stripe : (p : Place) → (length (made e p) ≡ r.len) × AreBytes (made e p)
-        stripe p = (length-made e p, λ k d lt. (let h : k < r.len = subst (λ n. k < n) (length-made e p) lt in subst (λ v. v < 256) (sym (made_at e k p d h)) ((x k h).bytes p)))
+        stripe p = (
+          length-made e p,
+          λ k d lt.
+              (let h : k < r.len = subst (λ n. k < n) (length-made e p) lt in subst (λ v. v < 256)
+              (sym (made_at e k p d h)) ((x k h).bytes p)),
+        )
 
-        survivor : (y : Survivor) → is_among y.place r.survivors ≡ true → made e y.place ≡ bytes_of r.survivors y.place
-        survivor y a = ext_get_or 0 (made e y.place) (bytes_of r.survivors y.place) (length-made e y.place ∙ sym (accepted_lengths r accepted y.place a))
-            (λ i lt. let h : i < r.len = subst (λ n. i < n) (length-made e y.place) lt in made_at e i y.place 0 h ∙ (x i h).kept y.place (same y.place ∙ a))
+        survivor : (y : Survivor) → is_among y.place r.survivors ≡ true
+            → made e y.place ≡ bytes_of r.survivors y.place
+        survivor y a = ext_get_or 0 (made e y.place) (bytes_of r.survivors y.place)
+            (length-made e y.place ∙ sym (accepted_lengths r accepted y.place a))
+            (λ i lt. let h : i < r.len =
+            subst (λ n. i < n) (length-made e y.place) lt in made_at e i y.place 0 h
+            ∙ (x i h).kept y.place (same y.place ∙ a))
 
     module _ (checks : List Form) (of_survivors : AreChecks narrow survives checks) where
       -- ---- some check isn't 0
 
       pub contradiction : (¬ All (IsZero r) checks) → IsAnswer narrow r Contradiction
-      contradiction n st f = n (λ k d lt i h. (of_survivors.possible (byte_at r i) (byte_at-lt i)).0 (bytes_at st i, fits_extends st f i h) k d lt)
+      contradiction n st f = n (λ k d lt i h. (of_survivors.possible (byte_at r i) (byte_at-lt i)).0
+          (bytes_at st i, fits_extends st f i h) k d lt)
 
       -- ---- all checks are 0
 
@@ -110,7 +130,8 @@ module _ (r : Asked) (accepted : refusal r ≡ None) (bytes : All (λ s. AreByte
         pick i (inl lt) = (extension i lt).0
         pick i (inr le) = λ p. 0
 
-        pick_is : (i : ℕ) (w : (i < r.len) ⊎ (r.len ≤ i)) → i < r.len → Extends narrow survives (byte_at r i) (pick i w)
+        pick_is : (i : ℕ) (w : (i < r.len) ⊎ (r.len ≤ i)) → i < r.len
+            → Extends narrow survives (byte_at r i) (pick i w)
         unfolding pick extension
         pick_is i (inl lt) h = (extension i lt).1
         pick_is i (inr le) h = absurd (omega (arith, le, h))
@@ -122,7 +143,9 @@ module _ (r : Asked) (accepted : refusal r ≡ None) (bytes : All (λ s. AreByte
         unfolding chosen pick
         chosen_is i h = pick_is i (cases_lt i r.len) h
 
-        pub rebuilt : (t : Form) → ((s e : Place → ℕ) → GivesBytes s → Extends narrow survives s e → meaning s t ≡ e r.target) → (out : List ℕ) → IsValue r t out → IsAnswer narrow r (Rebuilt out)
+        pub rebuilt : (t : Form)
+            → ((s e : Place → ℕ) → GivesBytes s → Extends narrow survives s e → meaning s t ≡ e r.target)
+            → (out : List ℕ) → IsValue r t out → IsAnswer narrow r (Rebuilt out)
         rebuilt t right out v = (
           (made chosen, made_fits chosen chosen_is),
           (λ st f. ext_get_or 0 (st r.target) out ((fits_at st f r.target).0 ∙ sym v.len)
@@ -132,7 +155,14 @@ module _ (r : Asked) (accepted : refusal r ≡ None) (bytes : All (λ s. AreByte
 
         -- a second stripe: the first and the sum of two extensions that differ
         pub several : ExtensionsDiffer narrow survives r.target → IsAnswer narrow r Several
-        several (s, d, e, hs, hd, he, apart) = (made chosen, made other, made_fits chosen chosen_is, made_fits other other_is, λ same_bytes. apart (equal same_bytes))
+        several (s, d, e, hs, hd, he, apart) = (
+          made chosen,
+          made other,
+          made_fits chosen chosen_is,
+          made_fits other other_is,
+          λ same_bytes.
+              apart (equal same_bytes),
+        )
           where
             other : ℕ → Place → ℕ
             other i p = bit_xor (chosen i p) (bit_xor (d p) (e p))
@@ -140,8 +170,11 @@ module _ (r : Asked) (accepted : refusal r ≡ None) (bytes : All (λ s. AreByte
             other_is : (i : ℕ) → i < r.len → Extends narrow survives (byte_at r i) (other i)
             other_is i h = record {
               bytes = λ p. xor_lt 8 _ _ ((chosen_is i h).bytes p) (xor_lt 8 _ _ (hd.bytes p) (he.bytes p));
-              solves = code-linear narrow (chosen i) (λ p. bit_xor (d p) (e p)) (chosen_is i h).solves (code-linear narrow d e hd.solves he.solves);
-              kept = λ p l. ap (bit_xor (chosen i p)) (ap₂ bit_xor (hd.kept p l) (he.kept p l) ∙ xor_self (s p)) ∙ xor_zero_r (chosen i p) ∙ (chosen_is i h).kept p l;
+              solves = code-linear narrow (chosen i) (λ p. bit_xor (d p) (e p)) (chosen_is i h).solves
+                  (code-linear narrow d e hd.solves he.solves);
+              kept = λ p l. ap (bit_xor (chosen i p))
+                  (ap₂ bit_xor (hd.kept p l) (he.kept p l) ∙ xor_self (s p)) ∙ xor_zero_r (chosen i p) ∙
+                  (chosen_is i h).kept p l;
             }
 
             no_change : (a w : ℕ) → a ≡ bit_xor a w → w ≡ 0
@@ -150,5 +183,8 @@ module _ (r : Asked) (accepted : refusal r ≡ None) (bytes : All (λ s. AreByte
             equal : made chosen r.target ≡ made other r.target → d r.target ≡ e r.target
             equal k =
                 let h : 0 < r.len = accepted_length r accepted in
-                let at : chosen 0 r.target ≡ other 0 r.target = sym (made_at chosen 0 r.target 0 h) ∙ ap (λ xs. get_or xs 0 0) k ∙ made_at other 0 r.target 0 h in
-                sym (xor_zero_r (d r.target)) ∙ ap (bit_xor (d r.target)) (sym (no_change (chosen 0 r.target) (bit_xor (d r.target) (e r.target)) at)) ∙ cancel (d r.target) (e r.target)
+                let at : chosen 0 r.target ≡ other 0 r.target = sym (made_at chosen 0 r.target 0 h) ∙ ap
+                (λ xs. get_or xs 0 0) k ∙ made_at other 0 r.target 0 h in
+                sym (xor_zero_r (d r.target)) ∙ ap (bit_xor (d r.target))
+                (sym (no_change (chosen 0 r.target) (bit_xor (d r.target) (e r.target)) at)) ∙ cancel
+                (d r.target) (e r.target)

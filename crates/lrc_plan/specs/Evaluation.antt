@@ -1,8 +1,6 @@
 -- What a tree gives at each position of a request.
-use Rattle.std.specs.Prelude.{◌≡◌, ◌<◌, ◌+◌, ℕ, List, true, length, slice_index}
-use Rattle.lrc_field.specs.Field.{times}
+use Rattle.std.specs.Prelude.{◌≡◌, ◌<◌, ℕ, List, true, length, slice_index}
 use Rattle.lrc_code.specs.declared.places.Place.{Place}
-use Rattle.lrc_code.specs.Code.{AreBytes}
 use Rattle.lrc_code.specs.Requests.{Asked, is_among, bytes_of}
 use Rattle.lrc_plan.specs.Form.{Form, meaning, has_leaf}
 
@@ -14,30 +12,7 @@ byte_at r i p = slice_index (bytes_of r.survivors p) i
 abbrev pub CanEvaluate : Asked → Form → Type 0
 CanEvaluate r t = (p : Place) → has_leaf t p ≡ true → is_among p r.survivors ≡ true
 
--- the survivors have bytes, as many as the request's length
-abbrev pub AreWhole : Asked → Type 0
-AreWhole r = (p : Place) → is_among p r.survivors ≡ true → (length (bytes_of r.survivors p) ≡ r.len) × AreBytes (bytes_of r.survivors p)
-
 -- the form's meaning at each position
 pub record IsValue (r : Asked) (t : Form) (bytes : List ℕ) : Type 0 where
   pub len : length bytes ≡ r.len
   pub at : (i : ℕ) → i < r.len → slice_index bytes i ≡ meaning (byte_at r i) t
-
--- the form means 0 at every position
-abbrev pub IsZero : Asked → Form → Type 0
-IsZero r t = (i : ℕ) → i < r.len → meaning (byte_at r i) t ≡ 0
-
--- a factor times the form's meaning at each position
-pub record IsScaledValue (factor : ℕ) (r : Asked) (t : Form) (bytes : List ℕ) : Type 0 where
-  pub len : length bytes ≡ r.len
-  pub at : (i : ℕ) → i < r.len → slice_index bytes i ≡ times factor (meaning (byte_at r i) t)
-
--- every byte is 0
-abbrev pub AreZeros : List ℕ → Type 0
-AreZeros bytes = (i : ℕ) → i < length bytes → slice_index bytes i ≡ 0
-
--- how many nodes a form has
-abbrev pub node_total : Form → ℕ
-node_total (Form.Leaf p) = 1
-node_total (Form.Scale c t) = node_total t + 1
-node_total (Form.Sum s t) = node_total s + node_total t + 1

@@ -2,7 +2,9 @@ pub mod Form
 pub mod Tree
 pub mod Extensions
 pub mod Evaluation
+pub mod EvaluationParts
 pub mod Planned
+pub mod PlanForms
 pub mod Rows
 pub mod ReducedRows
 pub mod Sums

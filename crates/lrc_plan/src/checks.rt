@@ -1,17 +1,16 @@
-// The checks of the survivors.
+//! The checks of the survivors.
 ghost use Rattle.lrc_code.specs.Code.{narrow};
-ghost use Rattle.std.specs.Prelude.{◌≡◌, ◌<◌, ◌+◌, ℕ, map, IfOk, OnOk, vec_len};
-ghost use Rattle.lrc_code.specs.declared.places.Place.{Place};
+ghost use Rattle.std.specs.Prelude.{◌≡◌, ◌<◌, ◌+◌, map, All, IfOk, OnOk, vec_len};
 ghost use Rattle.lrc_code.specs.Sets.{is_in};
 ghost use Rattle.lrc_plan.specs.Tree.{form_of};
 ghost use Rattle.lrc_plan.specs.ReducedRows.{AreReduced};
 ghost use Rattle.lrc_plan.specs.Rows.{coef_of, pivot_of};
-ghost use Rattle.lrc_plan.specs.Planned.{AreChecks};
+ghost use Rattle.lrc_plan.specs.Planned.{AreChecks, IsShallow};
 ghost use Rattle.lrc_plan.specs.ChecksBelow.{AreChecksBelow};
 ghost use Rattle.lrc_plan.specs.Planned.{rows_without_pivot};
 
 use crate::products::row_tree;
-use crate::rows::{PLACES, row_of};
+use crate::rows::{PLACES, count_without_pivot, row_of};
 use crate::tree::Tree;
 use lrc_code::{PlaceSet, Reduced};
 use std::alloc::{AllocError, Allocator};
@@ -24,9 +23,10 @@ pub(crate) fn checks_of<A: Allocator + Clone>(
 ) -> Result<Vec<Tree<A>, A>, AllocError>
     requires { AreReduced (is_in survivors) (coef_of reduced.now) (pivot_of reduced.now) }
     ensures checks { IfOk result (λ v. AreChecks narrow (is_in survivors) (map form_of v.items)) }
+    ensures shallow { IfOk result (λ v. All IsShallow (map form_of v.items)) }
     ensures count { IfOk result (λ v. vec_len v ≡ rows_without_pivot (pivot_of reduced.now) 4) }
 {
-    let mut checks = Vec::new(alloc.clone()?);
+    let mut checks = Vec::with_capacity(alloc.clone()?, count_without_pivot(reduced))?;
     for row in 0..4usize {
         add_check(alloc, reduced, survivors, row, &mut checks)?;
     }
@@ -43,8 +43,10 @@ fn add_check<A: Allocator + Clone>(
 ) -> Result<(), AllocError>
     requires row { row < 4 }
     requires reduced { AreReduced (is_in survivors) (coef_of reduced.now) (pivot_of reduced.now) }
-    requires below { AreChecksBelow (is_in survivors) (coef_of reduced.now) (pivot_of reduced.now) row (map form_of checks.old.items) }
-    ensures { OnOk result (AreChecksBelow (is_in survivors) (coef_of reduced.now) (pivot_of reduced.now) (row + 1) (map form_of checks.new.items)) }
+    requires below { AreChecksBelow (is_in survivors) (coef_of reduced.now) (pivot_of reduced.now)
+        row (map form_of checks.old.items) }
+    ensures { OnOk result (AreChecksBelow (is_in survivors) (coef_of reduced.now) (pivot_of reduced.now)
+        (row + 1) (map form_of checks.new.items)) }
 {
     match reduced.pivot(row) {
         Some(_) => Ok(()),

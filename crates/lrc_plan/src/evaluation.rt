@@ -1,17 +1,17 @@
 //! What a tree gives at each position of a request.
-ghost use Rattle.std.specs.Prelude.{◌≡◌, ◌<◌, ℕ, true, false, length, slice_index, IfOk};
-ghost use Rattle.std.specs.Int.Bits.{bit_xor};
-ghost use Rattle.lrc_field.specs.Field.{times};
+ghost use Rattle.std.specs.Prelude.{◌≡◌, ◌<◌, ℕ, true, false, length, IfOk};
 ghost use Rattle.lrc_plan.specs.Form.{meaning};
 ghost use Rattle.lrc_plan.specs.Tree.{form_of};
-ghost use Rattle.lrc_plan.specs.Evaluation.{byte_at, CanEvaluate, AreWhole, AreZeros, IsValue};
+ghost use Rattle.lrc_plan.specs.Evaluation.{byte_at, CanEvaluate, IsValue};
+ghost use Rattle.lrc_plan.specs.EvaluationParts.{AreWhole, AreZeros, IsProductAdded, IsScaledValue, IsValueAdded};
 
 use crate::tree::Tree;
 use lrc_code::Request;
 use lrc_field::{Gf, add_into, scale_add_into};
 use std::alloc::{AllocError, Allocator, Global};
 
-/// The tree's value at each position of the request.
+/// The tree's value at each position of the request, in one vector of the request's length. The leaves are
+/// survivors of the request.
 pub fn evaluate<A: Allocator>(
     alloc: Global,
     tree: &Tree<A>,
@@ -24,7 +24,7 @@ pub fn evaluate<A: Allocator>(
     Ok(bytes)
 }
 
-// `evaluate` in any allocator. One vector serves the whole tree.
+// `evaluate` in any allocator.
 pub(crate) fn evaluate_in<A: Allocator, B: Allocator>(
     alloc: B,
     tree: &Tree<A>,
@@ -33,8 +33,23 @@ pub(crate) fn evaluate_in<A: Allocator, B: Allocator>(
     requires { CanEvaluate request.now (form_of tree.now) }
     ensures { IfOk result (λ v. IsValue request.now (form_of tree.now) v.items) }
 {
+    let _ = request.length();
+    let bytes = evaluate_scaled(alloc, tree, Gf::new(1), request)?;
+    Ok(bytes)
+}
+
+// A factor times the tree's value at each position.
+pub(crate) fn evaluate_scaled<A: Allocator, B: Allocator>(
+    alloc: B,
+    tree: &Tree<A>,
+    factor: Gf,
+    request: &Request,
+) -> Result<Vec<u8, B>, AllocError>
+    requires { CanEvaluate request.now (form_of tree.now) }
+    ensures { IfOk result (λ v. IsScaledValue factor request.now (form_of tree.now) v.items) }
+{
     let mut bytes = zeros(alloc, request.length() as usize)?;
-    add_value(tree, request, bytes.as_mut_slice());
+    add_scaled(tree, factor, request, bytes.as_mut_slice());
     Ok(bytes)
 }
 
@@ -67,7 +82,7 @@ pub(crate) fn add_scaled<A: Allocator>(
     requires whole { AreWhole request.now }
     requires length { length dst.old ≡ request.now.len }
     ensures small { (i : ℕ) → i < length dst.old → meaning (byte_at request.now i) (form_of tree.now) < 256 }
-    ensures sum { (i : ℕ) → i < length dst.old → slice_index dst.new i ≡ bit_xor (slice_index dst.old i) (times factor (meaning (byte_at request.now i) (form_of tree.now))) }
+    ensures sum { IsValueAdded factor request.now (form_of tree.now) dst.old dst.new }
 {
     match tree {
         Tree::Leaf(place) => {
@@ -86,7 +101,7 @@ pub(crate) fn add_scaled<A: Allocator>(
 // Adds a factor times the bytes. The factor 01 needs no products.
 fn add_product(dst: &mut [u8], factor: Gf, src: &[u8])
     requires { length dst.old ≡ length src.now }
-    ensures { (i : ℕ) → i < length src.now → slice_index dst.new i ≡ bit_xor (slice_index dst.old i) (times factor (slice_index src.now i)) }
+    ensures { IsProductAdded factor src.now dst.old dst.new }
 {
     if factor.byte() == 1 {
         add_into(dst, src);
@@ -100,9 +115,9 @@ pub(crate) fn are_zeros(bytes: &[u8]) -> bool
     ensures yes { result ≡ true → AreZeros bytes.now }
     ensures no { result ≡ false → ¬ AreZeros bytes.now }
 {
-    let mut union = 0u8;
+    let mut bits = 0u8;
     for byte in bytes {
-        union |= *byte;
+        bits |= *byte;
     }
-    union == 0
+    bits == 0
 }

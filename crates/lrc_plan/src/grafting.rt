@@ -1,5 +1,5 @@
 //! Trees put in the place of leaves.
-ghost use Rattle.std.specs.Prelude.{◌≡◌, ◌≤◌, ◌+◌, ◌||◌, false, min, Ok, IfOk, IfErr, OnOk, vec_len, All};
+ghost use Rattle.std.specs.Prelude.{◌≡◌, ◌≤◌, ◌+◌, false, min, Ok, IfOk, IfErr, OnOk, vec_len, All};
 ghost use Rattle.lrc_plan.specs.Form.{has_leaf, grafted, place_total};
 ghost use Rattle.lrc_plan.specs.Tree.{form_of};
 

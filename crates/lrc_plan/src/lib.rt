@@ -1,4 +1,6 @@
-//! Plans: trees that give a lost fragment from survivors, and what they give.
+//! Plans: trees that give a lost fragment from survivors, what they give, and the answer to a request. The code
+//! is the (6,2,2) code of Huang et al., "Erasure Coding in Windows Azure Storage", USENIX ATC 2012, sections 2
+//! and 3.
 #![tactic(auto)]
 
 mod both_branches;
@@ -12,6 +14,8 @@ mod products;
 mod rows;
 mod solved;
 mod solving;
+#[cfg(test)]
+mod tests;
 mod tree;
 mod value;
 

@@ -1,14 +1,13 @@
-// The tree of a row.
-ghost use Rattle.std.specs.Prelude.{◌≡◌, ◌≢◌, ◌<◌, ℕ, true, IfOk, IfSome, IsSome, IsNone, ◌||◌, slice_index, All};
+//! The tree of a row of coefficients.
+ghost use Rattle.std.specs.Prelude.{◌≡◌, ◌≢◌, ◌≤◌, ◌+◌, ℕ, max, length, true, IfOk, IfSome, IsSome, IsNone, ◌||◌, slice_index, All};
 ghost use Rattle.std.specs.Option.{option_map};
 ghost use Rattle.lrc_code.specs.declared.places.Place.{Place};
-ghost use Rattle.lrc_code.specs.Sums.{GivesBytes, sum_over};
+ghost use Rattle.lrc_code.specs.Sums.{GivesBytes};
 ghost use Rattle.lrc_code.specs.Places.{index_of};
-ghost use Rattle.std.specs.Int.Bits.{bit_xor};
 ghost use Rattle.lrc_field.specs.Field.{times};
-ghost use Rattle.lrc_plan.specs.Form.{meaning, has_leaf};
+ghost use Rattle.lrc_plan.specs.Form.{meaning, has_leaf, depth};
 ghost use Rattle.lrc_plan.specs.Tree.{form_of};
-ghost use Rattle.lrc_plan.specs.Sums.{sum_meaning, some_leaf};
+ghost use Rattle.lrc_plan.specs.Sums.{MeansRow, MeansOneMore, some_leaf, some_depth};
 
 use crate::tree::Tree;
 use lrc_code::Place;
@@ -18,6 +17,7 @@ use std::alloc::{AllocError, Allocator};
 // A scalar times a place's byte.
 fn product<A: Allocator>(alloc: A, scalar: Gf, place: Place) -> Result<Tree<A>, AllocError>
     ensures value { IfOk result (λ t. (b : Place → ℕ) → GivesBytes b → meaning b (form_of t) ≡ times scalar (b place)) }
+    ensures depth { IfOk result (λ t. depth (form_of t) ≤ 2) }
     ensures leaf { IfOk result (λ t. (p : Place) → has_leaf (form_of t) p ≡ true → p ≡ place) }
 {
     let leaf = Tree::Leaf(place);
@@ -28,13 +28,15 @@ fn product<A: Allocator>(alloc: A, scalar: Gf, place: Place) -> Result<Tree<A>, 
 }
 
 // The sum of a row's products over places, with no tree where all coefficients are 0.
-pub fn row_tree<A: Allocator + Clone>(
+pub(crate) fn row_tree<A: Allocator + Clone>(
     alloc: &A,
     row: &[Gf; 10],
     places: &[Place],
 ) -> Result<Option<Tree<A>>, AllocError>
-    ensures value { IfOk result (λ o. (b : Place → ℕ) → GivesBytes b → sum_meaning b (option_map form_of o) ≡ sum_over places.now (λ p. times (slice_index row.now (index_of p)) (b p))) }
-    ensures leaves { IfOk result (λ o. IfSome o (λ t. (p : Place) → has_leaf (form_of t) p ≡ true → slice_index row.now (index_of p) ≢ 0)) }
+    ensures value { IfOk result (λ o. MeansRow row.now places.now (option_map form_of o)) }
+    ensures depth { IfOk result (λ o. some_depth (option_map form_of o) ≤ length places.now + 2) }
+    ensures leaves { IfOk result (λ o. IfSome o (λ t.
+        (p : Place) → has_leaf (form_of t) p ≡ true → slice_index row.now (index_of p) ≢ 0)) }
     ensures none { IfOk result (λ o. IsNone o → All (λ p. slice_index row.now (index_of p) ≡ 0) places.now) }
 {
     match places {
@@ -52,13 +54,17 @@ pub fn row_tree<A: Allocator + Clone>(
     }
 }
 
+// One term more in front of the others.
 fn added<A: Allocator + Clone>(
     alloc: &A,
     own: Tree<A>,
     others: Option<Tree<A>>,
 ) -> Result<Option<Tree<A>>, AllocError>
-    ensures value { IfOk result (λ o. (b : Place → ℕ) → sum_meaning b (option_map form_of o) ≡ bit_xor (meaning b (form_of own)) (sum_meaning b (option_map form_of others))) }
-    ensures leaves { IfOk result (λ o. IfSome o (λ t. (p : Place) → has_leaf (form_of t) p ≡ (has_leaf (form_of own) p || some_leaf (option_map form_of others) p))) }
+    ensures value { IfOk result (λ o. MeansOneMore (form_of own) (option_map form_of others) (option_map form_of o)) }
+    ensures depth { IfOk result (λ o. some_depth (option_map form_of o)
+        ≤ max (depth (form_of own)) (some_depth (option_map form_of others)) + 1) }
+    ensures leaves { IfOk result (λ o. IfSome o (λ t. (p : Place)
+        → has_leaf (form_of t) p ≡ (has_leaf (form_of own) p || some_leaf (option_map form_of others) p))) }
     ensures some { IfOk result IsSome }
 {
     match others {

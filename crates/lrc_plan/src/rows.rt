@@ -1,14 +1,18 @@
-// The rows of a reduction.
-ghost use Rattle.std.specs.Prelude.{◌≡◌, ◌≢◌, ◌<◌, ℕ, true, false, Some, MatchOption, length, slice_index, slice_index_or};
+//! The rows of a reduction.
+ghost use Rattle.std.specs.Prelude.{◌≡◌, ◌≢◌, ◌<◌, ℕ, true, false, Some, MatchOption, slice_index};
 ghost use Rattle.std.specs.Bool.{OnTrue};
 ghost use Rattle.lrc_code.specs.declared.places.Place.{Place};
-ghost use Rattle.lrc_code.specs.Places.{index_of, same_place};
+ghost use Rattle.lrc_code.specs.Places.{index_of};
 ghost use Rattle.lrc_code.specs.Sets.{is_in};
 ghost use Rattle.lrc_plan.specs.Rows.{coef_of, pivot_of};
+ghost use Rattle.lrc_plan.specs.Planned.{rows_without_pivot};
+ghost use Rattle.lrc_plan.specs.ReducedRows.{GivesTarget, HasOtherLost};
+ghost use Rattle.lrc_code.specs.Code.{narrow_places};
 
 use lrc_code::{Place, PlaceSet, Reduced};
 use lrc_field::Gf;
 
+/// The places of the (6,2,2) code, in the order of its tables.
 pub(crate) const PLACES: [Place; 10] = [
     Place::X0,
     Place::X1,
@@ -41,9 +45,24 @@ pub(crate) fn row_of(reduced: &Reduced, row: usize) -> [Gf; 10]
     ]
 }
 
+// The number of rows without a pivot.
+pub(crate) fn count_without_pivot(reduced: &Reduced) -> usize
+    ensures { result ≡ rows_without_pivot (pivot_of reduced.now) 4 }
+{
+    let mut count = 0;
+    for row in 0..4usize {
+        if reduced.pivot(row).is_none() {
+            count += 1;
+        }
+    }
+    count
+}
+
 // The row whose pivot the place is.
 pub(crate) fn row_with_pivot(reduced: &Reduced, place: Place) -> Option<usize>
-    ensures { MatchOption result ((r : ℕ) → r < 4 → pivot_of reduced.now r ≢ Some place) (λ r. (r < 4) × (pivot_of reduced.now r ≡ Some place)) }
+    ensures { MatchOption result
+        ((r : ℕ) → r < 4 → pivot_of reduced.now r ≢ Some place)
+        (λ r. (r < 4) × (pivot_of reduced.now r ≡ Some place)) }
 {
     for row in 0..4usize {
         if reduced.pivot(row) == Some(place) {
@@ -53,7 +72,7 @@ pub(crate) fn row_with_pivot(reduced: &Reduced, place: Place) -> Option<usize>
     None
 }
 
-// Whether the row is 00 at each lost place but one.
+// Whether the row is 00 at each lost place but the target, and so gives the target from survivors.
 pub(crate) fn determines(
     reduced: &Reduced,
     row: usize,
@@ -61,9 +80,10 @@ pub(crate) fn determines(
     target: Place,
     places: &[Place],
 ) -> bool
-    requires { row < 4 }
-    ensures yes { OnTrue result ((k : ℕ) (d : Place) → k < length places.now → is_in survivors (slice_index_or places.now k d) ≡ false → same_place target (slice_index_or places.now k d) ≡ false → coef_of reduced.now row (slice_index_or places.now k d) ≡ 0) }
-    ensures no { result ≡ false → (f : Place) × (is_in survivors f ≡ false) × (same_place target f ≡ false) × (coef_of reduced.now row f ≢ 0) }
+    requires row { row < 4 }
+    requires places { places.now ≡ narrow_places }
+    ensures yes { OnTrue result (GivesTarget (is_in survivors) (coef_of reduced.now) row target) }
+    ensures no { result ≡ false → HasOtherLost (is_in survivors) (coef_of reduced.now) row target }
 {
     for place in places {
         if !survivors.has(*place)

@@ -1,6 +1,5 @@
 //! Answers to requests.
-ghost use Rattle.std.specs.Prelude.{◌≡◌, ◌<◌, ℕ, true, false, IfOk, All, map, length, slice_index};
-ghost use Rattle.std.specs.Option.{option_map};
+ghost use Rattle.std.specs.Prelude.{◌≡◌, true, false, IfOk, IsNone, All, length, vec_len};
 ghost use Rattle.lrc_code.specs.declared.places.Place.{Place};
 ghost use Rattle.lrc_code.specs.Code.{narrow};
 ghost use Rattle.lrc_code.specs.Answers.{IsAnswer};
@@ -8,7 +7,9 @@ ghost use Rattle.lrc_code.specs.Requests.{is_among};
 ghost use Rattle.lrc_code.specs.Sets.{is_in};
 ghost use Rattle.lrc_plan.specs.Tree.{form_of};
 ghost use Rattle.lrc_plan.specs.Planned.{IsPlan};
-ghost use Rattle.lrc_plan.specs.Evaluation.{CanEvaluate, AreZeros, IsZero};
+ghost use Rattle.lrc_plan.specs.PlanForms.{value_form, check_forms};
+ghost use Rattle.lrc_plan.specs.Evaluation.{CanEvaluate};
+ghost use Rattle.lrc_plan.specs.EvaluationParts.{AreZeros, IsZero};
 ghost use Rattle.lrc_plan.specs.Solved.{outcome_of};
 
 use crate::evaluation::{add_value, are_zeros, zeros};
@@ -52,7 +53,8 @@ pub(crate) fn solve_in<A: Allocator + Clone, B: Allocator>(
     Ok(solved)
 }
 
-// What the plan answers. One vector serves the checks, which leave it 00, and then the value.
+// What the plan answers. One vector serves the checks, which leave it 00, and then the value; a plan of neither
+// needs none.
 fn apply<A: Allocator, B: Allocator>(
     alloc: B,
     survivors: PlaceSet,
@@ -60,10 +62,14 @@ fn apply<A: Allocator, B: Allocator>(
     request: &Request,
 ) -> Result<Solved<B>, AllocError>
     requires survivors { (p : Place) → is_in survivors p ≡ is_among p request.now.survivors }
-    requires plan { IsPlan narrow (is_in survivors) request.now.target (option_map form_of plan.now.value) (map form_of plan.now.checks.items) }
+    requires plan { IsPlan narrow (is_in survivors) request.now.target (value_form plan.now) (check_forms plan.now) }
     ensures { IfOk result (λ s. IsAnswer narrow request.now (outcome_of s)) }
 {
-    let mut bytes = zeros(alloc, request.length() as usize)?;
+    let length = request.length() as usize;
+    if has_no_trees(plan) {
+        return Ok(Solved::Several);
+    }
+    let mut bytes = zeros(alloc, length)?;
     let possible = are_zero(plan.checks.as_slice(), request, bytes.as_mut_slice());
     if !possible {
         return Ok(Solved::Contradiction);
@@ -75,6 +81,13 @@ fn apply<A: Allocator, B: Allocator>(
         }
         None => Ok(Solved::Several),
     }
+}
+
+fn has_no_trees<A: Allocator>(plan: &Plan<A>) -> bool
+    ensures checks { result ≡ true → vec_len plan.now.checks ≡ 0 }
+    ensures value { result ≡ true → IsNone (value_form plan.now) }
+{
+    plan.checks.is_empty() && plan.value.is_none()
 }
 
 // Whether all trees are 00 at every position; the bytes are then 00 again.

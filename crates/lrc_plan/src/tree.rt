@@ -4,9 +4,8 @@ ghost use Rattle.std.specs.Int.Bits.{bit_xor};
 ghost use Rattle.lrc_field.specs.Field.{times};
 ghost use Rattle.lrc_code.specs.declared.places.Place.{Place};
 ghost use Rattle.lrc_code.specs.Sets.{is_in};
-ghost use Rattle.lrc_code.specs.Sums.{GivesBytes};
-ghost use Rattle.lrc_code.specs.Code.{combination, narrow_places};
-ghost use Rattle.lrc_plan.specs.Form.{leaf_total, has_leaf, meaning};
+ghost use Rattle.lrc_code.specs.Code.{combination, narrow, narrow_places};
+ghost use Rattle.lrc_plan.specs.Form.{leaf_total, has_leaf, meaning, AreCoefficients};
 ghost use Rattle.lrc_plan.specs.Tree.{form_of};
 
 use lrc_code::{Place, PlaceSet};
@@ -55,7 +54,7 @@ impl<A: Allocator> Tree<A> {
 
     /// The coefficients of the same combination, in the order of the places.
     pub fn coefficients(&self) -> [Gf; 10]
-        ensures { (b : Place → ℕ) → GivesBytes b → combination result (map b narrow_places) ≡ meaning b (form_of self.now) }
+        ensures { AreCoefficients narrow result (form_of self.now) }
     {
         let mut sums = [Gf::new(0); 10];
         self.add_coefficients(Gf::new(1), &mut sums);
@@ -64,7 +63,8 @@ impl<A: Allocator> Tree<A> {
 
     // Adds the tree's coefficients, times a factor.
     fn add_coefficients(&self, factor: Gf, sums: &mut [Gf; 10])
-        ensures { (b : Place → ℕ) → combination sums.new (map b narrow_places) ≡ bit_xor (combination sums.old (map b narrow_places)) (times factor (meaning b (form_of self.now))) }
+        ensures { (b : Place → ℕ) → combination sums.new (map b narrow_places)
+            ≡ bit_xor (combination sums.old (map b narrow_places)) (times factor (meaning b (form_of self.now))) }
     {
         match self {
             Tree::Leaf(place) => {

@@ -1,14 +1,15 @@
-// The target's tree.
+//! The tree that gives the target.
 ghost use Rattle.lrc_code.specs.Code.{narrow};
-ghost use Rattle.std.specs.Prelude.{◌≡◌, ◌<◌, ℕ, true, false, [], ◌∷◌, IfOk, MatchOption, IsSomeAnd, Some};
+ghost use Rattle.std.specs.Prelude.{◌≡◌, ◌<◌, true, false, [], ◌∷◌, IsNone, IfOk, IfSome, MatchOption, IsSomeAnd, Some};
 ghost use Rattle.std.specs.Option.{option_map};
 ghost use Rattle.lrc_code.specs.declared.places.Place.{Place};
+ghost use Rattle.lrc_code.specs.Places.{group_of};
 ghost use Rattle.lrc_code.specs.Sets.{is_in};
 ghost use Rattle.lrc_plan.specs.Form.{Leaf, Sum};
 ghost use Rattle.lrc_plan.specs.Tree.{form_of};
 ghost use Rattle.lrc_plan.specs.ReducedRows.{AreReduced};
 ghost use Rattle.lrc_plan.specs.Rows.{coef_of, pivot_of};
-ghost use Rattle.lrc_plan.specs.Planned.{IsTargetValue, IsLocal, IsLocalTree, group_others};
+ghost use Rattle.lrc_plan.specs.Planned.{IsTargetValue, IsShallow, IsLocal, IsLocalTree, group_others};
 
 use crate::products::row_tree;
 use crate::rows::{PLACES, determines, row_of, row_with_pivot};
@@ -17,9 +18,9 @@ use lrc_code::{Place, PlaceSet, Reduced};
 use lrc_field::Gf;
 use std::alloc::{AllocError, Allocator};
 
-// The three other members of the place's group.
+// The three other members of the place's group, if it is in one.
 fn others_in_group(place: Place) -> Option<(Place, Place, Place)>
-    ensures { MatchOption result (group_others place ≡ []) (λ m. group_others place ≡ m.0 ∷ m.1 ∷ m.2 ∷ []) }
+    ensures { MatchOption result (IsNone (group_of place)) (λ m. group_others narrow place ≡ m.0 ∷ m.1 ∷ m.2 ∷ []) }
 {
     match place {
         Place::X0 => Some((Place::X1, Place::X2, Place::Px)),
@@ -34,9 +35,11 @@ fn others_in_group(place: Place) -> Option<(Place, Place, Place)>
     }
 }
 
-// The target's group_others, where all three survive.
+// The others of the target's group, where all three survive.
 fn surviving_others(survivors: PlaceSet, target: Place) -> Option<(Place, Place, Place)>
-    ensures { MatchOption result (¬ IsLocal (is_in survivors) target) (λ m. (group_others target ≡ m.0 ∷ m.1 ∷ m.2 ∷ [])
+    ensures { MatchOption result
+        (¬ IsLocal narrow (is_in survivors) target)
+        (λ m. (group_others narrow target ≡ m.0 ∷ m.1 ∷ m.2 ∷ [])
         × (is_in survivors m.0 ≡ true) × (is_in survivors m.1 ≡ true) × (is_in survivors m.2 ≡ true)) }
 {
     let (first, second, third) = others_in_group(target)?;
@@ -46,6 +49,7 @@ fn surviving_others(survivors: PlaceSet, target: Place) -> Option<(Place, Place,
     None
 }
 
+// Three leaves, added.
 fn sum_of_three<A: Allocator + Clone>(
     alloc: &A,
     first: Place,
@@ -70,7 +74,8 @@ fn row_value<A: Allocator + Clone>(
 ) -> Result<Option<Tree<A>>, AllocError>
     requires lost { is_in survivors target ≡ false }
     requires reduced { AreReduced (is_in survivors) (coef_of reduced.now) (pivot_of reduced.now) }
-    ensures { IfOk result (λ o. IsTargetValue narrow (is_in survivors) target (option_map form_of o)) }
+    ensures value { IfOk result (λ o. IsTargetValue narrow (is_in survivors) target (option_map form_of o)) }
+    ensures shallow { IfOk result (λ o. IfSome (option_map form_of o) IsShallow) }
 {
     let Some(row) = row_with_pivot(reduced, target) else {
         return Ok(None);
@@ -84,7 +89,7 @@ fn row_value<A: Allocator + Clone>(
     Ok(tree)
 }
 
-// The target's tree: of its three group_others where they survive, else of its row.
+// The target's tree: the sum of the three others of its group where they survive, else of its row.
 pub(crate) fn value_of<A: Allocator + Clone>(
     alloc: &A,
     reduced: &Reduced,
@@ -94,7 +99,9 @@ pub(crate) fn value_of<A: Allocator + Clone>(
     requires lost { is_in survivors target ≡ false }
     requires reduced { AreReduced (is_in survivors) (coef_of reduced.now) (pivot_of reduced.now) }
     ensures value { IfOk result (λ o. IsTargetValue narrow (is_in survivors) target (option_map form_of o)) }
-    ensures local { IfOk result (λ o. IsLocal (is_in survivors) target → IsSomeAnd (option_map form_of o) (IsLocalTree target)) }
+    ensures shallow { IfOk result (λ o. IfSome (option_map form_of o) IsShallow) }
+    ensures local { IfOk result (λ o. IsLocal narrow (is_in survivors) target
+        → IsSomeAnd (option_map form_of o) (IsLocalTree narrow target)) }
 {
     match surviving_others(survivors, target) {
         Some((first, second, third)) => {

@@ -31,7 +31,7 @@ impl<T: Drop, A: Allocator> Model for PutEnd<T, A> {
     ghost use Rattle.crossbeam_channel.specs.Ends.{sends_on};
     ghost use Rattle.farm_lanes.specs.Lists.{Each};
     ghost use Rattle.farm_lanes.specs.LaneRecord.{is_end};
-    ghost use Rattle.farm_lanes.specs.LaneRule.{put_of};
+    ghost use Rattle.farm_lanes.specs.LaneRule.{put_of, IsPutRecord};
     ghost use Rattle.farm_lanes.specs.LaneEnds.{PutView};
     ghost use Rattle.farm_lanes.specs.LaneNames.{lane_of};
 
@@ -39,7 +39,7 @@ impl<T: Drop, A: Allocator> Model for PutEnd<T, A> {
 
     ghost view = { λ e. record { lane = lane_of e.pass; sender = e.sender; put = put_of (known e.pass) } };
 
-    ghost invariant = { λ e. IsSeatAt (sends_on e.sends) e.pass × ((known e.pass).puts ≡ (e.sender, put_of (known e.pass)) ∷ []) × (e.count ≡ length (put_of (known e.pass))) × ((known e.pass).parts ≡ 1) × ((known e.pass).ends ≤ 65536) × ((known e.pass).taken ≡ []) × (e.count < 4294967296) × Each (λ x. is_end x ≡ false) (put_of (known e.pass)) };
+    ghost invariant = { λ e. IsSeatAt (sends_on e.sends) e.pass × IsPutRecord e.sender e.count (known e.pass) × (e.count < 4294967296) × Each (λ x. is_end x ≡ false) (put_of (known e.pass)) };
 }
 
 /// A put end that put its end mark. Contracts see of it what they see of a put end.
@@ -58,7 +58,7 @@ impl<T: Drop, A: Allocator> Model for EndedPut<T, A> {
     ghost use Rattle.crossbeam_channel.specs.Claims.{IsSeatAt, view as known};
     ghost use Rattle.crossbeam_channel.specs.Ends.{sends_on};
     ghost use Rattle.farm_lanes.specs.LaneRecord.{EndsLast};
-    ghost use Rattle.farm_lanes.specs.LaneRule.{put_of};
+    ghost use Rattle.farm_lanes.specs.LaneRule.{put_of, IsPutRecord};
     ghost use Rattle.farm_lanes.specs.LaneEnds.{PutView};
     ghost use Rattle.farm_lanes.specs.LaneNames.{lane_of};
 
@@ -66,7 +66,7 @@ impl<T: Drop, A: Allocator> Model for EndedPut<T, A> {
 
     ghost view = { λ e. record { lane = lane_of e.pass; sender = e.sender; put = put_of (known e.pass) } };
 
-    ghost invariant = { λ e. IsSeatAt (sends_on e.sends) e.pass × ((known e.pass).puts ≡ (e.sender, put_of (known e.pass)) ∷ []) × (e.count ≡ length (put_of (known e.pass))) × ((known e.pass).parts ≡ 1) × ((known e.pass).ends ≤ 65536) × ((known e.pass).taken ≡ []) × (e.count ≤ 4294967296) × EndsLast (put_of (known e.pass)) };
+    ghost invariant = { λ e. IsSeatAt (sends_on e.sends) e.pass × IsPutRecord e.sender e.count (known e.pass) × (e.count ≤ 4294967296) × EndsLast (put_of (known e.pass)) };
 }
 
 impl<T: Drop, A: Allocator> PutEnd<T, A> {

@@ -1,4 +1,4 @@
-use Rattle.std.proofs.Common.{refl, ◌≡◌, sym, ap, ◌∙◌, None, get_or}
+use Rattle.std.proofs.Common.{refl, ◌≡◌, sym, ap, ◌∙◌, None, get_or, arith}
 use Rattle.lrc_code.specs.Sets.{is_in}
 use Rattle.lrc_field.specs.Field.{times}
 use Rattle.lrc_code.specs.Code.{narrow_places}
@@ -16,11 +16,19 @@ returns-in_ok-push-in-Some-2 g c =
     let none : pivot c.args.row ≡ None = sym c.pivot.ensures ∙ c.in-None.is in
     let leaves = rw c.in-Some-2.is at c.in_ok-tree-in-None.ensures.leaves in
     let value = rw c.in-Some-2.is at c.in_ok-tree-in-None.ensures.value in
-    push_step form_of survives coef pivot c.args.row c.in-Some-2.tree c.args.checks.now.items _ c.in_ok-push-in-Some-2.ensures.items none
-    (row_survives survives coef pivot c.requires.reduced c.args.row (form_of c.in-Some-2.tree) c.requires.row none (λ p l z. leaves p l (c.row_of-coefficients.ensures p ∙ z)))
-    (λ s h. value s h ∙ sum_over-same narrow_places _ _ (λ p. ap (λ x. times x (s p)) (c.row_of-coefficients.ensures p))) c.requires.below
+    let depth = rw c.in-Some-2.is at c.in_ok-tree-in-None.ensures.depth in
+    push_step form_of survives coef pivot c.args.row c.in-Some-2.tree c.args.checks.now.items _
+    c.in_ok-push-in-Some-2.ensures.items none
+    (row_survives survives coef pivot c.requires.reduced c.args.row
+    (form_of c.in-Some-2.tree) c.requires.row none
+    (λ p l z. leaves p l (c.row_of-coefficients.ensures p ∙ z)))
+    (omega (arith, depth))
+    (λ s h. value s h ∙ sum_over-same narrow_places _ _
+    (λ p. ap (λ x. times x (s p)) (c.row_of-coefficients.ensures p))) c.requires.below
 
 pub returns-in-None-2 : goal.returns-in-None-2
 returns-in-None-2 g c =
     let zeros = c.in_ok-tree-in-None.ensures.none (rw c.in-None-2.is refl) in
-    absurd (not_all_zero (is_in c.args.survivors) (coef_of c.args.reduced.now) (pivot_of c.args.reduced.now) c.requires.reduced c.args.row c.requires.row (λ k d lt. sym (c.row_of-coefficients.ensures (get_or narrow_places k d)) ∙ zeros k d lt))
+    absurd (not_all_zero (is_in c.args.survivors) (coef_of c.args.reduced.now)
+    (pivot_of c.args.reduced.now) c.requires.reduced c.args.row c.requires.row
+    (λ k d lt. sym (c.row_of-coefficients.ensures (get_or narrow_places k d)) ∙ zeros k d lt))

@@ -1,4 +1,4 @@
-use Rattle.std.proofs.Common.{◌≡◌, sym, ap, ◌∙◌, arith, map, length, vec_len}
+use Rattle.std.proofs.Common.{◌≡◌, sym, ap, ◌∙◌, arith, length, vec_len}
 use Rattle.std.proofs.lemmas.List.{length-map}
 use Rattle.lrc_code.specs.Sets.{is_in}
 use Rattle.lrc_plan.specs.Tree.{form_of}
@@ -10,10 +10,12 @@ use Rattle.lrc_plan.proofs.checks.checks_of.Goals as goal
 pub returns-clause-checks : goal.returns-clause-checks
 returns-clause-checks g c =
     let e : c.loop-row.row ≡ 4 = omega arith in
-    checks_done (is_in c.args.survivors) (coef_of c.args.reduced.now) (pivot_of c.args.reduced.now) c.requires _ (rw e at c.loop-row.invariant)
+    checks_done (is_in c.args.survivors) (coef_of c.args.reduced.now)
+    (pivot_of c.args.reduced.now) c.requires _ (rw e at c.loop-row.invariant)
 
 pub returns-clause-count : goal.returns-clause-count
 returns-clause-count g c =
     let e : c.loop-row.row ≡ 4 = omega arith in
     let n : vec_len c.loop-row.checks ≡ length c.loop-row.checks.items = omega (arith, c.loop-row.checks.ok.0) in
-    n ∙ sym (length-map c.loop-row.checks.items form_of) ∙ c.loop-row.invariant.count ∙ ap (rows_without_pivot (pivot_of c.args.reduced.now)) e
+    n ∙ sym (length-map c.loop-row.checks.items form_of) ∙ c.loop-row.invariant.count ∙ ap
+    (rows_without_pivot (pivot_of c.args.reduced.now)) e

@@ -6,4 +6,5 @@ use Rattle.lrc_plan.specs.ChecksBelow.{AreChecksBelow}
 use Rattle.lrc_plan.proofs.checks.checks_of.Given as goal
 
 abbrev pub invariant-loop-row : goal.invariant-loop-row
-invariant-loop-row g l = AreChecksBelow (is_in l.survivors) (coef_of l.reduced) (pivot_of l.reduced) l.row (map form_of l.checks.items)
+invariant-loop-row g l = AreChecksBelow (is_in l.survivors) (coef_of l.reduced) (pivot_of l.reduced) l.row
+    (map form_of l.checks.items)

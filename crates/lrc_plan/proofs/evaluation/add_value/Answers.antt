@@ -9,5 +9,7 @@ add_scaled-requires-clause-whole g c = whole c.args.request.now c.length.ensures
 pub returns : goal.returns
 returns g c = record {
   len = omega (arith, c.requires.length);
-  at = λ i h. c.add_scaled.ensures.sum i (omega (arith, h, c.requires.length)) ∙ from_nothing _ _ _ c.new.ensures (c.requires.zero i (omega (arith, h, c.requires.length))) (c.add_scaled.ensures.small i (omega (arith, h, c.requires.length)));
+  at = λ i h. c.add_scaled.ensures.sum i (omega (arith, h, c.requires.length))
+      ∙ from_nothing _ _ _ c.new.ensures (c.requires.zero i (omega (arith, h, c.requires.length)))
+      (c.add_scaled.ensures.small i (omega (arith, h, c.requires.length)));
 }

@@ -3,6 +3,6 @@ use Rattle.lrc_plan.proofs.evaluation.are_zeros.Given as goal
 
 abbrev pub invariant-loop-byte : goal.invariant-loop-byte
 invariant-loop-byte l = record {
-  zeros : l.union ≡ 0 → (i : ℕ) → i < l.byte-index → get_or l.bytes i 0 ≡ 0;
-  union_zero : ((i : ℕ) → i < l.byte-index → get_or l.bytes i 0 ≡ 0) → l.union ≡ 0;
+  zeros : l.bits ≡ 0 → (i : ℕ) → i < l.byte-index → get_or l.bytes i 0 ≡ 0;
+  bits_zero : ((i : ℕ) → i < l.byte-index → get_or l.bytes i 0 ≡ 0) → l.bits ≡ 0;
 }

@@ -12,4 +12,9 @@ pub value_of-requires-clause-reduced : goal.value_of-requires-clause-reduced
 value_of-requires-clause-reduced g c = reduced_rows (is_in c.args.survivors) c.args.reduced.now c.requires.reduced
 
 pub returns-clause-count : goal.returns-clause-count
-returns-clause-count g c = (c.args.reduced.now, c.requires.reduced, c.in_ok-checks.ensures.count ∙ ap (rows_without_pivot (pivot_of c.args.reduced.now)) (sym four_equations))
+returns-clause-count g c = (
+  c.args.reduced.now,
+  c.requires.reduced,
+  c.in_ok-checks.ensures.count ∙ ap
+      (rows_without_pivot (pivot_of c.args.reduced.now)) (sym four_equations),
+)

@@ -1,5 +1,3 @@
-use Rattle.std.proofs.Common.{◌≡◌, ◌<◌, sym, ap, ◌∙◌, ℕ}
-use Rattle.lrc_field.specs.Field.{times}
 use Rattle.lrc_plan.proofs.EvaluationSteps.{once}
 use Rattle.lrc_plan.proofs.products.product.Goals as goal
 

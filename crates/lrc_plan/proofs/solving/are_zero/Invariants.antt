@@ -1,7 +1,7 @@
-use Rattle.std.proofs.Common.{◌≡◌, ◌<◌, ℕ, get_or, length}
+use Rattle.std.proofs.Common.{◌<◌, ℕ, get_or}
 use Rattle.lrc_plan.specs.declared.tree.Tree.{Tree}
 use Rattle.lrc_plan.specs.Tree.{form_of}
-use Rattle.lrc_plan.specs.Evaluation.{AreZeros, IsZero}
+use Rattle.lrc_plan.specs.EvaluationParts.{AreZeros, IsZero}
 use Rattle.lrc_plan.proofs.solving.are_zero.Given as goal
 
 abbrev pub invariant-loop-tree : goal.invariant-loop-tree

@@ -18,7 +18,7 @@ loop-end-init g c =
     let seat = inv.0 in record {
       seated = inv.0;
       lanes = subst (LanesAre c.args.ended.items c.args.takers.items) (λ i. record { queue = (seat.0 i, seat.1 i); ends = (view p).ends }) same.0;
-      gathering = starts c.args.ended.items c.args.takers.items c.pop.new.self.items e (view p) c.first.inside.count is record { puts = inv.1; taken = inv.5; parts = inv.3; last = inv.7 } record { count_is = inv.2; small = inv.6 } same.1 inv.4;
+      gathering = starts c.args.ended.items c.args.takers.items c.pop.new.self.items e (view p) c.first.inside.count is record { puts = inv.1.puts; taken = inv.1.taken; parts = inv.1.parts; last = inv.3 } record { count_is = inv.1.counted; small = inv.2 } same.1 inv.1.few;
     }
 
 pub take_in-requires-clause-seated : goal.take_in-requires-clause-seated
@@ -46,7 +46,7 @@ loop-end-preserved g c =
       lanes = subst (λ n. LanesAre c.args.ended.items c.args.takers.items (lane_on (sends_on c.first.inside.sends) n)) (sym (ap (λ v. v.ends) both)) was.lanes;
       gathering = subst (λ v. Gathering c.args.ended.items c.args.takers.items c.pop-in-loop-end.new.self.items c.args.takers.items v c.saturating_add-put.result 0) (sym both)
           (puts_more c.args.ended.items c.args.takers.items c.loop-end.ended.items c.pop-in-loop-end.new.self.items c.args.takers.items e (view p) (view c.loop-end.pass) c.loop-end.put 0 c.end.inside.count c.saturating_add-put.result was.gathering is
-          record { puts = inv.1; taken = inv.5; parts = inv.3; last = inv.7 } record { count_is = inv.2; small = inv.6 } c.saturating_add-put.ensures);
+          record { puts = inv.1.puts; taken = inv.1.taken; parts = inv.1.parts; last = inv.3 } record { count_is = inv.1.counted; small = inv.2 } c.saturating_add-put.ensures);
     }
 
 pub loop-end-2-init : goal.loop-end-2-init

@@ -1,4 +1,4 @@
-use Rattle.std.proofs.Common.{◌≡◌, ◌<◌, ◌∙◌, ap, sym, ℕ, List, map, replicate, arith}
+use Rattle.std.proofs.Common.{◌≡◌, ◌<◌, ◌∙◌, ℕ, List, map, replicate, arith}
 use Rattle.std.specs.Int.Bits.{bit_xor}
 use Rattle.lrc_field.specs.Field.{times}
 use Rattle.std.specs.Int.Bits.{xor_zero_l}
@@ -17,4 +17,5 @@ no_coefficients : (bytes : List ℕ) → combination (replicate 10 0) bytes ≡ 
 no_coefficients bytes = combination-none (replicate 10 0) bytes (λ k lt. get_or-replicate 10 k 0 0 (omega arith))
 
 pub returns : goal.returns
-returns g c = λ b h. c.add_coefficients.ensures b ∙ from_nothing _ _ _ c.new.ensures (rw c.new-sums.ensures (no_coefficients (map b narrow_places))) (meaning-lt b h (form_of c.args.self.now))
+returns g c = λ b h. c.add_coefficients.ensures b ∙ from_nothing _ _ _ c.new.ensures
+    (rw c.new-sums.ensures (no_coefficients (map b narrow_places))) (meaning-lt b h (form_of c.args.self.now))

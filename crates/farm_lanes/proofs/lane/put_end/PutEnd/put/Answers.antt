@@ -1,4 +1,4 @@
-use Rattle.std.proofs.Common.{◌≡◌, length, ap, sym, ◌∙◌, subst, arith, refl, false}
+use Rattle.std.proofs.Common.{◌≡◌, length, ap, sym, subst, arith, refl, false}
 use Rattle.crossbeam_channel.specs.Claims.{view}
 use Rattle.farm_lanes.specs.LaneEnds.{PutView}
 use Rattle.farm_lanes.specs.LaneRecord.{is_end}
@@ -11,13 +11,9 @@ pub invariant_of-self : goal.invariant_of-self
 invariant_of-self g c =
     let inv = c.self.invariant in
     let t = c.send.ensures.put in
-    let a = after_put (view c.self.inside.pass) (view c.send.new.pass) c.self.inside.sender _ inv.1 t in (
+    let a = after_put (view c.self.inside.pass) (view c.send.new.pass) c.self.inside.sender c.self.inside.count _ inv.1 t in (
       c.send.ensures.seated.0,
       a.0,
-      omega (arith, a.2, inv.2),
-      ap (λ v. v.parts) t ∙ inv.3,
-      omega (arith, ap (λ v. v.ends) t, inv.4),
-      ap (λ v. v.taken) t ∙ inv.5,
-      omega (arith, inv.2, c.requires, ap (λ (e : PutView _). length e.put) c.self.view_is),
-      subst (Each (λ x. is_end x ≡ false)) (sym a.1) (each_snoc (λ x. is_end x ≡ false) _ _ inv.7 refl),
+      omega (arith, inv.1.counted, c.requires, ap (λ (e : PutView _). length e.put) c.self.view_is),
+      subst (Each (λ x. is_end x ≡ false)) (sym a.1) (each_snoc (λ x. is_end x ≡ false) _ _ inv.3 refl),
     )

@@ -1,0 +1,22 @@
+# `make demo` proves, builds and runs the program on the sample in demo/; `make test` is the gate.
+
+# The processor level that programs are built for: v3 has 32-byte vectors (AVX2), v2 those of 16 bytes.
+CPU := $(shell grep -q avx2 /proc/cpuinfo && echo x86-64-v3 || echo x86-64-v2)
+
+.PHONY: build demo test bench
+
+# Proves the program and what it stands on, and builds crates/rebuild/out/rebuild.
+build:
+	cd crates/rebuild && rt run --cpu=$(CPU) < /dev/null
+
+demo: build
+	scripts/demo.sh
+
+test:
+	rt ci
+	scripts/no-compile.sh
+	scripts/refused-allocations.sh
+	scripts/reference-lines.sh
+
+bench:
+	scripts/bench.sh $(CPU)

@@ -1,0 +1,5 @@
+//! The limits of racks and settings, the collector, and runs, with answers from outside.
+mod collecting;
+mod limits;
+mod requests;
+mod running;

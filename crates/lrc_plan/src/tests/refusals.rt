@@ -1,0 +1,322 @@
+//! Each allocation refused in turn, by heaps that grow until nothing is refused. The allocations of a call are
+//! numbered from 0; how many fit a heap is measured, and number k is the refused one where exactly k fit.
+ghost use Rattle.lrc_plan.specs.Evaluation.{CanEvaluate};
+ghost use Rattle.lrc_plan.specs.Tree.{form_of};
+
+use super::fixtures::{Answer, CASES, are_same, request_of, scaled_leaf, sum_of_leaves};
+use crate::evaluation::evaluate_in;
+use crate::solved::Solved;
+use crate::solving::solve_in;
+use crate::{Plan, Tree, plan};
+use linked_list_allocator::LocalHeap;
+use lrc_code::{Place, PlaceSet, Request};
+use lrc_field::Gf;
+use std::alloc::{AllocError, Allocator, Global};
+
+// Heaps of 0, 8, 16 and so on up to so many bytes are tried.
+const LARGEST: usize = 16_384;
+
+// The numbers of the allocations that were refused so far: all those below `next`.
+#[derive(Drop)]
+struct Refused {
+    next: usize,
+}
+
+impl Refused {
+    // Whether the number is the last one again, or the one after it.
+    fn follows(&mut self, number: usize) -> bool {
+        if number == self.next {
+            self.next = self.next.wrapping_add(1);
+        }
+        number.wrapping_add(1) == self.next
+    }
+}
+
+// How many allocations fit the heap, where the first is a vector of so many trees, if of any, and the others are
+// nodes.
+fn fitting(heap: &LocalHeap, trees: usize) -> usize {
+    let Ok(vector) = Vec::<Tree<&LocalHeap>, &LocalHeap>::with_capacity(heap, trees) else {
+        return 0;
+    };
+    let mut count = if trees > 0 { 1usize } else { 0 };
+    let mut tree = Tree::Leaf(Place::X0);
+    for _ in 0..LARGEST {
+        match Box::new(heap, tree) {
+            Ok(below) => {
+                tree = Tree::Scale(Gf::new(1), below);
+                count = count.wrapping_add(1);
+            }
+            Err(_) => break,
+        }
+    }
+    drop(vector);
+    count
+}
+
+// The nodes of a tree below its root, each of which is an allocation.
+fn nodes_below<A: Allocator>(tree: &Tree<A>) -> usize {
+    match tree {
+        Tree::Leaf(_) => 0,
+        Tree::Scale(_, below) => nodes_below(below).wrapping_add(1),
+        Tree::Sum(left, right) => nodes_below(left)
+            .wrapping_add(nodes_below(right))
+            .wrapping_add(2),
+    }
+}
+
+// The allocations of a plan: a vector for the checks, if there are any, and the nodes.
+fn allocations<A: Allocator>(plan: &Plan<A>) -> usize {
+    let mut count = if plan.checks.is_empty() { 0usize } else { 1 };
+    if let Some(value) = &plan.value {
+        count = count.wrapping_add(nodes_below(value));
+    }
+    for check in &plan.checks {
+        count = count.wrapping_add(nodes_below(check));
+    }
+    count
+}
+
+// Whether two plans have the same trees.
+fn are_same_plans<A: Allocator, B: Allocator>(one: &Plan<A>, other: &Plan<B>) -> bool {
+    let values = match (&one.value, &other.value) {
+        (Some(one), Some(other)) => are_same(one, other),
+        (None, None) => true,
+        _ => false,
+    };
+    values
+        && one.checks.len() == other.checks.len()
+        && one
+            .checks
+            .iter()
+            .zip(other.checks.iter())
+            .all(|(one, other)| are_same(one, other))
+}
+
+// 03 * (x1 + x2)
+fn sample<A: Allocator + Clone>(alloc: A) -> Result<Tree<A>, AllocError> {
+    let sum = sum_of_leaves(alloc.clone()?, Place::X1, Place::X2)?;
+    Ok(Tree::Scale(Gf::new(0x03), Box::new(alloc, sum)?))
+}
+
+#[test]
+fn copy_in_refused_leaves_its_source(rt: HostRuntime) -> Result<(), AllocError> {
+    let alloc = rt.alloc();
+    let source = sample(alloc)?;
+    let same = sample(alloc)?;
+    let mut refused = Refused { next: 0 };
+    for size in (0..LARGEST).step_by(8) {
+        let Ok(heap) = LocalHeap::new(alloc, size) else {
+            continue;
+        };
+        let number = fitting(&heap, 0);
+        let copy = source.copy_in(&heap);
+        assert!(&rt; are_same(&source, &same));
+        match copy {
+            Ok(copy) => {
+                assert!(&rt; are_same(&copy, &same));
+                assert!(&rt; refused.next == 3);
+                return Ok(());
+            }
+            Err(AllocError) => assert!(&rt; refused.follows(number), "{size} bytes"),
+        }
+    }
+    assert!(&rt; false, "it was never granted");
+    Ok(())
+}
+
+#[test]
+fn graft_refused_gives_both_trees_back(rt: HostRuntime) -> Result<(), AllocError> {
+    let alloc = rt.alloc();
+    let roomy = LocalHeap::new(alloc, LARGEST)?;
+    let mut refused = Refused { next: 0 };
+    for size in (0..LARGEST).step_by(8) {
+        let Ok(heap) = LocalHeap::new(alloc, size) else {
+            continue;
+        };
+        let number = fitting(&heap, 2);
+        let host = sum_of_leaves(&roomy, Place::X1, Place::X1)?;
+        let scion = scaled_leaf(&roomy, 0x02, Place::X2)?;
+        match host.graft(&heap, Place::X1, scion) {
+            Ok(tree) => {
+                assert!(&rt; tree.leaf_count() == 2 && tree.leaves().has(Place::X2));
+                assert!(&rt; refused.next == 3);
+                return Ok(());
+            }
+            Err(back) => {
+                assert!(&rt; refused.follows(number), "{size} bytes");
+                assert!(&rt; are_same(&back.host, &sum_of_leaves(&roomy, Place::X1, Place::X1)?));
+                assert!(&rt; are_same(&back.scion, &scaled_leaf(&roomy, 0x02, Place::X2)?));
+            }
+        }
+    }
+    assert!(&rt; false, "it was never granted");
+    Ok(())
+}
+
+// Whether the plan is refused at each of its allocations in turn, and then is the same as without refusal.
+fn plans_in_turn(alloc: Global, survivors: PlaceSet, target: Place) -> Result<bool, AllocError> {
+    if survivors.has(target) {
+        return Ok(false);
+    }
+    let same = plan(alloc, survivors, target)?;
+    let mut refused = Refused { next: 0 };
+    for size in (0..LARGEST).step_by(8) {
+        let Ok(heap) = LocalHeap::new(alloc, size) else {
+            continue;
+        };
+        let number = fitting(&heap, same.checks.len());
+        match plan(&heap, survivors, target) {
+            Ok(plan) => {
+                return Ok(refused.next == allocations(&same) && are_same_plans(&plan, &same));
+            }
+            Err(AllocError) => {
+                if !refused.follows(number) {
+                    return Ok(false);
+                }
+            }
+        }
+    }
+    Ok(false)
+}
+
+#[test]
+fn plan_refused_answers_want_of_memory(rt: HostRuntime) -> Result<(), AllocError> {
+    let alloc = rt.alloc();
+    for case in &CASES {
+        let Some(request) = request_of(alloc, case)? else {
+            assert!(&rt; false, "{} is refused", case.name);
+            return Ok(());
+        };
+        assert!(&rt;
+            plans_in_turn(alloc, request.survivors(), case.target)?,
+            "{}",
+            case.name
+        );
+    }
+    Ok(())
+}
+
+// Whether so many bytes fit the heap.
+fn fits(heap: &LocalHeap, len: usize) -> bool {
+    match Vec::<u8, &LocalHeap>::with_capacity(heap, len) {
+        Ok(vector) => {
+            drop(vector);
+            true
+        }
+        Err(_) => false,
+    }
+}
+
+// Whether the one vector of an evaluation is refused until it fits, and the bytes are then these.
+fn evaluates_in_turn<A: Allocator>(
+    alloc: Global,
+    tree: &Tree<A>,
+    request: &Request,
+    bytes: &[u8],
+) -> Result<bool, AllocError>
+    requires { CanEvaluate request.now (form_of tree.now) }
+{
+    let mut refused = false;
+    for size in (0..LARGEST).step_by(8) {
+        let Ok(heap) = LocalHeap::new(alloc, size) else {
+            continue;
+        };
+        let Ok(_taken) = Vec::<u8, &LocalHeap>::with_capacity(&heap, 16) else {
+            continue;
+        };
+        let fits = fits(&heap, bytes.len());
+        match evaluate_in(&heap, tree, request) {
+            Ok(value) => return Ok(fits && refused && value.as_slice() == bytes),
+            Err(AllocError) => {
+                if fits {
+                    return Ok(false);
+                }
+                refused = true;
+            }
+        }
+    }
+    Ok(false)
+}
+
+#[test]
+fn evaluate_refused_answers_want_of_memory(rt: HostRuntime) -> Result<(), AllocError> {
+    let alloc = rt.alloc();
+    let Some(request) = request_of(alloc, &CASES[0])? else {
+        assert!(&rt; false, "the request is refused");
+        return Ok(());
+    };
+    let survivors = request.survivors();
+    assert!(&rt; survivors.has(Place::X1) && survivors.has(Place::X2));
+    let sum = sum_of_leaves(alloc, Place::X1, Place::X2)?;
+    assert!(&rt; evaluates_in_turn(alloc, &sum, &request, b"\x01")?);
+    Ok(())
+}
+
+fn is_answer<A: Allocator>(solved: &Solved<A>, answer: Answer) -> bool {
+    match (solved, answer) {
+        (Solved::Rebuilt(bytes), Answer::Rebuilt(expected)) => bytes.as_slice() == expected,
+        (Solved::Contradiction, Answer::Contradiction) => true,
+        (Solved::Several, Answer::Several) => true,
+        _ => false,
+    }
+}
+
+// Whether the answer is refused at each allocation of the plan and at the one of its bytes in turn, and is then
+// the right one. A plan without checks and value needs no bytes.
+fn answers_in_turn(alloc: Global, request: &Request, answer: Answer) -> Result<bool, AllocError> {
+    let survivors = request.survivors();
+    let target = request.target();
+    if survivors.has(target) {
+        return Ok(false);
+    }
+    let plan = plan(alloc, survivors, target)?;
+    let planned = allocations(&plan);
+    let bytes = if plan.checks.is_empty() && plan.value.is_none() {
+        0usize
+    } else {
+        1
+    };
+    let mut refused = Refused { next: 0 };
+    for size in (0..2 * LARGEST).step_by(8) {
+        let Ok(heap) = LocalHeap::new(alloc, size) else {
+            continue;
+        };
+        let Ok(_taken) = Vec::<u8, &LocalHeap>::with_capacity(&heap, 16) else {
+            continue;
+        };
+        let number = fitting(&heap, plan.checks.len()).min(planned);
+        match solve_in(&heap, &heap, request) {
+            Ok(solved) => {
+                return Ok(
+                    refused.next == planned.wrapping_add(bytes) && is_answer(&solved, answer),
+                );
+            }
+            Err(AllocError) => {
+                if !refused.follows(number) {
+                    return Ok(false);
+                }
+            }
+        }
+    }
+    Ok(false)
+}
+
+#[test]
+fn solve_refused_answers_want_of_memory(rt: HostRuntime) -> Result<(), AllocError> {
+    let alloc = rt.alloc();
+    for case in &CASES {
+        if case.length > 3 {
+            continue;
+        }
+        let Some(request) = request_of(alloc, case)? else {
+            assert!(&rt; false, "{} is refused", case.name);
+            return Ok(());
+        };
+        assert!(&rt;
+            answers_in_turn(alloc, &request, case.answer)?,
+            "{}",
+            case.name
+        );
+    }
+    Ok(())
+}

@@ -1,0 +1,50 @@
+-- The request that a line of line mode writes.
+use Rattle.std.specs.Prelude.{◌==◌, ◌&&◌, ◌+◌, nat_le, ℕ, Bool, true, false, List, [], ◌∷◌, take, drop, map, Option, Some, None, if◌then◌else◌, position}
+use Rattle.std.specs.List.{filter, list_all, slice_split}
+use Rattle.std.specs.Result.{result_ok}
+use Rattle.hex.specs.Hex.{decode_of}
+use Rattle.lrc_code.specs.Code.{narrow}
+use Rattle.lrc_code.specs.Requests.{Asked, Survivor}
+use Rattle.lrc_code.specs.Text.{every, is_space, number, place_named}
+
+-- the second step, where the first gave a value
+infixl 10 ◌>>=◌
+abbrev pub ◌>>=◌ : {A B : Type 0} → Option A → (A → Option B) → Option B
+None >>= f = None
+Some x >>= f = f x
+
+-- a byte from 20 to 7E
+abbrev pub is_printable : ℕ → Bool
+is_printable b = nat_le 0x20 b && nat_le b 0x7e
+
+-- a part that holds a byte
+abbrev pub is_word : List ℕ → Bool
+is_word [] = false
+is_word (b ∷ bs) = true
+
+-- the words of a line, which stand between spaces
+abbrev pub words : List ℕ → List (List ℕ)
+words line = filter is_word (slice_split is_space line)
+
+-- the survivor that a word writes: a place's name, the word's first `=`, and the bytes in hexadecimal
+abbrev pub survivor : List ℕ → Option Survivor
+survivor word = do
+  at ← position (λ b. b == 0x3d) word
+  place ← place_named narrow (take at word)
+  bytes ← result_ok (decode_of (drop (at + 1) word))
+  Some (record { place = place; bytes = bytes })
+
+-- the request that words write: the stripe's name, the target's, the length, and the survivors
+abbrev pub request_of_words : List (List ℕ) → Option Asked
+request_of_words [] = None
+request_of_words (stripe ∷ []) = None
+request_of_words (stripe ∷ target ∷ []) = None
+request_of_words (stripe ∷ target ∷ size ∷ rest) = do
+  place ← place_named narrow target
+  len ← number size
+  survivors ← every (map survivor rest)
+  Some (record { stripe = stripe; target = place; len = len; survivors = survivors })
+
+-- the request that a line writes, where it has the form of one
+abbrev pub request_of : List ℕ → Option Asked
+request_of line = if list_all is_printable line then request_of_words (words line) else None

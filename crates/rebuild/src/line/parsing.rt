@@ -1,0 +1,125 @@
+//! The request that a line writes.
+ghost use Rattle.std.specs.Prelude.{◌≡◌, Ok, Some, None, IfOk, MatchResult, map, true};
+ghost use Rattle.std.specs.List.{list_all};
+ghost use Rattle.std.specs.Option.{option_map};
+ghost use Rattle.std.specs.String.{string_bytes};
+ghost use Rattle.lrc_code.specs.Requests.{refusal};
+ghost use Rattle.lrc_code.specs.Survivors.{survivor_of, survivors_of};
+ghost use Rattle.lrc_code.specs.Text.{every};
+ghost use Rattle.rebuild.specs.Line.{request_of, is_printable, survivor, words};
+ghost use Rattle.rebuild.specs.Parts.{asked_of};
+ghost use Rattle.rebuild.specs.Reply.{refusal_of};
+
+use super::lines::find_byte;
+use super::replies::LineRefusal;
+use super::words::Words;
+use hex::FromHexError;
+use lrc_code::text::parse_number;
+use lrc_code::{Fragment, Place, Request};
+use std::alloc::{AllocError, Global};
+
+/// The request that a line writes, or why the line is refused.
+pub(crate) fn parse_line(
+    alloc: Global,
+    line: &[u8],
+) -> Result<Result<Request, LineRefusal>, AllocError>
+    ensures { IfOk result (λ asked. MatchResult asked
+        (λ request. (request_of line.now ≡ Some request) × (refusal request ≡ None))
+        (λ e. refusal_of line.now ≡ Some e)) }
+{
+    let Some(parts) = parse_parts(alloc, line)? else {
+        return Ok(Err(LineRefusal::BadLine));
+    };
+    let Parts {
+        stripe,
+        target,
+        length,
+        survivors,
+    } = parts;
+    match Request::new(stripe, target, length, survivors) {
+        Ok(request) => Ok(Ok(request)),
+        Err(fault) => Ok(Err(LineRefusal::Refused(fault))),
+    }
+}
+
+// A request as a line writes it, before its refusals are tested.
+#[derive(Drop)]
+struct Parts {
+    stripe: String,
+    target: Place,
+    length: u32,
+    survivors: Vec<Fragment>,
+}
+
+// The parts of the request that a line writes, where the line has the form of one.
+fn parse_parts(alloc: Global, line: &[u8]) -> Result<Option<Parts>, AllocError>
+    ensures { IfOk result (λ parts. option_map asked_of parts ≡ request_of line.now) }
+{
+    if !are_printable(line) {
+        return Ok(None);
+    }
+    let mut words = Words::new(line);
+    let (Some(stripe), Some(target), Some(length)) = (words.next(), words.next(), words.next())
+    else {
+        return Ok(None);
+    };
+    let (Some(target), Some(length)) = (Place::named(target), parse_number(length)) else {
+        return Ok(None);
+    };
+    let Some(survivors) = parse_survivors(alloc, words)? else {
+        return Ok(None);
+    };
+    let stripe = copy_text(alloc, stripe)?;
+    Ok(Some(Parts {
+        stripe,
+        target,
+        length,
+        survivors,
+    }))
+}
+
+fn are_printable(bytes: &[u8]) -> bool
+    ensures { result ≡ list_all is_printable bytes.now }
+{
+    bytes.iter().all(|b| 0x20 <= *b && *b <= 0x7e)
+}
+
+// A copy of printable characters.
+fn copy_text(alloc: Global, text: &[u8]) -> Result<String, AllocError>
+    requires { list_all is_printable text.now ≡ true }
+    ensures { IfOk result (λ copy. string_bytes copy ≡ text.now) }
+{
+    String::from_str(alloc, str::from_utf8(text).unwrap())
+}
+
+// The surviving fragments that words write, where each writes one.
+fn parse_survivors(alloc: Global, others: Words<'_>) -> Result<Option<Vec<Fragment>>, AllocError>
+    ensures { IfOk result (λ fragments. option_map (λ fs. survivors_of fs.items) fragments
+        ≡ every (map survivor (words others.entry.rest.now))) }
+{
+    let mut survivors = Vec::new(alloc);
+    for word in others {
+        let Some(fragment) = parse_survivor(alloc, word)? else {
+            return Ok(None);
+        };
+        survivors.push(fragment)?;
+    }
+    Ok(Some(survivors))
+}
+
+// The surviving fragment that a word writes, as in `x1=0F`.
+fn parse_survivor(alloc: Global, word: &[u8]) -> Result<Option<Fragment>, AllocError>
+    ensures { IfOk result (λ fragment. option_map survivor_of fragment ≡ survivor word.now) }
+{
+    let Some(at) = find_byte(word, b'=') else {
+        return Ok(None);
+    };
+    let Some(place) = Place::named(&word[..at]) else {
+        return Ok(None);
+    };
+    match hex::decode(alloc, &word[at + 1..]) {
+        Ok(bytes) => Ok(Some(Fragment { place, bytes })),
+        Err(FromHexError::OutOfMemory) => Err(AllocError),
+        Err(_) => Ok(None),
+    }
+}
