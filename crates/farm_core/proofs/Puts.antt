@@ -1,7 +1,6 @@
 -- A feeder that put all put each request that is served once.
-use Rattle.std.proofs.Common.{◌≡◌, ℕ, zero, suc, ◌+◌, ◌<◌, ◌≤◌, ◌&&◌, List, [], ◌∷◌, length, take, get_or, Bool, refl, sym, ap, ◌∙◌, subst, arith, nat_eq, nat_lt, cond, Option, Some, None, true, false}
-use Rattle.std.specs.Prelude.{⊤}
-use Rattle.std.specs.List.{sum_by, All}
+use Rattle.std.proofs.Common.{◌≡◌, ℕ, zero, suc, ◌+◌, ◌<◌, ◌&&◌, List, [], ◌∷◌, ◌++◌, length, get_or, refl, sym, ap, ◌∙◌, subst, arith, nat_eq, nat_lt, cond, Option, Some, None, true, false, append-nil}
+use Rattle.std.specs.List.{All}
 use Rattle.std.proofs.lemmas.Bool.Decides.{nat_tests}
 use Rattle.std.proofs.lemmas.List.{take_all}
 use mathlib.Core.Option.{some, some-ne-none, some-injective}
@@ -9,20 +8,21 @@ use lib.ListN.{get_elem?}
 use Rattle.lrc_code.specs.Requests.{Asked}
 use Rattle.farm_lanes.specs.declared.lane.item.Item.{Item}
 use Rattle.farm_lanes.specs.declared.lane.item.Item.TheVariants.{Value, End}
-use Rattle.farm_lanes.specs.LaneRecord.{values, Each}
-use Rattle.farm_lanes.specs.LaneRule.{put_of}
-use Rattle.farm_lanes.specs.LaneEnds.{EndView}
 use Rattle.farm_lanes.specs.GateView.{GateName, SeatView}
+use Rattle.farm_lanes.specs.LaneEnds.{PutView}
+use Rattle.farm_lanes.specs.LaneRecord.{values}
+use Rattle.farm_lanes.proofs.Values.{values-append}
+use Rattle.farm_lanes.specs.Lists.{Each}
 use Rattle.atomic_table.specs.Seated.{TableId}
 use Rattle.farm_core.specs.declared.orders.Order.{Order}
 use Rattle.farm_core.specs.declared.jobs.Job.{Job}
 use Rattle.farm_core.specs.declared.jobs.Job.TheVariants.{Solve, Stop}
 use Rattle.farm_core.specs.Orders.{before_close, served}
 use Rattle.farm_core.specs.Jobs.{IsOfRack, numbers_of, requests_of}
-use Rattle.farm_core.specs.Feed.{HasFed, CountUp, IsRightLeft}
+use Rattle.farm_core.specs.Feed.{HasFed}
 use Rattle.farm_core.specs.Put.{HasPutAll}
 use Rattle.std.specs.Option.{is_some}
-use Rattle.farm_core.specs.Settled.{job_weight, IsRightJob, IsRightItem, serves, PutAll}
+use Rattle.farm_core.specs.Settled.{IsRightJob, IsRightItem, PutAll}
 use Rattle.farm_core.proofs.Settled.{Every, jobs_to, weigh_jobs}
 
 -- 1 from s on, below s + n
@@ -70,41 +70,38 @@ job_items racks (Value s i y ∷ xs) every (suc k) x at = job_items racks xs eve
 job_items racks (End s i ∷ xs) every zero x at = subst (IsRightItem racks) (some-injective _ _ at) tt
 job_items racks (End s i ∷ xs) every (suc k) x at = job_items racks xs every k x at
 
--- a feeder of a lone seat that put all
-pub fed_puts_all : (racks : List (List Order)) (gate : GateName) (seat : SeatView) (rack : ℕ) (list : List Order) (jobs : EndView Job) (seat' : SeatView) (right : Option TableId) (close : Option ℕ) (jobs' : EndView Job)
-    → (fed : HasFed gate seat rack list jobs seat' right close jobs') → seat.has.share ≡ gate.size.total → length (values fed.put) ≡ length (before_close list) → served racks rack ≡ before_close list → PutAll racks rack jobs'.put
+-- the items of a feeder of a lone seat that put all
+fed_puts_all : (racks : List (List Order)) (gate : GateName) (seat : SeatView) (rack : ℕ) (list : List Order) (jobs : PutView Job) (seat' : SeatView) (right : Option TableId) (close : Option ℕ) (jobs' : PutView Job)
+    → (fed : HasFed gate seat rack list jobs seat' right close jobs') → seat.has.share ≡ gate.size.total → length (values fed.put) ≡ length (before_close list) → served racks rack ≡ before_close list
+    → PutAll racks rack (fed.put ++ End jobs.sender (length fed.put) ∷ [])
 fed_puts_all racks gate seat rack list jobs seat' right close jobs' fed lone all is =
+    let mark : Item Job = End jobs.sender (length fed.put) in
+    let vals : values (fed.put ++ mark ∷ []) ≡ values fed.put = values-append fed.put (mark ∷ []) ∙ append-nil (values fed.put) in
     let up : CountFrom 0 (numbers_of (values fed.put)) = (λ i x at. let e = fed.lone lone i x at in omega arith) in
     let whole : requests_of (values fed.put) ≡ served racks rack = fed.requests_are ∙ (take_all (length (values fed.put)) (before_close list) (omega arith) ∙ sym is) in
-    let put : PutAll racks rack fed.put = record {
+    record {
       once = λ r k.
-        let a = weigh_jobs r k fed.put in
+        let a = weigh_jobs r k (fed.put ++ mark ∷ []) in
+        let v = ap (jobs_to r k) vals in
         let b = count_jobs rack 0 r k (values fed.put) fed.racks_are up in
         let c = window_all rack (length (values fed.put)) r k in
         let n : length (values fed.put) ≡ length (served racks rack) = all ∙ ap (λ (l : List Asked). length l) (sym is) in
         let d : cond (nat_eq rack r && nat_lt k (length (values fed.put))) 1 0 ≡ cond (nat_eq rack r && nat_lt k (length (served racks rack))) 1 0 + 0 = rw n (omega arith) in
         omega arith;
-      right = job_items racks fed.put (right_put racks rack 0 (values fed.put) fed.racks_are up (λ i d low. ap (λ (l : List Asked). get_or l i d) whole ∙ ap (λ n. get_or (served racks rack) n d) (let e : i ≡ 0 + i = omega arith in e)));
-    } in
-    subst (PutAll racks rack) (sym (ap (λ (u : EndView Job). u.put) fed.jobs_is)) put
+      right = job_items racks (fed.put ++ mark ∷ [])
+        (subst (Every (IsRightJob racks)) (sym vals) (right_put racks rack 0 (values fed.put) fed.racks_are up (λ i d low. ap (λ (l : List Asked). get_or l i d) whole ∙ ap (λ n. get_or (served racks rack) n d) (let e : i ≡ 0 + i = omega arith in e))));
+    }
 
 -- everything was put: where the right is back, the seat was told of no closing
-pub all_put : (gate : GateName) (seat : SeatView) (rack : ℕ) (list : List Order) (jobs : EndView Job) (seat' : SeatView) (right : Option TableId) (close : Option ℕ) (jobs' : EndView Job)
+pub all_put : (gate : GateName) (seat : SeatView) (rack : ℕ) (list : List Order) (jobs : PutView Job) (seat' : SeatView) (right : Option TableId) (close : Option ℕ) (jobs' : PutView Job)
     → HasFed gate seat rack list jobs seat' right close jobs' → seat.has.share ≡ gate.size.total → (is_some right ≡ true → seat'.has.knows ≡ false) → HasPutAll rack list jobs jobs'
 all_put gate seat rack list jobs seat' None close jobs' fed lone open_yet = record {
-    put = fed.put;
+    put = fed.put ++ End jobs.sender (length fed.put) ∷ [];
     jobs_is = fed.jobs_is;
-    all = λ racks is. subst (PutAll racks rack) (ap (λ (u : EndView Job). u.put) fed.jobs_is) (fed_puts_all racks gate seat rack list jobs seat' None close jobs' fed lone fed.right.2 is);
+    all = λ racks is. fed_puts_all racks gate seat rack list jobs seat' None close jobs' fed lone fed.right.2 is;
   }
 all_put gate seat rack list jobs seat' (Some r) close jobs' fed lone open_yet = record {
-    put = fed.put;
+    put = fed.put ++ End jobs.sender (length fed.put) ∷ [];
     jobs_is = fed.jobs_is;
-    all = λ racks is. subst (PutAll racks rack) (ap (λ (u : EndView Job). u.put) fed.jobs_is) (fed_puts_all racks gate seat rack list jobs seat' (Some r) close jobs' fed lone (fed.right.4 (open_yet refl)) is);
+    all = λ racks is. fed_puts_all racks gate seat rack list jobs seat' (Some r) close jobs' fed lone (fed.right.4 (open_yet refl)) is;
   }
-
--- a right that came back is the gate's, and the seat made no close
-pub right_back : (gate : GateName) (seat : SeatView) (rack : ℕ) (list : List Order) (jobs : EndView Job) (seat' : SeatView) (r : TableId) (right : Option TableId) (close : Option ℕ) (jobs' : EndView Job)
-    → HasFed gate seat rack list jobs seat' right close jobs' → right ≡ Some r → (r ≡ gate.id) × (seat'.has.used ≡ seat.has.used) × (seat'.has.made ≡ seat.has.made)
-right_back gate seat rack list jobs seat' r right close jobs' fed is =
-    let back = subst (λ o. IsRightLeft gate.id seat.has (length (values fed.put) ≡ length (before_close list)) o close seat'.has) is fed.right in
-    (back.0, back.2, back.3)

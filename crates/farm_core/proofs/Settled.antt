@@ -1,31 +1,30 @@
 -- From settled lanes to one reply for each request.
-use Rattle.std.proofs.Common.{◌≡◌, ◌≢◌, ◌⊎◌, ℕ, zero, suc, ◌+◌, ◌<◌, ◌≤◌, ◌&&◌, List, [], ◌∷◌, ◌++◌, length, map, get_or, Bool, true, false, refl, sym, ap, ◌∙◌, subst, inl, inr, ⊎_elim, arith, nat_eq, nat_lt, cond}
+use Rattle.std.proofs.Common.{◌≡◌, ◌≢◌, ℕ, zero, suc, ◌+◌, ◌<◌, ◌≤◌, ◌&&◌, List, [], ◌∷◌, ◌++◌, length, get_or, refl, sym, ap, ◌∙◌, subst, inl, inr, ⊎_elim, arith, nat_eq, nat_lt, cond}
 use Rattle.std.specs.Prelude.{⊤}
 use Rattle.std.specs.List.{sum_by, All, AllZip}
 use Rattle.std.proofs.lemmas.List.Sums.{sum_by-cons, sum_by-append}
 use Rattle.std.proofs.lemmas.Bool.Decides.{nat_tests}
-use Rattle.std.proofs.lemmas.Bool.{cases_lt, cases_eq}
+use Rattle.std.proofs.lemmas.Bool.{cases_lt}
 use Rattle.std.proofs.lemmas.List.{get_or_past}
 use mathlib.Core.Option.{some, some-ne-none, some-injective}
 use lib.ListN.{get_elem?}
 use Rattle.lrc_code.specs.Requests.{Asked}
 use Rattle.farm_lanes.specs.declared.lane.item.Item.{Item}
 use Rattle.farm_lanes.specs.declared.lane.item.Item.TheVariants.{Value, End}
-use Rattle.farm_lanes.specs.LaneRecord.{sender_of, number_of, values, Each, IsLawful}
-use Rattle.farm_lanes.specs.LaneRule.{put_of}
-use Rattle.farm_lanes.specs.LaneEnds.{EndView, IsSettled, puts_of, takes_of, weight}
-use Rattle.farm_lanes.proofs.Values.{values-append}
+use Rattle.farm_lanes.proofs.Lists.{at_snoc_or, sum_map, from_map, at_map, at_front, at_back}
 use Rattle.farm_lanes.proofs.Sums.{total_alone, total_none}
-use Rattle.farm_lanes.proofs.Settles.{sum_map, from_map, at_map, at_front, at_back}
-use Rattle.farm_lanes.proofs.Items.{at_snoc_or}
+use Rattle.farm_lanes.specs.LaneEnds.{PutView, TakeView, puts_of, takes_of}
+use Rattle.farm_lanes.specs.LaneRecord.{values, sender_of, number_of, IsLawful}
+use Rattle.farm_lanes.specs.LaneSettled.{IsSettled}
+use Rattle.farm_lanes.specs.Lists.{Each}
 use Rattle.farm_core.specs.declared.orders.Order.{Order}
 use Rattle.farm_core.specs.declared.jobs.Job.{Job}
 use Rattle.farm_core.specs.declared.jobs.Job.TheVariants.{Solve, Stop}
 use Rattle.farm_core.specs.Replies.{Replied}
 use Rattle.farm_core.specs.Orders.{before_close, served, IsServed}
 use Rattle.farm_core.specs.Gather.{replies_to, IsOneEach, IsToItsRequest}
-use Rattle.farm_core.specs.Jobs.{solves, IsReplyTo, AreReplies}
-use Rattle.farm_core.specs.Settled.{job_weight, reply_weight, IsRightJob, IsRightItem, serves, PutAll, AllPut, HasAnswered}
+use Rattle.farm_core.specs.Jobs.{AreReplies}
+use Rattle.farm_core.specs.Settled.{job_weight, reply_weight, IsRightJob, IsRightItem, serves, AllPut, HasAnswered}
 use Rattle.farm_core.proofs.Gathered.{replies_to-append}
 
 abbrev pub jobs_to : ℕ → ℕ → List Job → ℕ
@@ -114,18 +113,18 @@ module _ {T : Type 0} where
   taken_have puts takes prefix lawful P all t ys here i y at = let u = lawful.unaltered t ys here i y at in all (sender_of y) u.0 u.1 (number_of y) y u.2
 
   -- where as much was taken as was put, the weights are the same
-  pub all_weighed : (put taken : ℕ) (ended takers : List (EndView T)) → IsSettled put taken ended takers → sum_by (λ (e : EndView T). length e.put) ended ≤ sum_by (λ (e : EndView T). length e.taken) takers → (g : Item T → ℕ)
-      → sum_by (λ (e : EndView T). sum_by g e.put) ended ≡ sum_by (λ (e : EndView T). sum_by g e.taken) takers
+  pub all_weighed : (put taken : ℕ) (ended : List (PutView T)) (takers : List (TakeView T)) → IsSettled put taken (puts_of ended) (takes_of takers) → sum_by (λ (e : PutView T). length e.put) ended ≤ sum_by (λ (e : TakeView T). length e.taken) takers → (g : Item T → ℕ)
+      → sum_by (λ (e : PutView T). sum_by g e.put) ended ≡ sum_by (λ (e : TakeView T). sum_by g e.taken) takers
   all_weighed put taken ended takers settled enough g =
-      let a = sum_map {B = List (Item T)} (λ xs. sum_by g xs) (λ (e : EndView T). e.put) ended in
-      let b = sum_map {B = List (Item T)} (λ xs. sum_by g xs) (λ (e : EndView T). e.taken) takers in
-      let c = sum_map {B = List (Item T)} length (λ (e : EndView T). e.put) ended in
-      let d = sum_map {B = List (Item T)} length (λ (e : EndView T). e.taken) takers in
+      let a = sum_map {B = List (Item T)} (λ xs. sum_by g xs) (λ (e : PutView T). e.put) ended in
+      let b = sum_map {B = List (Item T)} (λ xs. sum_by g xs) (λ (e : TakeView T). e.taken) takers in
+      let c = sum_map {B = List (Item T)} length (λ (e : PutView T). e.put) ended in
+      let d = sum_map {B = List (Item T)} length (λ (e : TakeView T). e.taken) takers in
       let ones = settled.weights (λ _. 1) in
-      let a1 = sum_map {B = List (Item T)} (λ xs. sum_by (λ _. 1) xs) (λ (e : EndView T). e.put) ended in
-      let b1 = sum_map {B = List (Item T)} (λ xs. sum_by (λ _. 1) xs) (λ (e : EndView T). e.taken) takers in
-      let p1 = same_sums (λ (e : EndView T). e.put) ended in
-      let t1 = same_sums (λ (e : EndView T). e.taken) takers in
+      let a1 = sum_map {B = List (Item T)} (λ xs. sum_by (λ _. 1) xs) (λ (e : PutView T). e.put) ended in
+      let b1 = sum_map {B = List (Item T)} (λ xs. sum_by (λ _. 1) xs) (λ (e : TakeView T). e.taken) takers in
+      let p1 = same_sums (λ (e : PutView T). e.put) ended in
+      let t1 = same_sums (λ (e : TakeView T). e.taken) takers in
       let same : taken ≡ put = (let p = settled.put_is in let q = settled.taken_is in omega arith) in
       let none : sum_by g settled.left ≡ 0 = ap (sum_by g) (settled.none_left same) in
       let all = settled.weights g in
@@ -135,18 +134,18 @@ module _ {T : Type 0} where
       ones_of [] = refl
       ones_of (x ∷ xs) = let a = sum_by-cons (λ (_ : Item T). 1) x xs in let b = ones_of xs in omega arith
 
-      same_sums : (f : EndView T → List (Item T)) (es : List (EndView T)) → sum_by (λ e. sum_by (λ _. 1) (f e)) es ≡ sum_by (λ e. length (f e)) es
+      same_sums : {E : Type 0} (f : E → List (Item T)) (es : List E) → sum_by (λ e. sum_by (λ _. 1) (f e)) es ≡ sum_by (λ e. length (f e)) es
       same_sums f [] = refl
       same_sums f (e ∷ es) = let a = sum_by-cons (λ e. sum_by (λ _. 1) (f e)) e es in let b = sum_by-cons (λ e. length (f e)) e es in let c = same_sums f es in let d = ones_of (f e) in omega arith
 
 -- what all workers took, they replied to
-pub all_replied : (r k : ℕ) (takers : List (EndView Job)) (ended : List (EndView Replied)) → AllZip HasAnswered takers ended → sum_by (λ (e : EndView Job). sum_by (job_weight r k) e.taken) takers ≡ sum_by (λ (e : EndView Replied). sum_by (reply_weight r k) e.put) ended
+pub all_replied : (r k : ℕ) (takers : List (TakeView Job)) (ended : List (PutView Replied)) → AllZip HasAnswered takers ended → sum_by (λ (e : TakeView Job). sum_by (job_weight r k) e.taken) takers ≡ sum_by (λ (e : PutView Replied). sum_by (reply_weight r k) e.put) ended
 all_replied r k [] [] all = refl
 all_replied r k [] (w ∷ ws) all = absurd all
 all_replied r k (t ∷ ts) [] all = absurd all
 all_replied r k (t ∷ ts) (w ∷ ws) all =
-    let a = sum_by-cons (λ (e : EndView Job). sum_by (job_weight r k) e.taken) t ts in
-    let b = sum_by-cons (λ (e : EndView Replied). sum_by (reply_weight r k) e.put) w ws in
+    let a = sum_by-cons (λ (e : TakeView Job). sum_by (job_weight r k) e.taken) t ts in
+    let b = sum_by-cons (λ (e : PutView Replied). sum_by (reply_weight r k) e.put) w ws in
     let c = all_replied r k ts ws all.1 in
     let d = weigh_jobs r k t.taken in
     let e = weigh_replies r k w.put in
@@ -154,27 +153,27 @@ all_replied r k (t ∷ ts) (w ∷ ws) all =
     omega arith
 
 -- the replies of all workers are to their requests
-pub all_right : (racks : List (List Order)) (takers : List (EndView Job)) (ended : List (EndView Replied)) → AllZip HasAnswered takers ended → ((t : ℕ) (e : EndView Job) → get_elem? takers t ≡ some e → Each (IsRightItem racks) e.taken)
-    → (s : ℕ) (e : EndView Replied) → get_elem? ended s ≡ some e → Each (IsRightReply racks) e.put
+pub all_right : (racks : List (List Order)) (takers : List (TakeView Job)) (ended : List (PutView Replied)) → AllZip HasAnswered takers ended → ((t : ℕ) (e : TakeView Job) → get_elem? takers t ≡ some e → Each (IsRightItem racks) e.taken)
+    → (s : ℕ) (e : PutView Replied) → get_elem? ended s ≡ some e → Each (IsRightReply racks) e.put
 all_right racks [] [] all right s e at = absurd (some-ne-none e (sym at))
 all_right racks [] (w ∷ ws) all right s e at = absurd all
 all_right racks (t ∷ ts) [] all right s e at = absurd all
 all_right racks (t ∷ ts) (w ∷ ws) all right zero e at =
-    subst (λ (x : EndView Replied). Each (IsRightReply racks) x.put) (some-injective _ _ at)
+    subst (λ (x : PutView Replied). Each (IsRightReply racks) x.put) (some-injective _ _ at)
       (reply_items racks w.put (right_replies racks (values t.taken) (values w.put) all.0 (right_jobs racks t.taken (right 0 t refl))))
 all_right racks (t ∷ ts) (w ∷ ws) all right (suc s) e at = all_right racks ts ws all.1 (λ j. right (suc j)) s e at
 
 -- each request that is served was put once in all, and no other
-pub put_once : (racks : List (List Order)) (ended : List (EndView Job)) → length racks ≤ length ended → AllPut racks ended → (r k : ℕ) → sum_by (λ (e : EndView Job). sum_by (job_weight r k) e.put) ended ≡ serves racks r r k
+pub put_once : (racks : List (List Order)) (ended : List (PutView Job)) → length racks ≤ length ended → AllPut racks ended → (r k : ℕ) → sum_by (λ (e : PutView Job). sum_by (job_weight r k) e.put) ended ≡ serves racks r r k
 put_once racks ended enough all r k =
     elim (cases_lt r (length ended)) [
       inl low ↦
         (let here = there ended r low in
-         total_alone (λ (e : EndView Job). sum_by (job_weight r k) e.put) ended r here.0 here.1
+         total_alone (λ (e : PutView Job). sum_by (job_weight r k) e.put) ended r here.0 here.1
              (λ j e apart at. (all j e at).once r k ∙ not_here racks j r k apart)
            ∙ (all r here.0 here.1).once r k)
     | inr high ↦
-        total_none (λ (e : EndView Job). sum_by (job_weight r k) e.put) ended
+        total_none (λ (e : PutView Job). sum_by (job_weight r k) e.put) ended
             (λ j e at. (all j e at).once r k ∙ not_here racks j r k (λ same. far ended j r e at same high))
           ∙ sym (nothing racks r k (omega arith))
     ]
@@ -185,7 +184,7 @@ put_once racks ended enough all r k =
         small : (n : ℕ) → n < 1 → n ≡ 0
         small n low = omega arith
 
-    far : (es : List (EndView Job)) (j r : ℕ) (e : EndView Job) → get_elem? es j ≡ some e → j ≡ r → length es ≤ r → ⊥
+    far : (es : List (PutView Job)) (j r : ℕ) (e : PutView Job) → get_elem? es j ≡ some e → j ≡ r → length es ≤ r → ⊥
     far [] j r e at same high = some-ne-none e (sym at)
     far (x ∷ xs) zero r e at same high = absurd (omega arith)
     far (x ∷ xs) (suc j) zero e at same high = absurd (omega arith)
@@ -200,7 +199,7 @@ put_once racks ended enough all r k =
         small n low = omega arith
 
 -- what a run knows when all threads were joined, all left was taken and both lanes were settled
-pub record Ran (racks : List (List Order)) (ended : List (EndView Job)) (takers : List (EndView Job)) (last last_left : EndView Job) (more : List (Item Job)) (own : List Replied) (replied : List (EndView Replied)) (desk : EndView Replied) : Type 0 where
+pub record Ran (racks : List (List Order)) (ended : List (PutView Job)) (takers : List (TakeView Job)) (last last_left : TakeView Job) (more : List (Item Job)) (own : List Replied) (replied : List (PutView Replied)) (desk : TakeView Replied) : Type 0 where
   pub enough_racks : length racks ≤ length ended
   pub all_put : AllPut racks ended
   pub answered : AllZip HasAnswered (takers ++ last ∷ []) replied
@@ -208,22 +207,22 @@ pub record Ran (racks : List (List Order)) (ended : List (EndView Job)) (takers 
   pub own_replies : AreReplies (values more) own
   pub put_jobs : ℕ
   pub taken_jobs : ℕ
-  pub jobs_settled : IsSettled put_jobs taken_jobs ended (takers ++ last_left ∷ [])
-  pub jobs_taken : sum_by (λ (e : EndView Job). length e.put) ended ≤ sum_by (λ (e : EndView Job). length e.taken) (takers ++ last_left ∷ [])
+  pub jobs_settled : IsSettled put_jobs taken_jobs (puts_of ended) (takes_of (takers ++ last_left ∷ []))
+  pub jobs_taken : sum_by (λ (e : PutView Job). length e.put) ended ≤ sum_by (λ (e : TakeView Job). length e.taken) (takers ++ last_left ∷ [])
   pub put_replies : ℕ
   pub taken_replies : ℕ
-  pub replies_settled : IsSettled put_replies taken_replies replied (desk ∷ [])
-  pub replies_taken : sum_by (λ (e : EndView Replied). length e.put) replied ≤ sum_by (λ (e : EndView Replied). length e.taken) (desk ∷ [])
+  pub replies_settled : IsSettled put_replies taken_replies (puts_of replied) (takes_of (desk ∷ []))
+  pub replies_taken : sum_by (λ (e : PutView Replied). length e.put) replied ≤ sum_by (λ (e : TakeView Replied). length e.taken) (desk ∷ [])
 
-module _ (racks : List (List Order)) (ended : List (EndView Job)) (takers : List (EndView Job)) (last last_left : EndView Job) (more : List (Item Job)) (own : List Replied) (replies : List (EndView Replied)) (desk : EndView Replied) (ran : Ran racks ended takers last last_left more own replies desk) where
+module _ (racks : List (List Order)) (ended : List (PutView Job)) (takers : List (TakeView Job)) (last last_left : TakeView Job) (more : List (Item Job)) (own : List Replied) (replies : List (PutView Replied)) (desk : TakeView Replied) (ran : Ran racks ended takers last last_left more own replies desk) where
   counted : (r k : ℕ) → replies_to r k (values desk.taken ++ own) ≡ serves racks r r k
   counted r k =
-      let f : EndView Job → ℕ = λ e. sum_by (job_weight r k) e.taken in
-      let g : EndView Replied → ℕ = λ e. sum_by (reply_weight r k) e.put in
+      let f : TakeView Job → ℕ = λ e. sum_by (job_weight r k) e.taken in
+      let g : PutView Replied → ℕ = λ e. sum_by (reply_weight r k) e.put in
       let a = replies_to-append r k (values desk.taken) own in
       let b = weigh_replies r k desk.taken in
       let c = all_weighed ran.put_replies ran.taken_replies replies (desk ∷ []) ran.replies_settled ran.replies_taken (reply_weight r k) in
-      let d = sum_by-cons (λ (e : EndView Replied). sum_by (reply_weight r k) e.taken) desk [] in
+      let d = sum_by-cons (λ (e : TakeView Replied). sum_by (reply_weight r k) e.taken) desk [] in
       let e = all_replied r k (takers ++ last ∷ []) replies ran.answered in
       let h = sum_by-append f takers (last ∷ []) in
       let i = sum_by-append f takers (last_left ∷ []) in
@@ -260,24 +259,24 @@ module _ (racks : List (List Order)) (ended : List (EndView Job)) (takers : List
 
   jobs_right : (t : ℕ) (ys : List (Item Job)) → get_elem? (takes_of (takers ++ last_left ∷ [])) t ≡ some ys → Each (IsRightItem racks) ys
   jobs_right = taken_have (puts_of ended) (takes_of (takers ++ last_left ∷ [])) ran.jobs_settled.prefix ran.jobs_settled.lawful (IsRightItem racks)
-      (λ s xs at. let u = from_map (λ (e : EndView Job). e.put) ended s xs at in subst (Each (IsRightItem racks)) u.2 (ran.all_put s u.0 u.1).right)
+      (λ s xs at. let u = from_map (λ (e : PutView Job). e.put) ended s xs at in subst (Each (IsRightItem racks)) u.2 (ran.all_put s u.0 u.1).right)
 
-  last_right : (e : EndView Job) → e ≡ last_left → Each (IsRightItem racks) e.taken
-  last_right e same = subst (λ (x : EndView Job). Each (IsRightItem racks) x.taken) (sym same)
-      (jobs_right (length takers + 0) last_left.taken (at_map (λ (x : EndView Job). x.taken) (takers ++ last_left ∷ []) (length takers + 0) last_left (at_back takers (last_left ∷ []) 0 last_left refl (length takers + 0) refl)))
+  last_right : (e : TakeView Job) → e ≡ last_left → Each (IsRightItem racks) e.taken
+  last_right e same = subst (λ (x : TakeView Job). Each (IsRightItem racks) x.taken) (sym same)
+      (jobs_right (length takers + 0) last_left.taken (at_map (λ (x : TakeView Job). x.taken) (takers ++ last_left ∷ []) (length takers + 0) last_left (at_back takers (last_left ∷ []) 0 last_left refl (length takers + 0) refl)))
 
   parts_right : Each (IsRightItem racks) (last.taken ++ more)
   parts_right = subst (Each (IsRightItem racks)) ran.more_taken (last_right last_left refl)
 
-  each_right : (t : ℕ) (e : EndView Job) → get_elem? (takers ++ last ∷ []) t ≡ some e → Each (IsRightItem racks) e.taken
+  each_right : (t : ℕ) (e : TakeView Job) → get_elem? (takers ++ last ∷ []) t ≡ some e → Each (IsRightItem racks) e.taken
   each_right t e at = ⊎_elim
-      (λ was. jobs_right t e.taken (at_map (λ (x : EndView Job). x.taken) (takers ++ last_left ∷ []) t e (at_front takers (last_left ∷ []) t e was)))
-      (λ (new : (t ≡ length takers) × (last ≡ e)). subst (λ (x : EndView Job). Each (IsRightItem racks) x.taken) new.1 (λ i y there. parts_right i y (at_front last.taken more i y there)))
+      (λ was. jobs_right t e.taken (at_map (λ (x : TakeView Job). x.taken) (takers ++ last_left ∷ []) t e (at_front takers (last_left ∷ []) t e was)))
+      (λ (new : (t ≡ length takers) × (last ≡ e)). subst (λ (x : TakeView Job). Each (IsRightItem racks) x.taken) new.1 (λ i y there. parts_right i y (at_front last.taken more i y there)))
       (at_snoc_or takers last e t at)
 
   desk_right : Each (IsRightReply racks) desk.taken
   desk_right = taken_have (puts_of replies) (takes_of (desk ∷ [])) ran.replies_settled.prefix ran.replies_settled.lawful (IsRightReply racks)
-      (λ s xs at. let u = from_map (λ (e : EndView Replied). e.put) replies s xs at in subst (Each (IsRightReply racks)) u.2 (all_right racks (takers ++ last ∷ []) replies ran.answered each_right s u.0 u.1))
+      (λ s xs at. let u = from_map (λ (e : PutView Replied). e.put) replies s xs at in subst (Each (IsRightReply racks)) u.2 (all_right racks (takers ++ last ∷ []) replies ran.answered each_right s u.0 u.1))
       0 desk.taken refl
 
   own_right : Every (IsToItsRequest racks) own

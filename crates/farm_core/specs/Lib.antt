@@ -7,7 +7,6 @@ pub mod Limits
 pub mod Progress
 pub mod Gather
 pub mod Refused
-pub mod Ends
 pub mod Jobs
 pub mod Work
 pub mod Feed

@@ -11,6 +11,7 @@ use Rattle.farm_core.specs.declared.threads.WorkOf.{WorkOf}
 use Rattle.farm_core.specs.declared.ends.WorkerEnds.{WorkerEnds}
 use Rattle.farm_core.specs.declared.ends.Feeder.{Feeder}
 use Rattle.farm_lanes.specs.declared.lane.put_end.EndedPut.{EndedPut}
+use Rattle.std.specs.declared.alloc.Global.{Global}
 use Rattle.farm_core.specs.Put.{HasPutAll}
 use Rattle.farm_core.specs.declared.threads.FeedOf.{FeedOf}
 use Rattle.farm_core.specs.Work.{HasWorked}
@@ -20,7 +21,7 @@ abbrev pub ends_of : List (PromisedHandle Worked WorkOf) → List WorkerEnds
 ends_of handles = map (λ h. h.promise.0.value) handles
 
 -- what these feeders were given
-abbrev pub feeders_of : List (PromisedHandle (EndedPut Job) FeedOf) → List Feeder
+abbrev pub feeders_of : List (PromisedHandle (EndedPut Job Global) FeedOf) → List Feeder
 feeders_of handles = map (λ h. h.promise.0.value) handles
 
 -- the ends at each place are what the worker of that place left
@@ -34,6 +35,6 @@ pub record AreWorkerEnds (jobs_lane : LaneName Job) (replies_lane : LaneName Rep
   pub each : (k : ℕ) (e : WorkerEnds) → get_elem? ends k ≡ some e → (e.jobs ≡ new_take jobs_lane) × (e.replies ≡ new_put replies_lane k)
 
 -- the end at each place is what the feeder of that place left
-pub record FeedersJoined (handles : List (PromisedHandle (EndedPut Job) FeedOf)) (puts : List (PutView Job)) : Type 0 where
+pub record FeedersJoined (handles : List (PromisedHandle (EndedPut Job Global) FeedOf)) (puts : List (PutView Job)) : Type 0 where
   pub count : length puts ≡ length handles
-  pub each : (k : ℕ) (h : PromisedHandle (EndedPut Job) FeedOf) (e : PutView Job) → get_elem? handles k ≡ some h → get_elem? puts k ≡ some e → HasPutAll h.promise.0.value.rack h.promise.0.value.list.now h.promise.0.value.jobs e
+  pub each : (k : ℕ) (h : PromisedHandle (EndedPut Job Global) FeedOf) (e : PutView Job) → get_elem? handles k ≡ some h → get_elem? puts k ≡ some e → HasPutAll h.promise.0.value.rack h.promise.0.value.list.now h.promise.0.value.jobs e

@@ -1,6 +1,6 @@
 //! What the threads are given.
 ghost use Rattle.std.specs.Prelude.{◌≡◌, ◌+◌, ◌≤◌, [], false};
-ghost use Rattle.farm_core.specs.Ends.{IsUnusedPut, IsUnusedTake};
+ghost use Rattle.farm_lanes.specs.LaneEnds.{IsUnusedPut, IsUnusedTake};
 
 use crate::jobs::Job;
 use crate::orders::RackList;

@@ -1,6 +1,6 @@
 //! The feeder of a rack.
 ghost use Rattle.std.specs.Prelude.{◌≡◌, ◌+◌, ◌≤◌, [], false};
-ghost use Rattle.farm_core.specs.Ends.{IsUnusedPut};
+ghost use Rattle.farm_lanes.specs.LaneEnds.{IsUnusedPut};
 ghost use Rattle.farm_core.specs.Feed.{HasFed};
 
 use crate::jobs::Job;

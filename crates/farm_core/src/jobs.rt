@@ -2,7 +2,7 @@
 ghost use Rattle.std.specs.Prelude.{◌≡◌, IfOk};
 ghost use Rattle.lrc_code.specs.Answers.{IsAnswer};
 ghost use Rattle.lrc_code.specs.Code.{narrow};
-ghost use Rattle.farm_core.specs.Ends.{IsUnusedPut, IsUnusedTake};
+ghost use Rattle.farm_lanes.specs.LaneEnds.{IsUnusedPut, IsUnusedTake};
 ghost use Rattle.farm_core.specs.Work.{HasWorked};
 
 use crate::pause::Pause;

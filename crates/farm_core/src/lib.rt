@@ -13,6 +13,8 @@ mod row;
 mod settings;
 mod settling;
 mod taking;
+#[cfg(test)]
+mod tests;
 mod threads;
 
 pub use collector::Collector;

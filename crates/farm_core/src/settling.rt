@@ -1,7 +1,7 @@
 //! The collector's thread, and what is done once all threads were joined.
 ghost use Rattle.std.specs.Prelude.{◌≡◌, ◌≤◌, ◌<◌, ℕ, List, [], ◌∷◌, IfOk, map, length, vec_len, vec_capacity};
 ghost use Rattle.std.specs.List.{sum_by};
-ghost use Rattle.farm_core.specs.Ends.{IsUnusedTake};
+ghost use Rattle.farm_lanes.specs.LaneEnds.{IsUnusedTake};
 ghost use Rattle.farm_core.specs.Expected.{AreExpected};
 ghost use Rattle.farm_core.specs.Replies.{IsNothingYet};
 ghost use Rattle.farm_core.specs.Cleared.{HasCleared, TookLeft, TookReplies, HasOneEach, HasJoined};

@@ -1,6 +1,6 @@
 //! Starting the threads, and joining them.
 ghost use Rattle.std.specs.Prelude.{◌≡◌, ◌≤◌, [], true, false, IfOk, IfErr, IfSome, vec_len, vec_capacity};
-ghost use Rattle.farm_core.specs.Ends.{IsUnusedTake};
+ghost use Rattle.farm_lanes.specs.LaneEnds.{IsUnusedTake};
 ghost use Rattle.farm_core.specs.Threads.{WorkersJoined, FeedersJoined, ends_of, feeders_of};
 ghost use Rattle.farm_core.specs.Put.{HasPutAll};
 ghost use Rattle.farm_core.specs.Work.{HasWorked};

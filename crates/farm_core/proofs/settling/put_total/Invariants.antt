@@ -1,6 +1,5 @@
 use Rattle.std.proofs.Common.{◌≡◌, ◌≤◌, ◌*◌, length, take}
 use Rattle.std.specs.List.{sum_by}
-use Rattle.farm_lanes.specs.LaneRule.{put_of}
 use Rattle.farm_core.proofs.settling.put_total.Given as goal
 
 abbrev pub invariant-loop-end : goal.invariant-loop-end

@@ -1,6 +1,6 @@
-use Rattle.std.proofs.Common.{rules, ◌≡◌, ◌+◌, ◌∙◌, [], ◌∷◌, ap, sym, subst, Option}
+use Rattle.std.proofs.Common.{◌+◌, ◌∙◌, ap, sym, subst, Option}
 use Rattle.farm_lanes.specs.declared.lane.item.Item.TheVariants.{Value, End}
-use Rattle.farm_lanes.specs.LaneRule.{take_on}
+use Rattle.farm_lanes.specs.LaneEnds.{with_taken}
 use Rattle.farm_core.specs.declared.reply.CollectFault.{CollectFault}
 use Rattle.farm_core.specs.Replies.{Collected}
 use Rattle.farm_core.specs.Cleared.{TookReplies}
@@ -14,8 +14,8 @@ loop-preserved g c =
     elim c.match-take.branch [
       in-Value w ↦ subst P (λ i. (sym w.collector-is i, sym w.fault-is i))
         (replies_next c.args.replies.now c.loop.replies c.take.new.self c.loop.counter c.args.all.collector c.loop.collector w.hand_in-fault.new.collector c.args.all.fault c.loop.fault w.hand_in-fault.result (Value w.in-Value.sender w.in-Value.number w.in-Value.value)
-          c.loop.invariant c.take.ensures.lane (c.take.ensures.taken ∙ ap (take_on c.loop.replies.has) w.in-Value.is) w.hand_in-fault.ensures)
+          c.loop.invariant (c.take.ensures.taken ∙ ap (with_taken c.loop.replies) w.in-Value.is) w.hand_in-fault.ensures)
     | in-End w ↦ subst P (λ i. (sym w.collector-is i, sym w.fault-is i))
         (replies_next c.args.replies.now c.loop.replies c.take.new.self c.loop.counter c.args.all.collector c.loop.collector c.loop.collector c.args.all.fault c.loop.fault c.loop.fault (End w.in-End.sender w.in-End.number)
-          c.loop.invariant c.take.ensures.lane (c.take.ensures.taken ∙ ap (take_on c.loop.replies.has) w.in-End.is) (nothing_more c.loop.collector c.loop.fault))
+          c.loop.invariant (c.take.ensures.taken ∙ ap (with_taken c.loop.replies) w.in-End.is) (nothing_more c.loop.collector c.loop.fault))
     ]
