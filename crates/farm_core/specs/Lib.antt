@@ -14,3 +14,4 @@ pub mod Settled
 pub mod Put
 pub mod Cleared
 pub mod Threads
+pub mod Ready

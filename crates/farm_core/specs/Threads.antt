@@ -1,5 +1,5 @@
 -- What joined workers leave.
-use Rattle.std.specs.Prelude.{◌≡◌, ℕ, List, length, map}
+use Rattle.std.specs.Prelude.{◌≡◌, ℕ, List, [], length, map, slice_index_or}
 use mathlib.Core.Option.{some}
 use lib.ListN.{get_elem?}
 use Rattle.std.specs.declared.thread.PromisedHandle.{PromisedHandle}
@@ -13,6 +13,8 @@ use Rattle.farm_core.specs.declared.ends.Feeder.{Feeder}
 use Rattle.farm_lanes.specs.declared.lane.put_end.EndedPut.{EndedPut}
 use Rattle.std.specs.declared.alloc.Global.{Global}
 use Rattle.farm_core.specs.Put.{HasPutAll}
+use Rattle.farm_core.specs.declared.orders.Order.{Order}
+use Rattle.farm_lanes.specs.Lists.{EachAt}
 use Rattle.farm_core.specs.declared.threads.FeedOf.{FeedOf}
 use Rattle.farm_core.specs.Work.{HasWorked}
 
@@ -38,3 +40,11 @@ pub record AreWorkerEnds (jobs_lane : LaneName Job) (replies_lane : LaneName Rep
 pub record FeedersJoined (handles : List (PromisedHandle (EndedPut Job Global) FeedOf)) (puts : List (PutView Job)) : Type 0 where
   pub count : length puts ≡ length handles
   pub each : (k : ℕ) (h : PromisedHandle (EndedPut Job Global) FeedOf) (e : PutView Job) → get_elem? handles k ≡ some h → get_elem? puts k ≡ some e → HasPutAll h.promise.0.value.rack h.promise.0.value.list.now h.promise.0.value.jobs e
+
+-- the feeder at each place is of the rack of that number, with its list
+abbrev pub AreListed : List (List Order) → List Feeder → Type 0
+AreListed racks feeders = EachAt (λ k f. (f.rack ≡ k) × (f.list.now ≡ slice_index_or racks k [])) feeders
+
+-- the feeders' put ends as they were given: those of the senders 0, 1, 2 and so on of a lane
+abbrev pub ArePutInOrder : LaneName Job → List Feeder → Type 0
+ArePutInOrder lane feeders = EachAt (λ k f. f.jobs ≡ new_put lane k) feeders

@@ -19,16 +19,16 @@ pub struct WorkerEnds<'a> {
 /// A rack's list, with the gate, the seat, the right and the end of its feeder. Nothing was done with them yet.
 #[derive(Drop)]
 pub struct Feeder<'a> {
-    pub gate: &'a Gate,
+    pub gate: Gate,
     pub seat: Seat,
     pub right: Right,
     pub rack: usize,
     pub list: &'a RackList,
     pub jobs: PutEnd<Job<'a>>,
-    pub ghost own: { (seat.gate ≡ gate.now.id) × (right ≡ gate.now.id) },
+    pub ghost own: { (seat.gate ≡ gate.id) × (right ≡ gate.id) },
     pub ghost fresh: { (seat.has.numbers ≡ []) × (seat.has.knows ≡ false) },
     pub ghost budget: { seat.has.draws + 4096 ≤ seat.has.share },
     pub ghost unused: { IsUnusedPut jobs },
-    pub ghost lone: { (seat.has.share ≡ gate.now.size.total) × (gate.now.size.rights ≡ 1) },
+    pub ghost lone: { (seat.has.share ≡ gate.size.total) × (gate.size.rights ≡ 1) },
     pub ghost unclosed: { (seat.has.used ≡ 0) × (seat.has.made ≡ []) },
 }

@@ -9,9 +9,11 @@ mod jobs;
 mod orders;
 mod pause;
 mod reply;
+mod room;
 mod row;
 mod settings;
 mod settling;
+mod space;
 mod taking;
 #[cfg(test)]
 mod tests;

@@ -1,8 +1,8 @@
 //! Starting the threads, and joining them.
 ghost use Rattle.std.specs.Prelude.{◌≡◌, ◌≤◌, [], true, false, IfOk, IfErr, IfSome, vec_len, vec_capacity};
-ghost use Rattle.farm_lanes.specs.LaneEnds.{IsUnusedTake};
+ghost use Rattle.farm_lanes.specs.LaneEnds.{IsUnusedPut, IsUnusedTake};
 ghost use Rattle.farm_core.specs.Threads.{WorkersJoined, FeedersJoined, ends_of, feeders_of};
-ghost use Rattle.farm_core.specs.Put.{HasPutAll};
+ghost use Rattle.farm_core.specs.Put.{HasPutAll, HasPutStops};
 ghost use Rattle.farm_core.specs.Work.{HasWorked};
 ghost use Rattle.farm_core.specs.Replies.{IsNothingYet};
 ghost use Rattle.farm_core.specs.Cleared.{HasCleared};
@@ -13,11 +13,11 @@ use crate::feeding::{Fed, feed};
 use crate::jobs::{Job, Worked, idle, work};
 use crate::reply::Reply;
 use crate::settling::{Cleared, Desk, clear};
-use farm_lanes::{EndedPut, Gate, Right, Seat, TakeEnd};
+use farm_lanes::{EndedPut, Gate, PutEnd, Right, Seat, TakeEnd};
 use std::alloc::Global;
 use std::snapshot::Snapshot;
 use std::sync::Wait;
-use std::sync::atomic::{AtomicBool, Ordering};
+use std::sync::atomic::{AtomicUsize, Ordering};
 use std::thread::{Promise, PromisedHandle, Scope, Threads};
 
 /// The ends that a worker was given.
@@ -30,19 +30,21 @@ impl<'a> Promise<Worked<'a>> for WorkOf<'a> {
     ghost kept_by = { λ p w. HasWorked p.0.value.jobs p.0.value.replies w.jobs w.replies };
 }
 
-type Worker<'a> = PromisedHandle<Worked<'a>, WorkOf<'a>>;
+pub type Worker<'a> = PromisedHandle<Worked<'a>, WorkOf<'a>>;
 
+// What the worker of this number does: it works, unless it is the one that no thread was made for.
 fn work_with<'a, R: Wait, P: Pause>(
     rt: &R,
     alloc: Global,
-    refused: &AtomicBool,
+    refused: &AtomicUsize,
+    number: usize,
     ends: WorkerEnds<'a>,
     pause: &P,
 ) -> Worked<'a>
     ensures { HasWorked ends.entry.jobs ends.entry.replies result.jobs result.replies }
 {
     let WorkerEnds { jobs, replies } = ends;
-    if refused.load(Ordering::SeqCst) {
+    if refused.load(Ordering::SeqCst) == number {
         idle(rt, jobs, replies)
     } else {
         work(rt, alloc, jobs, replies, pause)
@@ -54,7 +56,8 @@ fn start_worker<'s, 'a: 's, E, R: Threads + Wait + Sync, P: Pause>(
     rt: &'s R,
     alloc: Global,
     scope: &Scope<'s, E>,
-    refused: &'s AtomicBool,
+    refused: &'s AtomicUsize,
+    number: usize,
     ends: WorkerEnds<'a>,
     pause: &'s P,
 ) -> Result<Worker<'a>, Worked<'a>>
@@ -64,11 +67,11 @@ fn start_worker<'s, 'a: 's, E, R: Threads + Wait + Sync, P: Pause>(
     let promise = WorkOf(Snapshot::of(&ends));
     let body = move || -> Worked
         ensures { HasWorked ends.entry.jobs ends.entry.replies result.jobs result.replies }
-    { work_with(rt, alloc, refused, ends, pause) };
+    { work_with(rt, alloc, refused, number, ends, pause) };
     match scope.spawn_with(promise, body) {
         Ok(handle) => Ok(handle),
         Err(back) => {
-            refused.store(true, Ordering::SeqCst);
+            refused.store(number, Ordering::SeqCst);
             Err((back.value)())
         }
     }
@@ -85,7 +88,7 @@ impl<'a> Promise<Cleared<'a>> for ClearOf<'a> {
 }
 
 // Starts the collector's thread.
-fn start_collector<'s, 'a: 's, E, R: Wait + Sync>(
+pub fn start_collector<'s, 'a: 's, E, R: Wait + Sync>(
     rt: &'s R,
     scope: &Scope<'s, E>,
     desk: Desk<'a>,
@@ -103,7 +106,7 @@ fn start_collector<'s, 'a: 's, E, R: Wait + Sync>(
 }
 
 // Joins the workers, and puts their ends in order.
-fn join_workers<'a, R: Threads>(
+pub fn join_workers<'a, R: Threads>(
     rt: &R,
     handles: Vec<Worker<'a>>,
     job_ends: &mut Vec<TakeEnd<Job<'a>>>,
@@ -121,11 +124,11 @@ fn join_workers<'a, R: Threads>(
 }
 
 // Starts a worker for each pair of ends, in order. After a refusal no further one is started, and the others end here. Says whether all were started.
-fn start_workers<'s, 'a: 's, E, R: Threads + Wait + Sync, P: Pause>(
+pub fn start_workers<'s, 'a: 's, E, R: Threads + Wait + Sync, P: Pause>(
     rt: &'s R,
     alloc: Global,
     scope: &Scope<'s, E>,
-    refused: &'s AtomicBool,
+    refused: &'s AtomicUsize,
     ends: Vec<WorkerEnds<'a>>,
     pause: &'s P,
     handles: &mut Vec<Worker<'a>>,
@@ -139,7 +142,7 @@ fn start_workers<'s, 'a: 's, E, R: Threads + Wait + Sync, P: Pause>(
     let mut all = true;
     for end in ends {
         if all {
-            match start_worker(rt, alloc, scope, refused, end, pause) {
+            match start_worker(rt, alloc, scope, refused, handles.len(), end, pause) {
                 Ok(handle) => handles.push_reserved(handle),
                 Err(_) => all = false,
             }
@@ -180,9 +183,9 @@ fn feed_all<'a, R: Wait>(rt: &R, feeder: Feeder<'a>) -> EndedPut<Job<'a>>
         right,
         close: _,
         jobs,
-    } = feed(rt, gate, seat, right, rack, list, jobs);
+    } = feed(rt, &gate, seat, right, rack, list, jobs);
     if let Some(right) = right {
-        spend(gate, seat, right);
+        spend(&gate, seat, right);
     }
     jobs
 }
@@ -211,10 +214,10 @@ fn spend(gate: &Gate, seat: Seat, right: Right)
     let _closed = gate.close(&mut seat, right);
 }
 
-type FeederHandle<'a> = PromisedHandle<EndedPut<Job<'a>>, FeedOf<'a>>;
+pub type FeederHandle<'a> = PromisedHandle<EndedPut<Job<'a>>, FeedOf<'a>>;
 
 // Starts a feeder for each rack, in order, until one is refused. Says whether none was.
-fn start_feeders<'s, 'a: 's, E, R: Threads + Wait + Sync>(
+pub fn start_feeders<'s, 'a: 's, E, R: Threads + Wait + Sync>(
     rt: &'s R,
     scope: &Scope<'s, E>,
     feeders: Vec<Feeder<'a>>,
@@ -236,7 +239,7 @@ fn start_feeders<'s, 'a: 's, E, R: Threads + Wait + Sync>(
 }
 
 // Joins the feeders, and puts their ends in order.
-fn join_feeders<'a, R: Threads>(
+pub fn join_feeders<'a, R: Threads>(
     rt: &R,
     handles: Vec<FeederHandle<'a>>,
     put_ends: &mut Vec<EndedPut<Job<'a>>>,
@@ -249,4 +252,42 @@ fn join_feeders<'a, R: Threads>(
     for handle in handles {
         put_ends.push_reserved(handle.join(rt));
     }
+}
+
+// Starts the workers, and where none is refused the feeders. Says whether no thread was refused.
+pub fn start_all<'s, 'a: 's, E, R: Threads + Wait + Sync, P: Pause>(
+    rt: &'s R,
+    alloc: Global,
+    scope: &Scope<'s, E>,
+    refused: &'s AtomicUsize,
+    ends: Vec<WorkerEnds<'a>>,
+    feeders: Vec<Feeder<'a>>,
+    pause: &'s P,
+    workers: &mut Vec<Worker<'a>>,
+    feeding: &mut Vec<FeederHandle<'a>>,
+) -> bool
+    requires empty { (workers.old.items ≡ []) × (feeding.old.items ≡ []) }
+    requires room { (vec_len ends ≤ vec_capacity workers.old) × (vec_len feeders ≤ vec_capacity feeding.old) }
+    ensures workers { result ≡ true → ends_of workers.new.items ≡ ends.entry.items }
+    ensures feeders { result ≡ true → feeders_of feeding.new.items ≡ feeders.entry.items }
+    ensures workers_len { vec_len workers.new ≤ vec_len ends.entry }
+    ensures feeders_len { vec_len feeding.new ≤ vec_len feeders.entry }
+{
+    if !start_workers(rt, alloc, scope, refused, ends, pause, workers) {
+        return false;
+    }
+    start_feeders(rt, scope, feeders, feeding)
+}
+
+// Puts so many jobs that say to stop, and ends.
+pub fn put_stops<'a, R: Wait>(rt: &R, stops: PutEnd<Job<'a>>, count: usize) -> EndedPut<Job<'a>>
+    requires unused { IsUnusedPut stops }
+    requires few { count ≤ 16 }
+    ensures { HasPutStops stops.entry result }
+{
+    let mut stops = stops;
+    for _ in 0..count {
+        stops.put(rt, Job::Stop);
+    }
+    stops.end(rt)
 }
