@@ -32,11 +32,13 @@ for line in lines:
         text = text.replace(old, value)
         open(path, 'w', encoding='utf-8').write(text)
 PY
-  if (cd "$copy/tree/crates/$crate" && rt try --test 2>&1) | grep -q "error\[$expected\]"; then
+  (cd "$copy/tree/crates/$crate" && rt try --test) > "$copy/said" 2>&1 || true
+  if grep -q "error\[$expected\]" "$copy/said"; then
     echo "no-compile $edit: refused with $expected"
     passed=$((passed + 1))
   else
     echo "no-compile $edit: NOT refused with $expected"
+    head -20 "$copy/said"
     failed=$((failed + 1))
   fi
   cp -r "crates/$crate/src" "$copy/tree/crates/$crate/"

@@ -4,7 +4,7 @@ use Rattle.std.specs.Prelude.{IsSome}
 use Rattle.std.proofs.lemmas.List.{drop_more, get_or-drop, get_or_past, drop-drop, length-drop, at_drop_all}
 use Rattle.std.proofs.lemmas.Bool.{cases_eq, cases_lt}
 use Rattle.farm_core.specs.Orders.{before_close, served}
-use Rattle.farm_core.specs.Replies.{Entry, Collected, reply_at, IsAdded, IsNothingYet, IsComplete, IsBefore}
+use Rattle.farm_core.specs.Replies.{Entry, Collected, reply_at, IsAdded, IsNothingYet, IsComplete, IsBefore, IsInPlace}
 use Rattle.farm_core.specs.Progress.{HasComeTo}
 use Rattle.farm_core.specs.declared.orders.Order.{Order}
 use Rattle.farm_core.specs.declared.orders.Order.TheVariants.{Rebuild, Close}
@@ -42,6 +42,19 @@ earlier r k rack number early apart =
 pub at : (c : Collected) (rack number : ℕ) (e : Entry) → reply_at c rack number ≡ Some e → (r k : ℕ) → (r ≡ rack) × (k ≡ number) → reply_at c r k ≡ Some e
 at c rack number e is r k same = ap (λ (i : ℕ). reply_at c i k) same.0 ∙ ap (λ (i : ℕ). reply_at c rack i) same.1 ∙ is
 
+-- one reply more, to the request of its place
+pub in_place_more : (c new : Collected) (rack number : ℕ) (e : Entry) → IsInPlace c → IsAdded c rack number e new
+    → ((d : Asked) → e.request ≡ get_or (served c.racks rack) number d) → IsInPlace new
+in_place_more c new rack number e was add right r k f d is =
+    elim (here r k rack number) [
+      | inl same ↦
+          (let said : Some e ≡ Some f = sym (at new rack number e add.1 r k same) ∙ is in
+          let same_entry : e ≡ f = cc in
+          let there : served new.racks r ≡ served c.racks rack = ap (λ (t : List (List Order)). served t r) add.0 ∙ ap (λ (i : ℕ). served c.racks i) same.0 in
+          ap (λ (x : Entry). x.request) (sym same_entry) ∙ right d ∙ ap (λ (i : ℕ). get_or (served c.racks rack) i d) (sym same.1) ∙ ap (λ (t : List Asked). get_or t k d) (sym there))
+      | inr apart ↦ was r k f d (sym (add.2 r k apart) ∙ is) ∙ ap (λ (t : List (List Order)). get_or (served t r) k d) (sym add.0)
+    ]
+
 -- one request more
 pub one_more : (racks : List (List Order)) (c new : Collected) (rack number : ℕ) (e : Entry) → HasComeTo c racks rack number → IsAdded c rack number e new
     → ((d : Asked) → e.request ≡ get_or (served racks rack) number d) → HasComeTo new racks rack (number + 1)
@@ -57,17 +70,7 @@ one_more racks c new rack number e come add right = record {
         | inl same ↦ absurd (late (inr (same.0, (let e = same.1 in omega arith))))
         | inr apart ↦ add.2 r k apart ∙ come.after r k (λ early. late (later r k rack number early))
       ];
-  right = λ r k f d is.
-      elim (here r k rack number) [
-        | inl same ↦
-            (let said : Some e ≡ Some f = sym (at new rack number e add.1 r k same) ∙ is in
-            let same_entry : e ≡ f = cc in
-            let there : served new.racks r ≡ served racks rack = ap (λ (t : List (List Order)). served t r) (add.0 ∙ come.racks_is) ∙ ap (λ (i : ℕ). served racks i) same.0 in
-            ap (λ (x : Entry). x.request) (sym same_entry) ∙ right d ∙ ap (λ (i : ℕ). get_or (served racks rack) i d) (sym same.1) ∙ ap (λ (t : List Asked). get_or t k d) (sym there))
-        | inr apart ↦
-            (let old = come.right r k f d (sym (add.2 r k apart) ∙ is) in
-            old ∙ ap (λ (t : List (List Order)). get_or (served t r) k d) (sym add.0))
-      ];
+  right = in_place_more c new rack number e come.right add (λ d. right d ∙ ap (λ (t : List (List Order)). get_or (served t rack) number d) (sym come.racks_is));
 }
 
 -- where a rack has no more requests, the next one begins

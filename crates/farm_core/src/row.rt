@@ -10,7 +10,7 @@ use lrc_code::Outcome;
 use std::alloc::{AllocError, Global};
 use std::marker::Model;
 
-///! The replies to one rack's requests. Contracts see it as a list of entries.
+/// The replies to one rack's requests. Contracts see it as a list of entries.
 #[derive(Drop)]
 pub struct Row<'a> {
     cells: Vec<Option<Reply<'a>>>,

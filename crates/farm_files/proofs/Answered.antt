@@ -1,5 +1,5 @@
 -- What was read, answered and made, brought together as what serving promises.
-use Rattle.std.proofs.Common.{◌≡◌, ◌<◌, ◌≤◌, ◌+◌, ◌++◌, ◌∙◌, Vec, Global, ℕ, List, [], ◌∷◌, Option, Some, None, length, map, refl, sym, ap, arith, subst, inl, inr, All}
+use Rattle.std.proofs.Common.{◌≡◌, ◌≤◌, ◌+◌, ◌∙◌, Vec, Global, ℕ, List, [], ◌∷◌, Some, None, length, map, refl, sym, ap, arith, subst, inr, All}
 use Rattle.std.specs.List.{AllZip, AllByRecursion}
 use Rattle.std.specs.Prelude.{IfSome, sum_by}
 use Rattle.std.proofs.lemmas.List.Elements.{All-from_recursion, recursion_from_All}
@@ -8,9 +8,9 @@ use Rattle.lrc_code.specs.declared.places.Place.{Place}
 use Rattle.lrc_code.specs.declared.outcomes.Outcome.{Outcome}
 use Rattle.lrc_code.specs.Requests.{Asked}
 use Rattle.farm_core.specs.Orders.{before_close}
-use Rattle.farm_core.specs.Expected.{AreAllAnswers, AreAnswers, AreExpected}
+use Rattle.farm_core.specs.Expected.{AreAllAnswers, AreExpected}
 use Rattle.farm_core.specs.declared.orders.Order.{Order}
-use Rattle.farm_files.specs.Files.{Files, Told, StopsWriting}
+use Rattle.farm_files.specs.Files.{Files, Told}
 use Rattle.farm_files.specs.Report.{before_close as listed_before_close}
 use Rattle.farm_files.specs.Serving.{AreAllReads, AreLists, Reads, Serves, asked_all, files_from, unread_all, written_files}
 use Rattle.farm_files.specs.Faults.{LeavesOutput, StopsServing}

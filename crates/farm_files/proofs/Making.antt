@@ -1,5 +1,5 @@
 -- A rack's rebuilt fragments, one more request.
-use Rattle.std.proofs.Common.{◌≡◌, ◌<◌, ◌≤◌, ◌+◌, ◌++◌, ◌∙◌, Bor, ℕ, List, [], ◌∷◌, length, map, take, get_or, refl, sym, ap, arith, append_assoc}
+use Rattle.std.proofs.Common.{◌≡◌, ◌<◌, ◌≤◌, ◌+◌, ◌++◌, ◌∙◌, Bor, ℕ, List, [], ◌∷◌, length, map, take, get_or, sym, ap, arith, append_assoc}
 use Rattle.std.proofs.lemmas.List.{append-nil, take_all, get_or-map, length-map, length-take, take_more}
 use Rattle.lrc_code.specs.declared.outcomes.Outcome.{Outcome}
 use Rattle.farm_files.specs.Listed.{ListedRequest}

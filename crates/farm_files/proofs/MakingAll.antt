@@ -1,5 +1,5 @@
 -- The files of all racks, one rack more.
-use Rattle.std.proofs.Common.{◌≡◌, ◌<◌, ◌≤◌, ◌+◌, ◌++◌, ◌∙◌, Vec, Global, ℕ, zero, suc, List, [], ◌∷◌, length, map, take, get_or, refl, sym, ap, ap₂, arith, append_assoc}
+use Rattle.std.proofs.Common.{◌≡◌, ◌<◌, ◌≤◌, ◌+◌, ◌++◌, ◌∙◌, Vec, Global, ℕ, zero, suc, List, [], ◌∷◌, length, map, take, get_or, refl, sym, ap, arith, append_assoc}
 use Rattle.std.specs.List.{AllZip}
 use Rattle.std.proofs.lemmas.List.{append-nil, take_all, length-map, length-take, map_more}
 use Rattle.lrc_code.specs.declared.places.Place.{Place}

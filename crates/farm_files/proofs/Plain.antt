@@ -1,5 +1,5 @@
 -- The fields of a report call for no quotes.
-use Rattle.std.proofs.Common.{◌≡◌, ◌<◌, ◌≤◌, ◌+◌, ◌++◌, ◌∙◌, ◌^◌, ◌/◌, ◌%◌, ℕ, zero, suc, Bool, true, false, cond, List, [], ◌∷◌, Option, Some, None, length, get_or, map, decimal, refl, sym, ap, arith}
+use Rattle.std.proofs.Common.{◌≡◌, ◌<◌, ◌≤◌, ◌++◌, ◌∙◌, ◌^◌, ◌/◌, ◌%◌, ℕ, zero, suc, Bool, true, false, cond, List, [], ◌∷◌, Option, Some, None, length, get_or, map, decimal, refl, ap, arith}
 use Rattle.std.specs.Prelude.{nat_le, not, ◌==◌, ◌&&◌, ◌||◌}
 use Rattle.std.specs.List.{AllByRecursion, join_with_byte, list_all, list_any}
 use Rattle.std.specs.Str.Parse.{AllDigits}
@@ -7,8 +7,8 @@ use Rattle.std.proofs.lemmas.List.{append-nil}
 use Rattle.std.proofs.lemmas.List.Folds.{list_any-append}
 use Rattle.std.proofs.lemmas.Str.Parse.{digit_from_value}
 use Rattle.std.proofs.lemmas.Fmt.{decimal_is_IsNumeral}
-use Rattle.csv.specs.Writing.{default_writer, escaped, field_text, fields_text, is_blank, needs_byte, needs_quotes, row_text}
-use Rattle.hex.specs.Hex.{encode_lower, encode_with, lower_digits}
+use Rattle.csv.specs.Writing.{default_writer, field_text, fields_text, is_blank, needs_byte, needs_quotes, row_text}
+use Rattle.hex.specs.Hex.{encode_with, lower_digits}
 use Rattle.sha2.specs.Sha256.{sha256}
 use Rattle.lrc_code.specs.declared.places.Place.{Place}
 use Rattle.lrc_code.specs.declared.places.Place.TheVariants as place
@@ -18,7 +18,7 @@ use Rattle.lrc_code.specs.declared.requests.RequestFault.{RequestFault}
 use Rattle.lrc_code.specs.declared.requests.RequestFault.TheVariants as fault
 use Rattle.lrc_code.specs.Places.{name_of}
 use Rattle.lrc_code.specs.Requests.{is_name, is_name_byte}
-use Rattle.farm_files.specs.Listed.{ListedRequest, is_listed, listed_refusal, stands_twice}
+use Rattle.farm_files.specs.Listed.{ListedRequest, listed_refusal}
 use Rattle.farm_files.specs.Report.{digest, outcome_name, report_line, report_row}
 use Rattle.farm_files.proofs.SpacedNames.{and_left, and_right}
 

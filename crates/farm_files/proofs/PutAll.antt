@@ -1,5 +1,5 @@
 -- Files put one after the other.
-use Rattle.std.proofs.Common.{◌≡◌, ◌<◌, ◌+◌, ◌++◌, ◌∙◌, ℕ, List, [], ◌∷◌, Option, Some, None, length, take, map, get_or, refl, ap, sym, option_map, string_bytes, arith}
+use Rattle.std.proofs.Common.{◌≡◌, ◌<◌, ◌+◌, ◌++◌, ◌∙◌, ℕ, List, [], ◌∷◌, Some, None, length, take, map, get_or, refl, ap, sym, option_map, string_bytes, arith}
 use Rattle.std.proofs.lemmas.List.{take_more, get_or-map, length-map}
 use Rattle.farm_files.specs.Files.{Files, Told, put, put_all}
 use Rattle.farm_files.specs.Named.{named}

@@ -1,9 +1,8 @@
 -- What a read of a file gives.
-use Rattle.std.proofs.Common.{◌≡◌, ◌<◌, ◌≤◌, ◌∙◌, ℕ, Bool, true, false, cond, List, [], ◌∷◌, Option, Some, None, Result, Ok, Err, length, take, refl, sym, ap, arith, subst, inl, inr, option_map}
+use Rattle.std.proofs.Common.{◌≡◌, ◌<◌, ◌≤◌, ◌∙◌, ℕ, Bool, true, false, cond, List, Option, Some, None, Result, length, take, refl, sym, ap, arith, inl, inr, option_map}
 use Rattle.std.specs.Prelude.{◌==◌, ◌⊎◌, IfSome, nat_lt, option_and_then}
 use Rattle.std.proofs.lemmas.List.{take_all, length-take}
 use Rattle.std.proofs.lemmas.Bool.Decides.{eqb_tells}
-use Rattle.std.proofs.lemmas.Bool.{le-ltb}
 use Rattle.lrc_code.specs.declared.places.Place.{Place}
 use Rattle.farm_files.specs.Listed.{ListedRequest}
 use Rattle.farm_files.specs.Listing.{list_of}

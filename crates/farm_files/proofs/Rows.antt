@@ -1,5 +1,5 @@
 -- A report, row by row.
-use Rattle.std.proofs.Common.{◌≡◌, ◌<◌, ◌≤◌, ◌+◌, ◌++◌, ◌∙◌, Bor, Global, Vec, ℕ, zero, suc, List, [], ◌∷◌, length, take, drop, map, get_or, flat_map, refl, sym, ap, arith, append_assoc}
+use Rattle.std.proofs.Common.{◌≡◌, ◌<◌, ◌≤◌, ◌+◌, ◌++◌, ◌∙◌, Bor, Global, Vec, ℕ, zero, suc, List, [], ◌∷◌, length, take, map, get_or, flat_map, refl, sym, ap, arith, append_assoc}
 use Rattle.std.proofs.lemmas.List.{map_more, append-nil, take_more, get_or-map, length-map, length-take}
 use Rattle.std.proofs.lemmas.List.Concat.{flat_map-append}
 use Rattle.std.specs.List.{join_with_byte}
@@ -7,9 +7,7 @@ use Rattle.lrc_code.specs.declared.places.Place.{Place}
 use Rattle.lrc_code.specs.declared.outcomes.Outcome.{Outcome}
 use Rattle.lrc_code.specs.Places.{name_of}
 use Rattle.farm_files.specs.Listed.{ListedRequest}
-use Rattle.farm_files.specs.declared.listing.Record.{Record}
-use Rattle.farm_files.specs.declared.listing.Record.TheVariants as rec
-use Rattle.farm_files.specs.Report.{before_close, report, report_header, report_line, report_row, report_rows}
+use Rattle.farm_files.specs.Report.{report, report_header, report_line, report_row, report_rows}
 
 rows_push : (n : ℕ) (rs : List ListedRequest) (os : List Outcome) (us : List (List Place)) (r : ListedRequest) (o : Outcome) (u : List Place) → length os ≡ length rs → length us ≡ length rs
     → report_rows n (rs ++ r ∷ []) (os ++ o ∷ []) (us ++ u ∷ []) ≡ report_rows n rs os us ++ report_row (n + length rs) r o u ∷ []

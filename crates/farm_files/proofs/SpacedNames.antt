@@ -5,7 +5,7 @@ use Rattle.std.specs.List.{slice_split}
 use Rattle.lrc_code.specs.Text.{place_named}
 use Rattle.lrc_code.specs.Code.{narrow}
 use Rattle.lrc_code.specs.Text.{every, is_space}
-use Rattle.std.specs.Prelude.{nat_le, ◌&&◌, ◌||◌, ◌==◌, Option, Some, Err}
+use Rattle.std.specs.Prelude.{nat_le, ◌&&◌, Some, Err}
 use Rattle.std.proofs.Common.{Bool, true, false, zero, suc, arith}
 use Rattle.std.specs.List.{list_all}
 use Rattle.std.specs.Str.{IsAscii, IsUtf8}
@@ -15,7 +15,6 @@ use Rattle.lrc_code.specs.declared.requests.RequestFault.TheVariants as refused
 use Rattle.lrc_code.specs.Requests.{is_name, is_name_byte}
 use Rattle.lrc_code.specs.Text.{number}
 use Rattle.farm_files.specs.declared.listing.ListFault.TheVariants as fault
-use Rattle.farm_files.specs.Listed.{ListedRequest}
 use Rattle.farm_files.specs.Listing.{listed, places, rebuild_at}
 
 pub and_left : (a b : Bool) → (a && b) ≡ true → a ≡ true

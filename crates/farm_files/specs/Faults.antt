@@ -1,5 +1,5 @@
 -- Why serving ends, and what it leaves.
-use Rattle.std.specs.Prelude.{◌≡◌, ◌+◌, ◌<◌, ◌⊎◌, ℕ, List, length, Option, Some, None, IfSome, Ok, Err, option_map}
+use Rattle.std.specs.Prelude.{◌≡◌, ◌+◌, ◌<◌, ◌⊎◌, ℕ, List, length, Some, None, IfSome, Err, option_map}
 use Rattle.lrc_code.specs.declared.outcomes.Outcome.{Outcome}
 use Rattle.farm_files.specs.Listing.{list_of}
 use Rattle.farm_files.specs.declared.listing.Record.{Record}

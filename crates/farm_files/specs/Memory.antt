@@ -1,5 +1,5 @@
 -- A shelf in memory.
-use Rattle.std.specs.Prelude.{◌-◌, ◌==◌, ℕ, Bool, false, List, Option, None, Some, option_map, if◌then◌else◌}
+use Rattle.std.specs.Prelude.{◌-◌, ◌==◌, ℕ, Bool, false, Option, None, Some, option_map, if◌then◌else◌}
 use Rattle.std.specs.BTreeMap as tree
 use Rattle.farm_files.specs.Files.{Files}
 use Rattle.farm_files.specs.declared.memory.MemoryShelf.{MemoryShelf}

@@ -1,5 +1,5 @@
 -- What serving a folder of lists writes.
-use Rattle.std.specs.Prelude.{◌≡◌, ◌+◌, ◌<◌, ◌≤◌, ◌==◌, ◌++◌, Bool, true, false, ℕ, List, [], ◌∷◌, length, map, Option, Some, None, Result, Ok, Err, option_map, option_and_then, if◌then◌else◌, count_by, sum_by}
+use Rattle.std.specs.Prelude.{◌≡◌, ◌+◌, ◌<◌, ◌≤◌, ◌==◌, ◌++◌, Bool, ℕ, List, [], ◌∷◌, length, map, Option, Some, None, Ok, option_map, option_and_then, if◌then◌else◌, count_by, sum_by}
 use Rattle.std.specs.List.{AllZip, filter, filter_map}
 use Rattle.std.specs.Option.{is_none}
 use Rattle.lrc_code.specs.declared.places.Place.{Place}

@@ -8,8 +8,14 @@ use std::fs;
 use std::io::{ErrorKind, Read, Write};
 use std::rt::Files;
 
+// The most calls that reading a file may take.
 const READ_TURNS: u32 = 16_777_216;
 
+// A whole fragment of the greatest length comes in one call.
+const BLOCK: usize = 65_537;
+
+/// A shelf over a folder of the system. Contracts see only how often it failed, since other programs may change the
+/// folder's files.
 #[derive(Drop)]
 pub struct FolderShelf<R: Drop> {
     rt: R,
@@ -18,6 +24,8 @@ pub struct FolderShelf<R: Drop> {
 }
 
 impl<R: Files + Clone + Drop> FolderShelf<R> {
+    /// The shelf over the folder at this path. Touches no device: where the folder isn't there, `read` finds no file and
+    /// `write` fails.
     pub fn open(rt: &R, alloc: Global, path: &str) -> Result<FolderShelf<R>, AllocError>
         ensures { IfOk result (λ s. folder_failed s ≡ 0) }
     {
@@ -38,7 +46,7 @@ impl<R: Files + Clone + Drop> FolderShelf<R> {
 // The first bytes of a file, or nothing where the device failed or want of memory.
 fn read_front<F: Read>(alloc: Global, file: &mut F, limit: usize) -> Result<Vec<u8>, ShelfFault> {
     let mut bytes = Vec::new(alloc);
-    let mut block = [0u8; 8192];
+    let mut block = [0u8; BLOCK];
     for _turn in 0..READ_TURNS {
         if bytes.len() >= limit {
             return Ok(bytes);

@@ -46,7 +46,7 @@ fn has_repeated(places: &[Place]) -> bool
 }
 
 impl Listed {
-    /// A listed request, unless one of the first four refusals holds.
+    /// A listed request, unless one of E1 to E4 holds: then the first of them in this order. Takes no memory.
     pub fn new(
         stripe: String,
         target: Place,
@@ -77,6 +77,7 @@ impl Listed {
         })
     }
 
+    /// The stripe's name.
     pub fn stripe(&self) -> &str
         ensures value { result.now ≡ self.now.stripe }
         ensures accepted { listed_refusal self.now ≡ None }
@@ -84,12 +85,14 @@ impl Listed {
         self.stripe.as_str()
     }
 
+    /// The lost place that is wanted.
     pub fn target(&self) -> Place
         ensures { result ≡ self.now.target }
     {
         self.target
     }
 
+    /// The length of the fragments in bytes, 1 to 65,536.
     pub fn length(&self) -> u32
         ensures value { result ≡ self.now.len }
         ensures accepted { listed_refusal self.now ≡ None }
@@ -97,6 +100,7 @@ impl Listed {
         self.length
     }
 
+    /// The survivors, in the list's order.
     pub fn survivors(&self) -> &[Place]
         ensures value { result.now ≡ self.now.survivors }
         ensures few { length self.now.survivors ≤ 10 }

@@ -49,11 +49,14 @@ pub enum ListFault {
     OutOfMemory,
 }
 
+// The most bytes of a list.
 const LIST_LIMIT: usize = 1_048_576;
 
+// The most records of a list behind its header.
 const ORDER_LIMIT: usize = 4096;
 
-/// The orders that a list has, or its first fault.
+/// The records of a list, or its first fault. They are read as `csv` reads with its default settings, but that no record is
+/// taken as a header and records may differ in their number of fields.
 pub fn read_list(alloc: Global, bytes: &[u8]) -> Result<Vec<Record>, ListFault>
     ensures read { IfOk result (λ v. list_of bytes.now ≡ Ok v.items) }
     ensures few { IfOk result (λ v. length v.items ≤ 4096) }

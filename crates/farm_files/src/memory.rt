@@ -7,6 +7,8 @@ use crate::shelf::{Shelf, ShelfFault};
 use std::alloc::{AllocError, Global};
 use std::collections::BTreeMap;
 
+/// A shelf in memory, which fails at the call that it is told to. Contracts see its files by name, how often it failed,
+/// and how many reads and writes go well before the one that fails.
 #[derive(Drop)]
 pub struct MemoryShelf {
     pub(crate) stored: BTreeMap<String, Vec<u8>>,
@@ -15,6 +17,7 @@ pub struct MemoryShelf {
 }
 
 impl MemoryShelf {
+    /// A shelf without files that fails at no call. Takes no memory.
     pub fn new(alloc: Global) -> MemoryShelf
         ensures empty { (name : List ℕ) → files_of result name ≡ None }
         ensures failed { failed_of result ≡ 0 }
@@ -27,6 +30,7 @@ impl MemoryShelf {
         }
     }
 
+    /// Puts a copy of these bytes as the file of that name. It is no write of the device, so it never fails as one.
     pub fn place(&mut self, alloc: Global, name: &str, bytes: &[u8]) -> Result<(), AllocError>
         ensures ok { OnOk result (files_of self.new ≡ put (files_of self.old) name.now bytes.now) }
         ensures err { OnErr result (files_of self.new ≡ files_of self.old) }
@@ -42,6 +46,7 @@ impl MemoryShelf {
         }
     }
 
+    /// The bytes of the file of that name, where it is there.
     pub fn file(&self, name: &str) -> Option<&[u8]>
         ensures { option_map (λ b. b.now) result ≡ files_of self.now name.now }
     {
@@ -51,6 +56,8 @@ impl MemoryShelf {
         }
     }
 
+    /// Of the reads and writes from now on, counted from 0, number `k` fails and the others don't. A failed write leaves
+    /// half of its bytes. A later call replaces an earlier one.
     pub fn fail_at(&mut self, k: u64)
         ensures armed { fails_in self.new ≡ Some k }
         ensures files { files_of self.new ≡ files_of self.old }

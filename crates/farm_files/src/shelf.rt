@@ -24,10 +24,11 @@ pub trait Shelf {
     /// How often the device failed.
     ghost failed: { Self → ℕ };
 
+    /// How often the device failed so far.
     fn failures(&self) -> u64
         ensures { result ≡ failed self.now };
 
-    /// The first bytes of a file, as many as the limit at most.
+    /// The first bytes of a file, as many as the limit at most; none where there is no such file. Changes no file.
     fn read(
         &mut self,
         alloc: Global,
@@ -39,7 +40,8 @@ pub trait Shelf {
         ensures same { files self.new ≡ files self.old }
         ensures failure { CountsFailure result (failed self.old) (failed self.new) };
 
-    /// Replaces a whole file.
+    /// Replaces a whole file. After a failure of the device nothing is known of this file, and the others are as they
+    /// were; want of memory changes no file.
     fn write(&mut self, alloc: Global, name: &str, bytes: &[u8]) -> Result<(), ShelfFault>
         requires { failed self.old < 2 ^ 63 }
         ensures written { Writes result name.now bytes.now (files self.old) (files self.new) }

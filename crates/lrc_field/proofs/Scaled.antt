@@ -1,5 +1,5 @@
 -- Sums with a list scaled by 0 or by 1.
-use Rattle.std.proofs.Common.{◌≡◌, ℕ, zero, suc, ◌<◌, ◌^◌, List, [], ◌∷◌, length, get_or, map, refl, ap, ap₂, ◌∙◌, arith}
+use Rattle.std.proofs.Common.{◌≡◌, ℕ, suc, ◌<◌, ◌^◌, List, [], ◌∷◌, length, get_or, map, refl, ap, ap₂, ◌∙◌, arith}
 use Rattle.std.specs.Int.Bits.{bit_xor, xor_zero_r}
 use Rattle.lrc_field.specs.Field.{times}
 use Rattle.lrc_field.specs.Sums.{sums}

@@ -6,6 +6,7 @@ use std::process::Abort;
 mod devices;
 mod limits;
 mod rows;
+mod vectors;
 
 // What line mode writes for an input, and what it answers.
 fn run(alloc: Global, input: &[u8]) -> (Vec<u8>, Result<LineCount, LineFault>) {

@@ -1,13 +1,14 @@
 //! Replies in whatever order they come.
-ghost use Rattle.std.specs.Prelude.{◌≡◌, IfOk, map};
-ghost use Rattle.farm_core.specs.Orders.{before_close};
+ghost use Rattle.std.specs.Prelude.{◌≡◌, IfOk, map, slice_index_or};
+ghost use Rattle.lrc_code.specs.Requests.{Asked};
+ghost use Rattle.farm_core.specs.Orders.{before_close, served};
+ghost use Rattle.farm_core.specs.Replies.{IsInPlace};
 
 use crate::tests::requests::{GLOBAL, LOCAL, SEVERAL, is_byte, is_several, list_of, racks_of};
 use crate::{CollectFault, Collector, FinishFault, Order, RackList, Racks, Reply};
 use lrc_code::{Outcome, Request};
 use lrc_plan::solve;
 use std::alloc::{AllocError, Global};
-use std::rt::HostRuntime;
 
 // The requests of a list in front of its close.
 fn requests_of(alloc: Global, list: &RackList) -> Result<Vec<&Request>, AllocError>
@@ -21,6 +22,35 @@ fn requests_of(alloc: Global, list: &RackList) -> Result<Vec<&Request>, AllocErr
         }
     }
     Ok(requests)
+}
+
+// The reply to rack 0's request of this number: its answer, or that memory was wanting.
+fn reply_of(
+    alloc: Global,
+    number: usize,
+    request: &Request,
+    starved: bool,
+) -> Result<Reply<'_>, AllocError>
+    ensures { IfOk result (λ r. (r.rack ≡ 0) × (r.number ≡ number) × (r.request ≡ request.now)) }
+{
+    if starved {
+        return Ok(Reply::starved(0, number as u64, request));
+    }
+    let outcome = solve(alloc, alloc, request)?;
+    Ok(Reply::done(0, number as u64, request, outcome))
+}
+
+// Whether a collector accepts the reply to the request of its place.
+fn accepts<'a>(collector: &mut Collector<'a>, reply: Reply<'a>) -> bool
+    requires place { (d : Asked) → reply.request ≡ slice_index_or (served collector.old.racks reply.rack) reply.number d }
+    requires before { IsInPlace collector.old }
+    ensures after { IsInPlace collector.new }
+    ensures racks { collector.new.racks ≡ collector.old.racks }
+{
+    match collector.accept(reply) {
+        Ok(()) => true,
+        Err(_) => false,
+    }
 }
 
 // What a collector ends with that gets the replies to rack 0's requests of these numbers, in this order. Those that are
@@ -41,12 +71,8 @@ fn gathered(
         let Some(request) = requests.get(*number) else {
             continue;
         };
-        let reply = if starved.contains(number) {
-            Reply::starved(0, *number as u64, request)
-        } else {
-            Reply::done(0, *number as u64, request, solve(alloc, alloc, request)?)
-        };
-        let _ = collector.accept(reply);
+        let reply = reply_of(alloc, *number, request, starved.contains(number))?;
+        let _ = accepts(&mut collector, reply);
     }
     Ok(collector.finish())
 }
@@ -66,8 +92,8 @@ fn are_answers_of_three(answers: &[Vec<Outcome>]) -> bool {
 
 #[test]
 fn three_replies_in_all_six_orders(rt: HostRuntime) -> Result<(), AllocError> {
-    let alloc = rt.allocator();
-    let racks = racks_of(alloc, &[&[LOCAL, SEVERAL, GLOBAL]])?;
+    let alloc = rt.alloc();
+    let racks = racks_of(&rt, alloc, &[&[LOCAL, SEVERAL, GLOBAL]])?;
     let orders = [
         [0, 1, 2],
         [0, 2, 1],
@@ -78,68 +104,76 @@ fn three_replies_in_all_six_orders(rt: HostRuntime) -> Result<(), AllocError> {
     ];
     for order in orders {
         let Ok(answers) = gathered(alloc, &racks, &order, &[])? else {
-            panic!("no answers");
+            panic!(rt; "no answers");
         };
-        assert!(are_answers_of_three(answers.as_slice()));
+        assert!(rt; are_answers_of_three(answers.as_slice()));
     }
     Ok(())
 }
 
 #[test]
 fn a_starved_reply_and_a_missing_one(rt: HostRuntime) -> Result<(), AllocError> {
-    let alloc = rt.allocator();
-    let racks = racks_of(alloc, &[&[LOCAL, SEVERAL, GLOBAL]])?;
-    assert!(matches!(
-        gathered(alloc, &racks, &[2, 0, 1], &[1])?,
-        Err(FinishFault::OutOfMemory)
-    ));
-    assert!(matches!(
-        gathered(alloc, &racks, &[2, 1], &[1])?,
-        Err(FinishFault::Missing { rack: 0, number: 0 })
-    ));
-    assert!(matches!(
-        gathered(alloc, &racks, &[], &[])?,
-        Err(FinishFault::Missing { rack: 0, number: 0 })
-    ));
-    assert!(matches!(
-        gathered(alloc, &racks, &[0, 1], &[])?,
-        Err(FinishFault::Missing { rack: 0, number: 2 })
-    ));
+    let alloc = rt.alloc();
+    let racks = racks_of(&rt, alloc, &[&[LOCAL, SEVERAL, GLOBAL]])?;
+    assert!(rt;
+        matches!(
+            gathered(alloc, &racks, &[2, 0, 1], &[1])?,
+            Err(FinishFault::OutOfMemory)
+        )
+    );
+    assert!(rt;
+        matches!(
+            gathered(alloc, &racks, &[2, 1], &[1])?,
+            Err(FinishFault::Missing { rack: 0, number: 0 })
+        )
+    );
+    assert!(rt;
+        matches!(
+            gathered(alloc, &racks, &[], &[])?,
+            Err(FinishFault::Missing { rack: 0, number: 0 })
+        )
+    );
+    assert!(rt;
+        matches!(
+            gathered(alloc, &racks, &[0, 1], &[])?,
+            Err(FinishFault::Missing { rack: 0, number: 2 })
+        )
+    );
     Ok(())
 }
 
 #[test]
 fn strangers_and_second_replies(rt: HostRuntime) -> Result<(), AllocError> {
-    let alloc = rt.allocator();
-    let racks = racks_of(alloc, &[&[LOCAL]])?;
+    let alloc = rt.alloc();
+    let racks = racks_of(&rt, alloc, &[&[LOCAL]])?;
     let mut collector = Collector::new(alloc, &racks)?;
     let lists = racks.lists();
     let Some(list) = lists.first() else {
-        panic!("no list");
+        panic!(rt; "no list");
     };
     let requests = requests_of(alloc, list)?;
     let Some(request) = requests.first() else {
-        panic!("no request");
+        panic!(rt; "no request");
     };
     let Err(CollectFault::Stranger { reply }) = collector.accept(Reply::starved(1, 0, request))
     else {
-        panic!("a reply of rack 1 was accepted");
+        panic!(rt; "a reply of rack 1 was accepted");
     };
-    assert!(reply.rack() == 1 && reply.number() == 0);
+    assert!(rt; reply.rack() == 1 && reply.number() == 0);
     let Err(CollectFault::Stranger { reply }) = collector.accept(Reply::starved(0, 1, request))
     else {
-        panic!("a second request was accepted");
+        panic!(rt; "a second request was accepted");
     };
-    assert!(reply.rack() == 0 && reply.number() == 1);
-    assert!(collector.accept(Reply::starved(0, 0, request)).is_ok());
+    assert!(rt; reply.rack() == 0 && reply.number() == 1);
+    assert!(rt; collector.accept(Reply::starved(0, 0, request)).is_ok());
     let outcome = solve(alloc, alloc, request)?;
     let Err(CollectFault::Double { reply }) = collector.accept(Reply::done(0, 0, request, outcome))
     else {
-        panic!("a second reply was accepted");
+        panic!(rt; "a second reply was accepted");
     };
     let Some(outcome) = reply.into_outcome() else {
-        panic!("another reply was handed back");
+        panic!(rt; "another reply was handed back");
     };
-    assert!(is_byte(&outcome, 0x01));
+    assert!(rt; is_byte(&outcome, 0x01));
     Ok(())
 }

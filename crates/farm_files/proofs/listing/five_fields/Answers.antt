@@ -1,4 +1,4 @@
-use Rattle.std.proofs.Common.{◌≡◌, ◌∙◌, sym, ap, Some, None, length, rules}
+use Rattle.std.proofs.Common.{rules}
 use Rattle.csv.specs.Records.{fields_of}
 use Rattle.farm_files.proofs.Five.{five_of, short_at, long_at}
 use Rattle.farm_files.proofs.listing.five_fields.Goals as goal

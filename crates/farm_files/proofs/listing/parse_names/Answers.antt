@@ -1,4 +1,4 @@
-use Rattle.std.proofs.Common.{◌≡◌, ◌∙◌, Bor, List, ℕ, Some, ap, sym}
+use Rattle.std.proofs.Common.{◌∙◌, Bor, List, ℕ, Some, ap, sym}
 use Rattle.lrc_code.specs.Text.{place_named}
 use Rattle.lrc_code.specs.Code.{narrow}
 use Rattle.lrc_code.proofs.Every.{every_more, every_none}

@@ -1,7 +1,6 @@
-use Rattle.std.proofs.Common.{◌≡◌, ◌∙◌, Bor, List, ℕ, ap, sym, length, map}
+use Rattle.std.proofs.Common.{◌∙◌, sym, length}
 use Rattle.std.proofs.lemmas.Bool.{eqb-false}
 use Rattle.std.proofs.lemmas.Result.{IfOk-weaker}
-use Rattle.lrc_code.specs.Text.{every}
 use Rattle.farm_files.proofs.SpacedNames.{places_by_parts}
 use Rattle.farm_files.proofs.listing.parse_places.Goals as goal
 

@@ -1,4 +1,4 @@
-use Rattle.std.proofs.Common.{Bor, List, ℕ, ◌≡◌, ◌<◌, ◌+◌, ◌++◌, ◌∙◌, sym, refl, rules, inl, inr, true, ap, Some, ◌∷◌, [], arith, length}
+use Rattle.std.proofs.Common.{Bor, List, ℕ, ◌<◌, ◌++◌, ◌∙◌, sym, refl, inl, inr, ap, Some, ◌∷◌, [], arith, length}
 use Rattle.std.proofs.lemmas.List.{length-append}
 use Rattle.std.proofs.lemmas.Result.{err_from_is_err_and}
 use Rattle.csv.specs.Reading.{Reached, default_config, strip_bom}

@@ -1,4 +1,4 @@
-use Rattle.std.proofs.Common.{◌≡◌, ◌≤◌, ◌++◌, ◌∷◌, ◌∙◌, Bool, true, false, List, ℕ, Some, None, length, option_map, sym, ap, arith, rules}
+use Rattle.std.proofs.Common.{◌++◌, ◌∷◌, ◌∙◌, true, false, Some, None, ap, arith, rules}
 use Rattle.lrc_code.specs.Places.{name_of}
 use Rattle.farm_files.proofs.Plain.{accepted}
 use Rattle.farm_files.proofs.ReadFiles.{fragment_absent, fragment_failed, fragment_other, fragment_read, told_bytes}

@@ -1,11 +1,10 @@
-use Rattle.std.proofs.Common.{◌≡◌, ◌≤◌, ◌<◌, ◌+◌, ◌++◌, ◌∷◌, [], ◌∙◌, Bor, List, ℕ, arith, map, take, ap, length, refl}
+use Rattle.std.proofs.Common.{◌≡◌, ◌++◌, ◌∷◌, [], ◌∙◌, Bor, List, arith, map, take, ap, length, refl}
 use Rattle.std.proofs.lemmas.List.{length-append}
 use Rattle.std.proofs.Common.{Vec, Global}
 use Rattle.lrc_code.specs.declared.places.Place.{Place}
 use Rattle.lrc_code.specs.Requests.{Asked}
 use Rattle.farm_core.specs.Orders.{before_close}
 use Rattle.farm_files.specs.Listed.{ListedRequest}
-use Rattle.farm_files.specs.Serving.{rack_failures}
 use Rattle.farm_files.proofs.ReadRequests.{all_served, orders_more, orders_push, rack_failures_push, reads_push, taken, unread_more}
 use Rattle.farm_files.proofs.reading.read_rack.Goals as goal
 

@@ -1,4 +1,4 @@
-use Rattle.std.proofs.Common.{◌≡◌, ◌∙◌, List, ℕ, Some, None, option_map, sym, ap}
+use Rattle.std.proofs.Common.{◌∙◌, Some, None, sym, ap}
 use Rattle.farm_files.specs.Listing.{list_of}
 use Rattle.farm_files.proofs.ReadFiles.{list_absent, list_read, list_refused, told_bytes}
 use Rattle.farm_files.proofs.reading.read_rack_list.Goals as goal

@@ -1,4 +1,4 @@
-use Rattle.std.proofs.Common.{◌≡◌, ◌≤◌, ◌∙◌, ◌++◌, ◌∷◌, [], Vec, Global, List, ℕ, arith, length, map, take, ap, refl, sym, subst, get_or}
+use Rattle.std.proofs.Common.{◌≡◌, ◌∙◌, ◌++◌, ◌∷◌, [], Vec, Global, List, ℕ, arith, length, map, take, ap, refl, sym, subst, get_or}
 use Rattle.std.specs.List.{AllZip}
 use Rattle.std.proofs.lemmas.List.{length-append}
 use Rattle.lrc_code.specs.declared.places.Place.{Place}
@@ -6,7 +6,6 @@ use Rattle.farm_core.specs.Orders.{before_close}
 use Rattle.farm_core.specs.declared.orders.Order.{Order}
 use Rattle.farm_files.specs.Report.{before_close as listed_before_close}
 use Rattle.farm_files.specs.declared.listing.Record.{Record}
-use Rattle.farm_files.specs.Serving.{AreReads, Reads, asked_rack, unread_rack}
 use Rattle.farm_files.proofs.ReadAllRacks.{all_failures_push, all_reads_push, lists_taken, racks_asked, racks_unread, sizes_push}
 use Rattle.farm_files.proofs.reading.read_racks.Goals as goal
 

@@ -1,4 +1,4 @@
-use Rattle.std.proofs.Common.{◌≡◌, ◌≤◌, ◌+◌, Some, take, map, length}
+use Rattle.std.proofs.Common.{◌≡◌, ◌≤◌, ◌+◌, Some, take, map}
 use Rattle.std.specs.List.{filter_map}
 use Rattle.lrc_code.specs.Survivors.{survivors_of}
 use Rattle.farm_files.specs.Files.{Files}

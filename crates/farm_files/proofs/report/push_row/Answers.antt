@@ -1,8 +1,6 @@
-use Rattle.std.proofs.Common.{◌≡◌, ◌<◌, ◌^◌, ◌++◌, ◌∙◌, List, ℕ, ap, arith, rules, decimal, sym}
-use Rattle.std.proofs.lemmas.Grind.{common_steps}
+use Rattle.std.proofs.Common.{◌≡◌, ◌++◌, ◌∙◌, ap, arith, rules, decimal}
 use Rattle.farm_files.proofs.Plain.{row_fields}
 use Rattle.lrc_code.specs.Places.{name_of}
-use Rattle.farm_files.specs.Report.{digest, outcome_name}
 use Rattle.farm_files.proofs.report.push_row.Goals as goal
 
 pub returns : goal.returns

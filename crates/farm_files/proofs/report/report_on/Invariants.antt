@@ -1,4 +1,4 @@
-use Rattle.std.proofs.Common.{◌≡◌, ◌≤◌, ◌∷◌, take, map, flat_map, length}
+use Rattle.std.proofs.Common.{◌≡◌, take, map}
 use Rattle.farm_files.specs.Report.{report}
 use Rattle.farm_files.proofs.report.report_on.Given as goal
 

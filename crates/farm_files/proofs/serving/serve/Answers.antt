@@ -1,15 +1,13 @@
-use Rattle.std.proofs.Common.{◌≡◌, ◌≤◌, ◌∙◌, Vec, Global, List, Some, ap, sym, subst, arith, length, map, refl, option_map}
+use Rattle.std.proofs.Common.{◌≡◌, ◌≤◌, ◌∙◌, Vec, Global, List, Some, ap, sym, subst, arith, length, map, option_map}
 use Rattle.std.specs.List.{AllZip, All}
 use Rattle.std.proofs.lemmas.List.{length-map}
 use Rattle.std.proofs.lemmas.Result.{err_from_is_err_and}
 use Rattle.lrc_code.specs.declared.outcomes.Outcome.{Outcome}
-use Rattle.lrc_code.specs.declared.places.Place.{Place}
 use Rattle.std.specs.Prelude.{sum_by}
 use Rattle.farm_core.specs.Orders.{before_close}
 use Rattle.farm_core.specs.declared.orders.Order.{Order}
 use Rattle.farm_files.specs.declared.listing.Record.{Record}
 use Rattle.farm_files.specs.Files.{Files, StopsWriting, put_all}
-use Rattle.farm_files.specs.Faults.{LeavesOutput}
 use Rattle.farm_files.specs.Named.{named}
 use Rattle.farm_files.specs.Report.{before_close as listed_before_close}
 use Rattle.farm_files.specs.Serving.{AreAllReads, Reads, Serves, asked_all, unread_all, written_files}

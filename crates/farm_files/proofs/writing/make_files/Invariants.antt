@@ -1,4 +1,4 @@
-use Rattle.std.proofs.Common.{◌≡◌, take, map, length, Vec, Global}
+use Rattle.std.proofs.Common.{◌≡◌, take, map, Vec, Global}
 use Rattle.lrc_code.specs.declared.places.Place.{Place}
 use Rattle.lrc_code.specs.declared.outcomes.Outcome.{Outcome}
 use Rattle.farm_files.specs.declared.listing.Record.{Record}

@@ -1,7 +1,5 @@
-use Rattle.std.proofs.Common.{◌∙◌, ap, refl, string_bytes}
+use Rattle.std.proofs.Common.{string_bytes}
 use Rattle.farm_files.proofs.Put.{put_by_updates}
-use Rattle.farm_files.specs.Files.{put}
-use Rattle.farm_files.specs.Memory.{files_of}
 use Rattle.farm_files.proofs.memory.MemoryShelf.place.Goals as goal
 
 pub returns-in-Ok-clause-ok : goal.returns-in-Ok-clause-ok

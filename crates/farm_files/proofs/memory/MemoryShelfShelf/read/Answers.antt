@@ -1,4 +1,4 @@
-use Rattle.std.proofs.Common.{◌∙◌, ap, refl, Some, take, option_map, sym}
+use Rattle.std.proofs.Common.{◌∙◌, ap, take, option_map}
 use Rattle.farm_files.proofs.Put.{take_least}
 use Rattle.farm_files.specs.Files.{Files}
 use Rattle.farm_files.proofs.memory.MemoryShelfShelf.read.Goals as goal

@@ -1,6 +1,4 @@
-use Rattle.std.proofs.Common.{◌∙◌, ap, refl, take}
 use Rattle.farm_files.proofs.Put.{put_or_not}
-use Rattle.farm_files.specs.Files.{Files}
 use Rattle.farm_files.specs.Memory.{files_of}
 use Rattle.farm_files.proofs.memory.MemoryShelfShelf.write.Goals as goal
 
