@@ -31,10 +31,10 @@ more_and_more c c1 c2 f f1 f2 xs ys a b racks zs h = subst (λ l. HasCollected r
 
 pub cleared_next : (racks : List (List Order)) (desk e e' : TakeView Replied) (c c' : Collected) (f f' : Option CollectFault) (x : Item Replied) → HasCleared racks desk c f e → e' ≡ with_taken e x → HasMore c f (values (x ∷ [])) c' f' → HasCleared racks desk c' f' e'
 cleared_next racks desk e e' c c' f f' x was more step = record {
-    took = was.took ++ x ∷ [];
-    desk_is = taken_more e e' desk.lane was.took x was.desk_is more;
-    collected = subst (λ l. HasCollected racks c' f' l) (sym (values-append was.took (x ∷ []))) (step racks (values was.took) was.collected);
-  }
+  took = was.took ++ x ∷ [];
+  desk_is = taken_more e e' desk.lane was.took x was.desk_is more;
+  collected = subst (λ l. HasCollected racks c' f' l) (sym (values-append was.took (x ∷ []))) (step racks (values was.took) was.collected);
+}
 
 module _ {T : Type 0} where
   pub took_none : (e : TakeView T) → e ≡ took_on e []
@@ -49,21 +49,21 @@ left_begins jobs c f = record { more = []; own = []; jobs_is = took_none jobs; c
 pub left_next : (jobs j j' : TakeView Job) (n : ℕ) (c c1 c2 : Collected) (f f1 f2 : Option CollectFault) (x : Item Job) (own : List Replied) → TookLeft jobs n c f j c1 f1 → j' ≡ with_taken j x
     → AreReplies (values (x ∷ [])) own → HasMore c1 f1 own c2 f2 → TookLeft jobs (n + 1) c f j' c2 f2
 left_next jobs j j' n c c1 c2 f f1 f2 x own was now one step = record {
-    more = was.more ++ x ∷ [];
-    own = was.own ++ own;
-    jobs_is = took_next jobs j j' was.more x was.jobs_is now;
-    count_is = length_push was.more x ∙ ap (λ k. k + 1) was.count_is;
-    answered = subst (λ l. AreReplies l (was.own ++ own)) (sym (values-append was.more (x ∷ []))) (replies_append (values was.more) (values (x ∷ [])) was.own own was.answered one);
-    collected = more_and_more c c1 c2 f f1 f2 was.own own was.collected step;
-  }
+  more = was.more ++ x ∷ [];
+  own = was.own ++ own;
+  jobs_is = took_next jobs j j' was.more x was.jobs_is now;
+  count_is = length_push was.more x ∙ ap (λ k. k + 1) was.count_is;
+  answered = subst (λ l. AreReplies l (was.own ++ own)) (sym (values-append was.more (x ∷ []))) (replies_append (values was.more) (values (x ∷ [])) was.own own was.answered one);
+  collected = more_and_more c c1 c2 f f1 f2 was.own own was.collected step;
+}
 
 pub replies_next : (desk e e' : TakeView Replied) (n : ℕ) (c c1 c2 : Collected) (f f1 f2 : Option CollectFault) (x : Item Replied) → TookReplies desk n c f e c1 f1 → e' ≡ with_taken e x → HasMore c1 f1 (values (x ∷ [])) c2 f2 → TookReplies desk (n + 1) c f e' c2 f2
 replies_next desk e e' n c c1 c2 f f1 f2 x was now step = record {
-    more = was.more ++ x ∷ [];
-    desk_is = took_next desk e e' was.more x was.desk_is now;
-    count_is = length_push was.more x ∙ ap (λ k. k + 1) was.count_is;
-    collected = subst (λ l. HasMore c f l c2 f2) (sym (values-append was.more (x ∷ []))) (more_and_more c c1 c2 f f1 f2 (values was.more) (values (x ∷ [])) was.collected step);
-  }
+  more = was.more ++ x ∷ [];
+  desk_is = took_next desk e e' was.more x was.desk_is now;
+  count_is = length_push was.more x ∙ ap (λ k. k + 1) was.count_is;
+  collected = subst (λ l. HasMore c f l c2 f2) (sym (values-append was.more (x ∷ []))) (more_and_more c c1 c2 f f1 f2 (values was.more) (values (x ∷ [])) was.collected step);
+}
 
 pub collected_racks : (racks : List (List Order)) (c : Collected) (f : Option CollectFault) (xs : List Replied) → HasCollected racks c f xs → c.racks ≡ racks
 collected_racks racks c None xs h = h.racks_is
@@ -86,12 +86,12 @@ job_ends_whole put rest last more all =
 
 pub desk_whole : (replies : List (PutView Replied)) (desk : TakeView Replied) (more : List (Item Replied)) → AreAllEnds replies (desk ∷ []) → AreAllEnds replies (took_on desk more ∷ [])
 desk_whole replies desk more all = record {
-    lane = all.lane;
-    all = all.all;
-    some_put = all.some_put;
-    each_put = all.each_put;
-    each_take = λ s e at. only s e at;
-  }
+  lane = all.lane;
+  all = all.all;
+  some_put = all.some_put;
+  each_put = all.each_put;
+  each_take = λ s e at. only s e at;
+}
   where
     only : (s : ℕ) (e : TakeView Replied) → get_elem? (took_on desk more ∷ []) s ≡ some e → e.lane ≡ all.lane
     only zero e at = ap (λ (u : TakeView Replied). u.lane) (sym (some-injective _ _ at)) ∙ all.each_take 0 desk refl
@@ -115,30 +115,30 @@ finishes racks put jobs rest replies desk desk' last last' c c1 c2 f f1 f2 missi
       taken_jobs = t;
       jobs_settled = settled;
       jobs_taken =
-        let g : TakeView Job → ℕ = λ e. length e.taken in
-        let a = sum_by-append g rest (last ∷ []) in
-        let b = sum_by-append g rest (last' ∷ []) in
-        let d = sum_by-cons g last [] in
-        let e = sum_by-cons g last' [] in
-        let h = ap (sum_by g) jobs_are in
-        let i = ap (λ (u : TakeView Job). length u.taken) took_left.jobs_is in
-        let j = length-append last.taken took_left.more in
-        let k = took_left.count_is in
-        omega arith;
+          let g : TakeView Job → ℕ = λ e. length e.taken in
+          let a = sum_by-append g rest (last ∷ []) in
+          let b = sum_by-append g rest (last' ∷ []) in
+          let d = sum_by-cons g last [] in
+          let e = sum_by-cons g last' [] in
+          let h = ap (sum_by g) jobs_are in
+          let i = ap (λ (u : TakeView Job). length u.taken) took_left.jobs_is in
+          let j = length-append last.taken took_left.more in
+          let k = took_left.count_is in
+          omega arith;
       put_replies = p';
       taken_replies = t';
       replies_settled = settled';
       replies_taken =
-        let g : TakeView Replied → ℕ = λ e. length e.taken in
-        let e = sum_by-cons g desk' [] in
-        let i = ap (λ (u : TakeView Replied). length u.taken) took_replies.desk_is in
-        let j = length-append desk.taken took_replies.more in
-        let k = took_replies.count_is in
-        omega arith;
+          let g : TakeView Replied → ℕ = λ e. length e.taken in
+          let e = sum_by-cons g desk' [] in
+          let i = ap (λ (u : TakeView Replied). length u.taken) took_replies.desk_is in
+          let j = length-append desk.taken took_replies.more in
+          let k = took_replies.count_is in
+          omega arith;
     } in
     let vals : values desk'.taken ≡ values desk.taken ++ values took_replies.more = ap (λ (u : TakeView Replied). values u.taken) took_replies.desk_is ∙ values-append desk.taken took_replies.more in
     let got : HasCollected racks c2 f2 (values desk'.taken ++ took_left.own) =
-      subst (λ l. HasCollected racks c2 f2 (l ++ took_left.own)) (sym vals) (took_left.collected racks (values desk.taken ++ values took_replies.more) (took_replies.collected racks (values desk.taken) joined.collected)) in
+    subst (λ l. HasCollected racks c2 f2 (l ++ took_left.own)) (sym vals) (took_left.collected racks (values desk.taken ++ values took_replies.more) (took_replies.collected racks (values desk.taken) joined.collected)) in
     let same : c2.racks ≡ racks = collected_racks racks c2 f2 (values desk'.taken ++ took_left.own) got in
     let all : HasOneEach racks c2 f2 = record {
       replies = values desk'.taken ++ took_left.own;

@@ -1,5 +1,5 @@
 -- A feeder goes on.
-use Rattle.std.proofs.Common.{◌≡◌, ℕ, zero, suc, ◌+◌, ◌<◌, ◌≤◌, List, [], ◌∷◌, ◌++◌, length, take, drop, get_or, Option, None, false, refl, sym, ap, ◌∙◌, subst, ⊎_elim, arith, append-nil}
+use Rattle.std.proofs.Common.{◌≡◌, ℕ, zero, suc, ◌+◌, ◌<◌, ◌≤◌, List, [], ◌∷◌, ◌++◌, length, take, drop, get_or, Option, None, false, refl, sym, ap, ◌∙◌, subst, ⊎_elim, arith}
 use Rattle.std.specs.List.{All}
 use Rattle.std.proofs.lemmas.List.{drop_more, length_push, get_or_append_left, get_or_push}
 use Rattle.std.proofs.Common.{below_more}
@@ -53,8 +53,8 @@ module _ {A : Type 0} where
   all_push P xs x all one k d low =
       let len : length (xs ++ x ∷ []) ≡ length xs + 1 = length_push xs x in
       below_more (λ i. P (get_or (xs ++ x ∷ []) i d)) (length xs)
-          (λ i below. subst P (sym (get_or_append_left xs (x ∷ []) d i below)) (all i d below))
-          (subst P (sym (get_or_push xs x d (length xs) refl)) one) k (omega arith)
+      (λ i below. subst P (sym (get_or_append_left xs (x ∷ []) d i below)) (all i d below))
+      (subst P (sym (get_or_push xs x d (length xs) refl)) one) k (omega arith)
 
   take_next : (i : ℕ) (xs : List A) (x : A) (rest : List A) → drop i xs ≡ x ∷ rest → take (i + 1) xs ≡ take i xs ++ x ∷ []
   take_next zero [] x rest is = absurd (cc)
@@ -89,23 +89,23 @@ next_here orders i r d low is along = sym along ∙ ap before_close (drop_more o
 
 pub feed_begins : (total : ℕ) (seat : SeatView) (rack : ℕ) (requests : List Asked) (jobs : PutView Job) → IsUnusedPut jobs → seat.has.numbers ≡ [] → seat.has.knows ≡ false → IsFeeding total seat rack requests jobs 0 seat jobs
 feed_begins total seat rack requests jobs unused none knows = record {
-    put = [];
-    only_values = λ k x at. absurd (some-ne-none x (sym at));
-    jobs_is = unused;
-    racks_are = λ k d low. absurd (omega arith);
-    count = refl;
-    long = refl;
-    requests_are = refl;
-    numbers_are = none;
-    numbers_count = refl;
-    rising = λ j k x y _ at _. absurd (some-ne-none x (sym at));
-    lone = λ _ k x at. absurd (some-ne-none x (sym at));
-    gate_is = refl;
-    share_is = refl;
-    within = omega arith;
-    draws_are = omega arith;
-    kept = (refl, refl, knows);
-  }
+  put = [];
+  only_values = λ k x at. absurd (some-ne-none x (sym at));
+  jobs_is = unused;
+  racks_are = λ k d low. absurd (omega arith);
+  count = refl;
+  long = refl;
+  requests_are = refl;
+  numbers_are = none;
+  numbers_count = refl;
+  rising = λ j k x y _ at _. absurd (some-ne-none x (sym at));
+  lone = λ _ k x at. absurd (some-ne-none x (sym at));
+  gate_is = refl;
+  share_is = refl;
+  within = omega arith;
+  draws_are = omega arith;
+  kept = (refl, refl, knows);
+}
 
 -- a number was drawn, and the job put
 pub feed_more : (total : ℕ) (seat : SeatView) (rack : ℕ) (orders : List Order) (jobs : PutView Job) (i : ℕ) (s s' : SeatView) (e e' : PutView Job) (number : ℕ) (job : Job) (r : Asked) (d : Order) (x : Item Job)
@@ -139,10 +139,10 @@ feed_more total seat rack orders jobs i s s' e e' number job r d x was along low
     rise_more : (ns : List ℕ) (n : ℕ) → AreRising ns → All (λ m. m < n) ns → AreRising (ns ++ n ∷ [])
     rise_more ns n up below j k x y less at_j at_k =
         ⊎_elim
-            (λ old. ⊎_elim (λ old'. up j k x y less old' old) (λ (new : (j ≡ length ns) × (n ≡ x)). absurd (let a = at_below ns k y old in let b = new.0 in omega arith)) (at_snoc_or ns n x j at_j))
-            (λ (new : (k ≡ length ns) × (n ≡ y)).
-              ⊎_elim (λ old'. subst (λ m. x < m) new.1 (below_at ns n x j below old')) (λ (new' : (j ≡ length ns) × (n ≡ x)). absurd (let a = new.0 in let b = new'.0 in omega arith)) (at_snoc_or ns n x j at_j))
-            (at_snoc_or ns n y k at_k)
+        (λ old. ⊎_elim (λ old'. up j k x y less old' old) (λ (new : (j ≡ length ns) × (n ≡ x)). absurd (let a = at_below ns k y old in let b = new.0 in omega arith)) (at_snoc_or ns n x j at_j))
+        (λ (new : (k ≡ length ns) × (n ≡ y)).
+        ⊎_elim (λ old'. subst (λ m. x < m) new.1 (below_at ns n x j below old')) (λ (new' : (j ≡ length ns) × (n ≡ x)). absurd (let a = new.0 in let b = new'.0 in omega arith)) (at_snoc_or ns n x j at_j))
+        (at_snoc_or ns n y k at_k)
 
     one_more : (ns : List ℕ) (n : ℕ) → CountUp ns → n ≡ length ns → CountUp (ns ++ n ∷ [])
     one_more ns n up is k y at = ⊎_elim (λ old. up k y old) (λ (new : (k ≡ length ns) × (n ≡ y)). sym new.1 ∙ (is ∙ sym new.0)) (at_snoc_or ns n y k at)
@@ -154,18 +154,18 @@ pub feed_ends : (gate : GateName) (seat : SeatView) (rack : ℕ) (list : List Or
     → ((put : List (Item Job)) → length (values put) ≡ i → IsRightLeft gate.id seat.has (length (values put) ≡ length (before_close list)) right close s'.has)
     → HasFed gate seat rack list jobs s' right close e'
 feed_ends gate seat rack list jobs i s s' e e' right close was gate_is share numbers more left = record {
-    put = was.put;
-    only_values = was.only_values;
-    jobs_is = more ∙ ap (λ (u : PutView Job). with_put u (End u.sender (length u.put))) was.jobs_is;
-    racks_are = was.racks_are;
-    requests_are = was.requests_are ∙ ap (λ n. take n (before_close list)) (sym was.count);
-    numbers_are = numbers ∙ was.numbers_are;
-    rising = was.rising;
-    lone = was.lone;
-    gate_is = gate_is ∙ was.gate_is;
-    share_is = share ∙ was.share_is;
-    right = left was.put was.count;
-  }
+  put = was.put;
+  only_values = was.only_values;
+  jobs_is = more ∙ ap (λ (u : PutView Job). with_put u (End u.sender (length u.put))) was.jobs_is;
+  racks_are = was.racks_are;
+  requests_are = was.requests_are ∙ ap (λ n. take n (before_close list)) (sym was.count);
+  numbers_are = numbers ∙ was.numbers_are;
+  rising = was.rising;
+  lone = was.lone;
+  gate_is = gate_is ∙ was.gate_is;
+  share_is = share ∙ was.share_is;
+  right = left was.put was.count;
+}
 
 -- the right was spent
 pub right_spent : (gate : TableId) (was s s' : SeatRecord) (result : Result ℕ AlreadyClosed) (close : Option ℕ) (all : Type 0) → close ≡ result_ok result

@@ -1,10 +1,10 @@
 -- Replies in any order.
-use Rattle.std.proofs.Common.{ℕ, ◌≡◌, ◌+◌, ◌<◌, ◌≤◌, ◌⊎◌, ◌==◌, ◌&&◌, cond, Bool, true, false, List, [], ◌∷◌, ◌++◌, length, get_or, arith, rules, refl, sym, ap, ◌∙◌, append_assoc, subst, suc, zero, inl, inr, Option, Some, None}
+use Rattle.std.proofs.Common.{ℕ, ◌≡◌, ◌+◌, true, List, [], ◌∷◌, ◌++◌, length, get_or, arith, refl, sym, ap, ◌∙◌, append_assoc, subst, inl, inr, Option, Some, None}
 use Rattle.std.specs.Prelude.{IsSome}
 use Rattle.std.specs.List.{All}
 use Rattle.std.proofs.lemmas.Bool.{cases_eq, cases_lt}
 use Rattle.farm_core.specs.Orders.{served, IsServed}
-use Rattle.farm_core.specs.Replies.{Entry, Collected, reply_at, IsAdded, IsNothingYet, IsMissing, IsComplete, IsInPlace}
+use Rattle.farm_core.specs.Replies.{Entry, Collected, IsAdded, IsNothingYet, IsComplete}
 use Rattle.std.proofs.lemmas.List.{get_or_at, length-append, length_push, get_or_append_left}
 use Rattle.farm_core.specs.declared.reply.CollectFault.{CollectFault}
 use Rattle.farm_core.specs.declared.reply.CollectFault.TheVariants.{Stranger, Double}
@@ -28,17 +28,17 @@ at_place r k x same = let a = same.0 in let b = same.1 in grind arith
 pub elsewhere : (r k : ℕ) (x : Replied) → ((r ≡ x.rack) × (k ≡ x.number) → ⊥) → replies_to r k (x ∷ []) ≡ 0
 elsewhere r k x apart =
     elim (cases_eq r x.rack) [
-      inl a ↦ elim (cases_eq k x.number) [ inl b ↦ absurd (apart (a, b)) | inr b ↦ grind arith ]
-    | inr a ↦ grind arith
+      | inl a ↦ elim (cases_eq k x.number) [ inl b ↦ absurd (apart (a, b)) | inr b ↦ grind arith ]
+      | inr a ↦ grind arith
     ]
 
 pub gathers_none : (racks : List (List Order)) (c : Collected) → IsNothingYet racks c → HasGathered c racks []
 gathers_none racks c none = record {
-    racks_is = none.0;
-    none = λ r k _. none.1 r k;
-    some = λ r k low. absurd (omega arith);
-    right = λ _ r k e d is. let no = none.1 r k in cc;
-  }
+  racks_is = none.0;
+  none = λ r k _. none.1 r k;
+  some = λ r k low. absurd (omega arith);
+  right = λ _ r k e d is. let no = none.1 r k in cc;
+}
 
 -- the next reply is to a request that is served, and the first to it
 pub is_served : (racks : List (List Order)) (all done rest : List Replied) (x : Replied) → IsOneEach racks all → all ≡ done ++ x ∷ rest → IsServed racks x.rack x.number
@@ -46,8 +46,8 @@ is_served racks all done rest x each is =
     let total : replies_to x.rack x.number all ≡ replies_to x.rack x.number done + replies_to x.rack x.number (x ∷ rest) = ap (λ (t : List Replied). replies_to x.rack x.number t) is ∙ replies_to-append x.rack x.number done (x ∷ rest) in
     let one : replies_to x.rack x.number (x ∷ []) ≡ 1 = at_place x.rack x.number x (refl, refl) in
     elim (cases_lt x.number (length (served racks x.rack))) [
-      inl low ↦ low
-    | inr high ↦ absurd (let none = (each x.rack x.number).1 (λ (h : IsServed racks x.rack x.number). omega arith) in omega arith)
+      | inl low ↦ low
+      | inr high ↦ absurd (let none = (each x.rack x.number).1 (λ (h : IsServed racks x.rack x.number). omega arith) in omega arith)
     ]
 
 pub is_first : (racks : List (List Order)) (all done rest : List Replied) (x : Replied) → IsOneEach racks all → all ≡ done ++ x ∷ rest → replies_to x.rack x.number done ≡ 0
@@ -72,31 +72,31 @@ all_at P all done rest x holds is =
 pub gathers_more : (racks : List (List Order)) (c new : Collected) (xs : List Replied) (x : Replied) → HasGathered c racks xs → IsAdded c x.rack x.number (entry_of x) new
     → HasGathered new racks (xs ++ x ∷ [])
 gathers_more racks c new xs x was add = record {
-    racks_is = add.0 ∙ was.racks_is;
-    none = λ r k no.
+  racks_is = add.0 ∙ was.racks_is;
+  none = λ r k no.
       let total = replies_to-append r k xs (x ∷ []) in
       elim (here r k x.rack x.number) [
-        inl same ↦ absurd (let one = at_place r k x same in omega arith)
-      | inr apart ↦ add.2 r k apart ∙ was.none r k (let e = elsewhere r k x apart in omega arith)
+        | inl same ↦ absurd (let one = at_place r k x same in omega arith)
+        | inr apart ↦ add.2 r k apart ∙ was.none r k (let e = elsewhere r k x apart in omega arith)
       ];
-    some = λ r k yes.
+  some = λ r k yes.
       let total = replies_to-append r k xs (x ∷ []) in
       elim (here r k x.rack x.number) [
-        inl same ↦ subst (λ (o : Option Entry). IsSome o) (sym (at new x.rack x.number (entry_of x) add.1 r k same)) refl
-      | inr apart ↦ subst (λ (o : Option Entry). IsSome o) (sym (add.2 r k apart)) (was.some r k (let e = elsewhere r k x apart in omega arith))
+        | inl same ↦ subst (λ (o : Option Entry). IsSome o) (sym (at new x.rack x.number (entry_of x) add.1 r k same)) refl
+        | inr apart ↦ subst (λ (o : Option Entry). IsSome o) (sym (add.2 r k apart)) (was.some r k (let e = elsewhere r k x apart in omega arith))
       ];
-    right = λ all r k f d is.
+  right = λ all r k f d is.
       elim (here r k x.rack x.number) [
-        inl same ↦
-          (let said : Some (entry_of x) ≡ Some f = sym (at new x.rack x.number (entry_of x) add.1 r k same) ∙ is in
-           let same_entry : entry_of x ≡ f = cc in
-           let there : served new.racks r ≡ served racks x.rack = ap (λ (t : List (List Order)). served t r) (add.0 ∙ was.racks_is) ∙ ap (λ (i : ℕ). served racks i) same.0 in
-           ap (λ (e : Entry). e.request) (sym same_entry) ∙ all_at (IsToItsRequest racks) (xs ++ x ∷ []) xs [] x all refl d ∙ ap (λ (i : ℕ). get_or (served racks x.rack) i d) (sym same.1) ∙ ap (λ (t : List Asked). get_or t k d) (sym there))
-      | inr apart ↦
-          (let old = was.right (all_before (IsToItsRequest racks) xs x all) r k f d (sym (add.2 r k apart) ∙ is) in
-           old ∙ ap (λ (t : List (List Order)). get_or (served t r) k d) (sym add.0))
+        | inl same ↦
+            (let said : Some (entry_of x) ≡ Some f = sym (at new x.rack x.number (entry_of x) add.1 r k same) ∙ is in
+            let same_entry : entry_of x ≡ f = cc in
+            let there : served new.racks r ≡ served racks x.rack = ap (λ (t : List (List Order)). served t r) (add.0 ∙ was.racks_is) ∙ ap (λ (i : ℕ). served racks i) same.0 in
+            ap (λ (e : Entry). e.request) (sym same_entry) ∙ all_at (IsToItsRequest racks) (xs ++ x ∷ []) xs [] x all refl d ∙ ap (λ (i : ℕ). get_or (served racks x.rack) i d) (sym same.1) ∙ ap (λ (t : List Asked). get_or t k d) (sym there))
+        | inr apart ↦
+            (let old = was.right (all_before (IsToItsRequest racks) xs x all) r k f d (sym (add.2 r k apart) ∙ is) in
+            old ∙ ap (λ (t : List (List Order)). get_or (served t r) k d) (sym add.0))
       ];
-  }
+}
 
 -- with one reply each, nothing is missing
 pub gathers_all : (racks : List (List Order)) (c : Collected) (xs : List Replied) → HasGathered c racks xs → IsOneEach racks xs → IsComplete c
@@ -113,17 +113,16 @@ never_refused racks all done rest x c (Stranger back) each is was said =
 never_refused racks all done rest x c (Double back) each is was said =
     no_some (subst (λ (o : Option Entry). IsSome o) (was.none x.rack x.number (is_first racks all done rest x each is)) said.2)
 
-
 -- a reply was refused, and what came after it was let go
 pub refused_stays : (racks : List (List Order)) (c : Collected) (fault : CollectFault) (xs : List Replied) (y : Replied) → WasRefused racks c fault xs → WasRefused racks c fault (xs ++ y ∷ [])
 refused_stays racks c fault xs y was = record {
-    done = was.done;
-    reply = was.reply;
-    rest = was.rest ++ y ∷ [];
-    is = ap (λ (t : List Replied). t ++ y ∷ []) was.is ∙ append_assoc was.done (was.reply ∷ was.rest) (y ∷ []);
-    gathered = was.gathered;
-    refused = was.refused;
-  }
+  done = was.done;
+  reply = was.reply;
+  rest = was.rest ++ y ∷ [];
+  is = ap (λ (t : List Replied). t ++ y ∷ []) was.is ∙ append_assoc was.done (was.reply ∷ was.rest) (y ∷ []);
+  gathered = was.gathered;
+  refused = was.refused;
+}
 
 -- with one reply each, none was refused
 pub none_refused : (racks : List (List Order)) (c : Collected) (fault : CollectFault) (xs : List Replied) → WasRefused racks c fault xs → IsOneEach racks xs → ⊥

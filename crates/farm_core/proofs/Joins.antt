@@ -36,17 +36,17 @@ Handle = PromisedHandle Worked WorkOf
 
 pub joined_next : (hs : List Handle) (js : List (TakeView Job)) (rs : List (PutView Replied)) (h : Handle) (j : TakeView Job) (r : PutView Replied) → WorkersJoined hs js rs → HasWorked h.promise.0.value.jobs h.promise.0.value.replies j r → WorkersJoined (hs ++ h ∷ []) (js ++ j ∷ []) (rs ++ r ∷ [])
 joined_next hs js rs h j r was one = record {
-    jobs_count = length_push js j ∙ (ap (λ n. n + 1) was.jobs_count ∙ sym (length_push hs h));
-    replies_count = length_push rs r ∙ (ap (λ n. n + 1) was.replies_count ∙ sym (length_push hs h));
-    each = λ k h' j' r' at_h at_j at_r. ⊎_elim
-        (λ old. let low = at_below hs k h' old in was.each k h' j' r' old (snoc_old js j j' k (let e = was.jobs_count in omega arith) at_j) (snoc_old rs r r' k (let e = was.replies_count in omega arith) at_r))
-        (λ (new : (k ≡ length hs) × (h ≡ h')). let e = new.0 in
-          let P : Handle × TakeView Job × PutView Replied → Type 0 = λ p. HasWorked p.0.promise.0.value.jobs p.0.promise.0.value.replies p.1 p.2 in
-          let same_j = snoc_new js j j' k (let f = was.jobs_count in omega arith) at_j in
-          let same_r = snoc_new rs r r' k (let f = was.replies_count in omega arith) at_r in
-          subst P (λ i. (new.1 i, same_j i, same_r i)) one)
-        (at_snoc_or hs h h' k at_h);
-  }
+  jobs_count = length_push js j ∙ (ap (λ n. n + 1) was.jobs_count ∙ sym (length_push hs h));
+  replies_count = length_push rs r ∙ (ap (λ n. n + 1) was.replies_count ∙ sym (length_push hs h));
+  each = λ k h' j' r' at_h at_j at_r. ⊎_elim
+      (λ old. let low = at_below hs k h' old in was.each k h' j' r' old (snoc_old js j j' k (let e = was.jobs_count in omega arith) at_j) (snoc_old rs r r' k (let e = was.replies_count in omega arith) at_r))
+      (λ (new : (k ≡ length hs) × (h ≡ h')). let e = new.0 in
+      let P : Handle × TakeView Job × PutView Replied → Type 0 = λ p. HasWorked p.0.promise.0.value.jobs p.0.promise.0.value.replies p.1 p.2 in
+      let same_j = snoc_new js j j' k (let f = was.jobs_count in omega arith) at_j in
+      let same_r = snoc_new rs r r' k (let f = was.replies_count in omega arith) at_r in
+      subst P (λ i. (new.1 i, same_j i, same_r i)) one)
+      (at_snoc_or hs h h' k at_h);
+}
 
 -- the replies of each answer what it took
 pub answered_all : (R : TakeView Job → PutView Replied → Type 0) (js : List (TakeView Job)) (rs : List (PutView Replied)) → length js ≡ length rs → ((k : ℕ) (j : TakeView Job) (r : PutView Replied) → get_elem? js k ≡ some j → get_elem? rs k ≡ some r → R j r) → AllZip R js rs
@@ -71,11 +71,11 @@ FeederHandle = PromisedHandle (EndedPut Job Global) FeedOf
 -- one feeder more is joined
 pub fed_next : (hs : List FeederHandle) (es : List (PutView Job)) (h : FeederHandle) (e : PutView Job) → FeedersJoined hs es → HasPutAll h.promise.0.value.rack h.promise.0.value.list.now h.promise.0.value.jobs e → FeedersJoined (hs ++ h ∷ []) (es ++ e ∷ [])
 fed_next hs es h e was one = record {
-    count = length_push es e ∙ (ap (λ n. n + 1) was.count ∙ sym (length_push hs h));
-    each = λ k h' e' at_h at_e. ⊎_elim
-        (λ old. let low = at_below hs k h' old in was.each k h' e' old (snoc_old es e e' k (let c = was.count in omega arith) at_e))
-        (λ (new : (k ≡ length hs) × (h ≡ h')). let c = new.0 in
-          let P : FeederHandle × PutView Job → Type 0 = λ p. HasPutAll p.0.promise.0.value.rack p.0.promise.0.value.list.now p.0.promise.0.value.jobs p.1 in
-          subst P (λ i. (new.1 i, snoc_new es e e' k (let f = was.count in omega arith) at_e i)) one)
-        (at_snoc_or hs h h' k at_h);
-  }
+  count = length_push es e ∙ (ap (λ n. n + 1) was.count ∙ sym (length_push hs h));
+  each = λ k h' e' at_h at_e. ⊎_elim
+      (λ old. let low = at_below hs k h' old in was.each k h' e' old (snoc_old es e e' k (let c = was.count in omega arith) at_e))
+      (λ (new : (k ≡ length hs) × (h ≡ h')). let c = new.0 in
+      let P : FeederHandle × PutView Job → Type 0 = λ p. HasPutAll p.0.promise.0.value.rack p.0.promise.0.value.list.now p.0.promise.0.value.jobs p.1 in
+      subst P (λ i. (new.1 i, snoc_new es e e' k (let f = was.count in omega arith) at_e i)) one)
+      (at_snoc_or hs h h' k at_h);
+}

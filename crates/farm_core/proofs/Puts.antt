@@ -60,7 +60,7 @@ right_put racks rack s (Solve a b q ∷ js) all up says =
     let b_is : b ≡ s + 0 = up 0 b refl in (
       λ d. says 0 d (omega arith) ∙ (ap (λ n. get_or (served racks rack) n d) (sym b_is) ∙ ap (λ n. get_or (served racks n) b d) (sym a_is)),
       right_put racks rack (suc s) js (λ i d low. all (suc i) d (omega arith)) (λ i x at. let e = up (suc i) x at in omega arith)
-        (λ i d low. says (suc i) d (omega arith) ∙ ap (λ n. get_or (served racks rack) n d) (let e : s + suc i ≡ suc s + i = omega arith in e)),
+          (λ i d low. says (suc i) d (omega arith) ∙ ap (λ n. get_or (served racks rack) n d) (let e : s + suc i ≡ suc s + i = omega arith in e)),
     )
 
 pub job_items : (racks : List (List Order)) (xs : List (Item Job)) → Every (IsRightJob racks) (values xs) → Each (IsRightItem racks) xs
@@ -81,27 +81,27 @@ fed_puts_all racks gate seat rack list jobs seat' right close jobs' fed lone all
     let whole : requests_of (values fed.put) ≡ served racks rack = fed.requests_are ∙ (take_all (length (values fed.put)) (before_close list) (omega arith) ∙ sym is) in
     record {
       once = λ r k.
-        let a = weigh_jobs r k (fed.put ++ mark ∷ []) in
-        let v = ap (jobs_to r k) vals in
-        let b = count_jobs rack 0 r k (values fed.put) fed.racks_are up in
-        let c = window_all rack (length (values fed.put)) r k in
-        let n : length (values fed.put) ≡ length (served racks rack) = all ∙ ap (λ (l : List Asked). length l) (sym is) in
-        let d : cond (nat_eq rack r && nat_lt k (length (values fed.put))) 1 0 ≡ cond (nat_eq rack r && nat_lt k (length (served racks rack))) 1 0 + 0 = rw n (omega arith) in
-        omega arith;
+          let a = weigh_jobs r k (fed.put ++ mark ∷ []) in
+          let v = ap (jobs_to r k) vals in
+          let b = count_jobs rack 0 r k (values fed.put) fed.racks_are up in
+          let c = window_all rack (length (values fed.put)) r k in
+          let n : length (values fed.put) ≡ length (served racks rack) = all ∙ ap (λ (l : List Asked). length l) (sym is) in
+          let d : cond (nat_eq rack r && nat_lt k (length (values fed.put))) 1 0 ≡ cond (nat_eq rack r && nat_lt k (length (served racks rack))) 1 0 + 0 = rw n (omega arith) in
+          omega arith;
       right = job_items racks (fed.put ++ mark ∷ [])
-        (subst (Every (IsRightJob racks)) (sym vals) (right_put racks rack 0 (values fed.put) fed.racks_are up (λ i d low. ap (λ (l : List Asked). get_or l i d) whole ∙ ap (λ n. get_or (served racks rack) n d) (let e : i ≡ 0 + i = omega arith in e))));
+          (subst (Every (IsRightJob racks)) (sym vals) (right_put racks rack 0 (values fed.put) fed.racks_are up (λ i d low. ap (λ (l : List Asked). get_or l i d) whole ∙ ap (λ n. get_or (served racks rack) n d) (let e : i ≡ 0 + i = omega arith in e))));
     }
 
 -- everything was put: where the right is back, the seat was told of no closing
 pub all_put : (gate : GateName) (seat : SeatView) (rack : ℕ) (list : List Order) (jobs : PutView Job) (seat' : SeatView) (right : Option TableId) (close : Option ℕ) (jobs' : PutView Job)
     → HasFed gate seat rack list jobs seat' right close jobs' → seat.has.share ≡ gate.size.total → (is_some right ≡ true → seat'.has.knows ≡ false) → HasPutAll rack list jobs jobs'
 all_put gate seat rack list jobs seat' None close jobs' fed lone open_yet = record {
-    put = fed.put ++ End jobs.sender (length fed.put) ∷ [];
-    jobs_is = fed.jobs_is;
-    all = λ racks is. fed_puts_all racks gate seat rack list jobs seat' None close jobs' fed lone fed.right.2 is;
-  }
+  put = fed.put ++ End jobs.sender (length fed.put) ∷ [];
+  jobs_is = fed.jobs_is;
+  all = λ racks is. fed_puts_all racks gate seat rack list jobs seat' None close jobs' fed lone fed.right.2 is;
+}
 all_put gate seat rack list jobs seat' (Some r) close jobs' fed lone open_yet = record {
-    put = fed.put ++ End jobs.sender (length fed.put) ∷ [];
-    jobs_is = fed.jobs_is;
-    all = λ racks is. fed_puts_all racks gate seat rack list jobs seat' (Some r) close jobs' fed lone (fed.right.4 (open_yet refl)) is;
-  }
+  put = fed.put ++ End jobs.sender (length fed.put) ∷ [];
+  jobs_is = fed.jobs_is;
+  all = λ racks is. fed_puts_all racks gate seat rack list jobs seat' (Some r) close jobs' fed lone (fed.right.4 (open_yet refl)) is;
+}

@@ -160,21 +160,21 @@ all_right racks [] (w ∷ ws) all right s e at = absurd all
 all_right racks (t ∷ ts) [] all right s e at = absurd all
 all_right racks (t ∷ ts) (w ∷ ws) all right zero e at =
     subst (λ (x : PutView Replied). Each (IsRightReply racks) x.put) (some-injective _ _ at)
-      (reply_items racks w.put (right_replies racks (values t.taken) (values w.put) all.0 (right_jobs racks t.taken (right 0 t refl))))
+    (reply_items racks w.put (right_replies racks (values t.taken) (values w.put) all.0 (right_jobs racks t.taken (right 0 t refl))))
 all_right racks (t ∷ ts) (w ∷ ws) all right (suc s) e at = all_right racks ts ws all.1 (λ j. right (suc j)) s e at
 
 -- each request that is served was put once in all, and no other
 pub put_once : (racks : List (List Order)) (ended : List (PutView Job)) → length racks ≤ length ended → AllPut racks ended → (r k : ℕ) → sum_by (λ (e : PutView Job). sum_by (job_weight r k) e.put) ended ≡ serves racks r r k
 put_once racks ended enough all r k =
     elim (cases_lt r (length ended)) [
-      inl low ↦
-        (let here = there ended r low in
-         total_alone (λ (e : PutView Job). sum_by (job_weight r k) e.put) ended r here.0 here.1
-             (λ j e apart at. (all j e at).once r k ∙ not_here racks j r k apart)
-           ∙ (all r here.0 here.1).once r k)
-    | inr high ↦
-        total_none (λ (e : PutView Job). sum_by (job_weight r k) e.put) ended
-            (λ j e at. (all j e at).once r k ∙ not_here racks j r k (λ same. far ended j r e at same high))
+      | inl low ↦
+          (let here = there ended r low in
+          total_alone (λ (e : PutView Job). sum_by (job_weight r k) e.put) ended r here.0 here.1
+          (λ j e apart at. (all j e at).once r k ∙ not_here racks j r k apart)
+          ∙ (all r here.0 here.1).once r k)
+      | inr high ↦
+          total_none (λ (e : PutView Job). sum_by (job_weight r k) e.put) ended
+          (λ j e at. (all j e at).once r k ∙ not_here racks j r k (λ same. far ended j r e at same high))
           ∙ sym (nothing racks r k (omega arith))
     ]
   where
@@ -238,9 +238,9 @@ module _ (racks : List (List Order)) (ended : List (PutView Job)) (takers : List
 
   pub one_each : IsOneEach racks (values desk.taken ++ own)
   one_each r k = (
-      λ low. counted r k ∙ one r k low,
-      λ out. counted r k ∙ none r k out,
-    )
+    λ low. counted r k ∙ one r k low,
+    λ out. counted r k ∙ none r k out,
+  )
     where
       one : (r k : ℕ) → IsServed racks r k → serves racks r r k ≡ 1
       one r k low = between (serves racks r r k) (let t : 0 < cond (nat_eq r r && nat_lt k (length (served racks r))) 1 0 = grind (arith, nat_tests) in t) (let t : cond (nat_eq r r && nat_lt k (length (served racks r))) 1 0 < 2 = grind (arith, nat_tests) in t)
@@ -250,9 +250,9 @@ module _ (racks : List (List Order)) (ended : List (PutView Job)) (takers : List
 
       none : (r k : ℕ) → (IsServed racks r k → ⊥) → serves racks r r k ≡ 0
       none r k out = elim (cases_lt k (length (served racks r))) [
-          inl low ↦ absurd (out low)
+        | inl low ↦ absurd (out low)
         | inr high ↦ small (serves racks r r k) (let t : cond (nat_eq r r && nat_lt k (length (served racks r))) 1 0 < 1 = grind (arith, nat_tests) in t)
-        ]
+      ]
         where
           small : (n : ℕ) → n < 1 → n ≡ 0
           small n low = omega arith

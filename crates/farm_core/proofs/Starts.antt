@@ -1,5 +1,5 @@
 -- From a room that is ready to joined threads.
-use Rattle.std.proofs.Common.{◌≡◌, ℕ, zero, suc, ◌+◌, ◌<◌, ◌≤◌, List, [], ◌∷◌, ◌++◌, length, map, get_or, refl, sym, ap, ◌∙◌, subst, ⊎_elim, arith, Option, Some, None}
+use Rattle.std.proofs.Common.{◌≡◌, ℕ, zero, suc, ◌+◌, List, [], ◌∷◌, ◌++◌, length, map, get_or, refl, sym, ap, ◌∙◌, subst, ⊎_elim, arith, Option, Some, None}
 use Rattle.std.proofs.lemmas.List.{length_push}
 use mathlib.Core.Option.{some, some-ne-none, some-injective}
 use lib.ListN.{get_elem?}
@@ -7,18 +7,17 @@ use Rattle.std.specs.declared.alloc.Global.{Global}
 use Rattle.std.specs.declared.thread.PromisedHandle.{PromisedHandle}
 use Rattle.farm_lanes.specs.declared.lane.put_end.EndedPut.{EndedPut}
 use Rattle.farm_lanes.proofs.Lists.{at_below, at_map, at_snoc_or}
-use Rattle.farm_lanes.specs.LaneEnds.{LaneName, PutView, TakeView, new_put, AreAllEnds}
+use Rattle.farm_lanes.specs.LaneEnds.{PutView, TakeView}
 use Rattle.farm_lanes.specs.LaneRecord.{values}
 use Rattle.farm_core.specs.declared.orders.Order.{Order}
 use Rattle.farm_core.specs.declared.jobs.Job.{Job}
 use Rattle.farm_core.specs.declared.jobs.Worked.{Worked}
 use Rattle.farm_core.specs.declared.ends.Feeder.{Feeder}
-use Rattle.farm_core.specs.declared.ends.WorkerEnds.{WorkerEnds}
 use Rattle.farm_core.specs.declared.room.Room.{Room}
 use Rattle.farm_core.specs.declared.threads.FeedOf.{FeedOf}
 use Rattle.farm_core.specs.declared.threads.WorkOf.{WorkOf}
 use Rattle.farm_core.specs.declared.reply.CollectFault.{CollectFault}
-use Rattle.farm_core.specs.Orders.{before_close, served}
+use Rattle.farm_core.specs.Orders.{before_close}
 use Rattle.farm_core.specs.Replies.{Replied, Collected}
 use Rattle.farm_core.specs.Refused.{HasCollected}
 use Rattle.farm_core.specs.Put.{HasPutAll, HasPutStops}
@@ -60,36 +59,39 @@ module _ (room : Room) (ready : IsReady room) where
     fed_at : (k : ℕ) (e : PutView Job) → get_elem? puts k ≡ some e
         → (f : Feeder) × (get_elem? room.feeders.items k ≡ some f) × HasPutAll f.rack f.list.now f.jobs e
     fed_at k e at =
-        let h = there fs k (let a = at_below puts k e at in let b = joined.count in omega arith) in
-        (h.0.promise.0.value,
-         subst (λ (l : List Feeder). get_elem? l k ≡ some h.0.promise.0.value) given (at_map (λ (x : FeederHandle). x.promise.0.value) fs k h.0 h.1),
-         joined.each k h.0 e h.1 at)
+        let h = there fs k (let a = at_below puts k e at in let b = joined.count in omega arith) in (
+          h.0.promise.0.value,
+          subst (λ (l : List Feeder). get_elem? l k ≡ some h.0.promise.0.value) given (at_map (λ (x : FeederHandle). x.promise.0.value) fs k h.0 h.1),
+          joined.each k h.0 e h.1 at,
+        )
 
     all_put : AllPut racks (puts ++ last ∷ [])
     all_put k e at = ⊎_elim
         (λ old.
-          let fed = fed_at k e old in
-          let f = fed.0 in
-          let here = ready.lists_are k f fed.1 in
-          let all = fed.2.all racks (ap before_close (ap (λ n. get_or racks n []) here.0 ∙ sym here.1)) in
-          let P : ℕ × List _ → Type 0 = λ p. PutAll racks p.0 p.1 in
-          subst P (λ i. (here.0 i, sym (ap (λ (u : PutView Job). u.put) fed.2.jobs_is) i)) all)
+        let fed = fed_at k e old in
+        let f = fed.0 in
+        let here = ready.lists_are k f fed.1 in
+        let all = fed.2.all racks (ap before_close (ap (λ n. get_or racks n []) here.0 ∙ sym here.1)) in
+        let P : ℕ × List _ → Type 0 = λ p. PutAll racks p.0 p.1 in
+        subst P (λ i. (here.0 i, sym (ap (λ (u : PutView Job). u.put) fed.2.jobs_is) i)) all)
         (λ (new : (k ≡ length puts) × (last ≡ e)).
-          subst (λ (u : PutView Job). PutAll racks k u.put) new.1
-            (stops_put_all racks k room.stops last (let a = new.0 in let b = ready.racks_count in let c = count in omega arith) stops))
+        subst (λ (u : PutView Job). PutAll racks k u.put) new.1
+        (stops_put_all racks k room.stops last (let a = new.0 in let b = ready.racks_count in let c = count in omega arith) stops))
         (at_snoc_or puts last e k at)
 
     puts_are : (k : ℕ) (e : PutView Job) → get_elem? (puts ++ last ∷ []) k ≡ some e → (e.lane ≡ ready.jobs_lane) × (e.sender ≡ k)
     puts_are k e at = ⊎_elim
         (λ old.
-          let fed = fed_at k e old in
-          let f = fed.0 in
-          let here = ready.feeders_are k f fed.1 in
-          (ap (λ (u : PutView Job). u.lane) fed.2.jobs_is ∙ ap (λ (u : PutView Job). u.lane) here,
-           ap (λ (u : PutView Job). u.sender) fed.2.jobs_is ∙ ap (λ (u : PutView Job). u.sender) here))
-        (λ (new : (k ≡ length puts) × (last ≡ e)).
-          (sym (ap (λ (u : PutView Job). u.lane) new.1) ∙ (ap (λ (u : PutView Job). u.lane) stops.stops_is ∙ ap (λ (u : PutView Job). u.lane) ready.stops_is),
-           sym (ap (λ (u : PutView Job). u.sender) new.1) ∙ (ap (λ (u : PutView Job). u.sender) stops.stops_is ∙ (ap (λ (u : PutView Job). u.sender) ready.stops_is ∙ (sym count ∙ sym new.0)))))
+        let fed = fed_at k e old in
+        let f = fed.0 in
+        let here = ready.feeders_are k f fed.1 in (
+          ap (λ (u : PutView Job). u.lane) fed.2.jobs_is ∙ ap (λ (u : PutView Job). u.lane) here,
+          ap (λ (u : PutView Job). u.sender) fed.2.jobs_is ∙ ap (λ (u : PutView Job). u.sender) here,
+        ))
+        (λ (new : (k ≡ length puts) × (last ≡ e)). (
+          sym (ap (λ (u : PutView Job). u.lane) new.1) ∙ (ap (λ (u : PutView Job). u.lane) stops.stops_is ∙ ap (λ (u : PutView Job). u.lane) ready.stops_is),
+          sym (ap (λ (u : PutView Job). u.sender) new.1) ∙ (ap (λ (u : PutView Job). u.sender) stops.stops_is ∙ (ap (λ (u : PutView Job). u.sender) ready.stops_is ∙ (sym count ∙ sym new.0))),
+        ))
         (at_snoc_or puts last e k at)
 
     -- all threads were joined

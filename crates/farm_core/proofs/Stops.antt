@@ -1,12 +1,10 @@
 -- What asks for no reply.
-use Rattle.std.proofs.Common.{◌≡◌, ℕ, zero, suc, ◌+◌, ◌<◌, ◌≤◌, ◌&&◌, List, [], ◌∷◌, ◌++◌, length, get_or, refl, sym, ap, ◌∙◌, subst, arith, nat_eq, nat_lt, cond}
+use Rattle.std.proofs.Common.{◌≡◌, ℕ, suc, ◌<◌, ◌≤◌, ◌&&◌, List, [], ◌∷◌, ◌++◌, length, refl, sym, ap, ◌∙◌, subst, arith, nat_eq, nat_lt, cond}
 use Rattle.std.specs.List.{sum_by}
 use Rattle.std.proofs.lemmas.List.Sums.{sum_by-cons}
 use Rattle.std.proofs.lemmas.List.{get_or_past}
 use Rattle.std.proofs.lemmas.Bool.Decides.{nat_tests}
-use mathlib.Core.Option.{some, some-ne-none, some-injective}
-use lib.ListN.{get_elem?}
-use Rattle.lrc_code.specs.Requests.{Asked}
+use mathlib.Core.Option.{some-ne-none}
 use Rattle.farm_lanes.specs.declared.lane.item.Item.{Item}
 use Rattle.farm_lanes.specs.declared.lane.item.Item.TheVariants.{Value, End}
 use Rattle.farm_lanes.specs.LaneEnds.{PutView, with_put, IsUnusedPut}
@@ -17,7 +15,7 @@ use Rattle.farm_core.specs.declared.jobs.Job.{Job}
 use Rattle.farm_core.specs.declared.jobs.Job.TheVariants.{Solve, Stop}
 use Rattle.farm_core.specs.Orders.{before_close, served}
 use Rattle.farm_core.specs.Put.{AsksNothing, HasPutStops}
-use Rattle.farm_core.specs.Settled.{job_weight, IsRightItem, serves, PutAll}
+use Rattle.farm_core.specs.Settled.{job_weight, IsRightItem, PutAll}
 
 weighs_nothing : (r k : ℕ) (xs : List (Item Job)) → Each AsksNothing xs → sum_by (job_weight r k) xs ≡ 0
 weighs_nothing r k [] each = refl
@@ -48,7 +46,7 @@ stops_begin stops unused = record { put = []; stops_is = unused; nothing = λ k 
 
 pub stops_more : (stops e e' : PutView Job) (x : Item Job) → HasPutStops stops e → AsksNothing x → e' ≡ with_put e x → HasPutStops stops e'
 stops_more stops e e' x was asks more = record {
-    put = was.put ++ x ∷ [];
-    stops_is = more ∙ ap (λ (u : PutView Job). with_put u x) was.stops_is;
-    nothing = each_snoc AsksNothing was.put x was.nothing asks;
-  }
+  put = was.put ++ x ∷ [];
+  stops_is = more ∙ ap (λ (u : PutView Job). with_put u x) was.stops_is;
+  nothing = each_snoc AsksNothing was.put x was.nothing asks;
+}

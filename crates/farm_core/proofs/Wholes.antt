@@ -40,7 +40,7 @@ module _ (L : LaneName Job) (M : LaneName Replied) (hs : List Handle) (js : List
   pub workers_answered : AllZip HasAnswered js rs
   workers_answered = answered_all HasAnswered js rs (joined.jobs_count ∙ sym joined.replies_count)
       (λ k j r at_j at_r. let h = there hs k (let l = at_below js k j at_j in let e = joined.jobs_count in omega arith) in
-        worked_answered h.0.promise.0.value.jobs h.0.promise.0.value.replies j r (joined.each k h.0 j r h.1 at_j at_r))
+      worked_answered h.0.promise.0.value.jobs h.0.promise.0.value.replies j r (joined.each k h.0 j r h.1 at_j at_r))
 
   pub job_ends_are : (k : ℕ) (j : TakeView Job) → get_elem? js k ≡ some j → j.lane ≡ L
   job_ends_are k j at =

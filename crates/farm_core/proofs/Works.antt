@@ -76,8 +76,8 @@ module _ (jobs : TakeView Job) (replies : PutView Replied) where
     put = was.put ++ y ∷ [];
     only_values = each_snoc (λ x. is_end x ≡ false) was.put y was.only_values value;
     answered =
-      let P : List Job × List Replied → Type 0 = λ p. AreReplies p.0 p.1 in
-      subst P (λ i. (sym (values-append was.took (x ∷ [])) i, sym (values-append was.put (y ∷ [])) i)) (replies_append (values was.took) (values (x ∷ [])) (values was.put) (values (y ∷ [])) was.answered one);
+        let P : List Job × List Replied → Type 0 = λ p. AreReplies p.0 p.1 in
+        subst P (λ i. (sym (values-append was.took (x ∷ [])) i, sym (values-append was.put (y ∷ [])) i)) (replies_append (values was.took) (values (x ∷ [])) (values was.put) (values (y ∷ [])) was.answered one);
     jobs_is = taken_more j j' jobs.lane was.took x was.jobs_is more;
     replies_is = put_more r r' replies.lane replies.sender was.put y was.replies_is more_r;
   }

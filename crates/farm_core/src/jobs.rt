@@ -9,10 +9,10 @@ use crate::pause::Pause;
 use crate::reply::Reply;
 use bumpalo::Bump;
 use farm_lanes::{EndedPut, Item, PutEnd, TakeEnd};
-use std::alloc::{AllocError, Global};
-use std::sync::Wait;
 use lrc_code::{Outcome, Request};
 use lrc_plan::solve;
+use std::alloc::{AllocError, Global};
+use std::sync::Wait;
 
 /// What a worker is to do.
 #[derive(Drop)]
@@ -87,7 +87,8 @@ pub fn work<'a, R: Wait, P: Pause>(
                 ..
             } => replies.put(rt, reply_to(alloc, rack, number, request, pause)),
             Item::Value {
-                value: Job::Stop, ..
+                value: Job::Stop,
+                ..
             } => break,
             Item::End { .. } => {}
         }
@@ -99,11 +100,7 @@ pub fn work<'a, R: Wait, P: Pause>(
 }
 
 /// Does no work.
-pub fn idle<'a, R: Wait>(
-    rt: &R,
-    jobs: TakeEnd<Job<'a>>,
-    replies: PutEnd<Reply<'a>>,
-) -> Worked<'a>
+pub fn idle<'a, R: Wait>(rt: &R, jobs: TakeEnd<Job<'a>>, replies: PutEnd<Reply<'a>>) -> Worked<'a>
     requires unused { IsUnusedTake jobs × IsUnusedPut replies }
     ensures { HasWorked jobs.entry replies.entry result.jobs result.replies }
 {

@@ -13,9 +13,9 @@ use crate::pause::Pause;
 use crate::reply::{FinishFault, Reply};
 use crate::taking::{HandedIn, hand_in};
 use farm_lanes::{EndedPut, Item, TakeEnd, settle};
+use lrc_code::Outcome;
 use std::alloc::Global;
 use std::sync::Wait;
-use lrc_code::Outcome;
 
 /// A collector, the end that its replies come from, and how many workers will end.
 #[derive(Drop)]
@@ -73,10 +73,7 @@ fn take_left<'a, R: Wait, P: Pause>(
 ) -> HandedIn<'a>
     ensures { TookLeft jobs.old count all.entry.collector all.entry.fault jobs.new result.collector result.fault }
 {
-    let HandedIn {
-        collector,
-        fault,
-    } = all;
+    let HandedIn { collector, fault } = all;
     let mut collector = collector;
     let mut fault = fault;
     for _ in 0..count {
@@ -93,7 +90,8 @@ fn take_left<'a, R: Wait, P: Pause>(
                 fault = hand_in(&mut collector, fault, reply);
             }
             Item::Value {
-                value: Job::Stop, ..
+                value: Job::Stop,
+                ..
             } => {}
             Item::End { .. } => {}
         }
@@ -110,10 +108,7 @@ fn take_replies<'a, R: Wait>(
 ) -> HandedIn<'a>
     ensures { TookReplies replies.old count all.entry.collector all.entry.fault replies.new result.collector result.fault }
 {
-    let HandedIn {
-        collector,
-        fault,
-    } = all;
+    let HandedIn { collector, fault } = all;
     let mut collector = collector;
     let mut fault = fault;
     for _ in 0..count {

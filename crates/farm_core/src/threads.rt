@@ -7,10 +7,10 @@ ghost use Rattle.farm_core.specs.Work.{HasWorked};
 ghost use Rattle.farm_core.specs.Replies.{IsNothingYet};
 ghost use Rattle.farm_core.specs.Cleared.{HasCleared};
 
-use crate::ends::{WorkerEnds, Feeder};
-use crate::pause::Pause;
+use crate::ends::{Feeder, WorkerEnds};
 use crate::feeding::{Fed, feed};
 use crate::jobs::{Job, Worked, idle, work};
+use crate::pause::Pause;
 use crate::reply::Reply;
 use crate::settling::{Cleared, Desk, clear};
 use farm_lanes::{EndedPut, Gate, PutEnd, Right, Seat, TakeEnd};
@@ -199,9 +199,7 @@ fn start_feeder<'s, 'a: 's, E, R: Threads + Wait + Sync>(
     ensures { IfSome result (λ h. h.promise.0.value ≡ feeder.entry) }
 {
     let promise = FeedOf(Snapshot::of(&feeder));
-    scope
-        .spawn_with(promise, move || feed_all(rt, feeder))
-        .ok()
+    scope.spawn_with(promise, move || feed_all(rt, feeder)).ok()
 }
 
 // A seat of a gate of one right, which is not yet spent, was told of no closing: spending the right shows it.

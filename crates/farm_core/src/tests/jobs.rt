@@ -89,11 +89,16 @@ fn a_feeder_and_two_workers(rt: HostRuntime) -> Result<(), AllocError> {
     let Some(reply) = reply_in(replies.take(&rt)) else {
         panic!(rt; "no first reply");
     };
-    assert!(rt; reply.number() == 0 && matches!(reply.into_outcome(), Some(outcome) if is_several(&outcome)));
+    assert!(rt;
+        reply.number() == 0 && matches!(reply.into_outcome(), Some(outcome) if is_several(&outcome))
+    );
     let Some(reply) = reply_in(replies.take(&rt)) else {
         panic!(rt; "no second reply");
     };
-    assert!(rt; reply.number() == 1 && matches!(reply.into_outcome(), Some(outcome) if is_byte(&outcome, 0x01)));
+    assert!(rt;
+        reply.number() == 1
+            && matches!(reply.into_outcome(), Some(outcome) if is_byte(&outcome, 0x01))
+    );
     assert!(rt; reply_in(replies.take(&rt)).is_none());
     Ok(())
 }

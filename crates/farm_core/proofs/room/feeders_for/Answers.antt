@@ -1,7 +1,6 @@
-use Rattle.std.proofs.Common.{rules, arith, length, ◌<◌, ◌≡◌, ◌∙◌, List, [], ◌∷◌, ◌++◌, refl, ap, sym, subst, append_assoc, get_or}
+use Rattle.std.proofs.Common.{rules, arith, length, ◌<◌, ◌≡◌, ◌∙◌, List, [], ◌++◌, ap, sym, subst, append_assoc, get_or}
 use Rattle.std.proofs.lemmas.List.{get_or_default}
 use Rattle.farm_lanes.specs.LaneEnds.{PutView, IsUnusedPut}
-use Rattle.farm_core.specs.declared.orders.Order.{Order}
 use Rattle.farm_core.specs.declared.jobs.Job.{Job}
 use Rattle.farm_core.specs.declared.ends.Feeder.{Feeder}
 use Rattle.farm_core.specs.Threads.{AreListed}
@@ -12,7 +11,7 @@ pub feeder-requires : goal.feeder-requires
 feeder-requires c =
     let was = c.loop-jobs.invariant in let done = c.loop-jobs.yielded in record {
       unused = each_middle IsUnusedPut c.args.puts.items done _ c.in-Some.jobs
-        (sym c.into_iter-jobs-iterator.ensures.into_iter_gives.0 ∙ (was.0 ∙ ap (λ (t : List (PutView Job)). done ++ t) c.in-Some.ensures.steps.0)) c.requires.unused;
+          (sym c.into_iter-jobs-iterator.ensures.into_iter_gives.0 ∙ (was.0 ∙ ap (λ (t : List (PutView Job)). done ++ t) c.in-Some.ensures.steps.0)) c.requires.unused;
     }
 
 pub loop-jobs-preserved : goal.loop-jobs-preserved
@@ -24,7 +23,7 @@ loop-jobs-preserved c =
       rw append_assoc (was.0 ∙ ap (λ (t : List (PutView Job)). done ++ t) c.in-Some.ensures.steps.0),
       mapped_snoc (λ (f : Feeder). f.jobs) c.loop-jobs.feeders.items c.push_reserved.new.self.items f done c.in-Some.jobs was.1 c.push_reserved.ensures.items says.2,
       subst (AreListed c.lists-lists.result.now) (sym c.push_reserved.ensures.items)
-        (each_at_snoc (λ k (f : Feeder). (f.rack ≡ k) × (f.list.now ≡ get_or c.lists-lists.result.now k [])) c.loop-jobs.feeders.items f was.2 (says.0 ∙ sym len, says.1 ∙ (c.index-lists-rack.is ∙ (get_or_default c.lists-lists.result.now c.len-rack.result c.index-lists-rack.result [] low ∙ ap (λ n. get_or c.lists-lists.result.now n []) (sym len))))),
+          (each_at_snoc (λ k (f : Feeder). (f.rack ≡ k) × (f.list.now ≡ get_or c.lists-lists.result.now k [])) c.loop-jobs.feeders.items f was.2 (says.0 ∙ sym len, says.1 ∙ (c.index-lists-rack.is ∙ (get_or_default c.lists-lists.result.now c.len-rack.result c.index-lists-rack.result [] low ∙ ap (λ n. get_or c.lists-lists.result.now n []) (sym len))))),
       search rules,
       search rules,
     )

@@ -16,18 +16,18 @@ pub loop-preserved : goal.loop-preserved
 loop-preserved g c =
     let P : Collected × Option CollectFault → Type 0 = λ p. TookLeft c.args.jobs.now (c.loop.counter + 1) c.args.all.collector c.args.all.fault c.take.new.self p.0 p.1 in
     elim c.match-take.branch [
-      in-Value-default-default-Solve w ↦
-        (let h = w.in-Value-default-default-Solve in
-         subst P (λ i. (sym w.collector-is i, sym w.fault-is i))
-           (left_next c.args.jobs.now c.loop.jobs c.take.new.self c.loop.counter c.args.all.collector c.loop.collector w.hand_in-fault.new.collector c.args.all.fault c.loop.fault w.hand_in-fault.result (Value h.sender h.number' (Solve h.rack h.number h.request)) (w.reply_to-reply.result ∷ [])
-             c.loop.invariant (c.take.ensures.taken ∙ ap (with_taken c.loop.jobs) (h.is ∙ ap (λ v. Value h.sender h.number' v) h.value-is))
-             (w.reply_to-reply.ensures, tt) w.hand_in-fault.ensures))
-    | in-Value-default-default-Stop w ↦
-        (let h = w.in-Value-default-default-Stop in
-         subst P (λ i. (sym w.collector-is i, sym w.fault-is i))
-           (left_next c.args.jobs.now c.loop.jobs c.take.new.self c.loop.counter c.args.all.collector c.loop.collector c.loop.collector c.args.all.fault c.loop.fault c.loop.fault (Value h.sender h.number Stop) []
-             c.loop.invariant (c.take.ensures.taken ∙ ap (with_taken c.loop.jobs) (h.is ∙ ap (λ v. Value h.sender h.number v) h.value-is)) tt (nothing_more c.loop.collector c.loop.fault)))
-    | in-End w ↦ subst P (λ i. (sym w.collector-is i, sym w.fault-is i))
-        (left_next c.args.jobs.now c.loop.jobs c.take.new.self c.loop.counter c.args.all.collector c.loop.collector c.loop.collector c.args.all.fault c.loop.fault c.loop.fault (End w.in-End.sender w.in-End.number) []
+      | in-Value-default-default-Solve w ↦
+          (let h = w.in-Value-default-default-Solve in
+          subst P (λ i. (sym w.collector-is i, sym w.fault-is i))
+          (left_next c.args.jobs.now c.loop.jobs c.take.new.self c.loop.counter c.args.all.collector c.loop.collector w.hand_in-fault.new.collector c.args.all.fault c.loop.fault w.hand_in-fault.result (Value h.sender h.number' (Solve h.rack h.number h.request)) (w.reply_to-reply.result ∷ [])
+          c.loop.invariant (c.take.ensures.taken ∙ ap (with_taken c.loop.jobs) (h.is ∙ ap (λ v. Value h.sender h.number' v) h.value-is))
+          (w.reply_to-reply.ensures, tt) w.hand_in-fault.ensures))
+      | in-Value-default-default-Stop w ↦
+          (let h = w.in-Value-default-default-Stop in
+          subst P (λ i. (sym w.collector-is i, sym w.fault-is i))
+          (left_next c.args.jobs.now c.loop.jobs c.take.new.self c.loop.counter c.args.all.collector c.loop.collector c.loop.collector c.args.all.fault c.loop.fault c.loop.fault (Value h.sender h.number Stop) []
+          c.loop.invariant (c.take.ensures.taken ∙ ap (with_taken c.loop.jobs) (h.is ∙ ap (λ v. Value h.sender h.number v) h.value-is)) tt (nothing_more c.loop.collector c.loop.fault)))
+      | in-End w ↦ subst P (λ i. (sym w.collector-is i, sym w.fault-is i))
+          (left_next c.args.jobs.now c.loop.jobs c.take.new.self c.loop.counter c.args.all.collector c.loop.collector c.loop.collector c.args.all.fault c.loop.fault c.loop.fault (End w.in-End.sender w.in-End.number) []
           c.loop.invariant (c.take.ensures.taken ∙ ap (with_taken c.loop.jobs) w.in-End.is) tt (nothing_more c.loop.collector c.loop.fault))
     ]

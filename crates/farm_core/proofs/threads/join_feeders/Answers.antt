@@ -14,7 +14,7 @@ loop-handle-preserved g c =
     let was = c.loop-handle.invariant in let done = c.loop-handle.yielded in (
       rw append_assoc (was.0 ∙ ap (λ (t : List (PromisedHandle (EndedPut Job Global) FeedOf)). done ++ t) c.in-Some.ensures.steps.0),
       subst (λ (l : List (PutView Job)). FeedersJoined (done ++ c.in-Some.handle ∷ []) l) (sym c.push_reserved.ensures.items)
-        (fed_next done (vec_items c.loop-handle.put_ends) c.in-Some.handle c.join.result was.1 c.join.ensures),
+          (fed_next done (vec_items c.loop-handle.put_ends) c.in-Some.handle c.join.result was.1 c.join.ensures),
       search rules,
       search rules,
     )

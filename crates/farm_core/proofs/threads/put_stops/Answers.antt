@@ -1,4 +1,4 @@
-use Rattle.std.proofs.Common.{◌+◌, ◌∙◌, length, ap, arith, refl}
+use Rattle.std.proofs.Common.{◌+◌, ◌∙◌, length, ap}
 use Rattle.std.proofs.lemmas.List.{length_push}
 use Rattle.farm_lanes.specs.declared.lane.item.Item.TheVariants.{Value, End}
 use Rattle.farm_lanes.specs.LaneEnds.{PutView}
