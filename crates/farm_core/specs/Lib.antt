@@ -4,7 +4,6 @@ pub mod Replies
 pub mod Faults
 pub mod Rows
 pub mod Limits
-pub mod Progress
 pub mod Gather
 pub mod Refused
 pub mod Jobs
