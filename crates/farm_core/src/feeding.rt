@@ -8,7 +8,8 @@ use crate::orders::{Order, RackList};
 use farm_lanes::{EndedPut, Gate, PutEnd, Right, Seat};
 use std::sync::Wait;
 
-/// What a feeder gives back.
+/// What a feeder gives back: its rack and list, its seat, the right unless it was spent on closing, what the close was
+/// answered if it made it, and its end.
 #[derive(Drop)]
 pub struct Fed<'a> {
     pub rack: usize,
@@ -19,7 +20,8 @@ pub struct Fed<'a> {
     pub jobs: EndedPut<Job<'a>>,
 }
 
-/// Puts a job for each request in front of the list's close, with a number that it draws, and closes the gate there.
+/// Puts a job for each request in front of the list's close, with a number that it draws, closes the gate there, and
+/// puts its end mark. It stops early only where a draw is refused since the gate is closed.
 pub fn feed<'a, R: Wait>(
     rt: &R,
     gate: &Gate,

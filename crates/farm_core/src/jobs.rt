@@ -14,7 +14,7 @@ use lrc_plan::solve;
 use std::alloc::{AllocError, Global};
 use std::sync::Wait;
 
-/// What a worker is to do.
+/// What a worker is to do: to solve a request of a rack, which the job lends, and reply under its number; or to stop.
 #[derive(Drop)]
 pub enum Job<'a> {
     Solve {
@@ -25,7 +25,7 @@ pub enum Job<'a> {
     Stop,
 }
 
-/// What a worker gives back.
+/// What a worker gives back: its ends, the one that puts ended.
 #[derive(Drop)]
 pub struct Worked<'a> {
     pub jobs: TakeEnd<Job<'a>>,
@@ -60,7 +60,9 @@ pub(crate) fn reply_to<'a, P: Pause>(
     reply
 }
 
-/// Takes jobs until one says to stop, and puts a reply for each that asks for one.
+/// Takes jobs until one says to stop, or until the reply end has no room for another put; puts a reply for each that
+/// asks for one, in the order in which they were taken, and then its end mark. End marks that it takes are passed
+/// over. Where memory is wanting the reply says so.
 pub fn work<'a, R: Wait, P: Pause>(
     rt: &R,
     alloc: Global,
@@ -99,7 +101,7 @@ pub fn work<'a, R: Wait, P: Pause>(
     }
 }
 
-/// Does no work.
+/// Takes nothing and puts the end mark: what a worker does that no thread was made for.
 pub fn idle<'a, R: Wait>(rt: &R, jobs: TakeEnd<Job<'a>>, replies: PutEnd<Reply<'a>>) -> Worked<'a>
     requires unused { IsUnusedTake jobs × IsUnusedPut replies }
     ensures { HasWorked jobs.entry replies.entry result.jobs result.replies }
