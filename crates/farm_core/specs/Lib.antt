@@ -4,5 +4,13 @@ pub mod Replies
 pub mod Faults
 pub mod Rows
 pub mod Limits
-pub mod Progress
 pub mod Gather
+pub mod Refused
+pub mod Jobs
+pub mod Work
+pub mod Feed
+pub mod Settled
+pub mod Put
+pub mod Cleared
+pub mod Threads
+pub mod Ready

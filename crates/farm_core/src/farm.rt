@@ -1,21 +1,21 @@
-//! The farm on one thread: it goes through the racks' requests in order.
-ghost use Rattle.std.specs.Prelude.{◌≡◌, ◌+◌, IfOk, map, slice_index_or, []};
-ghost use Rattle.lrc_code.specs.Answers.{IsAnswer};
-ghost use Rattle.lrc_code.specs.Code.{narrow};
+//! The farm: feeders, workers and a collector over two lanes.
+ghost use Rattle.std.specs.Prelude.{◌≡◌, IfOk, map};
 ghost use Rattle.farm_core.specs.Expected.{AreExpected};
-ghost use Rattle.farm_core.specs.Progress.{HasComeTo};
+ghost use Rattle.farm_core.specs.Ready.{IsReady};
 
-use crate::collector::Collector;
-use crate::orders::{Order, RackList, Racks};
+use crate::orders::Racks;
 use crate::pause::Pause;
-use crate::reply::{FinishFault, Reply};
+use crate::room::{Room, room_for};
 use crate::settings::Settings;
-use bumpalo::Bump;
-use lrc_code::{Outcome, Request};
-use lrc_plan::solve;
+use crate::settling::{Cleared, Joined, settle_all};
+use crate::space::Space;
+use crate::threads::{join_feeders, join_workers, put_stops, start_all, start_collector};
+use farm_lanes::{GateError, LaneError};
+use lrc_code::Outcome;
 use std::alloc::{AllocError, Global};
 use std::sync::Wait;
-use std::thread::Threads;
+use std::sync::atomic::AtomicUsize;
+use std::thread::{self, Scope, Threads};
 use thiserror::Error;
 
 /// Why a farm gives no answers.
@@ -35,77 +35,100 @@ impl From<AllocError> for FarmError {
     }
 }
 
-// The request's answer. Its plan is made in an arena of its own, which ends here.
-fn answer_in_arena(alloc: Global, request: &Request) -> Result<Outcome, AllocError>
-    ensures { IfOk result (IsAnswer narrow request.now) }
-{
-    let arena = Bump::new(alloc);
-    let outcome = solve(alloc, &arena, request)?;
-    Ok(outcome)
-}
-
-// The reply to a request.
-fn reply_to<'a, P: Pause>(
-    alloc: Global,
-    rack: usize,
-    number: u64,
-    request: &'a Request,
-    pause: &P,
-) -> Reply<'a>
-    ensures { (result.rack ≡ rack) × (result.number ≡ number) × (result.request ≡ request.now) }
-{
-    pause.before(rack, number);
-    let reply = match answer_in_arena(alloc, request) {
-        Ok(outcome) => Reply::done(rack, number, request, outcome),
-        Err(_) => Reply::starved(rack, number, request),
-    };
-    pause.after(rack, number);
-    reply
-}
-
-// Answers the requests of one rack, where those of the racks before it are answered.
-fn run_rack<'a, P: Pause>(
-    alloc: Global,
-    collector: &mut Collector<'a>,
-    rack: usize,
-    list: &'a RackList,
-    pause: &P,
-)
-    requires list { slice_index_or collector.old.racks rack [] ≡ list.now }
-    requires come { HasComeTo collector.old collector.old.racks rack 0 }
-    ensures come { HasComeTo collector.new collector.old.racks (rack + 1) 0 }
-{
-    let mut number = 0;
-    for order in list.orders() {
-        let Order::Rebuild(request) = order else {
-            return;
-        };
-        let Ok(()) = collector.accept(reply_to(alloc, rack, number, request, pause)) else {
-            unreachable!();
-        };
-        number += 1;
+impl From<LaneError> for FarmError {
+    // A run keeps to the limits of lanes, so memory alone can be wanting.
+    fn from(_error: LaneError) -> FarmError {
+        FarmError::OutOfMemory
     }
+}
+
+impl From<GateError> for FarmError {
+    // A run keeps to the limits of gates, so memory alone can be wanting.
+    fn from(_error: GateError) -> FarmError {
+        FarmError::OutOfMemory
+    }
+}
+
+// Starts the threads, stops and joins them, and gives the answers.
+fn run_in<'s, 'a: 's, E, R: Threads + Wait + Sync, P: Pause>(
+    rt: &'s R,
+    alloc: Global,
+    scope: &Scope<'s, E>,
+    refused: &'s AtomicUsize,
+    room: Room<'a>,
+    pause: &'s P,
+) -> Result<Vec<Vec<Outcome>>, FarmError>
+    requires { IsReady room }
+    ensures { IfOk result (λ v. AreExpected room.entry.desk.collector.racks (map (λ answers. answers.items) v.items)) }
+{
+    let Room {
+        desk,
+        workers,
+        feeders,
+        stops,
+        space,
+    } = room;
+    let Space {
+        mut working,
+        mut feeding,
+        mut put_ends,
+        mut job_ends,
+        mut reply_ends,
+        desk: desk_room,
+        ..
+    } = space;
+    let Some(collecting) = start_collector(rt, scope, desk) else {
+        return Err(FarmError::NoThread);
+    };
+    let started = start_all(
+        rt,
+        alloc,
+        scope,
+        refused,
+        workers,
+        feeders,
+        pause,
+        &mut working,
+        &mut feeding,
+    );
+    join_feeders(rt, feeding, &mut put_ends);
+    put_ends.push_reserved(put_stops(rt, stops, working.len()));
+    join_workers(rt, working, &mut job_ends, &mut reply_ends);
+    let Cleared { all, replies: desk } = collecting.join(rt);
+    if !started {
+        return Err(FarmError::NoThread);
+    }
+    let joined = Joined {
+        all,
+        desk,
+        desk_room,
+        put_ends,
+        job_ends,
+        reply_ends,
+    };
+    settle_all(rt, alloc, joined, pause)
 }
 
 /// Each rack's answers, in the order of its requests: for each request before the close of its rack's list, the
 /// answer that the code's equations leave. Fails for want of memory or of a thread alone.
 pub fn run<R: Threads + Wait + Sync, P: Pause>(
-    _rt: &R,
+    rt: &R,
     alloc: Global,
     racks: &Racks,
-    _settings: Settings,
+    settings: Settings,
     pause: &P,
 ) -> Result<Vec<Vec<Outcome>>, FarmError>
     ensures { IfOk result (λ v. AreExpected racks.now (map (λ answers. answers.items) v.items)) }
 {
-    let mut collector = Collector::new(alloc, racks)?;
-    let lists = racks.lists();
-    for rack in 0..lists.len() {
-        run_rack(alloc, &mut collector, rack, &lists[rack], pause);
-    }
-    match collector.finish() {
-        Ok(answers) => Ok(answers),
-        Err(FinishFault::OutOfMemory) => Err(FarmError::OutOfMemory),
-        Err(FinishFault::Missing { .. }) => unreachable!(),
-    }
+    let room = room_for(alloc, racks, settings)?;
+    let none_refused = AtomicUsize::new(usize::MAX);
+    let refused = &none_refused;
+    thread::scope(
+        thread::scope_env(),
+        rt,
+        |scope| -> Result<Vec<Vec<Outcome>>, FarmError>
+            requires { IsReady room }
+            ensures { IfOk result (λ v. AreExpected room.entry.desk.collector.racks (map (λ answers. answers.items) v.items)) }
+        { run_in(rt, alloc, scope, refused, room, pause) },
+    )
 }

@@ -2,17 +2,27 @@
 #![tactic(auto)]
 
 mod collector;
+mod ends;
 mod farm;
+mod feeding;
+mod jobs;
 mod orders;
 mod pause;
 mod reply;
+mod room;
 mod row;
 mod settings;
+mod settling;
+mod space;
+mod taking;
 #[cfg(test)]
 mod tests;
+mod threads;
 
 pub use collector::Collector;
 pub use farm::{FarmError, run};
+pub use feeding::{Fed, feed};
+pub use jobs::{Job, Worked, work};
 pub use orders::{Order, RackList, Racks, TooManyOrders, TooManyRacks};
 pub use pause::{NoPause, Pause};
 pub use reply::{CollectFault, FinishFault, Reply, ReplyResult};

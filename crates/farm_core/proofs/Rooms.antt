@@ -1,0 +1,83 @@
+-- What a room that is ready is made of.
+use Rattle.std.proofs.Common.{◌≡◌, ℕ, ◌+◌, ◌<◌, ◌≤◌, List, [], ◌∷◌, ◌++◌, length, map, refl, sym, ap, ◌∙◌, subst, ⊎_elim, arith}
+use Rattle.std.proofs.lemmas.List.{map-append}
+use mathlib.Core.Option.{some}
+use lib.ListN.{get_elem?}
+use Rattle.farm_lanes.proofs.Lists.{at_back, at_front, at_map, at_snoc_or}
+use Rattle.farm_lanes.proofs.Opens.{popped_put, popped_take}
+use Rattle.farm_lanes.specs.LaneEnds.{LaneName, PutView, TakeView, new_put, new_take, IsUnusedPut, AreNewPutEnds, AreNewEnds}
+use Rattle.farm_lanes.specs.Lists.{Each, EachAt}
+use Rattle.farm_core.specs.declared.orders.Order.{Order}
+use Rattle.farm_core.specs.declared.jobs.Job.{Job}
+use Rattle.farm_core.specs.declared.ends.Feeder.{Feeder}
+use Rattle.farm_core.specs.declared.ends.WorkerEnds.{WorkerEnds}
+use Rattle.farm_core.specs.declared.room.Room.{Room}
+use Rattle.farm_core.specs.Replies.{Replied, IsNothingYet}
+use Rattle.farm_core.specs.Threads.{AreListed}
+use Rattle.farm_core.specs.Ready.{IsReady}
+use Rattle.farm_core.proofs.Starts.{mapped_length}
+
+module _ {A : Type 0} where
+  -- the last of a list, those in front of it, and one in the middle
+  pub each_last : (P : A → Type 0) (all rest : List A) (x : A) → all ≡ rest ++ x ∷ [] → Each P all → P x
+  each_last P all rest x is each = each (length rest) x (subst (λ l. get_elem? l (length rest) ≡ some x) (sym is) (at_back rest (x ∷ []) 0 x refl (length rest) (omega arith)))
+
+  pub each_rest : (P : A → Type 0) (all rest : List A) (x : A) → all ≡ rest ++ x ∷ [] → Each P all → Each P rest
+  each_rest P all rest x is each k y at = each k y (subst (λ l. get_elem? l k ≡ some y) (sym is) (at_front rest (x ∷ []) k y at))
+
+  pub each_middle : (P : A → Type 0) (all done rest : List A) (x : A) → all ≡ done ++ x ∷ rest → Each P all → P x
+  each_middle P all done rest x is each = each (length done) x (subst (λ l. get_elem? l (length done) ≡ some x) (sym is) (at_back done (x ∷ rest) 0 x refl (length done) (omega arith)))
+
+  pub each_at_snoc : (P : ℕ → A → Type 0) (xs : List A) (x : A) → EachAt P xs → P (length xs) x → EachAt P (xs ++ x ∷ [])
+  each_at_snoc P xs x all one j y at = ⊎_elim
+      (λ old. all j y old)
+      (λ (new : (j ≡ length xs) × (x ≡ y)). let Q : ℕ × A → Type 0 = λ p. P p.0 p.1 in subst Q (λ i. (sym new.0 i, new.1 i)) one)
+      (at_snoc_or xs x y j at)
+
+  pub mapped_snoc : {B : Type 0} (f : A → B) (xs new : List A) (x : A) (ys : List B) (y : B) → map f xs ≡ ys → new ≡ xs ++ x ∷ [] → f x ≡ y → map f new ≡ ys ++ y ∷ []
+  mapped_snoc f xs new x ys y was is one = ap (map f) is ∙ (map-append f xs (x ∷ []) ∙ (λ i. was i ++ one i ∷ []))
+
+pub new_unused : {T : Type 0} (lane : LaneName T) (n : ℕ) (puts : List (PutView T)) → AreNewPutEnds lane n puts → Each IsUnusedPut puts
+new_unused lane n puts new k e at = subst IsUnusedPut (sym (new.each k e at)) refl
+
+pub front_unused : (n w : ℕ) (all rest : List (PutView Job)) (takes : List (TakeView Job)) (stops : PutView Job) → AreNewEnds (n + 1) w all takes → all ≡ rest ++ stops ∷ [] → Each IsUnusedPut rest
+front_unused n w all rest takes stops new is = new_unused new.lane n rest (popped_put new.lane n all rest stops new.put_ends is).1
+
+pub is_ready : (room : Room) (racks : List (List Order)) (n w : ℕ) (puts rest : List (PutView Job)) (takes : List (TakeView Job)) (reply_puts : List (PutView Replied)) (reply_takes none : List (TakeView Replied))
+    → (jobs : AreNewEnds (n + 1) w puts takes) → (replies : AreNewEnds w 1 reply_puts reply_takes)
+    → puts ≡ rest ++ room.stops ∷ [] → reply_takes ≡ none ++ room.desk.replies ∷ []
+    → IsNothingYet racks room.desk.collector → n ≡ length racks → n ≤ 16 → 0 < w → w ≤ 16
+    → map (λ (e : WorkerEnds). e.replies) room.workers.items ≡ reply_puts
+    → ((lane : LaneName Job) → Each (λ t. t ≡ new_take lane) takes → Each (λ (e : WorkerEnds). e.jobs ≡ new_take lane) room.workers.items)
+    → map (λ (f : Feeder). f.jobs) room.feeders.items ≡ rest → AreListed racks room.feeders.items
+    → room.space.racks ≡ n → room.space.workers ≡ w → IsReady room
+is_ready room racks n w puts rest takes reply_puts reply_takes none jobs replies stops desk nothing count few_racks working few worker_replies worker_jobs feeder_jobs listed space_racks space_workers =
+    let popped = popped_put jobs.lane n puts rest room.stops jobs.put_ends stops in
+    let last = popped_take replies.lane 0 reply_takes none room.desk.replies replies.take_ends desk in
+    let fed : length rest ≡ length room.feeders.items = mapped_length (λ (f : Feeder). f.jobs) room.feeders.items rest feeder_jobs in
+    let feeders : length room.feeders.items ≡ n = sym fed ∙ popped.1.count in
+    let worked : length reply_puts ≡ length room.workers.items = mapped_length (λ (e : WorkerEnds). e.replies) room.workers.items reply_puts worker_replies in
+    let workers : length room.workers.items ≡ w = sym worked ∙ replies.put_ends.count in
+    let same : racks ≡ room.desk.collector.racks = sym nothing.0 in
+    let all_jobs = jobs.ends in
+    let all_replies = replies.ends in
+    let takes_are = worker_jobs jobs.lane jobs.take_ends.each in record {
+      jobs_lane = jobs.lane;
+      replies_lane = replies.lane;
+      racks_count = feeders ∙ (count ∙ ap (λ (l : List (List Order)). length l) same);
+      few_racks = omega arith;
+      some_workers = omega arith;
+      few_workers = omega arith;
+      all_jobs = omega arith;
+      all_replies = omega arith;
+      workers_are = record {
+        each = λ k e at. (takes_are k e at, replies.put_ends.each k e.replies (subst (λ (l : List (PutView Replied)). get_elem? l k ≡ some e.replies) worker_replies (at_map (λ (x : WorkerEnds). x.replies) room.workers.items k e at)));
+      };
+      lists_are = subst (λ (l : List (List Order)). AreListed l room.feeders.items) same listed;
+      feeders_are = λ k f at. popped.1.each k f.jobs (subst (λ (l : List (PutView Job)). get_elem? l k ≡ some f.jobs) feeder_jobs (at_map (λ (x : Feeder). x.jobs) room.feeders.items k f at));
+      stops_is = popped.0 ∙ ap (new_put jobs.lane) (sym feeders);
+      desk_is = last.0;
+      nothing = subst (λ (l : List (List Order)). IsNothingYet l room.desk.collector) same nothing;
+      space_racks = space_racks ∙ sym feeders;
+      space_workers = space_workers ∙ sym workers;
+    }

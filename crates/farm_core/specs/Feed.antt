@@ -1,0 +1,50 @@
+-- What a feeder leaves in its end and its seat.
+use Rattle.std.specs.Prelude.{◌≡◌, ℕ, ◌+◌, ◌<◌, List, [], ◌∷◌, ◌++◌, length, take, Option, Some, None, false}
+use Rattle.std.specs.List.{All}
+use mathlib.Core.Option.{some}
+use lib.ListN.{get_elem?}
+use Rattle.atomic_table.specs.Seated.{TableId}
+use Rattle.farm_lanes.specs.declared.lane.item.Item.{Item}
+use Rattle.farm_lanes.specs.declared.lane.item.Item.TheVariants.{End}
+use Rattle.farm_lanes.specs.declared.gate.record.SeatRecord.{SeatRecord}
+use Rattle.farm_lanes.specs.LaneRecord.{is_end, values}
+use Rattle.farm_lanes.specs.Lists.{Each}
+use Rattle.farm_lanes.specs.LaneEnds.{PutView, put_end}
+use Rattle.farm_lanes.specs.GateView.{GateName, SeatView}
+use Rattle.farm_core.specs.declared.orders.Order.{Order}
+use Rattle.farm_core.specs.declared.jobs.Job.{Job}
+use Rattle.farm_core.specs.Orders.{before_close}
+use Rattle.farm_core.specs.Jobs.{IsOfRack, numbers_of, requests_of}
+
+-- the numbers are 0, 1, 2 and so on
+abbrev pub CountUp : List ℕ → Type 0
+CountUp ns = (k x : ℕ) → get_elem? ns k ≡ some x → x ≡ k
+
+-- the numbers rise
+abbrev pub AreRising : List ℕ → Type 0
+AreRising ns = (j k x y : ℕ) → j < k → get_elem? ns j ≡ some x → get_elem? ns k ≡ some y → x < y
+
+-- the answer of a close that was made, if it made it, stands in the seat
+abbrev pub IsMade : List ℕ → Option ℕ → List ℕ → Type 0
+IsMade was (Some n) made = made ≡ was ++ n ∷ []
+IsMade was None made = made ≡ was
+
+-- the right is back, and everything was put unless the seat was told of a closing; or it was spent, and everything was put
+abbrev pub IsRightLeft : TableId → SeatRecord → Type 0 → Option TableId → Option ℕ → SeatRecord → Type 0
+IsRightLeft gate was All_put (Some right) close left = (right ≡ gate) × (close ≡ None) × (left.used ≡ was.used) × (left.made ≡ was.made) × (left.knows ≡ false → All_put)
+IsRightLeft gate was All_put None close left = (left.used ≡ was.used + 1) × IsMade was.made close left.made × All_put
+
+-- With this seat and this end, unused at first, a feeder put a job for each of the first requests of its list, with the
+-- numbers that it drew, which rise, and then its end mark.
+pub record HasFed (gate : GateName) (seat : SeatView) (rack : ℕ) (list : List Order) (jobs : PutView Job) (seat_left : SeatView) (right_left : Option TableId) (close : Option ℕ) (jobs_left : PutView Job) : Type 0 where
+  pub put : List (Item Job)
+  pub only_values : Each (λ x. is_end x ≡ false) put
+  pub jobs_is : jobs_left ≡ put_end jobs.lane jobs.sender (put ++ End jobs.sender (length put) ∷ [])
+  pub racks_are : All (IsOfRack rack) (values put)
+  pub requests_are : requests_of (values put) ≡ take (length (values put)) (before_close list)
+  pub numbers_are : seat_left.has.numbers ≡ numbers_of (values put)
+  pub rising : AreRising (numbers_of (values put))
+  pub lone : seat.has.share ≡ gate.size.total → CountUp (numbers_of (values put))
+  pub gate_is : seat_left.gate ≡ seat.gate
+  pub share_is : seat_left.has.share ≡ seat.has.share
+  pub right : IsRightLeft gate.id seat.has (length (values put) ≡ length (before_close list)) right_left close seat_left.has

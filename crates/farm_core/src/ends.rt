@@ -1,0 +1,34 @@
+//! What the threads are given.
+ghost use Rattle.std.specs.Prelude.{◌≡◌, ◌+◌, ◌≤◌, [], false};
+ghost use Rattle.farm_lanes.specs.LaneEnds.{IsUnusedPut, IsUnusedTake};
+
+use crate::jobs::Job;
+use crate::orders::RackList;
+use crate::reply::Reply;
+use farm_lanes::{Gate, PutEnd, Right, Seat, TakeEnd};
+
+/// A worker's ends. Nothing was done with them yet.
+#[derive(Drop)]
+pub struct WorkerEnds<'a> {
+    pub jobs: TakeEnd<Job<'a>>,
+    pub replies: PutEnd<Reply<'a>>,
+    pub ghost unused_jobs: { IsUnusedTake jobs },
+    pub ghost unused_replies: { IsUnusedPut replies },
+}
+
+/// A rack's list, with the gate, the seat, the right and the end of its feeder. Nothing was done with them yet.
+#[derive(Drop)]
+pub struct Feeder<'a> {
+    pub gate: Gate,
+    pub seat: Seat,
+    pub right: Right,
+    pub rack: usize,
+    pub list: &'a RackList,
+    pub jobs: PutEnd<Job<'a>>,
+    pub ghost own: { (seat.gate ≡ gate.id) × (right ≡ gate.id) },
+    pub ghost fresh: { (seat.has.numbers ≡ []) × (seat.has.knows ≡ false) },
+    pub ghost budget: { seat.has.draws + 4096 ≤ seat.has.share },
+    pub ghost unused: { IsUnusedPut jobs },
+    pub ghost lone: { (seat.has.share ≡ gate.size.total) × (gate.size.rights ≡ 1) },
+    pub ghost unclosed: { (seat.has.used ≡ 0) × (seat.has.made ≡ []) },
+}

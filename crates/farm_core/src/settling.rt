@@ -1,0 +1,208 @@
+//! The collector's thread, and what is done once all threads were joined.
+ghost use Rattle.std.specs.Prelude.{◌≡◌, ◌≤◌, ◌<◌, ℕ, List, [], ◌∷◌, IfOk, map, length, vec_len, vec_capacity};
+ghost use Rattle.std.specs.List.{sum_by};
+ghost use Rattle.farm_lanes.specs.LaneEnds.{IsUnusedTake};
+ghost use Rattle.farm_core.specs.Expected.{AreExpected};
+ghost use Rattle.farm_core.specs.Replies.{IsNothingYet};
+ghost use Rattle.farm_core.specs.Cleared.{HasCleared, TookLeft, TookReplies, HasOneEach, HasJoined};
+
+use crate::collector::Collector;
+use crate::farm::FarmError;
+use crate::jobs::{Job, reply_to};
+use crate::pause::Pause;
+use crate::reply::{FinishFault, Reply};
+use crate::taking::{HandedIn, hand_in};
+use farm_lanes::{EndedPut, Item, TakeEnd, settle};
+use lrc_code::Outcome;
+use std::alloc::Global;
+use std::sync::Wait;
+
+/// A collector, the end that its replies come from, and how many workers will end.
+#[derive(Drop)]
+pub struct Desk<'a> {
+    pub collector: Collector<'a>,
+    pub replies: TakeEnd<Reply<'a>>,
+    pub workers: usize,
+}
+
+/// What the collector's thread gives back.
+#[derive(Drop)]
+pub struct Cleared<'a> {
+    pub all: HandedIn<'a>,
+    pub replies: TakeEnd<Reply<'a>>,
+}
+
+/// Hands the replies to the collector until every worker's end has come.
+pub fn clear<'a, R: Wait>(rt: &R, desk: Desk<'a>) -> Cleared<'a>
+    requires empty { IsNothingYet desk.collector.racks desk.collector }
+    requires unused { IsUnusedTake desk.replies }
+    ensures { HasCleared desk.entry.collector.racks desk.entry.replies result.all.collector result.all.fault result.replies }
+{
+    let Desk {
+        collector,
+        replies,
+        workers,
+    } = desk;
+    let mut collector = collector;
+    let mut replies = replies;
+    let mut fault = None;
+    let mut ended = 0;
+    for _ in rt.forever() {
+        if ended >= workers {
+            break;
+        }
+        match replies.take(rt) {
+            Item::Value { value, .. } => fault = hand_in(&mut collector, fault, value),
+            Item::End { .. } => ended += 1,
+        }
+    }
+    Cleared {
+        all: HandedIn { collector, fault },
+        replies,
+    }
+}
+
+// Takes so many items of the request lane, and replies to the jobs among them.
+fn take_left<'a, R: Wait, P: Pause>(
+    rt: &R,
+    alloc: Global,
+    jobs: &mut TakeEnd<Job<'a>>,
+    count: u64,
+    all: HandedIn<'a>,
+    pause: &P,
+) -> HandedIn<'a>
+    ensures { TookLeft jobs.old count all.entry.collector all.entry.fault jobs.new result.collector result.fault }
+{
+    let HandedIn { collector, fault } = all;
+    let mut collector = collector;
+    let mut fault = fault;
+    for _ in 0..count {
+        match jobs.take(rt) {
+            Item::Value {
+                value: Job::Solve {
+                    rack,
+                    number,
+                    request,
+                },
+                ..
+            } => {
+                let reply = reply_to(alloc, rack, number, request, pause);
+                fault = hand_in(&mut collector, fault, reply);
+            }
+            Item::Value {
+                value: Job::Stop,
+                ..
+            } => {}
+            Item::End { .. } => {}
+        }
+    }
+    HandedIn { collector, fault }
+}
+
+// Takes so many items of the reply lane, and hands in the replies among them.
+fn take_replies<'a, R: Wait>(
+    rt: &R,
+    replies: &mut TakeEnd<Reply<'a>>,
+    count: u64,
+    all: HandedIn<'a>,
+) -> HandedIn<'a>
+    ensures { TookReplies replies.old count all.entry.collector all.entry.fault replies.new result.collector result.fault }
+{
+    let HandedIn { collector, fault } = all;
+    let mut collector = collector;
+    let mut fault = fault;
+    for _ in 0..count {
+        match replies.take(rt) {
+            Item::Value { value, .. } => fault = hand_in(&mut collector, fault, value),
+            Item::End { .. } => {}
+        }
+    }
+    HandedIn { collector, fault }
+}
+
+// How many items were put in all.
+fn put_total<T: Drop>(ended: &[EndedPut<T>]) -> u64
+    requires { length ended.now ≤ 32 }
+    ensures { result ≡ sum_by (λ e. length e.put) ended.now }
+{
+    let mut total = 0;
+    for end in ended {
+        total += end.count();
+    }
+    total
+}
+
+// How many items were taken in all, as far as the counts tell.
+fn taken_total<T: Drop>(takers: &[TakeEnd<T>]) -> u64
+    ensures { result ≤ sum_by (λ e. length e.taken) takers.now }
+{
+    let mut total = 0u64;
+    for end in takers {
+        total = total.saturating_add(end.count());
+    }
+    total
+}
+
+// The answers, where one reply to each request was handed in.
+fn conclude<'a>(all: HandedIn<'a>) -> Result<Vec<Vec<Outcome>>, FarmError>
+    requires { HasOneEach all.collector.racks all.collector all.fault }
+    ensures { IfOk result (λ v. AreExpected all.entry.collector.racks (map (λ answers. answers.items) v.items)) }
+{
+    let HandedIn { collector, fault } = all;
+    if fault.is_some() {
+        unreachable!();
+    }
+    match collector.finish() {
+        Ok(answers) => Ok(answers),
+        Err(FinishFault::OutOfMemory) => Err(FarmError::OutOfMemory),
+        Err(FinishFault::Missing { .. }) => unreachable!(),
+    }
+}
+
+/// What stands when all threads were joined.
+#[derive(Drop)]
+pub struct Joined<'a> {
+    pub all: HandedIn<'a>,
+    pub desk: TakeEnd<Reply<'a>>,
+    pub desk_room: Vec<TakeEnd<Reply<'a>>>,
+    pub put_ends: Vec<EndedPut<Job<'a>>>,
+    pub job_ends: Vec<TakeEnd<Job<'a>>>,
+    pub reply_ends: Vec<EndedPut<Reply<'a>>>,
+}
+
+/// Takes what is left in the lanes, settles them, and gives the answers.
+pub fn settle_all<'a, R: Wait, P: Pause>(
+    rt: &R,
+    alloc: Global,
+    joined: Joined<'a>,
+    pause: &P,
+) -> Result<Vec<Vec<Outcome>>, FarmError>
+    requires joined { HasJoined joined.all.collector.racks joined.put_ends.items joined.job_ends.items joined.reply_ends.items joined.desk joined.all.collector joined.all.fault }
+    requires workers { 0 < length joined.job_ends.items }
+    requires room { (joined.desk_room.items ≡ []) × (0 < vec_capacity joined.desk_room) }
+    ensures { IfOk result (λ v. AreExpected joined.entry.all.collector.racks (map (λ answers. answers.items) v.items)) }
+{
+    let Joined {
+        all,
+        mut desk,
+        mut desk_room,
+        put_ends,
+        mut job_ends,
+        reply_ends,
+    } = joined;
+    let replied = put_total(reply_ends.as_slice());
+    let missing = replied.saturating_sub(desk.count());
+    let all = take_replies(rt, &mut desk, missing, all);
+    desk_room.push_reserved(desk);
+    let put = put_total(put_ends.as_slice());
+    let taken = taken_total(job_ends.as_slice());
+    let left = put.saturating_sub(taken);
+    let Some(mut last) = job_ends.pop() else {
+        unreachable!();
+    };
+    let all = take_left(rt, alloc, &mut last, left, all, pause);
+    job_ends.push_reserved(last);
+    settle(put_ends, job_ends);
+    settle(reply_ends, desk_room);
+    conclude(all)
+}

@@ -1,0 +1,291 @@
+//! Starting the threads, and joining them.
+ghost use Rattle.std.specs.Prelude.{◌≡◌, ◌≤◌, [], true, false, IfOk, IfErr, IfSome, vec_len, vec_capacity};
+ghost use Rattle.farm_lanes.specs.LaneEnds.{IsUnusedPut, IsUnusedTake};
+ghost use Rattle.farm_core.specs.Threads.{WorkersJoined, FeedersJoined, ends_of, feeders_of};
+ghost use Rattle.farm_core.specs.Put.{HasPutAll, HasPutStops};
+ghost use Rattle.farm_core.specs.Work.{HasWorked};
+ghost use Rattle.farm_core.specs.Replies.{IsNothingYet};
+ghost use Rattle.farm_core.specs.Cleared.{HasCleared};
+
+use crate::ends::{Feeder, WorkerEnds};
+use crate::feeding::{Fed, feed};
+use crate::jobs::{Job, Worked, idle, work};
+use crate::pause::Pause;
+use crate::reply::Reply;
+use crate::settling::{Cleared, Desk, clear};
+use farm_lanes::{EndedPut, Gate, PutEnd, Right, Seat, TakeEnd};
+use std::alloc::Global;
+use std::snapshot::Snapshot;
+use std::sync::Wait;
+use std::sync::atomic::{AtomicUsize, Ordering};
+use std::thread::{Promise, PromisedHandle, Scope, Threads};
+
+/// The ends that a worker was given.
+#[derive(Drop)]
+pub struct WorkOf<'a>(pub Snapshot<WorkerEnds<'a>>);
+
+impl<'a> Promise<Worked<'a>> for WorkOf<'a> {
+    ghost use Rattle.farm_core.specs.Work.{HasWorked};
+
+    ghost kept_by = { λ p w. HasWorked p.0.value.jobs p.0.value.replies w.jobs w.replies };
+}
+
+pub type Worker<'a> = PromisedHandle<Worked<'a>, WorkOf<'a>>;
+
+// What the worker of this number does: it works, unless it is the one that no thread was made for.
+fn work_with<'a, R: Wait, P: Pause>(
+    rt: &R,
+    alloc: Global,
+    refused: &AtomicUsize,
+    number: usize,
+    ends: WorkerEnds<'a>,
+    pause: &P,
+) -> Worked<'a>
+    ensures { HasWorked ends.entry.jobs ends.entry.replies result.jobs result.replies }
+{
+    let WorkerEnds { jobs, replies } = ends;
+    if refused.load(Ordering::SeqCst) == number {
+        idle(rt, jobs, replies)
+    } else {
+        work(rt, alloc, jobs, replies, pause)
+    }
+}
+
+// Starts a worker. Where no thread can be made it ends here at once, without work.
+fn start_worker<'s, 'a: 's, E, R: Threads + Wait + Sync, P: Pause>(
+    rt: &'s R,
+    alloc: Global,
+    scope: &Scope<'s, E>,
+    refused: &'s AtomicUsize,
+    number: usize,
+    ends: WorkerEnds<'a>,
+    pause: &'s P,
+) -> Result<Worker<'a>, Worked<'a>>
+    ensures started { IfOk result (λ h. h.promise.0.value ≡ ends.entry) }
+    ensures ended { IfErr result (λ w. HasWorked ends.entry.jobs ends.entry.replies w.jobs w.replies) }
+{
+    let promise = WorkOf(Snapshot::of(&ends));
+    let body = move || -> Worked
+        ensures { HasWorked ends.entry.jobs ends.entry.replies result.jobs result.replies }
+    { work_with(rt, alloc, refused, number, ends, pause) };
+    match scope.spawn_with(promise, body) {
+        Ok(handle) => Ok(handle),
+        Err(back) => {
+            refused.store(number, Ordering::SeqCst);
+            Err((back.value)())
+        }
+    }
+}
+
+/// The desk that the collector's thread was given.
+#[derive(Drop)]
+pub struct ClearOf<'a>(pub Snapshot<Desk<'a>>);
+
+impl<'a> Promise<Cleared<'a>> for ClearOf<'a> {
+    ghost use Rattle.farm_core.specs.Cleared.{HasCleared};
+
+    ghost kept_by = { λ p c. HasCleared p.0.value.collector.racks p.0.value.replies c.all.collector c.all.fault c.replies };
+}
+
+// Starts the collector's thread.
+pub fn start_collector<'s, 'a: 's, E, R: Wait + Sync>(
+    rt: &'s R,
+    scope: &Scope<'s, E>,
+    desk: Desk<'a>,
+) -> Option<PromisedHandle<Cleared<'a>, ClearOf<'a>>>
+    requires empty { IsNothingYet desk.collector.racks desk.collector }
+    requires unused { IsUnusedTake desk.replies }
+    ensures { IfSome result (λ h. h.promise.0.value ≡ desk.entry) }
+{
+    let promise = ClearOf(Snapshot::of(&desk));
+    let body = move || -> Cleared
+        requires { IsNothingYet desk.collector.racks desk.collector × IsUnusedTake desk.replies }
+        ensures { HasCleared desk.entry.collector.racks desk.entry.replies result.all.collector result.all.fault result.replies }
+    { clear(rt, desk) };
+    scope.spawn_with(promise, body).ok()
+}
+
+// Joins the workers, and puts their ends in order.
+pub fn join_workers<'a, R: Threads>(
+    rt: &R,
+    handles: Vec<Worker<'a>>,
+    job_ends: &mut Vec<TakeEnd<Job<'a>>>,
+    reply_ends: &mut Vec<EndedPut<Reply<'a>>>,
+)
+    requires empty { (job_ends.old.items ≡ []) × (reply_ends.old.items ≡ []) }
+    requires room { (vec_len handles ≤ vec_capacity job_ends.old) × (vec_len handles ≤ vec_capacity reply_ends.old) }
+    ensures { WorkersJoined handles.entry.items job_ends.new.items reply_ends.new.items }
+{
+    for handle in handles {
+        let Worked { jobs, replies } = handle.join(rt);
+        job_ends.push_reserved(jobs);
+        reply_ends.push_reserved(replies);
+    }
+}
+
+// Starts a worker for each pair of ends, in order. After a refusal no further one is started, and the others end here. Says whether all were started.
+pub fn start_workers<'s, 'a: 's, E, R: Threads + Wait + Sync, P: Pause>(
+    rt: &'s R,
+    alloc: Global,
+    scope: &Scope<'s, E>,
+    refused: &'s AtomicUsize,
+    ends: Vec<WorkerEnds<'a>>,
+    pause: &'s P,
+    handles: &mut Vec<Worker<'a>>,
+) -> bool
+    requires empty { handles.old.items ≡ [] }
+    requires room { vec_len ends ≤ vec_capacity handles.old }
+    ensures all { result ≡ true → ends_of handles.new.items ≡ ends.entry.items }
+    ensures capacity { vec_capacity handles.new ≡ vec_capacity handles.old }
+    ensures len { vec_len handles.new ≤ vec_len ends.entry }
+{
+    let mut all = true;
+    for end in ends {
+        if all {
+            match start_worker(rt, alloc, scope, refused, handles.len(), end, pause) {
+                Ok(handle) => handles.push_reserved(handle),
+                Err(_) => all = false,
+            }
+        } else {
+            let WorkerEnds { jobs, replies } = end;
+            let _ended = idle(rt, jobs, replies);
+        }
+    }
+    all
+}
+
+/// What a feeder was given.
+#[derive(Drop)]
+pub struct FeedOf<'a>(pub Snapshot<Feeder<'a>>);
+
+impl<'a> Promise<EndedPut<Job<'a>>> for FeedOf<'a> {
+    ghost use Rattle.farm_core.specs.Put.{HasPutAll};
+
+    ghost kept_by = { λ p e. HasPutAll p.0.value.rack p.0.value.list.now p.0.value.jobs e };
+}
+
+// Feeds a list. Its seat has the whole gate, so everything was put.
+fn feed_all<'a, R: Wait>(rt: &R, feeder: Feeder<'a>) -> EndedPut<Job<'a>>
+    ensures { HasPutAll feeder.entry.rack feeder.entry.list.now feeder.entry.jobs result }
+{
+    let Feeder {
+        gate,
+        seat,
+        right,
+        rack,
+        list,
+        jobs,
+    } = feeder;
+    let Fed {
+        rack: _,
+        list: _,
+        seat,
+        right,
+        close: _,
+        jobs,
+    } = feed(rt, &gate, seat, right, rack, list, jobs);
+    if let Some(right) = right {
+        spend(&gate, seat, right);
+    }
+    jobs
+}
+
+// Starts a feeder. Where no thread can be made, its end is let go.
+fn start_feeder<'s, 'a: 's, E, R: Threads + Wait + Sync>(
+    rt: &'s R,
+    scope: &Scope<'s, E>,
+    feeder: Feeder<'a>,
+) -> Option<PromisedHandle<EndedPut<Job<'a>>, FeedOf<'a>>>
+    ensures { IfSome result (λ h. h.promise.0.value ≡ feeder.entry) }
+{
+    let promise = FeedOf(Snapshot::of(&feeder));
+    scope.spawn_with(promise, move || feed_all(rt, feeder)).ok()
+}
+
+// A seat of a gate of one right, which is not yet spent, was told of no closing: spending the right shows it.
+fn spend(gate: &Gate, seat: Seat, right: Right)
+    requires own { (seat.gate ≡ gate.now.id) × (right ≡ gate.now.id) }
+    requires only { (gate.now.size.rights ≡ 1) × (seat.has.used ≡ 0) × (seat.has.made ≡ []) }
+    ensures { seat.has.knows ≡ false }
+{
+    let mut seat = seat;
+    let _closed = gate.close(&mut seat, right);
+}
+
+pub type FeederHandle<'a> = PromisedHandle<EndedPut<Job<'a>>, FeedOf<'a>>;
+
+// Starts a feeder for each rack, in order, until one is refused. Says whether none was.
+pub fn start_feeders<'s, 'a: 's, E, R: Threads + Wait + Sync>(
+    rt: &'s R,
+    scope: &Scope<'s, E>,
+    feeders: Vec<Feeder<'a>>,
+    handles: &mut Vec<FeederHandle<'a>>,
+) -> bool
+    requires empty { handles.old.items ≡ [] }
+    requires room { vec_len feeders ≤ vec_capacity handles.old }
+    ensures all { result ≡ true → feeders_of handles.new.items ≡ feeders.entry.items }
+    ensures capacity { vec_capacity handles.new ≡ vec_capacity handles.old }
+    ensures len { vec_len handles.new ≤ vec_len feeders.entry }
+{
+    for feeder in feeders {
+        match start_feeder(rt, scope, feeder) {
+            Some(handle) => handles.push_reserved(handle),
+            None => return false,
+        }
+    }
+    true
+}
+
+// Joins the feeders, and puts their ends in order.
+pub fn join_feeders<'a, R: Threads>(
+    rt: &R,
+    handles: Vec<FeederHandle<'a>>,
+    put_ends: &mut Vec<EndedPut<Job<'a>>>,
+)
+    requires empty { put_ends.old.items ≡ [] }
+    requires room { vec_len handles ≤ vec_capacity put_ends.old }
+    ensures joined { FeedersJoined handles.entry.items put_ends.new.items }
+    ensures capacity { vec_capacity put_ends.new ≡ vec_capacity put_ends.old }
+{
+    for handle in handles {
+        put_ends.push_reserved(handle.join(rt));
+    }
+}
+
+// Starts the workers, and where none is refused the feeders. Says whether no thread was refused.
+pub fn start_all<'s, 'a: 's, E, R: Threads + Wait + Sync, P: Pause>(
+    rt: &'s R,
+    alloc: Global,
+    scope: &Scope<'s, E>,
+    refused: &'s AtomicUsize,
+    ends: Vec<WorkerEnds<'a>>,
+    feeders: Vec<Feeder<'a>>,
+    pause: &'s P,
+    workers: &mut Vec<Worker<'a>>,
+    feeding: &mut Vec<FeederHandle<'a>>,
+) -> bool
+    requires empty { (workers.old.items ≡ []) × (feeding.old.items ≡ []) }
+    requires room { (vec_len ends ≤ vec_capacity workers.old) × (vec_len feeders ≤ vec_capacity feeding.old) }
+    ensures workers { result ≡ true → ends_of workers.new.items ≡ ends.entry.items }
+    ensures feeders { result ≡ true → feeders_of feeding.new.items ≡ feeders.entry.items }
+    ensures workers_len { vec_len workers.new ≤ vec_len ends.entry }
+    ensures feeders_len { vec_len feeding.new ≤ vec_len feeders.entry }
+{
+    if !start_workers(rt, alloc, scope, refused, ends, pause, workers) {
+        return false;
+    }
+    start_feeders(rt, scope, feeders, feeding)
+}
+
+// Puts so many jobs that say to stop, and ends.
+pub fn put_stops<'a, R: Wait>(rt: &R, stops: PutEnd<Job<'a>>, count: usize) -> EndedPut<Job<'a>>
+    requires unused { IsUnusedPut stops }
+    requires few { count ≤ 16 }
+    ensures { HasPutStops stops.entry result }
+{
+    let mut stops = stops;
+    for _ in 0..count {
+        stops.put(rt, Job::Stop);
+    }
+    stops.end(rt)
+}
