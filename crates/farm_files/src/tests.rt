@@ -2,5 +2,6 @@
 mod devices;
 mod folders;
 mod lists;
+mod refusals;
 mod serving;
 mod shared;

@@ -1,0 +1,63 @@
+//! Serving where memory or a thread is refused.
+ghost use Rattle.std.specs.Prelude.{None};
+
+use crate::tests::shared::{LIST, input_of};
+use crate::{Shelf, ShelfFault, serve};
+use farm_core::{NoPause, Settings};
+use std::alloc::{AllocError, Global};
+
+// A shelf that counts its writes and keeps no file. It takes no memory and never fails.
+#[derive(Drop)]
+struct CountingShelf {
+    writes: u64,
+}
+
+impl Shelf for CountingShelf {
+    ghost files = { λ s. None };
+
+    ghost failed = { λ s. 0 };
+
+    fn failures(&self) -> u64 {
+        0
+    }
+
+    fn read(
+        &mut self,
+        _alloc: Global,
+        _name: &str,
+        _limit: usize,
+    ) -> Result<Option<Vec<u8>>, ShelfFault> {
+        Ok(None)
+    }
+
+    fn write(&mut self, _alloc: Global, _name: &str, _bytes: &[u8]) -> Result<(), ShelfFault> {
+        self.writes = self.writes.saturating_add(1);
+        Ok(())
+    }
+}
+
+// Two racks of one rebuilt fragment each. In a run that refuses an allocation, this ends with the refusal, and then nothing was
+// written.
+#[test]
+fn nothing_written_before_all_texts_are_made(rt: HostRuntime) -> Result<(), AllocError> {
+    let alloc = rt.alloc();
+    let mut input = input_of(alloc, LIST)?;
+    input.place(alloc, "rack1.csv", LIST)?;
+    let mut output = CountingShelf { writes: 0 };
+    let Ok(settings) = Settings::new(1, 1) else {
+        panic!(&rt; "the least settings are refused");
+    };
+    if input.failures() > 1000 {
+        panic!(&rt; "a new shelf has failed");
+    }
+    match serve(&rt, alloc, &mut input, &mut output, settings, &NoPause) {
+        Ok(_) => {
+            assert!(&rt; output.writes == 4);
+            Ok(())
+        }
+        Err(_) => {
+            assert!(&rt; output.writes == 0);
+            Err(AllocError)
+        }
+    }
+}
