@@ -12,7 +12,7 @@ use Rattle.farm_lanes.specs.SeatChanges.{made_close, missed_close}
 use Rattle.farm_lanes.specs.declared.gate.record.SeatRecord.{SeatRecord}
 use Rattle.farm_lanes.specs.declared.gate.record.GateSize.{GateSize}
 use Rattle.farm_lanes.specs.declared.gate.AlreadyClosed.{AlreadyClosed}
-use Rattle.std.specs.Prelude.{Result, Ok, Err, MatchResult, false}
+use Rattle.std.specs.Prelude.{Option, Result, Ok, Err, MatchResult, false}
 use Rattle.farm_core.specs.declared.jobs.Job.{Job}
 use Rattle.farm_core.specs.declared.jobs.Worked.{Worked}
 use Rattle.farm_core.specs.Replies.{Replied}
@@ -66,7 +66,7 @@ was_open size s s' (Err e) closed sound one used made =
     absurd (omega arith)
 
 abbrev FeederHandle : Type 0
-FeederHandle = PromisedHandle (EndedPut Job Global) FeedOf
+FeederHandle = PromisedHandle (Option (EndedPut Job Global)) FeedOf
 
 -- one feeder more is joined
 pub fed_next : (hs : List FeederHandle) (es : List (PutView Job)) (h : FeederHandle) (e : PutView Job) → FeedersJoined hs es → HasPutAll h.promise.0.value.rack h.promise.0.value.list.now h.promise.0.value.jobs e → FeedersJoined (hs ++ h ∷ []) (es ++ e ∷ [])

@@ -50,7 +50,7 @@ pub is_ready : (room : Room) (racks : List (List Order)) (n w : ℕ) (puts rest 
     → map (λ (e : WorkerEnds). e.replies) room.workers.items ≡ reply_puts
     → ((lane : LaneName Job) → Each (λ t. t ≡ new_take lane) takes → Each (λ (e : WorkerEnds). e.jobs ≡ new_take lane) room.workers.items)
     → map (λ (f : Feeder). f.jobs) room.feeders.items ≡ rest → AreListed racks room.feeders.items
-    → room.space.racks ≡ n → room.space.workers ≡ w → IsReady room
+    → room.space.ends.racks ≡ n → room.space.ends.workers ≡ w → IsReady room
 is_ready room racks n w puts rest takes reply_puts reply_takes none jobs replies stops desk nothing count few_racks working few worker_replies worker_jobs feeder_jobs listed space_racks space_workers =
     let popped = popped_put jobs.lane n puts rest room.stops jobs.put_ends stops in
     let last = popped_take replies.lane 0 reply_takes none room.desk.replies replies.take_ends desk in

@@ -29,11 +29,11 @@ use Rattle.farm_core.proofs.Settled.{there}
 use Rattle.farm_core.proofs.Stops.{stops_put_all}
 use Rattle.farm_core.proofs.Wholes.{workers_answered, job_ends_are, reply_ends_are}
 
-abbrev Handle : Type 0
+abbrev pub Handle : Type 0
 Handle = PromisedHandle Worked WorkOf
 
 abbrev FeederHandle : Type 0
-FeederHandle = PromisedHandle (EndedPut Job Global) FeedOf
+FeederHandle = PromisedHandle (Option (EndedPut Job Global)) FeedOf
 
 module _ {A B : Type 0} where
   pub mapped_length : (f : A → B) (xs : List A) (ys : List B) → map f xs ≡ ys → length ys ≡ length xs

@@ -1,5 +1,5 @@
 -- What joined workers leave.
-use Rattle.std.specs.Prelude.{◌≡◌, ℕ, List, [], length, map, slice_index_or}
+use Rattle.std.specs.Prelude.{◌≡◌, ℕ, List, [], length, map, slice_index_or, Option}
 use mathlib.Core.Option.{some}
 use lib.ListN.{get_elem?}
 use Rattle.std.specs.declared.thread.PromisedHandle.{PromisedHandle}
@@ -23,7 +23,7 @@ abbrev pub ends_of : List (PromisedHandle Worked WorkOf) → List WorkerEnds
 ends_of handles = map (λ h. h.promise.0.value) handles
 
 -- what these feeders were given
-abbrev pub feeders_of : List (PromisedHandle (EndedPut Job Global) FeedOf) → List Feeder
+abbrev pub feeders_of : List (PromisedHandle (Option (EndedPut Job Global)) FeedOf) → List Feeder
 feeders_of handles = map (λ h. h.promise.0.value) handles
 
 -- the ends at each place are what the worker of that place left
@@ -37,9 +37,9 @@ pub record AreWorkerEnds (jobs_lane : LaneName Job) (replies_lane : LaneName Rep
   pub each : (k : ℕ) (e : WorkerEnds) → get_elem? ends k ≡ some e → (e.jobs ≡ new_take jobs_lane) × (e.replies ≡ new_put replies_lane k)
 
 -- the end at each place is what the feeder of that place left
-pub record FeedersJoined (handles : List (PromisedHandle (EndedPut Job Global) FeedOf)) (puts : List (PutView Job)) : Type 0 where
+pub record FeedersJoined (handles : List (PromisedHandle (Option (EndedPut Job Global)) FeedOf)) (puts : List (PutView Job)) : Type 0 where
   pub count : length puts ≡ length handles
-  pub each : (k : ℕ) (h : PromisedHandle (EndedPut Job Global) FeedOf) (e : PutView Job) → get_elem? handles k ≡ some h → get_elem? puts k ≡ some e → HasPutAll h.promise.0.value.rack h.promise.0.value.list.now h.promise.0.value.jobs e
+  pub each : (k : ℕ) (h : PromisedHandle (Option (EndedPut Job Global)) FeedOf) (e : PutView Job) → get_elem? handles k ≡ some h → get_elem? puts k ≡ some e → HasPutAll h.promise.0.value.rack h.promise.0.value.list.now h.promise.0.value.jobs e
 
 -- the feeder at each place is of the rack of that number, with its list
 abbrev pub AreListed : List (List Order) → List Feeder → Type 0

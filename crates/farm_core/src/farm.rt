@@ -3,18 +3,19 @@ ghost use Rattle.std.specs.Prelude.{◌≡◌, IfOk, map};
 ghost use Rattle.farm_core.specs.Expected.{AreExpected};
 ghost use Rattle.farm_core.specs.Ready.{IsReady};
 
+use crate::ending::{Refusals, end_all};
 use crate::orders::Racks;
 use crate::pause::Pause;
 use crate::room::{Room, room_for};
 use crate::settings::Settings;
-use crate::settling::{Cleared, Joined, settle_all};
+use crate::settling::{Cleared, settle_all};
 use crate::space::Space;
-use crate::threads::{join_feeders, join_workers, put_stops, start_all, start_collector};
+use crate::started::{Started, join_all, start_all};
+use crate::threads::start_collector;
 use farm_lanes::{GateError, LaneError};
 use lrc_code::Outcome;
 use std::alloc::{AllocError, Global};
 use std::sync::Wait;
-use std::sync::atomic::AtomicUsize;
 use std::thread::{self, Scope, Threads};
 use thiserror::Error;
 
@@ -54,7 +55,7 @@ fn run_in<'s, 'a: 's, E, R: Threads + Wait + Sync, P: Pause>(
     rt: &'s R,
     alloc: Global,
     scope: &Scope<'s, E>,
-    refused: &'s AtomicUsize,
+    refused: &'s Refusals,
     room: Room<'a>,
     pause: &'s P,
 ) -> Result<Vec<Vec<Outcome>>, FarmError>
@@ -71,16 +72,16 @@ fn run_in<'s, 'a: 's, E, R: Threads + Wait + Sync, P: Pause>(
     let Space {
         mut working,
         mut feeding,
-        mut put_ends,
-        mut job_ends,
-        mut reply_ends,
-        desk: desk_room,
-        ..
+        ends,
     } = space;
-    let Some(collecting) = start_collector(rt, scope, desk) else {
-        return Err(FarmError::NoThread);
+    let collecting = match start_collector(rt, scope, &refused.collector, desk) {
+        Ok(collecting) => collecting,
+        Err(Cleared { replies, .. }) => {
+            end_all(rt, replies, workers, feeders, stops);
+            return Err(FarmError::NoThread);
+        }
     };
-    let started = start_all(
+    let (all, taker) = start_all(
         rt,
         alloc,
         scope,
@@ -91,22 +92,18 @@ fn run_in<'s, 'a: 's, E, R: Threads + Wait + Sync, P: Pause>(
         &mut working,
         &mut feeding,
     );
-    join_feeders(rt, feeding, &mut put_ends);
-    put_ends.push_reserved(put_stops(rt, stops, working.len()));
-    join_workers(rt, working, &mut job_ends, &mut reply_ends);
-    let Cleared { all, replies: desk } = collecting.join(rt);
-    if !started {
-        return Err(FarmError::NoThread);
-    }
-    let joined = Joined {
+    let started = Started {
         all,
-        desk,
-        desk_room,
-        put_ends,
-        job_ends,
-        reply_ends,
+        collecting,
+        working,
+        feeding,
+        stops,
+        taker,
     };
-    settle_all(rt, alloc, joined, pause)
+    match join_all(rt, started, ends) {
+        Some(joined) => settle_all(rt, alloc, joined, pause),
+        None => Err(FarmError::NoThread),
+    }
 }
 
 /// Each rack's answers, in the order of its requests: for each request before the close of its rack's list, the
@@ -121,7 +118,7 @@ pub fn run<R: Threads + Wait + Sync, P: Pause>(
     ensures { IfOk result (λ v. AreExpected racks.now (map (λ answers. answers.items) v.items)) }
 {
     let room = room_for(alloc, racks, settings)?;
-    let none_refused = AtomicUsize::new(usize::MAX);
+    let none_refused = Refusals::none();
     let refused = &none_refused;
     thread::scope(
         thread::scope_env(),

@@ -2,6 +2,7 @@
 #![tactic(auto)]
 
 mod collector;
+mod ending;
 mod ends;
 mod farm;
 mod feeding;
@@ -14,6 +15,7 @@ mod row;
 mod settings;
 mod settling;
 mod space;
+mod started;
 mod taking;
 #[cfg(test)]
 mod tests;

@@ -1,6 +1,8 @@
 //! The limits of racks and settings, the collector, and runs, with answers from outside.
 mod collecting;
+mod held;
 mod jobs;
 mod limits;
+mod refusals;
 mod requests;
 mod running;

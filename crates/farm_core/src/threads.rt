@@ -1,5 +1,5 @@
 //! Starting the threads, and joining them.
-ghost use Rattle.std.specs.Prelude.{◌≡◌, ◌≤◌, [], true, false, IfOk, IfErr, IfSome, vec_len, vec_capacity};
+ghost use Rattle.std.specs.Prelude.{◌≡◌, ◌≤◌, [], true, false, IfOk, IfErr, IfSome, IfNone, vec_len, vec_capacity};
 ghost use Rattle.farm_lanes.specs.LaneEnds.{IsUnusedPut, IsUnusedTake};
 ghost use Rattle.farm_core.specs.Threads.{WorkersJoined, FeedersJoined, ends_of, feeders_of};
 ghost use Rattle.farm_core.specs.Put.{HasPutAll, HasPutStops};
@@ -17,7 +17,7 @@ use farm_lanes::{EndedPut, Gate, PutEnd, Right, Seat, TakeEnd};
 use std::alloc::Global;
 use std::snapshot::Snapshot;
 use std::sync::Wait;
-use std::sync::atomic::{AtomicUsize, Ordering};
+use std::sync::atomic::{AtomicBool, AtomicUsize, Ordering};
 use std::thread::{Promise, PromisedHandle, Scope, Threads};
 
 /// The ends that a worker was given.
@@ -87,22 +87,55 @@ impl<'a> Promise<Cleared<'a>> for ClearOf<'a> {
     ghost kept_by = { λ p c. HasCleared p.0.value.collector.racks p.0.value.replies c.all.collector c.all.fault c.replies };
 }
 
-// Starts the collector's thread.
+// What the collector's thread does. Where no thread was made for it, it waits for no worker and takes nothing.
+fn clear_with<'a, R: Wait>(rt: &R, refused: &AtomicBool, desk: Desk<'a>) -> Cleared<'a>
+    requires empty { IsNothingYet desk.collector.racks desk.collector }
+    requires unused { IsUnusedTake desk.replies }
+    ensures { HasCleared desk.entry.collector.racks desk.entry.replies result.all.collector result.all.fault result.replies }
+{
+    let Desk {
+        collector,
+        replies,
+        workers,
+    } = desk;
+    let workers = if refused.load(Ordering::SeqCst) {
+        0
+    } else {
+        workers
+    };
+    clear(
+        rt,
+        Desk {
+            collector,
+            replies,
+            workers,
+        },
+    )
+}
+
+// Starts the collector's thread. Where no thread can be made, its desk is left as it was.
 pub fn start_collector<'s, 'a: 's, E, R: Wait + Sync>(
     rt: &'s R,
     scope: &Scope<'s, E>,
+    refused: &'s AtomicBool,
     desk: Desk<'a>,
-) -> Option<PromisedHandle<Cleared<'a>, ClearOf<'a>>>
+) -> Result<PromisedHandle<Cleared<'a>, ClearOf<'a>>, Cleared<'a>>
     requires empty { IsNothingYet desk.collector.racks desk.collector }
     requires unused { IsUnusedTake desk.replies }
-    ensures { IfSome result (λ h. h.promise.0.value ≡ desk.entry) }
+    ensures { IfOk result (λ h. h.promise.0.value ≡ desk.entry) }
 {
     let promise = ClearOf(Snapshot::of(&desk));
     let body = move || -> Cleared
         requires { IsNothingYet desk.collector.racks desk.collector × IsUnusedTake desk.replies }
         ensures { HasCleared desk.entry.collector.racks desk.entry.replies result.all.collector result.all.fault result.replies }
-    { clear(rt, desk) };
-    scope.spawn_with(promise, body).ok()
+    { clear_with(rt, refused, desk) };
+    match scope.spawn_with(promise, body) {
+        Ok(handle) => Ok(handle),
+        Err(back) => {
+            refused.store(true, Ordering::SeqCst);
+            Err((back.value)())
+        }
+    }
 }
 
 // Joins the workers, and puts their ends in order.
@@ -123,7 +156,8 @@ pub fn join_workers<'a, R: Threads>(
     }
 }
 
-// Starts a worker for each pair of ends, in order. After a refusal no further one is started, and the others end here. Says whether all were started.
+// Starts a worker for each pair of ends, in order. After a refusal no further one is started, and the others end here; of the
+// last of these the end is given back by which it was to take.
 pub fn start_workers<'s, 'a: 's, E, R: Threads + Wait + Sync, P: Pause>(
     rt: &'s R,
     alloc: Global,
@@ -132,37 +166,41 @@ pub fn start_workers<'s, 'a: 's, E, R: Threads + Wait + Sync, P: Pause>(
     ends: Vec<WorkerEnds<'a>>,
     pause: &'s P,
     handles: &mut Vec<Worker<'a>>,
-) -> bool
+) -> Option<TakeEnd<Job<'a>>>
     requires empty { handles.old.items ≡ [] }
     requires room { vec_len ends ≤ vec_capacity handles.old }
-    ensures all { result ≡ true → ends_of handles.new.items ≡ ends.entry.items }
+    ensures all { IfNone result (ends_of handles.new.items ≡ ends.entry.items) }
     ensures capacity { vec_capacity handles.new ≡ vec_capacity handles.old }
     ensures len { vec_len handles.new ≤ vec_len ends.entry }
 {
-    let mut all = true;
+    let mut left = None;
     for end in ends {
-        if all {
+        if left.is_none() {
             match start_worker(rt, alloc, scope, refused, handles.len(), end, pause) {
                 Ok(handle) => handles.push_reserved(handle),
-                Err(_) => all = false,
+                Err(ended) => left = Some(ended.jobs),
             }
         } else {
             let WorkerEnds { jobs, replies } = end;
-            let _ended = idle(rt, jobs, replies);
+            left = Some(idle(rt, jobs, replies).jobs);
         }
     }
-    all
+    left
 }
 
 /// What a feeder was given.
 #[derive(Drop)]
 pub struct FeedOf<'a>(pub Snapshot<Feeder<'a>>);
 
-impl<'a> Promise<EndedPut<Job<'a>>> for FeedOf<'a> {
+impl<'a> Promise<Option<EndedPut<Job<'a>>>> for FeedOf<'a> {
+    ghost use Rattle.std.specs.Prelude.{IfSome};
     ghost use Rattle.farm_core.specs.Put.{HasPutAll};
 
-    ghost kept_by = { λ p e. HasPutAll p.0.value.rack p.0.value.list.now p.0.value.jobs e };
+    ghost kept_by = { λ p o. IfSome o (λ e. HasPutAll p.0.value.rack p.0.value.list.now p.0.value.jobs e) };
 }
+
+/// A feeder's thread. It gives nothing where a feeder was refused before it began; its end is ended all the same.
+pub type FeederHandle<'a> = PromisedHandle<Option<EndedPut<Job<'a>>>, FeedOf<'a>>;
 
 // Feeds a list. Its seat has the whole gate, so everything was put.
 fn feed_all<'a, R: Wait>(rt: &R, feeder: Feeder<'a>) -> EndedPut<Job<'a>>
@@ -190,16 +228,44 @@ fn feed_all<'a, R: Wait>(rt: &R, feeder: Feeder<'a>) -> EndedPut<Job<'a>>
     jobs
 }
 
-// Starts a feeder. Where no thread can be made, its end is let go.
+// What a feeder does: it feeds its list, unless a feeder was refused before it began.
+fn feed_with<'a, R: Wait>(
+    rt: &R,
+    refused: &AtomicBool,
+    feeder: Feeder<'a>,
+) -> Option<EndedPut<Job<'a>>>
+    ensures { IfSome result (λ e. HasPutAll feeder.entry.rack feeder.entry.list.now feeder.entry.jobs e) }
+{
+    if refused.load(Ordering::SeqCst) {
+        let Feeder { jobs, .. } = feeder;
+        let _ended = jobs.end(rt);
+        None
+    } else {
+        Some(feed_all(rt, feeder))
+    }
+}
+
+// Starts a feeder. Where no thread can be made, its end is ended here.
 fn start_feeder<'s, 'a: 's, E, R: Threads + Wait + Sync>(
     rt: &'s R,
     scope: &Scope<'s, E>,
+    refused: &'s AtomicBool,
     feeder: Feeder<'a>,
-) -> Option<PromisedHandle<EndedPut<Job<'a>>, FeedOf<'a>>>
+) -> Option<FeederHandle<'a>>
     ensures { IfSome result (λ h. h.promise.0.value ≡ feeder.entry) }
 {
     let promise = FeedOf(Snapshot::of(&feeder));
-    scope.spawn_with(promise, move || feed_all(rt, feeder)).ok()
+    let body = move || -> Option<EndedPut<Job>>
+        ensures { IfSome result (λ e. HasPutAll feeder.entry.rack feeder.entry.list.now feeder.entry.jobs e) }
+    { feed_with(rt, refused, feeder) };
+    match scope.spawn_with(promise, body) {
+        Ok(handle) => Some(handle),
+        Err(back) => {
+            refused.store(true, Ordering::SeqCst);
+            let _none = (back.value)();
+            None
+        }
+    }
 }
 
 // A seat of a gate of one right, which is not yet spent, was told of no closing: spending the right shows it.
@@ -212,12 +278,12 @@ fn spend(gate: &Gate, seat: Seat, right: Right)
     let _closed = gate.close(&mut seat, right);
 }
 
-pub type FeederHandle<'a> = PromisedHandle<EndedPut<Job<'a>>, FeedOf<'a>>;
-
-// Starts a feeder for each rack, in order, until one is refused. Says whether none was.
+// Starts a feeder for each rack, in order. After a refusal no further one is started, and the ends of the others are ended here:
+// the workers take their marks. Says whether none was refused.
 pub fn start_feeders<'s, 'a: 's, E, R: Threads + Wait + Sync>(
     rt: &'s R,
     scope: &Scope<'s, E>,
+    refused: &'s AtomicBool,
     feeders: Vec<Feeder<'a>>,
     handles: &mut Vec<FeederHandle<'a>>,
 ) -> bool
@@ -227,54 +293,41 @@ pub fn start_feeders<'s, 'a: 's, E, R: Threads + Wait + Sync>(
     ensures capacity { vec_capacity handles.new ≡ vec_capacity handles.old }
     ensures len { vec_len handles.new ≤ vec_len feeders.entry }
 {
+    let mut all = true;
     for feeder in feeders {
-        match start_feeder(rt, scope, feeder) {
-            Some(handle) => handles.push_reserved(handle),
-            None => return false,
+        if all {
+            match start_feeder(rt, scope, refused, feeder) {
+                Some(handle) => handles.push_reserved(handle),
+                None => all = false,
+            }
+        } else {
+            let Feeder { jobs, .. } = feeder;
+            let _ended = jobs.end(rt);
         }
     }
-    true
+    all
 }
 
-// Joins the feeders, and puts their ends in order.
+// Joins the feeders, and puts their ends in order. Says whether each has put all.
 pub fn join_feeders<'a, R: Threads>(
     rt: &R,
     handles: Vec<FeederHandle<'a>>,
     put_ends: &mut Vec<EndedPut<Job<'a>>>,
-)
+) -> bool
     requires empty { put_ends.old.items ≡ [] }
     requires room { vec_len handles ≤ vec_capacity put_ends.old }
-    ensures joined { FeedersJoined handles.entry.items put_ends.new.items }
+    ensures joined { result ≡ true → FeedersJoined handles.entry.items put_ends.new.items }
     ensures capacity { vec_capacity put_ends.new ≡ vec_capacity put_ends.old }
+    ensures len { vec_len put_ends.new ≤ vec_len handles.entry }
 {
+    let mut all = true;
     for handle in handles {
-        put_ends.push_reserved(handle.join(rt));
+        match handle.join(rt) {
+            Some(end) => put_ends.push_reserved(end),
+            None => all = false,
+        }
     }
-}
-
-// Starts the workers, and where none is refused the feeders. Says whether no thread was refused.
-pub fn start_all<'s, 'a: 's, E, R: Threads + Wait + Sync, P: Pause>(
-    rt: &'s R,
-    alloc: Global,
-    scope: &Scope<'s, E>,
-    refused: &'s AtomicUsize,
-    ends: Vec<WorkerEnds<'a>>,
-    feeders: Vec<Feeder<'a>>,
-    pause: &'s P,
-    workers: &mut Vec<Worker<'a>>,
-    feeding: &mut Vec<FeederHandle<'a>>,
-) -> bool
-    requires empty { (workers.old.items ≡ []) × (feeding.old.items ≡ []) }
-    requires room { (vec_len ends ≤ vec_capacity workers.old) × (vec_len feeders ≤ vec_capacity feeding.old) }
-    ensures workers { result ≡ true → ends_of workers.new.items ≡ ends.entry.items }
-    ensures feeders { result ≡ true → feeders_of feeding.new.items ≡ feeders.entry.items }
-    ensures workers_len { vec_len workers.new ≤ vec_len ends.entry }
-    ensures feeders_len { vec_len feeding.new ≤ vec_len feeders.entry }
-{
-    if !start_workers(rt, alloc, scope, refused, ends, pause, workers) {
-        return false;
-    }
-    start_feeders(rt, scope, feeders, feeding)
+    all
 }
 
 // Puts so many jobs that say to stop, and ends.

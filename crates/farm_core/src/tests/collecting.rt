@@ -55,7 +55,7 @@ fn accepts<'a>(collector: &mut Collector<'a>, reply: Reply<'a>) -> bool
 
 // What a collector ends with that gets the replies to rack 0's requests of these numbers, in this order. Those that are
 // starved say that memory was wanting.
-fn gathered(
+pub(crate) fn gathered(
     alloc: Global,
     racks: &Racks,
     numbers: &[usize],
@@ -78,7 +78,7 @@ fn gathered(
 }
 
 // Whether the answers are those of the three requests, in their order.
-fn are_answers_of_three(answers: &[Vec<Outcome>]) -> bool {
+pub(crate) fn are_answers_of_three(answers: &[Vec<Outcome>]) -> bool {
     match answers {
         [rack] => match rack.as_slice() {
             [first, second, third] => {

@@ -1,4 +1,4 @@
-use Rattle.std.proofs.Common.{rules, ◌∙◌, List, [], ◌∷◌, ◌++◌, vec_items, ap, sym, subst, append_assoc}
+use Rattle.std.proofs.Common.{rules, true≢false, ◌∙◌, List, [], ◌∷◌, ◌++◌, Option, vec_items, ap, sym, subst, append_assoc}
 use Rattle.std.specs.declared.thread.PromisedHandle.{PromisedHandle}
 use Rattle.farm_lanes.specs.LaneEnds.{PutView}
 use Rattle.std.specs.declared.alloc.Global.{Global}
@@ -9,12 +9,23 @@ use Rattle.farm_core.specs.declared.threads.FeedOf.{FeedOf}
 use Rattle.farm_core.proofs.Joins.{fed_next}
 use Rattle.farm_core.proofs.threads.join_feeders.Goals as goal
 
+pub loop-handle-preserved-in-Some-join : goal.loop-handle-preserved-in-Some-join
+loop-handle-preserved-in-Some-join g c =
+    let was = c.loop-handle.invariant in let done = c.loop-handle.yielded in (
+      rw append_assoc (was.0 ∙ ap (λ (t : List (PromisedHandle (Option (EndedPut Job Global)) FeedOf)). done ++ t) c.in-Some.ensures.steps.0),
+      (λ all. subst (λ (l : List (PutView Job)). FeedersJoined (done ++ c.in-Some.handle ∷ []) l) (sym c.push_reserved.ensures.items)
+          (fed_next done (vec_items c.loop-handle.put_ends) c.in-Some.handle c.in-Some-join.end (was.1 all) c.in-Some-join.ensures)),
+      search rules,
+      search rules,
+      search rules,
+    )
+
 pub loop-handle-preserved : goal.loop-handle-preserved
 loop-handle-preserved g c =
     let was = c.loop-handle.invariant in let done = c.loop-handle.yielded in (
-      rw append_assoc (was.0 ∙ ap (λ (t : List (PromisedHandle (EndedPut Job Global) FeedOf)). done ++ t) c.in-Some.ensures.steps.0),
-      subst (λ (l : List (PutView Job)). FeedersJoined (done ++ c.in-Some.handle ∷ []) l) (sym c.push_reserved.ensures.items)
-          (fed_next done (vec_items c.loop-handle.put_ends) c.in-Some.handle c.join.result was.1 c.join.ensures),
+      rw append_assoc (was.0 ∙ ap (λ (t : List (PromisedHandle (Option (EndedPut Job Global)) FeedOf)). done ++ t) c.in-Some.ensures.steps.0),
+      (λ no. absurd (true≢false (sym no))),
+      search rules,
       search rules,
       search rules,
     )
