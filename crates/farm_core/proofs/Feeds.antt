@@ -24,7 +24,7 @@ use Rattle.farm_core.specs.declared.orders.Order.{Order}
 use Rattle.farm_core.specs.declared.orders.Order.TheVariants.{Rebuild}
 use Rattle.farm_core.specs.declared.jobs.Job.{Job}
 use Rattle.farm_core.specs.declared.jobs.Job.TheVariants.{Solve, Stop}
-use Rattle.farm_core.specs.Orders.{before_close}
+use Rattle.farm_core.specs.Orders.{before_close, HasClose}
 use Rattle.farm_core.specs.Jobs.{IsOfRack, numbers_of, requests_of}
 use Rattle.farm_core.specs.Feed.{HasFed, CountUp, AreRising, IsMade, IsRightLeft}
 use Rattle.farm_core.proofs.Works.{put_more}
@@ -151,7 +151,7 @@ feed_more total seat rack orders jobs i s s' e e' number job r d x was along low
 pub feed_ends : (gate : GateName) (seat : SeatView) (rack : ℕ) (list : List Order) (jobs : PutView Job) (i : ℕ) (s s' : SeatView) (e e' : PutView Job) (right : Option TableId) (close : Option ℕ)
     → IsFeeding gate.size.total seat rack (before_close list) jobs i s e → s'.gate ≡ s.gate → s'.has.share ≡ s.has.share → s'.has.numbers ≡ s.has.numbers
     → e' ≡ with_put e (End e.sender (length e.put))
-    → ((put : List (Item Job)) → length (values put) ≡ i → IsRightLeft gate.id seat.has (length (values put) ≡ length (before_close list)) right close s'.has)
+    → ((put : List (Item Job)) → length (values put) ≡ i → IsRightLeft gate.id seat.has list (length (values put) ≡ length (before_close list)) right close s'.has)
     → HasFed gate seat rack list jobs s' right close e'
 feed_ends gate seat rack list jobs i s s' e e' right close was gate_is share numbers more left = record {
   put = was.put;
@@ -168,9 +168,9 @@ feed_ends gate seat rack list jobs i s s' e e' right close was gate_is share num
 }
 
 -- the right was spent
-pub right_spent : (gate : TableId) (was s s' : SeatRecord) (result : Result ℕ AlreadyClosed) (close : Option ℕ) (all : Type 0) → close ≡ result_ok result
-    → MatchResult result (λ n. (s' ≡ made_close s n) × (s.knows ≡ false)) (λ _. s' ≡ missed_close s) → s.used ≡ was.used → s.made ≡ was.made → all → IsRightLeft gate was all None close s'
-right_spent gate was s s' (Ok n) close all is closed used made put =
-    (ap (λ (q : SeatRecord). q.used) closed.0 ∙ ap (λ k. k + 1) used, subst (λ c. IsMade was.made c s'.made) (sym is) (ap (λ (q : SeatRecord). q.made) closed.0 ∙ ap (λ l. l ++ n ∷ []) made), put)
-right_spent gate was s s' (Err e) close all is closed used made put =
-    (ap (λ (q : SeatRecord). q.used) closed ∙ ap (λ k. k + 1) used, subst (λ c. IsMade was.made c s'.made) (sym is) (ap (λ (q : SeatRecord). q.made) closed ∙ made), put)
+pub right_spent : (gate : TableId) (was s s' : SeatRecord) (list : List Order) (result : Result ℕ AlreadyClosed) (close : Option ℕ) (all : Type 0) → HasClose list → close ≡ result_ok result
+    → MatchResult result (λ n. (s' ≡ made_close s n) × (s.knows ≡ false)) (λ _. s' ≡ missed_close s) → s.used ≡ was.used → s.made ≡ was.made → all → IsRightLeft gate was list all None close s'
+right_spent gate was s s' list (Ok n) close all has is closed used made put =
+    (ap (λ (q : SeatRecord). q.used) closed.0 ∙ ap (λ k. k + 1) used, subst (λ c. IsMade was.made c s'.made) (sym is) (ap (λ (q : SeatRecord). q.made) closed.0 ∙ ap (λ l. l ++ n ∷ []) made), put, has)
+right_spent gate was s s' list (Err e) close all has is closed used made put =
+    (ap (λ (q : SeatRecord). q.used) closed ∙ ap (λ k. k + 1) used, subst (λ c. IsMade was.made c s'.made) (sym is) (ap (λ (q : SeatRecord). q.made) closed ∙ made), put, has)

@@ -1,9 +1,9 @@
 -- A list from an order on, and the replies of a place.
-use Rattle.std.proofs.Common.{ℕ, ◌≡◌, ◌+◌, ◌-◌, ◌<◌, ◌≤◌, ◌⊎◌, List, [], ◌∷◌, length, get_or, drop, arith, sym, ap, ◌∙◌, inl, inr, Some, None}
+use Rattle.std.proofs.Common.{ℕ, zero, suc, ◌≡◌, ◌+◌, ◌-◌, ◌<◌, ◌≤◌, ◌⊎◌, List, [], ◌∷◌, length, get_or, drop, arith, sym, ap, ◌∙◌, inl, inr, Some, None}
 use Rattle.std.specs.Prelude.{IsSome}
-use Rattle.std.proofs.lemmas.List.{drop_more, get_or-drop, drop-drop, length-drop, at_drop_all}
+use Rattle.std.proofs.lemmas.List.{get_or_default, drop_more, get_or-drop, drop-drop, length-drop, at_drop_all}
 use Rattle.std.proofs.lemmas.Bool.{cases_eq}
-use Rattle.farm_core.specs.Orders.{before_close}
+use Rattle.farm_core.specs.Orders.{before_close, HasClose}
 use Rattle.farm_core.specs.Replies.{Entry, Collected, reply_at}
 use Rattle.farm_core.specs.declared.orders.Order.{Order}
 use Rattle.farm_core.specs.declared.orders.Order.TheVariants.{Rebuild, Close}
@@ -36,6 +36,16 @@ one_request orders i r d low is along =
           sym (ap (λ (j : ℕ). get_or (before_close orders) j e) (sym zero_more) ∙ sym (get_or-drop i (before_close orders) 0 e) ∙ ap (λ (t : List Asked). get_or t 0 e) more)),
       sym (drop_next (before_close orders) i r (before_close (drop (i + 1) orders)) more),
     )
+
+-- there is a close, and fewer are served than there are orders
+pub has_close : (orders : List Order) (i : ℕ) (d : Order) → i < length orders → get_or orders i d ≡ Close → HasClose orders
+has_close orders i d low is = (i, low, get_or_default orders i Close d low ∙ is)
+
+pub closes_before_end : (orders : List Order) (k : ℕ) → k < length orders → get_or orders k Close ≡ Close → length (before_close orders) < length orders
+closes_before_end [] k low is = absurd (omega arith)
+closes_before_end (Close ∷ orders) k low is = omega arith
+closes_before_end (Rebuild r ∷ orders) zero low is = absurd (cc)
+closes_before_end (Rebuild r ∷ orders) (suc k) low is = let e = closes_before_end orders k (omega arith) is in omega arith
 
 -- at a close nothing more is served
 pub close_here : (orders : List Order) (i : ℕ) (d : Order) → i < length orders → get_or orders i d ≡ Close → before_close (drop i orders) ≡ drop i (before_close orders) → length (before_close orders) ≤ i

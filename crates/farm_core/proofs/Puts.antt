@@ -103,5 +103,5 @@ all_put gate seat rack list jobs seat' None close jobs' fed lone open_yet = reco
 all_put gate seat rack list jobs seat' (Some r) close jobs' fed lone open_yet = record {
   put = fed.put ++ End jobs.sender (length fed.put) ∷ [];
   jobs_is = fed.jobs_is;
-  all = λ racks is. fed_puts_all racks gate seat rack list jobs seat' (Some r) close jobs' fed lone (fed.right.4 (open_yet refl)) is;
+  all = λ racks is. fed_puts_all racks gate seat rack list jobs seat' (Some r) close jobs' fed lone (fed.right.4 (open_yet refl)).0 is;
 }

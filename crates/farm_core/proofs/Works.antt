@@ -13,7 +13,7 @@ use Rattle.farm_core.specs.declared.jobs.Job.{Job}
 use Rattle.farm_core.specs.declared.jobs.Job.TheVariants.{Solve, Stop}
 use Rattle.farm_core.specs.Replies.{Replied}
 use Rattle.farm_core.specs.Jobs.{solves, IsReplyTo, AreReplies}
-use Rattle.farm_core.specs.Work.{HasWorked}
+use Rattle.farm_core.specs.Work.{HasWorked, SaysStop}
 
 pub zip_append : {A B : Type 0} (R : A → B → Type 0) (xs xs' : List A) (ys ys' : List B) → AllZip R xs ys → AllZip R xs' ys' → AllZip R (xs ++ xs') (ys ++ ys')
 zip_append R [] xs' [] ys' all more = more
@@ -93,3 +93,9 @@ module _ (jobs : TakeView Job) (replies : PutView Replied) where
     jobs_is = was.jobs_is;
     replies_is = more ∙ ap (λ (u : PutView Replied). with_put u (End u.sender (length u.put))) was.replies_is;
   }
+
+pub goes_on : (j j' : TakeView Job) (x : Item Job) → Each (λ y. ¬ SaysStop y) j.taken → ¬ SaysStop x → j' ≡ with_taken j x → Each (λ y. ¬ SaysStop y) j'.taken
+goes_on j j' x was other more = subst (Each (λ y. ¬ SaysStop y)) (sym (ap (λ (u : TakeView Job). u.taken) more)) (each_snoc (λ y. ¬ SaysStop y) j.taken x was other)
+
+pub none_stops : (j : TakeView Job) → IsUnusedTake j → Each (λ y. ¬ SaysStop y) j.taken
+none_stops j unused = subst (Each (λ y. ¬ SaysStop y)) (sym (ap (λ (u : TakeView Job). u.taken) unused)) (λ k x at. absurd (some-ne-none x (sym at)))

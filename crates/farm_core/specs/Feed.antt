@@ -13,7 +13,7 @@ use Rattle.farm_lanes.specs.LaneEnds.{PutView, put_end}
 use Rattle.farm_lanes.specs.GateView.{GateName, SeatView}
 use Rattle.farm_core.specs.declared.orders.Order.{Order}
 use Rattle.farm_core.specs.declared.jobs.Job.{Job}
-use Rattle.farm_core.specs.Orders.{before_close}
+use Rattle.farm_core.specs.Orders.{before_close, HasClose}
 use Rattle.farm_core.specs.Jobs.{IsOfRack, numbers_of, requests_of}
 
 -- the numbers are 0, 1, 2 and so on
@@ -29,10 +29,11 @@ abbrev pub IsMade : List ℕ → Option ℕ → List ℕ → Type 0
 IsMade was (Some n) made = made ≡ was ++ n ∷ []
 IsMade was None made = made ≡ was
 
--- the right is back, and everything was put unless the seat was told of a closing; or it was spent, and everything was put
-abbrev pub IsRightLeft : TableId → SeatRecord → Type 0 → Option TableId → Option ℕ → SeatRecord → Type 0
-IsRightLeft gate was All_put (Some right) close left = (right ≡ gate) × (close ≡ None) × (left.used ≡ was.used) × (left.made ≡ was.made) × (left.knows ≡ false → All_put)
-IsRightLeft gate was All_put None close left = (left.used ≡ was.used + 1) × IsMade was.made close left.made × All_put
+-- the right is back, and unless the seat was told of a closing everything was put, of a list without a close; or the right was
+-- spent on the close of the list, and everything in front of it was put
+abbrev pub IsRightLeft : TableId → SeatRecord → List Order → Type 0 → Option TableId → Option ℕ → SeatRecord → Type 0
+IsRightLeft gate was list All_put (Some right) close left = (right ≡ gate) × (close ≡ None) × (left.used ≡ was.used) × (left.made ≡ was.made) × (left.knows ≡ false → All_put × ¬ HasClose list)
+IsRightLeft gate was list All_put None close left = (left.used ≡ was.used + 1) × IsMade was.made close left.made × All_put × HasClose list
 
 -- With this seat and this end, unused at first, a feeder put a job for each of the first requests of its list, with the
 -- numbers that it drew, which rise, and then its end mark.
@@ -47,4 +48,4 @@ pub record HasFed (gate : GateName) (seat : SeatView) (rack : ℕ) (list : List 
   pub lone : seat.has.share ≡ gate.size.total → CountUp (numbers_of (values put))
   pub gate_is : seat_left.gate ≡ seat.gate
   pub share_is : seat_left.has.share ≡ seat.has.share
-  pub right : IsRightLeft gate.id seat.has (length (values put) ≡ length (before_close list)) right_left close seat_left.has
+  pub right : IsRightLeft gate.id seat.has list (length (values put) ≡ length (before_close list)) right_left close seat_left.has

@@ -1,5 +1,6 @@
 -- What stands in front of a list's close.
 use Rattle.std.specs.Prelude.{ℕ, ◌<◌, List, [], ◌∷◌, length, slice_index_or}
+use Rattle.std.specs.List.{Contains}
 use Rattle.lrc_code.specs.Requests.{Asked}
 use Rattle.farm_core.specs.declared.orders.Order.{Order}
 use Rattle.farm_core.specs.declared.orders.Order.TheVariants.{Rebuild, Close}
@@ -9,6 +10,10 @@ abbrev pub before_close : List Order → List Asked
 before_close [] = []
 before_close (Close ∷ orders) = []
 before_close (Rebuild request ∷ orders) = request ∷ before_close orders
+
+-- the list has a close
+abbrev pub HasClose : List Order → Type 0
+HasClose orders = Contains orders Close
 
 -- the requests of a rack that are answered; none beyond the last rack
 abbrev pub served : List (List Order) → ℕ → List Asked

@@ -3,7 +3,7 @@ ghost use Rattle.std.specs.Prelude.{◌≡◌, IfOk};
 ghost use Rattle.lrc_code.specs.Answers.{IsAnswer};
 ghost use Rattle.lrc_code.specs.Code.{narrow};
 ghost use Rattle.farm_lanes.specs.LaneEnds.{IsUnusedPut, IsUnusedTake};
-ghost use Rattle.farm_core.specs.Work.{HasWorked};
+ghost use Rattle.farm_core.specs.Work.{HasWorked, HasStopped};
 
 use crate::pause::Pause;
 use crate::reply::Reply;
@@ -71,7 +71,8 @@ pub fn work<'a, R: Wait, P: Pause>(
     pause: &P,
 ) -> Worked<'a>
     requires unused { IsUnusedTake jobs × IsUnusedPut replies }
-    ensures { HasWorked jobs.entry replies.entry result.jobs result.replies }
+    ensures worked { HasWorked jobs.entry replies.entry result.jobs result.replies }
+    ensures stopped { HasStopped result.jobs.taken result.replies.put }
 {
     let mut jobs = jobs;
     let mut replies = replies;

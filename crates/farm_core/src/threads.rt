@@ -1,5 +1,5 @@
 //! Starting the threads, and joining them.
-ghost use Rattle.std.specs.Prelude.{◌≡◌, ◌≤◌, [], true, false, IfOk, IfErr, IfSome, IfNone, vec_len, vec_capacity};
+ghost use Rattle.std.specs.Prelude.{◌≡◌, ◌+◌, ◌≤◌, [], true, false, IfOk, IfErr, IfSome, IfNone, length, vec_len, vec_capacity};
 ghost use Rattle.farm_lanes.specs.LaneEnds.{IsUnusedPut, IsUnusedTake};
 ghost use Rattle.farm_core.specs.Threads.{WorkersJoined, FeedersJoined, ends_of, feeders_of};
 ghost use Rattle.farm_core.specs.Put.{HasPutAll, HasPutStops};
@@ -334,7 +334,8 @@ pub fn join_feeders<'a, R: Threads>(
 pub fn put_stops<'a, R: Wait>(rt: &R, stops: PutEnd<Job<'a>>, count: usize) -> EndedPut<Job<'a>>
     requires unused { IsUnusedPut stops }
     requires few { count ≤ 16 }
-    ensures { HasPutStops stops.entry result }
+    ensures stops { HasPutStops stops.entry result }
+    ensures count { length result.put ≡ count + 1 }
 {
     let mut stops = stops;
     for _ in 0..count {

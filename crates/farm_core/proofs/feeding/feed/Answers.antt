@@ -3,8 +3,8 @@ use Rattle.farm_lanes.specs.declared.lane.item.Item.TheVariants.{Value}
 use Rattle.farm_lanes.specs.declared.gate.record.SeatRecord.{SeatRecord}
 use Rattle.farm_core.specs.declared.orders.Order.{Order}
 use Rattle.farm_core.specs.declared.jobs.Job.TheVariants.{Solve}
-use Rattle.farm_core.specs.Orders.{before_close}
-use Rattle.farm_core.proofs.Progress.{close_here, end_here, one_request}
+use Rattle.farm_core.specs.Orders.{before_close, HasClose}
+use Rattle.farm_core.proofs.Progress.{close_here, end_here, one_request, has_close, closes_before_end}
 use Rattle.farm_core.proofs.Feeds.{IsFeeding, feed_more, feed_ends, right_spent}
 use Rattle.farm_core.proofs.feeding.feed.Goals as goal
 use Rattle.farm_core.proofs.feeding.feed.Goals.{else-loop-order-test, then-loop-order-test+in-Rebuild+in_default-draw}
@@ -18,7 +18,7 @@ returns-in_default-clause-fed g c =
     feed_ends c.args.gate.now c.args.seat c.args.rack c.args.list.now c.args.jobs i c.loop-order.seat c.close.new.seat c.loop-order.jobs c.end.result None c.ok-close.result
     (subst (λ (l : List Order). IsFeeding c.args.gate.now.size.total c.args.seat c.args.rack (before_close l) c.args.jobs i c.loop-order.seat c.loop-order.jobs) list_is was.0)
     c.close.ensures.gate c.close.ensures.kept.0 c.close.ensures.kept.2 c.end.ensures
-    (λ put count. right_spent c.args.gate.now.id c.args.seat.has c.loop-order.seat.has c.close.new.seat.has c.close.result c.ok-close.result (_) c.ok-close.ensures.value c.close.ensures.closed was.0.kept.0 was.0.kept.1
+    (λ put count. right_spent c.args.gate.now.id c.args.seat.has c.loop-order.seat.has c.close.new.seat.has c.args.list.now c.close.result c.ok-close.result (_) (subst HasClose list_is (has_close orders i c.order-item.result (omega arith) (sym c.order-item.is ∙ c.in_default.is))) c.ok-close.ensures.value c.close.ensures.closed was.0.kept.0 was.0.kept.1
     (count ∙ (sym all ∙ ap (λ (l : List Order). length (before_close l)) list_is)))
 
 pub loop-order-preserved : goal.loop-order-preserved
@@ -43,7 +43,7 @@ returns-clause-fed g c =
           (let past : length (before_close orders) ≤ i = end_here orders i (omega arith) was.1 in
           let all : length (before_close orders) ≡ i = (let f = was.0.within in omega arith) in
           ends inv (ap (λ s. s.gate) w.seat-is) (ap (λ s. s.has.share) w.seat-is) (ap (λ s. s.has.numbers) w.seat-is) c.end-2.ensures
-          (λ put count. (c.requires.own.1, refl, ap (λ s. s.has.used) w.seat-is ∙ was.0.kept.0, ap (λ s. s.has.made) w.seat-is ∙ was.0.kept.1, λ _. count ∙ (sym all ∙ ap (λ (l : List Order). length (before_close l)) list_is))))
+          (λ put count. (c.requires.own.1, refl, ap (λ s. s.has.used) w.seat-is ∙ was.0.kept.0, ap (λ s. s.has.made) w.seat-is ∙ was.0.kept.1, λ _. (count ∙ (sym all ∙ ap (λ (l : List Order). length (before_close l)) list_is), λ (has : HasClose c.args.list.now). absurd (let has' = subst HasClose (sym list_is) has in let less = closes_before_end orders has'.0 has'.1 has'.2 in omega arith)))))
       | then-loop-order-test+in-Rebuild+in_default-draw w ↦
           (let low : i < length orders = omega (arith, w.loop-order-test.true) in
           let limit = c.orders-order-items.ensures.limit in

@@ -16,7 +16,7 @@ returns-clause-joined g c = λ room ready started.
     let cleared = subst (λ (d : Desk). HasCleared d.collector.racks d.replies r.all.collector r.all.fault r.replies) started.collecting_is c.join-all.ensures in
     let working = started.working_are c.if-not-started_all.false in
     let joined = has_joined room ready t.feeding.items c.join_feeders-fed_all.new.put_ends.items (started.feeding_are c.if-not-started_all.false) (c.join_feeders-fed_all.ensures.joined c.if-not-fed_all.false)
-    c.put_stops.result (subst (λ (e : PutView Job). HasPutStops e c.put_stops.result) started.stops_is c.put_stops.ensures)
+    c.put_stops.result (subst (λ (e : PutView Job). HasPutStops e c.put_stops.result) started.stops_is c.put_stops.ensures.stops)
     t.working.items js rs r.replies r.all.collector r.all.fault working c.join_workers.ensures cleared in (
       subst (λ (l : List (PutView Job)). HasJoined r.all.collector.racks l js rs r.replies r.all.collector r.all.fault) (sym c.push_reserved.ensures.items) joined,
       collected_racks room.desk.collector.racks r.all.collector r.all.fault (values cleared.took) cleared.collected,

@@ -1,4 +1,4 @@
-use Rattle.std.proofs.Common.{◌+◌, ◌∙◌, length, ap}
+use Rattle.std.proofs.Common.{arith, ◌+◌, ◌∙◌, length, ap}
 use Rattle.std.proofs.lemmas.List.{length_push}
 use Rattle.farm_lanes.specs.declared.lane.item.Item.TheVariants.{Value, End}
 use Rattle.farm_lanes.specs.LaneEnds.{PutView}
@@ -17,6 +17,10 @@ loop-preserved g c =
       ap (λ (u : PutView Job). length u.put) c.put.ensures ∙ (length_push c.loop.stops.put _ ∙ ap (λ n. n + 1) was.1),
     )
 
-pub returns : goal.returns
-returns g c =
+pub returns-clause-stops : goal.returns-clause-stops
+returns-clause-stops g c =
     stops_more c.args.stops c.loop.stops c.end.result (End c.loop.stops.sender (length c.loop.stops.put)) c.loop.invariant.0 tt c.end.ensures
+
+pub returns-clause-count : goal.returns-clause-count
+returns-clause-count g c =
+    let longer = ap (λ (u : PutView Job). length u.put) c.end.ensures ∙ length_push c.loop.stops.put (End c.loop.stops.sender (length c.loop.stops.put)) in let was = c.loop.invariant.1 in omega arith
