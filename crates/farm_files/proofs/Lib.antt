@@ -5,6 +5,7 @@ pub mod SpacedNames
 pub mod Orders
 pub mod Plain
 pub mod Rows
+pub mod RackDigests
 pub mod Put
 pub mod PutAll
 pub mod ReadFiles

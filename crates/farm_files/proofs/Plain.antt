@@ -19,7 +19,7 @@ use Rattle.lrc_code.specs.declared.requests.RequestFault.TheVariants as fault
 use Rattle.lrc_code.specs.Places.{name_of}
 use Rattle.lrc_code.specs.Requests.{is_name, is_name_byte}
 use Rattle.farm_files.specs.Listed.{ListedRequest, listed_refusal}
-use Rattle.farm_files.specs.Report.{digest, outcome_name, report_line, report_row}
+use Rattle.farm_files.specs.Report.{digest_text, fragment_digest, outcome_name, report_line, report_row}
 use Rattle.farm_files.proofs.SpacedNames.{and_left, and_right}
 
 -- a field that calls for no quotes
@@ -111,7 +111,7 @@ plain_outcome (outcome.Rebuilt f) = refl
 plain_outcome outcome.Contradiction = refl
 plain_outcome outcome.Several = refl
 
-plain_digest : (o : Outcome) → IsPlain (digest o)
+plain_digest : (o : Outcome) → IsPlain (digest_text (fragment_digest o))
 plain_digest (outcome.Rebuilt f) = plain_hex lower_digits (sha256 f) refl
 plain_digest outcome.Contradiction = refl
 plain_digest outcome.Several = refl
@@ -141,7 +141,7 @@ pub row_line : (n : ℕ) (r : ListedRequest) (o : Outcome) (unread : List Place)
 row_line n r o unread small e = plain_row (report_row n r o unread) (omega arith) (plain_fields n r o unread small e)
 
 pub row_fields : (n : ℕ) (r : ListedRequest) (o : Outcome) (unread : List Place) (a b c d e f g : List ℕ) → n < 2 ^ 64 → listed_refusal r ≡ None
-    → a ≡ decimal n → b ≡ r.stripe → c ≡ name_of r.target → d ≡ decimal r.len → e ≡ outcome_name o → f ≡ digest o → g ≡ join_with_byte 32 (map name_of unread)
+    → a ≡ decimal n → b ≡ r.stripe → c ≡ name_of r.target → d ≡ decimal r.len → e ≡ outcome_name o → f ≡ digest_text (fragment_digest o) → g ≡ join_with_byte 32 (map name_of unread)
     → row_text default_writer (a ∷ b ∷ c ∷ d ∷ e ∷ f ∷ g ∷ []) ≡ report_line (report_row n r o unread)
 row_fields n r o unread a b c d e f g small accept ha hb hc hd he hf hg =
     let same : a ∷ b ∷ c ∷ d ∷ e ∷ f ∷ g ∷ [] ≡ report_row n r o unread = rw (ha, hb, hc, hd, he, hf, hg) refl in

@@ -1,5 +1,5 @@
 -- What a rack's report says.
-use Rattle.std.specs.Prelude.{◌+◌, ◌++◌, ℕ, List, [], ◌∷◌, codes, decimal, map}
+use Rattle.std.specs.Prelude.{◌+◌, ◌++◌, ℕ, List, [], ◌∷◌, Option, Some, None, codes, decimal, map}
 use Rattle.std.specs.List.{flat_map, join_with_byte}
 use Rattle.hex.specs.Hex.{encode_lower}
 use Rattle.sha2.specs.Sha256.{sha256}
@@ -22,11 +22,16 @@ outcome_name (outcome.Rebuilt f) = codes "rebuilt"
 outcome_name outcome.Contradiction = codes "contradiction"
 outcome_name outcome.Several = codes "several"
 
--- the digest of a rebuilt fragment, in hexadecimal
-abbrev pub digest : Outcome → List ℕ
-digest (outcome.Rebuilt f) = encode_lower (sha256 f)
-digest outcome.Contradiction = []
-digest outcome.Several = []
+-- the SHA-256 digest of a rebuilt fragment
+abbrev pub fragment_digest : Outcome → Option (List ℕ)
+fragment_digest (outcome.Rebuilt f) = Some (sha256 f)
+fragment_digest outcome.Contradiction = None
+fragment_digest outcome.Several = None
+
+-- a digest in hexadecimal, and nothing where there is none
+abbrev pub digest_text : Option (List ℕ) → List ℕ
+digest_text (Some d) = encode_lower d
+digest_text None = []
 
 abbrev pub report_header : List (List ℕ)
 report_header = codes "number" ∷ codes "stripe" ∷ codes "target" ∷ codes "length" ∷ codes "outcome" ∷ codes "digest" ∷ codes "unread" ∷ []
@@ -34,7 +39,7 @@ report_header = codes "number" ∷ codes "stripe" ∷ codes "target" ∷ codes "
 -- the fields of request n: what was listed, its outcome, and the listed survivors that were left out
 abbrev pub report_row : ℕ → ListedRequest → Outcome → List Place → List (List ℕ)
 report_row n r o unread =
-    decimal n ∷ r.stripe ∷ name_of r.target ∷ decimal r.len ∷ outcome_name o ∷ digest o ∷ join_with_byte 32 (map name_of unread) ∷ []
+    decimal n ∷ r.stripe ∷ name_of r.target ∷ decimal r.len ∷ outcome_name o ∷ digest_text (fragment_digest o) ∷ join_with_byte 32 (map name_of unread) ∷ []
 
 -- the fields of the requests from the n-th on
 abbrev pub report_rows : ℕ → List ListedRequest → List Outcome → List (List Place) → List (List (List ℕ))

@@ -2,17 +2,15 @@
 ghost use Rattle.std.specs.Prelude.{◌≡◌, ◌++◌, ◌∷◌, [], IfOk, OnOk, length, map, string_bytes};
 ghost use Rattle.std.specs.List.{join_with_byte};
 ghost use Rattle.csv.specs.Writing.{default_writer, row_text};
-ghost use Rattle.hex.specs.Hex.{encode_lower};
-ghost use Rattle.sha2.specs.Sha256.{sha256};
 ghost use Rattle.lrc_code.specs.Places.{name_of};
-ghost use Rattle.farm_files.specs.Report.{before_close, digest, outcome_name, report, report_header, report_line, report_row};
+ghost use Rattle.farm_files.specs.Report.{before_close, digest_text, fragment_digest, outcome_name, report, report_header, report_line, report_row};
 
+use crate::digests::digests_of;
 use crate::listed::Listed;
 use crate::listing::Record;
 use crate::text::decimal_text;
 use csv::{Error, WriterBuilder};
 use lrc_code::{Outcome, Place};
-use sha2::{Digest, Sha256};
 use std::alloc::{AllocError, Global};
 
 /// The requests of a list in front of its first close.
@@ -42,17 +40,26 @@ pub fn report_text(
     ensures { IfOk result (λ v. v.items ≡ report (before_close list.now) outcomes.now (map (λ u. u.items) unread.now)) }
 {
     let requests = requests_before_close(alloc, list)?;
-    report_on(alloc, requests.as_slice(), outcomes, unread)
+    let digests = digests_of(alloc, outcomes)?;
+    report_on(
+        alloc,
+        requests.as_slice(),
+        outcomes,
+        digests.as_slice(),
+        unread,
+    )
 }
 
-/// The report on requests.
+/// The report on requests, with their outcomes, the digests of these and the survivors of each that were left out.
 pub fn report_on(
     alloc: Global,
     requests: &[&Listed],
     outcomes: &[Outcome],
+    digests: &[Option<[u8; 32]>],
     unread: &[Vec<Place>],
 ) -> Result<Vec<u8>, AllocError>
     requires outcomes { length outcomes.now ≡ length requests.now }
+    requires digests { digests.now ≡ map fragment_digest outcomes.now }
     requires unread { length unread.now ≡ length requests.now }
     ensures { IfOk result (λ v. v.items ≡ report (map (λ r. r.now) requests.now) outcomes.now (map (λ u. u.items) unread.now)) }
 {
@@ -65,6 +72,7 @@ pub fn report_on(
             number,
             requests[number],
             &outcomes[number],
+            digests[number],
             unread[number].as_slice(),
         )?;
     }
@@ -84,13 +92,15 @@ fn push_row(
     number: usize,
     listed: &Listed,
     outcome: &Outcome,
+    digest: Option<[u8; 32]>,
     unread: &[Place],
 ) -> Result<(), AllocError>
+    requires { digest ≡ fragment_digest outcome.now }
     ensures { OnOk result (text.new.items ≡ text.old.items ++ report_line (report_row number listed.now outcome.now unread.now)) }
 {
     let number = decimal_text(alloc, number as u64)?;
     let length = decimal_text(alloc, u64::from(listed.length()))?;
-    let digest = outcome_digest(alloc, outcome)?;
+    let digest = hexadecimal(alloc, digest)?;
     let unread = spaced_names(alloc, unread)?;
     let line = row_line(
         alloc,
@@ -136,22 +146,14 @@ fn outcome_word(outcome: &Outcome) -> &'static [u8]
     }
 }
 
-fn outcome_digest(alloc: Global, outcome: &Outcome) -> Result<String, AllocError>
-    ensures { IfOk result (λ s. string_bytes s ≡ digest outcome.now) }
+// A digest in hexadecimal; nothing where there is none.
+fn hexadecimal(alloc: Global, digest: Option<[u8; 32]>) -> Result<String, AllocError>
+    ensures { IfOk result (λ s. string_bytes s ≡ digest_text digest) }
 {
-    match outcome {
-        Outcome::Rebuilt(bytes) => digest_text(alloc, bytes.as_slice()),
-        Outcome::Contradiction => Ok(String::new(alloc)),
-        Outcome::Several => Ok(String::new(alloc)),
+    match digest {
+        Some(digest) => hex::encode(alloc, digest.as_slice()),
+        None => Ok(String::new(alloc)),
     }
-}
-
-/// The digest of bytes in hexadecimal.
-pub fn digest_text(alloc: Global, bytes: &[u8]) -> Result<String, AllocError>
-    ensures { IfOk result (λ s. string_bytes s ≡ encode_lower (sha256 bytes.now)) }
-{
-    let digest = Sha256::digest(bytes);
-    hex::encode(alloc, digest.as_slice())
 }
 
 // The names of places with one space between two.

@@ -27,7 +27,8 @@ pub struct Served {
 
 /// Serves the lists of one shelf, `rack0.csv`, `rack1.csv` and so on, by files on another: for each rack the rebuilt
 /// fragments of its requests before its list's close, in their order, then its report. Other files stay as they
-/// are. All names and bytes are made before the first write, so a fault before it leaves the output untouched; a
+/// are. The farm has as many workers as the settings say, and the digests are made in as many threads at most.
+/// All names and bytes are made before the first write, so a fault before it leaves the output untouched; a
 /// fault in a write leaves the files before it whole and those after it untouched. A listed survivor that is absent,
 /// hasn't exactly the listed length or isn't given by the device is left out of its request, and named in the report.
 pub fn serve<R: Threads + Wait + Sync, I: Shelf, O: Shelf, P: Pause>(
@@ -55,7 +56,9 @@ pub fn serve<R: Threads + Wait + Sync, I: Shelf, O: Shelf, P: Pause>(
     let (racks, unread) = read_racks(alloc, input, lists.as_slice())?;
     let answers = run(rt, alloc, &racks, settings, pause)?;
     let files = make_files(
+        rt,
         alloc,
+        settings.workers(),
         lists.as_slice(),
         answers.as_slice(),
         unread.as_slice(),

@@ -1,11 +1,12 @@
 //! Writing the files.
 ghost use Rattle.std.specs.Prelude.{◌≡◌, IfOk, ◌++◌, ◌<◌, ◌^◌, IfErr, OnOk, length, map, option_map};
 ghost use Rattle.std.specs.List.{AllZip};
-ghost use Rattle.farm_files.specs.Report.{before_close};
+ghost use Rattle.farm_files.specs.Report.{before_close, fragment_digest};
 ghost use Rattle.farm_files.specs.Files.{CountsFailure, StopsWriting, put_all};
 ghost use Rattle.farm_files.specs.Named.{named};
 ghost use Rattle.farm_files.specs.Serving.{files_from, rack_files, rebuilt_file};
 
+use crate::digests::digests_of_racks;
 use crate::listed::Listed;
 use crate::listing::Record;
 use crate::names;
@@ -13,6 +14,7 @@ use crate::report::{report_on, requests_before_close};
 use crate::shelf::{Shelf, ShelfFault};
 use lrc_code::{Outcome, Place};
 use std::alloc::{AllocError, Global};
+use std::thread::Threads;
 
 /// A file that is to be written.
 #[derive(Drop)]
@@ -68,13 +70,15 @@ fn push_rack(
     rack: usize,
     requests: &[&Listed],
     outcomes: &[Outcome],
+    digests: &[Option<[u8; 32]>],
     unread: &[Vec<Place>],
 ) -> Result<(), AllocError>
     requires outcomes { length outcomes.now ≡ length requests.now }
+    requires digests { digests.now ≡ map fragment_digest outcomes.now }
     requires unread { length unread.now ≡ length requests.now }
     ensures { OnOk result (map named files.new.items ≡ map named files.old.items ++ rack_files rack (map (λ r. r.now) requests.now) outcomes.now (map (λ u. u.items) unread.now)) }
 {
-    let bytes = report_on(alloc, requests, outcomes, unread)?;
+    let bytes = report_on(alloc, requests, outcomes, digests, unread)?;
     for number in 0..requests.len() {
         push_rebuilt(
             alloc,
@@ -90,26 +94,35 @@ fn push_rack(
     Ok(())
 }
 
-// The files of all racks, in the order in which they are written.
-pub(crate) fn make_files(
+/// The files of all racks, in the order in which they are written. Their digests are made in at most this many threads.
+pub(crate) fn make_files<R: Threads + Sync>(
+    rt: &R,
     alloc: Global,
+    threads: usize,
     lists: &[Vec<Record>],
     answers: &[Vec<Outcome>],
     unread: &[Vec<Vec<Place>>],
 ) -> Result<Vec<NamedFile>, AllocError>
+    requires threads { 0 < threads }
     requires answers { AllZip (λ l os. length os.items ≡ length (before_close l.items)) lists.now answers.now }
     requires unread { AllZip (λ l us. length us.items ≡ length (before_close l.items)) lists.now unread.now }
     ensures { IfOk result (λ v. map named v.items ≡ files_from 0 (map (λ l. l.items) lists.now) (map (λ os. os.items) answers.now) (map (λ us. map (λ u. u.items) us.items) unread.now)) }
 {
+    let digests = digests_of_racks(rt, alloc, answers, threads)?;
+    let mut digests_left = digests.as_slice();
     let mut files = Vec::new(alloc);
     for rack in 0..lists.len() {
         let requests = requests_before_close(alloc, lists[rack].as_slice())?;
+        let outcomes = answers[rack].as_slice();
+        let (rack_digests, behind) = digests_left.split_at(outcomes.len());
+        digests_left = behind;
         push_rack(
             alloc,
             &mut files,
             rack,
             requests.as_slice(),
-            answers[rack].as_slice(),
+            outcomes,
+            rack_digests,
             unread[rack].as_slice(),
         )?;
     }

@@ -1,5 +1,8 @@
 //! Shelves whose calls fail, one at a time.
-use crate::tests::shared::{LIST, REPORT, REPORT_WITHOUT_PX, has_file, input_of, serve_over};
+use crate::tests::shared::{
+    LIST, REPORT, REPORT_WITHOUT_PX, REPORT_WITHOUT_X1, REPORT_WITHOUT_X2, has_file, input_of,
+    serve_over,
+};
 use crate::{MemoryShelf, ServeFault, Served, Shelf, ShelfFault};
 use std::alloc::AllocError;
 
@@ -37,83 +40,65 @@ fn calls_of_a_shelf(rt: HostRuntime) -> Result<(), AllocError> {
     Ok(())
 }
 
-// A failed read of a list ends serving; one of a fragment leaves the survivor out.
+// A failed read of a list ends serving; one of a fragment leaves the survivor out. The run makes five reads.
 #[test]
 fn failed_reads(rt: HostRuntime) -> Result<(), AllocError> {
-    let unread: [&[u8]; 3] = [b"x1", b"x2", b"px"];
-    for call in 0..6u64 {
+    let served_one = Ok(Served {
+        racks: 1,
+        answers: 1,
+    });
+    let rows: [(Result<Served, ServeFault>, Option<&[u8]>); 6] = [
+        (Err(ServeFault::Device), None),
+        (Err(ServeFault::Device), None),
+        (served_one, Some(REPORT_WITHOUT_X1)),
+        (served_one, Some(REPORT_WITHOUT_X2)),
+        (served_one, Some(REPORT_WITHOUT_PX)),
+        (served_one, Some(REPORT)),
+    ];
+    for (call, (expected, report)) in rows.into_iter().enumerate() {
         let mut input = input_of(rt.alloc(), LIST)?;
-        input.fail_at(call);
+        input.fail_at(call as u64);
         let mut output = MemoryShelf::new(rt.alloc());
         let served = serve_over(&rt, rt.alloc(), &mut input, &mut output);
-        let report = output.file("rack0.report.csv");
-        if call < 2 {
-            assert_eq!(&rt; served, Err(ServeFault::Device));
-            assert!(&rt; report.is_none());
-        } else if call < 5 {
-            assert_eq!(&rt;
-                served,
-                Ok(Served {
-                    racks: 1,
-                    answers: 1
-                })
-            );
-            let place = unread[call as usize - 2];
-            assert!(&rt;
-                report.is_some_and(|text| text.len() == REPORT_WITHOUT_PX.len()
-                    && text.ends_with(b"\n")
-                    && text[..text.len() - 1].ends_with(place)),
-                "call {call}"
-            );
-            assert!(&rt; input.failures() == 1);
+        assert_eq!(&rt; served, expected, "call {call}");
+        assert_eq!(&rt; output.file("rack0.report.csv"), report, "call {call}");
+        let fragment = if call == 5 {
+            Some(b"abc".as_slice())
         } else {
-            assert_eq!(&rt;
-                served,
-                Ok(Served {
-                    racks: 1,
-                    answers: 1
-                })
-            );
-            assert_eq!(&rt; report, Some(REPORT));
-        }
+            None
+        };
+        assert_eq!(&rt; output.file("rack0-0.abc.x0"), fragment, "call {call}");
+        assert_eq!(&rt; input.failures(), u64::from(call < 5), "call {call}");
     }
     Ok(())
 }
 
-// A failed write leaves the first half of its bytes, the files before it whole and those after it untouched.
+// A failed write leaves the first half of its bytes, the files before it whole and those after it untouched. The run makes two writes.
 #[test]
 fn failed_writes(rt: HostRuntime) -> Result<(), AllocError> {
-    for call in 0..3u64 {
+    let rebuilt = Ok(Served {
+        racks: 1,
+        answers: 1,
+    });
+    let rows: [(Result<Served, ServeFault>, &[u8], Option<&[u8]>); 3] = [
+        (Err(ServeFault::Device), b"a", None),
+        (Err(ServeFault::Device), b"abc", Some(&REPORT[..67])),
+        (rebuilt, b"abc", Some(REPORT)),
+    ];
+    assert_eq!(&rt; REPORT.len(), 135);
+    for (call, (expected, fragment, report)) in rows.into_iter().enumerate() {
         let mut input = input_of(rt.alloc(), LIST)?;
         let mut output = MemoryShelf::new(rt.alloc());
-        output.fail_at(call);
+        output.fail_at(call as u64);
         let served = serve_over(&rt, rt.alloc(), &mut input, &mut output);
-        let fragment = output.file("rack0-0.abc.x0");
-        let report = output.file("rack0.report.csv");
-        match call {
-            0 => {
-                assert_eq!(&rt; served, Err(ServeFault::Device));
-                assert_eq!(&rt; fragment, Some(b"a".as_slice()));
-                assert!(&rt; report.is_none());
-            }
-            1 => {
-                assert_eq!(&rt; served, Err(ServeFault::Device));
-                assert_eq!(&rt; fragment, Some(b"abc".as_slice()));
-                assert!(&rt;
-                    report.is_some_and(|text| text.len() == 67 && REPORT.starts_with(text))
-                );
-            }
-            _ => {
-                assert_eq!(&rt;
-                    served,
-                    Ok(Served {
-                        racks: 1,
-                        answers: 1
-                    })
-                );
-                assert_eq!(&rt; report, Some(REPORT));
-            }
-        }
+        assert_eq!(&rt; served, expected, "call {call}");
+        assert_eq!(&rt;
+            output.file("rack0-0.abc.x0"),
+            Some(fragment),
+            "call {call}"
+        );
+        assert_eq!(&rt; output.file("rack0.report.csv"), report, "call {call}");
+        assert_eq!(&rt; output.failures(), u64::from(call < 2), "call {call}");
     }
     Ok(())
 }

@@ -1,4 +1,5 @@
 //! Lists, record by record and fault by fault.
+use crate::tests::shared::LIST;
 use crate::{ListFault, Record, read_list};
 use lrc_code::{Place, RequestFault};
 use std::alloc::{AllocError, Global};
@@ -171,4 +172,73 @@ fn limits(rt: HostRuntime) -> Result<(), AllocError> {
         Some(ListFault::TooManyOrders)
     );
     Ok(())
+}
+
+// The lengths at which the first bytes of the list of four records are a list, with the number of its records and of the survivors of
+// its last request.
+const WHOLE: [(usize, usize, usize); 16] = [
+    (36, 0, 0),
+    (37, 0, 0),
+    (54, 1, 0),
+    (56, 1, 1),
+    (59, 1, 2),
+    (62, 1, 3),
+    (63, 1, 3),
+    (72, 2, 3),
+    (73, 2, 3),
+    (90, 3, 0),
+    (92, 3, 1),
+    (95, 3, 2),
+    (98, 3, 3),
+    (99, 3, 3),
+    (108, 4, 3),
+    (109, 4, 3),
+];
+
+// The fault of the other first bytes: the header has 36 of them, and with its line feed each record ends as named.
+fn cut_fault(length: usize) -> ListFault {
+    match length {
+        0..=35 => ListFault::BadHeader,
+        36..=63 => ListFault::BadRecord { number: 1 },
+        64..=73 => ListFault::BadRecord { number: 2 },
+        74..=99 => ListFault::BadRecord { number: 3 },
+        _ => ListFault::BadRecord { number: 4 },
+    }
+}
+
+// A list that is cut behind each of its bytes.
+#[test]
+fn lists_cut_short(rt: HostRuntime) {
+    assert_eq!(&rt; LIST.len(), 109);
+    for length in 0..=LIST.len() {
+        let list = read_list(rt.alloc(), &LIST[..length]);
+        let whole = WHOLE.iter().find(|row| row.0 == length);
+        match (list, whole) {
+            (Ok(list), Some((_, records, survivors))) => {
+                assert_eq!(&rt; list.len(), *records, "length {length}");
+                assert_eq!(&rt; last_survivors(&list), *survivors, "length {length}");
+            }
+            (Err(fault), None) => assert_eq!(&rt; fault, cut_fault(length), "length {length}"),
+            _ => assert!(&rt; false, "length {length}"),
+        }
+    }
+}
+
+// The number of survivors of the last request, all of them as listed; none without a request.
+fn last_survivors(list: &[Record]) -> usize {
+    let mut count = 0;
+    for record in list {
+        if let Record::Rebuild(listed) = record {
+            let as_listed = listed.stripe() == "abc"
+                && listed.target() == Place::X0
+                && listed.length() == 3
+                && [Place::X1, Place::X2, Place::Px].starts_with(listed.survivors());
+            count = if as_listed {
+                listed.survivors().len()
+            } else {
+                99
+            };
+        }
+    }
+    count
 }

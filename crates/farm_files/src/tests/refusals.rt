@@ -5,6 +5,9 @@ use crate::tests::shared::{LIST, input_of};
 use crate::{Shelf, ShelfFault, serve};
 use farm_core::{NoPause, Settings};
 use std::alloc::{AllocError, Global};
+use std::process::Abort;
+use std::sync::Wait;
+use std::thread::Threads;
 
 // A shelf that counts its writes and keeps no file. It takes no memory and never fails.
 #[derive(Drop)]
@@ -36,28 +39,41 @@ impl Shelf for CountingShelf {
     }
 }
 
-// Two racks of one rebuilt fragment each. In a run that refuses an allocation, this ends with the refusal, and then nothing was
-// written.
-#[test]
-fn nothing_written_before_all_texts_are_made(rt: HostRuntime) -> Result<(), AllocError> {
-    let alloc = rt.alloc();
+// Serves two racks of one rebuilt fragment each. In a run that refuses an allocation this ends with the refusal, and
+// then nothing was written.
+fn serve_counting<R: Abort + Threads + Wait + Sync>(
+    rt: &R,
+    alloc: Global,
+    workers: usize,
+) -> Result<(), AllocError> {
     let mut input = input_of(alloc, LIST)?;
     input.place(alloc, "rack1.csv", LIST)?;
     let mut output = CountingShelf { writes: 0 };
-    let Ok(settings) = Settings::new(1, 1) else {
-        panic!(&rt; "the least settings are refused");
+    let Ok(settings) = Settings::new(workers, 1) else {
+        panic!(rt; "{workers} workers are refused");
     };
     if input.failures() > 1000 {
-        panic!(&rt; "a new shelf has failed");
+        panic!(rt; "a new shelf has failed");
     }
-    match serve(&rt, alloc, &mut input, &mut output, settings, &NoPause) {
+    match serve(rt, alloc, &mut input, &mut output, settings, &NoPause) {
         Ok(_) => {
-            assert!(&rt; output.writes == 4);
+            assert!(rt; output.writes == 4);
             Ok(())
         }
         Err(_) => {
-            assert!(&rt; output.writes == 0);
+            assert!(rt; output.writes == 0);
             Err(AllocError)
         }
     }
+}
+
+#[test]
+fn nothing_written_before_all_texts_are_made(rt: HostRuntime) -> Result<(), AllocError> {
+    serve_counting(&rt, rt.alloc(), 1)
+}
+
+// The digests are made in two threads.
+#[test]
+fn nothing_written_with_two_workers(rt: HostRuntime) -> Result<(), AllocError> {
+    serve_counting(&rt, rt.alloc(), 2)
 }

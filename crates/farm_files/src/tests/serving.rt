@@ -1,6 +1,7 @@
 //! Whole runs of `serve` over shelves in memory.
 use crate::tests::shared::{
-    EMPTY_REPORT, LIST, REPORT, REPORT_WITHOUT_PX, has_file, input_of, serve_over, shelf_of,
+    EMPTY_REPORT, LIST, REPORT, REPORT_WITHOUT_PX, has_file, input_of, serve_over, serve_with,
+    shelf_of,
 };
 use crate::{ListFault, MemoryShelf, ServeFault, Served};
 use lrc_code::RequestFault;
@@ -127,6 +128,73 @@ fn racks_in_order(rt: HostRuntime) -> Result<(), AllocError> {
     Ok(())
 }
 
+// Stripes of one byte, whose x0 is the byte of their name; the digests of these are by another program.
+const FIRST_LIST: &[u8] = b"order,stripe,target,length,survivors
+rebuild,a,x0,1,x1 x2 px
+rebuild,b,x0,1,x1 x2 px
+rebuild,c,x0,1,x1 x2 px
+";
+
+const THIRD_LIST: &[u8] = b"order,stripe,target,length,survivors
+rebuild,d,x0,1,x1 x2 px
+rebuild,a,x0,1,
+rebuild,e,x0,1,x1 x2 px
+";
+
+const FIRST_REPORT: &[u8] = b"number,stripe,target,length,outcome,digest,unread
+0,a,x0,1,rebuilt,ca978112ca1bbdcafac231b39a23dc4da786eff8147c4e72b9807785afee48bb,
+1,b,x0,1,rebuilt,3e23e8160039594a33894f6564e1b1348bbd7a0088d42c4acb73eeaed59c009d,
+2,c,x0,1,rebuilt,2e7d2c03a9507ae265ecf5b5356885a53393a2029d241394997265a1a25aefc6,
+";
+
+const THIRD_REPORT: &[u8] = b"number,stripe,target,length,outcome,digest,unread
+0,d,x0,1,rebuilt,18ac3e7343f016890c510e93f935261169d9e3f565436429830faf0934f4f8e4,
+1,a,x0,1,several,,
+2,e,x0,1,rebuilt,3f79bb7b435b05321651daefd374cdc681dc06faa65e374e38337b88ca046dea,
+";
+
+// However many threads make the digests, each stands in the row of its own fragment.
+#[test]
+fn digests_by_any_number_of_threads(rt: HostRuntime) -> Result<(), AllocError> {
+    let mut input = shelf_of(
+        rt.alloc(),
+        &[
+            ("rack0.csv", FIRST_LIST),
+            ("rack1.csv", HEADER),
+            ("rack2.csv", THIRD_LIST),
+        ],
+    )?;
+    for (stripe, byte) in [
+        ("a", b"a"),
+        ("b", b"b"),
+        ("c", b"c"),
+        ("d", b"d"),
+        ("e", b"e"),
+    ] {
+        for place in ["x1", "x2"] {
+            let name = format!(in rt.alloc(); "{stripe}.{place}")?;
+            input.place(rt.alloc(), &name, &[0])?;
+        }
+        let name = format!(in rt.alloc(); "{stripe}.px")?;
+        input.place(rt.alloc(), &name, byte)?;
+    }
+    for workers in [1, 2, 3, 5, 16] {
+        let mut output = MemoryShelf::new(rt.alloc());
+        assert_eq!(&rt;
+            serve_with(&rt, rt.alloc(), workers, &mut input, &mut output),
+            Ok(Served {
+                racks: 3,
+                answers: 6
+            })
+        );
+        assert!(&rt; has_file(&output, "rack0.report.csv", FIRST_REPORT));
+        assert!(&rt; has_file(&output, "rack1.report.csv", EMPTY_REPORT));
+        assert!(&rt; has_file(&output, "rack2.report.csv", THIRD_REPORT));
+        assert!(&rt; has_file(&output, "rack2-2.e.x0", b"e"));
+    }
+    Ok(())
+}
+
 #[test]
 fn a_list_without_requests(rt: HostRuntime) -> Result<(), AllocError> {
     let mut input = input_of(rt.alloc(), HEADER)?;
@@ -189,6 +257,7 @@ fn sixteen_racks(rt: HostRuntime) -> Result<(), AllocError> {
         serve_over(&rt, rt.alloc(), &mut input, &mut output),
         Err(fault)
     );
+    assert!(&rt; output.file("rack0.report.csv").is_none());
     Ok(())
 }
 

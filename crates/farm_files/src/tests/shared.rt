@@ -30,6 +30,16 @@ pub(crate) const REPORT_WITHOUT_PX: &[u8] = b"number,stripe,target,length,outcom
 0,abc,x0,3,several,,px
 ";
 
+/// The report where `abc.x1` is left out.
+pub(crate) const REPORT_WITHOUT_X1: &[u8] = b"number,stripe,target,length,outcome,digest,unread
+0,abc,x0,3,several,,x1
+";
+
+/// The report where `abc.x2` is left out.
+pub(crate) const REPORT_WITHOUT_X2: &[u8] = b"number,stripe,target,length,outcome,digest,unread
+0,abc,x0,3,several,,x2
+";
+
 /// A report without requests.
 pub(crate) const EMPTY_REPORT: &[u8] = b"number,stripe,target,length,outcome,digest,unread
 ";
@@ -65,7 +75,18 @@ pub(crate) fn serve_over<R: Threads + Wait + Sync>(
     input: &mut MemoryShelf,
     output: &mut MemoryShelf,
 ) -> Result<Served, ServeFault> {
-    let Ok(settings) = Settings::new(2, 1) else {
+    serve_with(rt, alloc, 2, input, output)
+}
+
+/// The same with as many workers as asked, of 1 to 16.
+pub(crate) fn serve_with<R: Threads + Wait + Sync>(
+    rt: &R,
+    alloc: Global,
+    workers: usize,
+    input: &mut MemoryShelf,
+    output: &mut MemoryShelf,
+) -> Result<Served, ServeFault> {
+    let Ok(settings) = Settings::new(workers, 1) else {
         return Err(ServeFault::NoThread);
     };
     if input.failures() > 1000 || output.failures() > 1000 {

@@ -36,7 +36,7 @@ lent g c =
 
 pub make_files-requires-clause-answers : goal.make_files-requires-clause-answers
 unfolding Sized
-make_files-requires-clause-answers g c = lent g c
+make_files-requires-clause-answers g c = λ _ _. lent g c
 
 -- where the input tells its files, they are served
 told_serves : (g : Over) (c : After-as_slice-4 g) (there : Files) → g.I.Shelf.files c.args.input.now ≡ Some there

@@ -1,13 +1,17 @@
-use Rattle.std.proofs.Common.{◌≡◌, take, map, Vec, Global}
+use Rattle.std.proofs.Common.{◌≡◌, take, drop, map, flat_map, Vec, Global}
 use Rattle.lrc_code.specs.declared.places.Place.{Place}
 use Rattle.lrc_code.specs.declared.outcomes.Outcome.{Outcome}
 use Rattle.farm_files.specs.declared.listing.Record.{Record}
+use Rattle.farm_files.specs.Report.{fragment_digest}
 use Rattle.farm_files.specs.Named.{named}
 use Rattle.farm_files.specs.Serving.{files_from}
 use Rattle.farm_files.proofs.writing.make_files.Given as goal
 
 abbrev pub invariant-loop-rack : goal.invariant-loop-rack
-invariant-loop-rack l =
-    map named l.files.items
-    ≡ files_from 0 (map (λ (v : Vec Record Global). v.items) (take l.rack l.lists)) (map (λ (v : Vec Outcome Global). v.items) (take l.rack l.answers))
-    (map (λ (us : Vec (Vec Place Global) Global). map (λ (u : Vec Place Global). u.items) us.items) (take l.rack l.unread))
+invariant-loop-rack g l =
+    record {
+      made : map named l.files.items
+          ≡ files_from 0 (map (λ (v : Vec Record Global). v.items) (take l.rack l.lists)) (map (λ (v : Vec Outcome Global). v.items) (take l.rack l.answers))
+          (map (λ (us : Vec (Vec Place Global) Global). map (λ (u : Vec Place Global). u.items) us.items) (take l.rack l.unread));
+      left : l.digests_left ≡ flat_map (λ (os : Vec Outcome Global). map fragment_digest os.items) (drop l.rack l.answers);
+    }
