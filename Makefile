@@ -18,6 +18,7 @@ test:
 	scripts/no-compile.sh
 	scripts/refusals.py
 	scripts/reference-lines.sh
+	scripts/ends.sh
 	scripts/demo.sh
 
 bench: build
