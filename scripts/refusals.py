@@ -13,6 +13,7 @@ import hashlib
 import itertools
 import os
 import pathlib
+import resource
 import struct
 import subprocess
 import sys
@@ -33,7 +34,8 @@ TESTS = [
 ]
 
 # Limits of address space, in KiB: from where the program is hardly loaded to where all of its threads have room.
-ROOMS = [6_000, 8_000, 10_000, 12_000, 16_000, 20_000, 30_000, 40_000, 60_000, 80_000, 100_000, 120_000, 150_000, 200_000, 250_000, 300_000, 400_000]
+ROOMS = [6_000, 8_000, 10_000, 12_000, 16_000, 20_000, 30_000, 40_000, 60_000]
+ROOMS += [80_000, 100_000, 120_000, 150_000, 200_000, 250_000, 300_000, 400_000]
 
 # A run that takes longer hangs, and a walk that is longer has no end.
 SECONDS = 20
@@ -131,6 +133,10 @@ def test_the_library(library):
             wanted[6] = "n"
         if ran.out.decode() != "".join(wanted) + "\n" or ran.threads != 1 or ran.allocations < 6:
             raise Fault(f"refuse.c refused others than allocation {allocation} and thread {thread}: {ran.told()}")
+    ran = library.run([program], refusal=Refusal(allocation=3, rest=True))
+    # What starts a thread takes memory too.
+    if ran.out != b"yynnnnn\n":
+        raise Fault(f"refuse.c did not refuse allocation 3 and all behind it: {ran.told()}")
 
 
 def kind_without_memory(ran, may_be_untold):
@@ -306,6 +312,8 @@ def walks(library):
 
 
 def main():
+    # A test that fails aborts.
+    resource.setrlimit(resource.RLIMIT_CORE, (0, 0))
     with tempfile.TemporaryDirectory() as folder, ThreadPoolExecutor(os.cpu_count()) as pool:
         library = Library(pathlib.Path(folder))
         try:
