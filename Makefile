@@ -12,11 +12,15 @@ build:
 demo: build
 	scripts/demo.sh
 
+# The gate leaves the programs and tests that it proved and built in each crate's out/, and the scripts run those.
 test:
 	rt ci
 	scripts/no-compile.sh
-	scripts/refused-allocations.sh
+	scripts/refusals.py
 	scripts/reference-lines.sh
+	scripts/ends.sh
+	scripts/demo.sh
 
-bench:
+bench: build
 	scripts/bench.sh $(CPU)
+	scripts/bench-farm.sh $(CPU)

@@ -54,20 +54,24 @@ static unsigned char product_by_shifts(unsigned a, unsigned b)
     return sum;
 }
 
-static void make_stripe(void)
+/* The parities' coefficients, p0's squared in p1. */
+static const unsigned char parities[PLACES - DATA][DATA] = {
+    {0x01, 0x01, 0x01, 0x00, 0x00, 0x00},
+    {0x00, 0x00, 0x00, 0x01, 0x01, 0x01},
+    {0x04, 0x08, 0x0c, 0x01, 0x02, 0x03},
+    {0x10, 0x40, 0x50, 0x01, 0x04, 0x05},
+};
+
+static void make_products(void)
 {
-    static const unsigned char parities[PLACES - DATA][DATA] = {
-        {0x01, 0x01, 0x01, 0x00, 0x00, 0x00},
-        {0x00, 0x00, 0x00, 0x01, 0x01, 0x01},
-        {0x04, 0x08, 0x0c, 0x01, 0x02, 0x03},
-        {0x10, 0x40, 0x50, 0x01, 0x04, 0x05},
-    };
-    unsigned state = 1;
     for (int a = 0; a < 256; a++)
         for (int b = 0; b < 256; b++)
             products[a][b] = product_by_shifts(a, b);
-    for (int p = 0; p < PLACES; p++)
-        fragments[p] = fragment_memory();
+}
+
+/* Six fragments of a linear congruential generator, and the four that they give. */
+static void fill_stripe(unsigned state)
+{
     for (int i = 0; i < MOST_LENGTH; i++) {
         for (int d = 0; d < DATA; d++) {
             state = state * 1664525u + 1013904223u;
@@ -79,6 +83,14 @@ static void make_stripe(void)
                 fragments[p][i] ^= products[parities[p - DATA][d]][fragments[d][i]];
         }
     }
+}
+
+static void make_stripe(void)
+{
+    make_products();
+    for (int p = 0; p < PLACES; p++)
+        fragments[p] = fragment_memory();
+    fill_stripe(1);
 }
 
 static int read_repair(struct repair *repair)

@@ -62,10 +62,12 @@ impl Read for PieceReader<'_> {
     }
 }
 
-// A writer that takes at most so many bytes at each call, and fails at one call; a flush counts as a call.
+// A writer that takes at most so many bytes at each call, and fails at one call; a flush counts as a call. How much was
+// flushed is kept.
 #[derive(Drop)]
 struct PieceWriter {
     text: Vec<u8>,
+    flushed: usize,
     most: usize,
     calls: u64,
     rule: Calls,
@@ -80,7 +82,9 @@ impl Write for PieceWriter {
     }
 
     fn flush(&mut self) -> io::Result<()> {
-        count_call(&mut self.calls, self.rule)
+        count_call(&mut self.calls, self.rule)?;
+        self.flushed = self.text.len();
+        Ok(())
     }
 }
 
@@ -88,6 +92,7 @@ impl Write for PieceWriter {
 #[derive(Drop)]
 struct Run {
     text: Vec<u8>,
+    flushed: usize,
     answer: Result<LineCount, LineFault>,
     reads: u64,
     writes: u64,
@@ -103,6 +108,7 @@ fn run_ten(rt: &impl AllocGlobal, most: usize, reading: Calls, writing: Calls) -
     };
     let mut output = PieceWriter {
         text: Vec::new(rt.alloc()),
+        flushed: 0,
         most,
         calls: 0,
         rule: writing,
@@ -110,6 +116,7 @@ fn run_ten(rt: &impl AllocGlobal, most: usize, reading: Calls, writing: Calls) -
     let answer = line_mode(rt.alloc(), &mut input, &mut output);
     Run {
         text: output.text,
+        flushed: output.flushed,
         answer,
         reads: input.calls,
         writes: output.calls,
@@ -126,6 +133,7 @@ fn takes_small_pieces(rt: HostRuntime) {
     for most in [1usize, 2, 7, 100, 1000] {
         let run = run_ten(&rt, most, Calls::AllWork, Calls::AllWork);
         assert_eq!(rt; run.text.as_slice(), TEN_REPLIES);
+        assert_eq!(rt; run.flushed, TEN_REPLIES.len());
         assert_eq!(rt; run.answer, ALL_ANSWERED);
     }
 }
@@ -133,7 +141,7 @@ fn takes_small_pieces(rt: HostRuntime) {
 /// A read that fails, whichever it is, ends line mode and leaves the writer alone.
 #[test]
 fn ends_at_failed_reads(rt: HostRuntime) {
-    for most in [100usize, 1000] {
+    for most in [1usize, 100, 1000] {
         let whole = run_ten(&rt, most, Calls::AllWork, Calls::AllWork);
         assert!(rt; 1 < whole.reads);
         for k in 0..whole.reads {
@@ -154,7 +162,7 @@ fn ends_at_failed_reads(rt: HostRuntime) {
 /// A write or a flush that fails, whichever it is, ends line mode.
 #[test]
 fn ends_at_failed_writes(rt: HostRuntime) {
-    for most in [10usize, 1000] {
+    for most in [1usize, 10, 1000] {
         let whole = run_ten(&rt, most, Calls::AllWork, Calls::AllWork);
         assert!(rt; 1 < whole.writes);
         for k in 0..whole.writes {

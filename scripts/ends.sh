@@ -1,0 +1,75 @@
+#!/usr/bin/env bash
+# Runs the built program to each of its ends, and compares its exit status, its output and what it tells on standard
+# error: what joins the proved parts to the system's words, input and output is only seen by running it.
+set -euo pipefail
+cd "$(dirname "$0")/.."
+program=$PWD/crates/rebuild/out/rebuild
+scratch=$(mktemp -d)
+trap 'rm -rf "$scratch"' EXIT
+mkdir "$scratch/out" "$scratch/bad"
+passed=0
+
+# ends NAME STATUS OUTPUT TOLD WORDS..: how a run on standard input ends. What is told has its own first line here.
+ends() {
+  local name=$1 status=$2 output=$3 told=$4 ended=0
+  shift 4
+  "$program" "$@" > "$scratch/output" 2> "$scratch/told" || ended=$?
+  compare "$name" "$status" "$ended" "$told"
+  [ "$(head -c 1000 "$scratch/output")" = "$output" ] || fail "$name" "wrote $(head -c 300 "$scratch/output")"
+}
+
+# The same, where nothing can be written.
+ends_full() {
+  local name=$1 status=$2 told=$3 ended=0
+  shift 3
+  "$program" "$@" > /dev/full 2> "$scratch/told" || ended=$?
+  compare "$name" "$status" "$ended" "$told"
+}
+
+compare() {
+  [ "$3" = "$2" ] || fail "$1" "ended with status $3, and not $2"
+  [ "$(head -n 1 "$scratch/told")" = "$4" ] || fail "$1" "told $(head -c 300 "$scratch/told")"
+  passed=$((passed + 1))
+}
+
+fail() {
+  echo "ends $1: $2"
+  exit 1
+}
+
+line='a x0 1 x1=02 x2=03 px=00'
+ends lines 0 'rebuilt 01' '' <<< "$line"
+ends no-input 0 '' '' < /dev/null
+ends refused-line 1 'refused E2' '' <<< 'a x0 0'
+ends_full lines-full 3 E24 <<< "$line"
+ends unread-input 3 '' E24 < /
+head -c 8388608 /dev/zero | tr '\0' '\n' > "$scratch/feeds"
+ends greatest-input 0 '' '' < "$scratch/feeds"
+echo >> "$scratch/feeds"
+ends longer-input 1 '' E25 < "$scratch/feeds"
+
+ends version 0 'rebuild 0.1.0' '' --version
+ends_full help-full 3 '' --help
+ends_full farm-help-full 3 '' farm --help
+ends no-folders 2 '' 'error: the following required arguments were not provided:' farm
+ends other-command 2 '' "error: unrecognized subcommand 'shelf'" shelf
+ends great-number 2 '' "error: invalid value '65536' for '--queue <Q>': 65536 is not in 0..=65535" farm in out --queue 65536
+ends no-text 2 '' 'error: a word is not text' $'\xff'
+for workers in 0 17; do
+  ends "workers-$workers" 2 '' 'refused E11' farm demo/farm "$scratch/out" --workers "$workers" --queue 0
+done
+for queue in 0 1025; do
+  ends "queue-$queue" 2 '' 'refused E12' farm demo/farm "$scratch/out" --workers 16 --queue "$queue"
+done
+
+ends no-lists 1 '' E23 farm "$scratch/bad" "$scratch/out"
+ends no-input-folder 1 '' E23 farm "$scratch/none" "$scratch/out"
+echo order > "$scratch/bad/rack0.csv"
+ends bad-header 1 '' 'rack0.csv: E19' farm "$scratch/bad" "$scratch/out"
+printf 'order,stripe,target,length,survivors\nclose,,,,\nrebuild,A,x0,1,\n' > "$scratch/bad/rack0.csv"
+ends bad-stripe 1 '' 'rack0.csv: record 2: E21 E1' farm "$scratch/bad" "$scratch/out"
+[ -z "$(ls "$scratch/out")" ] || fail faults 'wrote files'
+ends no-output-folder 3 '' E24 farm demo/farm "$scratch/none"
+ends_full served-full 3 '' farm demo/farm "$scratch/out"
+ends served 0 'served 2 racks, 7 answers' '' farm demo/farm "$scratch/out"
+echo "ends: $passed runs ended as they must"

@@ -1,0 +1,329 @@
+#!/usr/bin/env python3
+"""Refuses the built program its memory and its threads, and sees that every run ends as it must.
+
+Each allocation is refused in a run of its own, 1, 2, 3 and so on until a run meets no refusal, and so is each thread, by
+refuse.c, which is preloaded. Then address space is limited. It runs what was built last: crates/rebuild/out/rebuild, and
+the tests out/<crate>_tests of the crates that TESTS names.
+"""
+
+import collections
+import csv
+import dataclasses
+import hashlib
+import itertools
+import os
+import pathlib
+import resource
+import struct
+import subprocess
+import sys
+import tempfile
+from concurrent.futures import ThreadPoolExecutor
+
+ROOT = pathlib.Path(__file__).resolve().parent.parent
+PROGRAM = ROOT / "crates/rebuild/out/rebuild"
+DEMO = ROOT / "demo"
+
+# Tests that end with want of memory where an allocation or a thread is refused, and else pass.
+TESTS = [
+    ("lrc_plan", "evaluate_both_at_two_forks"),
+    ("farm_core", "two_workers_and_a_queue_of_one"),
+    ("farm_core", "collector_takes_its_room"),
+    ("farm_files", "nothing_written_before_all_texts_are_made"),
+    ("farm_files", "nothing_written_with_two_workers"),
+]
+
+# Limits of address space, in KiB: from where the program is hardly loaded to where all of its threads have room.
+ROOMS = [6_000, 8_000, 10_000, 12_000, 16_000, 20_000, 30_000, 40_000, 60_000]
+ROOMS += [80_000, 100_000, 120_000, 150_000, 200_000, 250_000, 300_000, 400_000]
+
+# A run that takes longer hangs, and a walk that is longer has no end.
+SECONDS = 20
+MOST = 5_000
+BATCH = 32
+
+EXHAUSTED = 4
+WITHOUT_MEMORY = b"E16\n"
+WITHOUT_THREAD = b"E17\n"
+
+
+class Fault(Exception):
+    """A run that ended as none may."""
+
+
+@dataclasses.dataclass
+class Ended:
+    """How a run ended, and what it asked for and was refused since the start of its `main`."""
+
+    status: int
+    out: bytes
+    err: bytes
+    allocations: int
+    refused_allocations: int
+    threads: int
+    refused_threads: int
+
+    @property
+    def was_refused(self):
+        return self.refused_allocations + self.refused_threads > 0
+
+    def told(self):
+        return f"status {self.status}, output {self.out[-300:]!r}, standard error {self.err[-300:]!r}"
+
+
+@dataclasses.dataclass(frozen=True)
+class Refusal:
+    """What a run is refused: the allocation or the thread of a number, from 1, and perhaps all behind it; 0 for none."""
+
+    allocation: int = 0
+    thread: int = 0
+    rest: bool = False
+
+
+class Library:
+    """refuse.c, built into a folder."""
+
+    def __init__(self, folder):
+        self.folder = folder
+        self.file = folder / "refuse.so"
+        build(self.file, "refuse.c", "-shared", "-fPIC")
+
+    def run(self, words, given=b"", refusal=Refusal()):
+        """Runs a program to its end under a refusal."""
+        with tempfile.NamedTemporaryFile(dir=self.folder) as counts:
+            counts.truncate(48)
+            environment = {
+                "LD_PRELOAD": str(self.file),
+                "REFUSE_COUNTS": counts.name,
+                "REFUSE_ALLOCATION": str(refusal.allocation),
+                "REFUSE_THREAD": str(refusal.thread),
+                "REFUSE_REST": str(int(refusal.rest)),
+            }
+            ran = finished(words, given, environment)
+            asked, refused, counted, threads, refused_threads, _ = struct.unpack("=6Q", pathlib.Path(counts.name).read_bytes())
+        if counted != 1:
+            raise Fault(f"nothing counted what {words[0]} asks for")
+        return Ended(ran.returncode, ran.stdout, ran.stderr, asked, refused, threads, refused_threads)
+
+
+def build(to, source, *flags):
+    compiler = os.environ.get("CC", "gcc")
+    subprocess.run([compiler, "-O2", "-Wall", *flags, "-o", to, ROOT / "scripts" / source, "-pthread"], check=True)
+
+
+def finished(words, given, environment):
+    try:
+        return subprocess.run(words, input=given, capture_output=True, env=environment, timeout=SECONDS)
+    except FileNotFoundError:
+        raise Fault(f"{words[0]} is not built: make test and make build do it") from None
+    except subprocess.TimeoutExpired:
+        raise Fault(f"had not ended after {SECONDS} seconds") from None
+
+
+def test_the_library(library):
+    """The library refuses exactly what it is asked to, in each of the ways to ask, and counts all."""
+    program = library.folder / "control"
+    build(program, "refuse-control.c")
+    for allocation, thread in itertools.product([*range(7), 100], range(3)):
+        ran = library.run([program], refusal=Refusal(allocation, thread))
+        wanted = ["y"] * 7
+        if 1 <= allocation <= 6:
+            wanted[allocation - 1] = "n"
+        if thread == 1:
+            wanted[6] = "n"
+        if ran.out.decode() != "".join(wanted) + "\n" or ran.threads != 1 or ran.allocations < 6:
+            raise Fault(f"refuse.c refused others than allocation {allocation} and thread {thread}: {ran.told()}")
+    ran = library.run([program], refusal=Refusal(allocation=3, rest=True))
+    # What starts a thread takes memory too.
+    if ran.out != b"yynnnnn\n":
+        raise Fault(f"refuse.c did not refuse allocation 3 and all behind it: {ran.told()}")
+
+
+def kind_without_memory(ran, may_be_untold):
+    """How a run that was refused memory told so. Nothing is told where the fault's line itself finds none."""
+    if (ran.status, ran.out) == (EXHAUSTED, b""):
+        if ran.err == WITHOUT_MEMORY:
+            return "E16"
+        if ran.err == b"" and may_be_untold:
+            return "untold"
+    raise Fault(ran.told())
+
+
+class Text:
+    """Line mode, or words that ask for no work: what it says, or E16 and nothing written."""
+
+    def __init__(self, library, words, said, given=b""):
+        self.library = library
+        self.words = [PROGRAM, *words]
+        self.said = said
+        self.given = given
+
+    def __call__(self, refusal):
+        ran = self.library.run(self.words, self.given, refusal)
+        if (ran.status, ran.out, ran.err) == self.said:
+            return ran, "answered"
+        tells_fault = self.said[2].startswith(b"E")
+        return ran, kind_without_memory(ran, refusal.rest or tells_fault)
+
+
+def served_files():
+    """The digests of the files that serving the demo's folder writes, in the order of writing, by its stored reports."""
+    files = []
+    for number in range(len(list(DEMO.glob("farm-reports/*")))):
+        report = DEMO / f"farm-reports/rack{number}.report.csv"
+        for row in csv.DictReader(report.read_text().splitlines()):
+            if row["outcome"] == "rebuilt":
+                files.append((f"rack{number}-{row['number']}.{row['stripe']}.{row['target']}", row["digest"]))
+        files.append((report.name, hashlib.sha256(report.read_bytes()).hexdigest()))
+    return files
+
+
+class Farm:
+    """The command farm on the demo's folder: all of its files, or E16 or E17 with none.
+
+    Where memory is refused behind the first write, the files in front of it stand whole."""
+
+    answered = b"served 2 racks, 7 answers\n"
+
+    def __init__(self, library, workers, queue):
+        self.library = library
+        self.settings = ["--workers", str(workers), "--queue", str(queue)]
+        self.files = served_files()
+
+    def __call__(self, refusal):
+        with tempfile.TemporaryDirectory(dir=self.library.folder) as out:
+            ran = self.library.run(self.words(out), refusal=refusal)
+            return ran, self.judged(ran, refusal, out)
+
+    def words(self, out):
+        return [str(it) for it in [PROGRAM, "farm", DEMO / "farm", out, *self.settings]]
+
+    def judged(self, ran, refusal, out):
+        there = {it.name: hashlib.sha256(it.read_bytes()).hexdigest() for it in pathlib.Path(out).iterdir()}
+        if there != dict(self.files[: len(there)]):
+            raise Fault(f"wrote {sorted(there)}; {ran.told()}")
+        if len(there) == len(self.files) and (ran.status, ran.out, ran.err) == (0, self.answered, b""):
+            return "answered"
+        if not there and (ran.status, ran.out, ran.err) == (EXHAUSTED, b"", WITHOUT_THREAD):
+            return "E17"
+        return kind_without_memory(ran, refusal.rest) + (" between two writes" if there else "")
+
+
+class Test:
+    """A test: it passes, or ends with want of memory."""
+
+    def __init__(self, library, crate, name):
+        self.library = library
+        program = ROOT / f"crates/{crate}/out/{crate}_tests"
+        listed = finished([program, "--list"], b"", {}).stdout.decode().split()
+        names = [it[:-1] for it in listed if it.endswith(f"::{name}:")]
+        if len(names) != 1:
+            raise Fault(f"{crate} has no test {name}")
+        self.words = [program, names[0]]
+
+    def __call__(self, refusal):
+        ran = self.library.run(self.words, refusal=refusal)
+        if ran.status == 0:
+            return ran, "answered"
+        if ran.status > 0 and b"Error: AllocError" in ran.err + ran.out:
+            return ran, "AllocError"
+        raise Fault(ran.told())
+
+
+def tally(kinds):
+    return ", ".join(f"{count} {kind}" for kind, count in sorted(collections.Counter(kinds).items()))
+
+
+def walk(pool, name, what, rest, attempt):
+    """Makes an attempt with each number refused, from 1, until a whole batch of numbers met no refusal."""
+
+    def one(number):
+        try:
+            return attempt(Refusal(**{what: number}, rest=rest))
+        except Fault as fault:
+            raise Fault(f"{name}: {what} {number}: {fault}") from None
+
+    whole, kind = one(0)
+    if whole.was_refused or kind != "answered":
+        raise Fault(f"{name}: {kind} where nothing is refused")
+    kinds = []
+    for start in range(1, MOST, BATCH):
+        ended = list(pool.map(one, range(start, start + BATCH)))
+        if any(kind != "answered" for ran, kind in ended if not ran.was_refused):
+            raise Fault(f"{name}: no answer where nothing was refused")
+        met = [kind for ran, kind in ended if ran.was_refused]
+        kinds += met
+        if not met:
+            break
+    else:
+        raise Fault(f"{name}: no end after {MOST} numbers")
+    asked = whole.allocations if what == "allocation" else whole.threads
+    if len(kinds) < max(asked // 2, 1):
+        raise Fault(f"{name}: {len(kinds)} refused, and {asked} asked for")
+    turns = "with all behind it" if rest else "in turn"
+    print(f"refusals {name}: {len(kinds)} {what}s refused, each {turns}: {tally(kinds)}", flush=True)
+
+
+def limit_rooms(pool, library):
+    """Serves the demo's folder in little address space."""
+    farm = Farm(library, 16, 1)
+
+    def one(room):
+        with tempfile.TemporaryDirectory(dir=library.folder) as out:
+            limited = ["sh", "-c", f'ulimit -c 0; ulimit -v {room}; exec "$@"', "sh", *farm.words(out)]
+            try:
+                ran = finished(limited, b"", {})
+                ended = Ended(ran.returncode, ran.stdout, ran.stderr, 0, 0, 0, 0)
+                return farm.judged(ended, Refusal(rest=True), out)
+            except Fault as fault:
+                raise Fault(f"room: {room} KiB: {fault}") from None
+
+    kinds = list(pool.map(one, ROOMS))
+    print(f"refusals room: {len(ROOMS)} limits from {ROOMS[0]} to {ROOMS[-1]} KiB: {tally(kinds)}", flush=True)
+
+
+def walks(library):
+    """Each walk's name, what it refuses, whether with all behind it, and its attempt."""
+    whole = library.run([PROGRAM, "--help"]), library.run([PROGRAM, "farm", "--help"]), library.run([PROGRAM, "farm", "in"])
+    texts = [
+        ("one-line", Text(library, [], (0, b"rebuilt 01\n", b""), b"a x0 1 x1=02 x2=03 px=00\n")),
+        ("lines", Text(library, [], (1, (DEMO / "replies").read_bytes(), b""), (DEMO / "requests").read_bytes())),
+        ("help", Text(library, ["--help"], (0, whole[0].out, b""))),
+        ("farm-help", Text(library, ["farm", "--help"], (0, whole[1].out, b""))),
+        ("one-folder", Text(library, ["farm", "in"], (2, b"", whole[2].err))),
+        ("no-workers", Text(library, ["farm", "in", "out", "--workers", "0"], (2, b"", b"refused E11\n"))),
+        ("no-queue", Text(library, ["farm", "in", "out", "--queue", "0"], (2, b"", b"refused E12\n"))),
+        ("no-lists", Text(library, ["farm", "in", "out"], (1, b"", b"E23\n"))),
+    ]
+    for name, text in texts:
+        yield name, "allocation", False, text
+        yield name, "allocation", True, text
+    for workers, queue in [(1, 1), (2, 1), (4, 16)]:
+        for rest in [False, True]:
+            yield f"farm-{workers}-{queue}", "allocation", rest, Farm(library, workers, queue)
+    for workers, queue in [(1, 1), (4, 16), (16, 1)]:
+        for rest in [False, True]:
+            yield f"farm-{workers}-{queue}", "thread", rest, Farm(library, workers, queue)
+    for crate, name in TESTS:
+        test = Test(library, crate, name)
+        yield name, "allocation", False, test
+        if library.run(test.words).threads:
+            yield name, "thread", False, test
+
+
+def main():
+    # A test that fails aborts.
+    resource.setrlimit(resource.RLIMIT_CORE, (0, 0))
+    with tempfile.TemporaryDirectory() as folder, ThreadPoolExecutor(os.cpu_count()) as pool:
+        library = Library(pathlib.Path(folder))
+        try:
+            test_the_library(library)
+            for name, what, rest, attempt in walks(library):
+                walk(pool, name, what, rest, attempt)
+            limit_rooms(pool, library)
+        except Fault as fault:
+            sys.exit(f"refusals {fault}")
+
+
+if __name__ == "__main__":
+    main()
