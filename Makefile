@@ -14,6 +14,7 @@ demo: build
 
 # The gate leaves the programs and tests that it proved and built in each crate's out/, and the scripts run those.
 test:
+	scripts/wrong-bodies.sh
 	rt ci
 	scripts/no-compile.sh
 	scripts/refusals.py

@@ -1,0 +1,36 @@
+#!/usr/bin/env bash
+# Compares the tables of docs/WRONG_BODIES.md with the edits in crates/*/must-fail and crates/*/no-compile: each edit has
+# its row, and each row of those tables its edit. With the word `rows` it prints the rows that the edits ask for.
+set -euo pipefail
+cd "$(dirname "$0")/.."
+scratch=$(mktemp -d)
+trap 'rm -rf "$scratch"' EXIT
+
+rows() {
+  local edit name crate
+  for edit in crates/*/must-fail/*.edit; do
+    crate=$(basename "$(dirname "$(dirname "$edit")")")
+    name=$(basename "$edit" .edit)
+    echo "$crate: | ${name//_/ } | \`$(sed -n '1s/^file: //p' "$edit")\` |"
+  done
+  for edit in crates/*/no-compile/*.edit; do
+    crate=$(basename "$(dirname "$(dirname "$edit")")")
+    name=$(basename "$edit" .edit)
+    echo "Refused by the compiler: | ${name//_/ } | \`$crate\` |"
+  done
+}
+
+rows > "$scratch/edits"
+if [ "${1:-}" = rows ]; then
+  cat "$scratch/edits"
+  exit
+fi
+awk '/^## / { title = substr($0, 4) }
+  /^\| / && !/^\| Wrong body / && title != "Caught by tests" { print title ": " $0 }' docs/WRONG_BODIES.md > "$scratch/rows"
+if diff <(sort "$scratch/edits") <(sort "$scratch/rows") > "$scratch/differences"; then
+  echo "wrong bodies: $(wc -l < "$scratch/edits") edits, each with its row"
+else
+  echo 'docs/WRONG_BODIES.md: rows that are wanting (<) or have no edit (>)'
+  cat "$scratch/differences"
+  exit 1
+fi
