@@ -18,6 +18,7 @@ import struct
 import subprocess
 import sys
 import tempfile
+import typing
 from concurrent.futures import ThreadPoolExecutor
 
 ROOT = pathlib.Path(__file__).resolve().parent.parent
@@ -234,12 +235,24 @@ def tally(kinds):
     return ", ".join(f"{count} {kind}" for kind, count in sorted(collections.Counter(kinds).items()))
 
 
-def walk(pool, name, what, rest, attempt):
+@dataclasses.dataclass
+class Walk:
+    """Runs in each of which another allocation or thread is refused, and the ends that some of them must come to."""
+
+    name: str
+    what: str
+    rest: bool
+    attempt: typing.Callable
+    ends: set
+
+
+def make(walk, pool):
     """Makes an attempt with each number refused, from 1, until a whole batch of numbers met no refusal."""
+    name, what = walk.name, walk.what
 
     def one(number):
         try:
-            return attempt(Refusal(**{what: number}, rest=rest))
+            return walk.attempt(Refusal(**{what: number}, rest=walk.rest))
         except Fault as fault:
             raise Fault(f"{name}: {what} {number}: {fault}") from None
 
@@ -260,7 +273,9 @@ def walk(pool, name, what, rest, attempt):
     asked = whole.allocations if what == "allocation" else whole.threads
     if len(kinds) < max(asked // 2, 1):
         raise Fault(f"{name}: {len(kinds)} refused, and {asked} asked for")
-    turns = "with all behind it" if rest else "in turn"
+    if not walk.ends <= set(kinds):
+        raise Fault(f"{name}: no {what} refused led to {walk.ends - set(kinds)}: {tally(kinds)}")
+    turns = "with all behind it" if walk.rest else "in turn"
     print(f"refusals {name}: {len(kinds)} {what}s refused, each {turns}: {tally(kinds)}", flush=True)
 
 
@@ -282,33 +297,50 @@ def limit_rooms(pool, library):
     print(f"refusals room: {len(ROOMS)} limits from {ROOMS[0]} to {ROOMS[-1]} KiB: {tally(kinds)}", flush=True)
 
 
-def walks(library):
-    """Each walk's name, what it refuses, whether with all behind it, and its attempt."""
-    whole = library.run([PROGRAM, "--help"]), library.run([PROGRAM, "farm", "--help"]), library.run([PROGRAM, "farm", "in"])
-    texts = [
-        ("one-line", Text(library, [], (0, b"rebuilt 01\n", b""), b"a x0 1 x1=02 x2=03 px=00\n")),
-        ("lines", Text(library, [], (1, (DEMO / "replies").read_bytes(), b""), (DEMO / "requests").read_bytes())),
-        ("help", Text(library, ["--help"], (0, whole[0].out, b""))),
-        ("farm-help", Text(library, ["farm", "--help"], (0, whole[1].out, b""))),
-        ("one-folder", Text(library, ["farm", "in"], (2, b"", whole[2].err))),
-        ("no-workers", Text(library, ["farm", "in", "out", "--workers", "0"], (2, b"", b"refused E11\n"))),
-        ("no-queue", Text(library, ["farm", "in", "out", "--queue", "0"], (2, b"", b"refused E12\n"))),
-        ("no-lists", Text(library, ["farm", "in", "out"], (1, b"", b"E23\n"))),
-    ]
-    for name, text in texts:
-        yield name, "allocation", False, text
-        yield name, "allocation", True, text
+def text_walks(library):
+    """Runs that write texts alone."""
+
+    def said(*words):
+        ran = library.run([PROGRAM, *words])
+        return ran.status, ran.out, ran.err
+
+    replies = (DEMO / "replies").read_bytes()
+    told = {"E16"}
+    # The last growth is that of the fault's line, and where it is refused nothing is told.
+    told_by_a_line = {"E16", "untold"}
+    for name, text, ends in [
+        ("one-line", Text(library, [], (0, b"rebuilt 01\n", b""), b"a x0 1 x1=02 x2=03 px=00\n"), told),
+        ("lines", Text(library, [], (1, replies, b""), (DEMO / "requests").read_bytes()), told),
+        ("help", Text(library, ["--help"], said("--help")), told),
+        ("farm-help", Text(library, ["farm", "--help"], said("farm", "--help")), told),
+        ("one-folder", Text(library, ["farm", "in"], said("farm", "in")), told),
+        ("no-workers", Text(library, ["farm", "in", "out", "--workers", "0"], (2, b"", b"refused E11\n")), told),
+        ("no-queue", Text(library, ["farm", "in", "out", "--queue", "0"], (2, b"", b"refused E12\n")), told),
+        ("no-lists", Text(library, ["farm", "in", "out"], (1, b"", b"E23\n")), told_by_a_line),
+    ]:
+        yield Walk(name, "allocation", False, text, ends)
+        yield Walk(name, "allocation", True, text, ends)
+
+
+def farm_walks(library):
+    """Served folders."""
     for workers, queue in [(1, 1), (2, 1), (4, 16)]:
-        for rest in [False, True]:
-            yield f"farm-{workers}-{queue}", "allocation", rest, Farm(library, workers, queue)
+        farm = Farm(library, workers, queue)
+        name = f"farm-{workers}-{queue}"
+        yield Walk(name, "allocation", False, farm, {"E16", "E17", "E16 between two writes"})
+        yield Walk(name, "allocation", True, farm, {"E16", "untold", "untold between two writes"})
     for workers, queue in [(1, 1), (4, 16), (16, 1)]:
         for rest in [False, True]:
-            yield f"farm-{workers}-{queue}", "thread", rest, Farm(library, workers, queue)
+            yield Walk(f"farm-{workers}-{queue}", "thread", rest, Farm(library, workers, queue), {"E17"})
+
+
+def test_walks(library):
+    """Tests of the libraries."""
     for crate, name in TESTS:
         test = Test(library, crate, name)
-        yield name, "allocation", False, test
+        yield Walk(name, "allocation", False, test, {"AllocError"})
         if library.run(test.words).threads:
-            yield name, "thread", False, test
+            yield Walk(name, "thread", False, test, set())
 
 
 def main():
@@ -318,8 +350,8 @@ def main():
         library = Library(pathlib.Path(folder))
         try:
             test_the_library(library)
-            for name, what, rest, attempt in walks(library):
-                walk(pool, name, what, rest, attempt)
+            for walk in itertools.chain(text_walks(library), farm_walks(library), test_walks(library)):
+                make(walk, pool)
             limit_rooms(pool, library)
         except Fault as fault:
             sys.exit(f"refusals {fault}")

@@ -94,7 +94,7 @@ where
         }
         Err(fault) => {
             let Ok(line) = fault_line(rt.alloc(), fault) else {
-                return tell_out_of_memory(rt);
+                return OUT_OF_MEMORY;
             };
             let _ = eprintln!(rt; "{line}");
         }
@@ -131,7 +131,7 @@ fn refuse_words(rt: &HostRuntime, text: &str) -> u8 {
     USAGE
 }
 
-fn tell_out_of_memory<R: Eprint>(rt: &R) -> u8 {
+fn tell_out_of_memory(rt: &HostRuntime) -> u8 {
     let _ = eprintln!(rt; "E16");
     OUT_OF_MEMORY
 }
