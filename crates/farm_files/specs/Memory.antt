@@ -1,7 +1,9 @@
 -- A shelf in memory.
-use Rattle.std.specs.Prelude.{◌-◌, ◌==◌, ℕ, Bool, false, Option, None, Some, option_map, if◌then◌else◌}
+use Rattle.std.specs.Prelude.{◌≡◌, ◌⊎◌, ◌-◌, ◌/◌, ◌==◌, ℕ, Bool, true, false, List, length, take, Option, None, Some, Result, Ok, Err, option_map, if◌then◌else◌}
 use Rattle.std.specs.BTreeMap as tree
-use Rattle.farm_files.specs.Files.{Files}
+use Rattle.farm_files.specs.Files.{Files, put}
+use Rattle.farm_files.specs.declared.shelf.ShelfFault.{ShelfFault}
+use Rattle.farm_files.specs.declared.shelf.ShelfFault.TheVariants as fault
 use Rattle.farm_files.specs.declared.memory.MemoryShelf.{MemoryShelf}
 
 abbrev pub files_of : MemoryShelf → Files
@@ -23,3 +25,14 @@ is_due (Some n) = n == 0
 abbrev pub due_next : Option ℕ → Option ℕ
 due_next None = None
 due_next (Some n) = if n == 0 then None else Some (n - 1)
+
+-- the device fails in this call exactly where it is due
+abbrev pub FailsWhenDue : {A : Type 0} → Result A ShelfFault → Bool → Type 0
+FailsWhenDue (Ok x) due = due ≡ false
+FailsWhenDue (Err fault.Device) due = due ≡ true
+FailsWhenDue (Err fault.OutOfMemory) due = due ≡ false
+
+-- a write that the device fails leaves half of its bytes, or nothing is changed where there is no memory for these
+abbrev pub LeavesHalf : ShelfFault → List ℕ → List ℕ → Files → Files → Type 0
+LeavesHalf fault.Device name bytes old new = (new ≡ put old name (take (length bytes / 2) bytes)) ⊎ (new ≡ old)
+LeavesHalf fault.OutOfMemory name bytes old new = new ≡ old

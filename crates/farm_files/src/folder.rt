@@ -1,6 +1,7 @@
 //! A shelf over a folder of the system.
-ghost use Rattle.std.specs.Prelude.{◌≡◌, ℕ, None, IfOk};
-ghost use Rattle.farm_files.specs.Folder.{folder_failed};
+ghost use Rattle.std.specs.Prelude.{◌≡◌, ◌≤◌, ◌-◌, ◌++◌, ℕ, None, IfOk, IfErr, OnOk, length, take};
+ghost use Rattle.farm_files.specs.declared.shelf.ShelfFault.TheVariants.{OutOfMemory};
+ghost use Rattle.farm_files.specs.Folder.{IsFront, folder_failed};
 
 use crate::shelf::{Shelf, ShelfFault};
 use std::alloc::{AllocError, Global};
@@ -43,8 +44,10 @@ impl<R: Files + Clone + Drop> FolderShelf<R> {
     }
 }
 
-// The first bytes of a file, or nothing where the device failed or want of memory.
-fn read_front<F: Read>(alloc: Global, file: &mut F, limit: usize) -> Result<Vec<u8>, ShelfFault> {
+// The first bytes of a file, as many as the limit at most.
+fn read_front<F: Read>(alloc: Global, file: &mut F, limit: usize) -> Result<Vec<u8>, ShelfFault>
+    ensures { IfOk result (λ bytes. IsFront (F.remaining file.old) (F.remaining file.new) limit bytes.items) }
+{
     let mut bytes = Vec::new(alloc);
     let mut block = [0u8; BLOCK];
     for _turn in 0..READ_TURNS {
@@ -53,12 +56,7 @@ fn read_front<F: Read>(alloc: Global, file: &mut F, limit: usize) -> Result<Vec<
         }
         match file.read(&mut block) {
             Ok(0) => return Ok(bytes),
-            Ok(n) => {
-                let take = n.min(limit - bytes.len());
-                if bytes.extend_from_slice(&block[..take]).is_err() {
-                    return Err(ShelfFault::OutOfMemory);
-                }
-            }
+            Ok(n) => add_front(&mut bytes, &block[..n], limit)?,
             Err(e) => {
                 if e.kind() != ErrorKind::Interrupted {
                     return Err(ShelfFault::Device);
@@ -67,6 +65,19 @@ fn read_front<F: Read>(alloc: Global, file: &mut F, limit: usize) -> Result<Vec<
         }
     }
     Err(ShelfFault::Device)
+}
+
+// Adds what a read gave, up to the limit.
+fn add_front(bytes: &mut Vec<u8>, block: &[u8], limit: usize) -> Result<(), ShelfFault>
+    requires { length bytes.old.items ≤ limit }
+    ensures added { OnOk result (bytes.new.items ≡ bytes.old.items ++ take (limit - length bytes.old.items) block.now) }
+    ensures memory { IfErr result (λ f. f ≡ OutOfMemory) }
+{
+    let size = block.len().min(limit - bytes.len());
+    match bytes.extend_from_slice(&block[..size]) {
+        Ok(()) => Ok(()),
+        Err(_) => Err(ShelfFault::OutOfMemory),
+    }
 }
 
 impl<R: Files + Clone + Drop> Shelf for FolderShelf<R> {

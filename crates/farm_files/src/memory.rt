@@ -1,7 +1,7 @@
 //! A shelf in memory, which can be told to fail.
-ghost use Rattle.std.specs.Prelude.{◌≡◌, ℕ, List, ◌<◌, ◌+◌, ◌^◌, if◌then◌else◌, Some, None, IfOk, IfSome, OnOk, OnErr, take, option_map};
-ghost use Rattle.farm_files.specs.Files.{put};
-ghost use Rattle.farm_files.specs.Memory.{failed_of, due_next, fails_in, files_of, is_due};
+ghost use Rattle.std.specs.Prelude.{◌≡◌, ℕ, List, ◌<◌, ◌+◌, ◌^◌, if◌then◌else◌, Some, None, IfOk, IfErr, OnOk, OnErr, take, option_map};
+ghost use Rattle.farm_files.specs.Files.{CountsFailure, Writes, put};
+ghost use Rattle.farm_files.specs.Memory.{FailsWhenDue, LeavesHalf, due_next, failed_of, fails_in, files_of, is_due};
 
 use crate::shelf::{Shelf, ShelfFault};
 use std::alloc::{AllocError, Global};
@@ -103,7 +103,14 @@ impl Shelf for MemoryShelf {
         alloc: Global,
         name: &str,
         limit: usize,
-    ) -> Result<Option<Vec<u8>>, ShelfFault> {
+    ) -> Result<Option<Vec<u8>>, ShelfFault>
+        requires { failed_of self.old < 2 ^ 63 }
+        ensures bytes { IfOk result (λ v. option_map (λ b. b.items) v ≡ option_map (take limit) (files_of self.old name.now)) }
+        ensures same { files_of self.new ≡ files_of self.old }
+        ensures failure { CountsFailure result (failed_of self.old) (failed_of self.new) }
+        ensures due { FailsWhenDue result (is_due (fails_in self.old)) }
+        ensures next { fails_in self.new ≡ due_next (fails_in self.old) }
+    {
         if self.fails_now() {
             return Err(ShelfFault::Device);
         }
@@ -118,7 +125,14 @@ impl Shelf for MemoryShelf {
         }
     }
 
-    fn write(&mut self, alloc: Global, name: &str, bytes: &[u8]) -> Result<(), ShelfFault> {
+    fn write(&mut self, alloc: Global, name: &str, bytes: &[u8]) -> Result<(), ShelfFault>
+        requires { failed_of self.old < 2 ^ 63 }
+        ensures written { Writes result name.now bytes.now (Some (files_of self.old)) (Some (files_of self.new)) }
+        ensures failure { CountsFailure result (failed_of self.old) (failed_of self.new) }
+        ensures half { IfErr result (λ f. LeavesHalf f name.now bytes.now (files_of self.old) (files_of self.new)) }
+        ensures due { FailsWhenDue result (is_due (fails_in self.old)) }
+        ensures next { fails_in self.new ≡ due_next (fails_in self.old) }
+    {
         if self.fails_now() {
             let _ = self.place(alloc, name, &bytes[..bytes.len() / 2]);
             return Err(ShelfFault::Device);

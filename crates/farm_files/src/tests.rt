@@ -3,5 +3,6 @@ mod devices;
 mod folders;
 mod lists;
 mod refusals;
+mod reports;
 mod serving;
 mod shared;

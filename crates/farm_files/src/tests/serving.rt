@@ -3,9 +3,11 @@ use crate::tests::shared::{
     EMPTY_REPORT, LIST, REPORT, REPORT_WITHOUT_PX, has_file, input_of, serve_over, serve_with,
     shelf_of,
 };
-use crate::{ListFault, MemoryShelf, ServeFault, Served};
+use crate::{ListFault, MemoryShelf, ServeFault, Served, Shelf, serve};
+use farm_core::{Pause, Settings};
 use lrc_code::RequestFault;
 use std::alloc::AllocError;
+use std::sync::atomic::{AtomicU64, Ordering};
 
 const HEADER: &[u8] = b"order,stripe,target,length,survivors\n";
 
@@ -192,6 +194,44 @@ fn digests_by_any_number_of_threads(rt: HostRuntime) -> Result<(), AllocError> {
         assert!(&rt; has_file(&output, "rack2.report.csv", THIRD_REPORT));
         assert!(&rt; has_file(&output, "rack2-2.e.x0", b"e"));
     }
+    Ok(())
+}
+
+// Counts how often it was called ahead of a request and behind one.
+#[derive(Drop)]
+struct CountingPause {
+    before: AtomicU64,
+    after: AtomicU64,
+}
+
+impl Pause for CountingPause {
+    fn before(&self, _rack: usize, _number: u64) {
+        self.before.fetch_add(1, Ordering::SeqCst);
+    }
+
+    fn after(&self, _rack: usize, _number: u64) {
+        self.after.fetch_add(1, Ordering::SeqCst);
+    }
+}
+
+// The farm is given the pause that serving is given. The two requests behind a close aren't solved.
+#[test]
+fn the_pause_is_handed_on(rt: HostRuntime) -> Result<(), AllocError> {
+    let mut input = input_of(rt.alloc(), LIST)?;
+    input.place(rt.alloc(), "rack1.csv", LIST)?;
+    let mut output = MemoryShelf::new(rt.alloc());
+    let pause = CountingPause {
+        before: AtomicU64::new(0),
+        after: AtomicU64::new(0),
+    };
+    let settings = Settings::new(2, 1);
+    assert!(&rt; settings.is_ok() && input.failures() == 0 && output.failures() == 0);
+    if let Ok(settings) = settings {
+        let served = serve(&rt, rt.alloc(), &mut input, &mut output, settings, &pause);
+        assert!(&rt; served.is_ok_and(|served| served.answers == 2));
+    }
+    assert!(&rt; pause.before.load(Ordering::SeqCst) == 2);
+    assert!(&rt; pause.after.load(Ordering::SeqCst) == 2);
     Ok(())
 }
 
