@@ -1,7 +1,6 @@
 -- What a contract sees of a gate and of a seat.
 use Rattle.std.specs.Prelude.{ℕ, ◌<◌, ◌≤◌, List, [], ◌∷◌, Option, None, Some, false, max}
 use Rattle.atomic_table.specs.Seated.{TableId}
-use Rattle.farm_lanes.specs.declared.limits.TheConstants.{MOST_SEATS, MOST_RIGHTS}
 use Rattle.farm_lanes.specs.declared.gate.record.SeatRecord.{SeatRecord}
 use Rattle.farm_lanes.specs.declared.gate.record.GateSize.{GateSize}
 use Rattle.farm_lanes.specs.SeatChanges.{fresh}
@@ -33,7 +32,7 @@ greatest (x ∷ xs) = greater_of (Some x) (greatest xs)
 
 -- how many seats, and how many rights, a gate may be opened with
 abbrev pub IsSeatCount : ℕ → Type 0
-IsSeatCount k = (0 < k) × (k ≤ MOST_SEATS)
+IsSeatCount k = (0 < k) × (k ≤ 16)
 
 abbrev pub IsRightCount : ℕ → Type 0
-IsRightCount k = (0 < k) × (k ≤ MOST_RIGHTS)
+IsRightCount k = (0 < k) × (k ≤ 16)

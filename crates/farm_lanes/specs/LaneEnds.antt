@@ -4,18 +4,17 @@ use Rattle.atomic_table.specs.Seated.{TableId}
 use Rattle.atomic_table.specs.declared.badge.Badge.{Badge}
 use Rattle.crossbeam_channel.specs.declared.flavors.array.Key.{Key}
 use Rattle.farm_lanes.specs.Lists.{Each, EachAt}
-use Rattle.farm_lanes.specs.declared.limits.TheConstants.{MOST_CAPACITY, MOST_PUT_ENDS, MOST_TAKE_ENDS}
 use Rattle.farm_lanes.specs.declared.lane.item.Item.{Item}
 
 -- how many items a lane may hold at once, and how many put ends and take ends it may have
 abbrev pub IsCapacity : ℕ → Type 0
-IsCapacity k = (0 < k) × (k ≤ MOST_CAPACITY)
+IsCapacity k = (0 < k) × (k ≤ 1024)
 
 abbrev pub IsPutterCount : ℕ → Type 0
-IsPutterCount k = (0 < k) × (k ≤ MOST_PUT_ENDS)
+IsPutterCount k = (0 < k) × (k ≤ 32)
 
 abbrev pub IsTakerCount : ℕ → Type 0
-IsTakerCount k = (0 < k) × (k ≤ MOST_TAKE_ENDS)
+IsTakerCount k = (0 < k) × (k ≤ 32)
 
 -- a count, which stays at the greatest u64
 abbrev pub counted : ℕ → ℕ

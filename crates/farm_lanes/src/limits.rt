@@ -9,9 +9,6 @@ pub const MOST_PUT_ENDS: usize = 32;
 /// The greatest number of take ends of a lane.
 pub const MOST_TAKE_ENDS: usize = 32;
 
-/// The greatest number of values that one put end puts.
-pub const MOST_PUTS: u64 = 4294967295;
-
 /// The greatest number of seats that a gate is opened with.
 pub const MOST_SEATS: usize = 16;
 

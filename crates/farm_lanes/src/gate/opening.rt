@@ -34,8 +34,8 @@ impl Gate {
         seats: usize,
         rights: usize,
     ) -> Result<(Gate, Vec<Seat>, Vec<Right>), GateError>
-        ensures gate { IfOk result (λ r. r.0.size ≡ record { total = MOST_DRAWS / seats * seats; rights = rights }) }
-        ensures seats { IfOk result (λ r. r.1.items ≡ replicate seats (opened r.0.id (MOST_DRAWS / seats))) }
+        ensures gate { IfOk result (λ r. r.0.size ≡ record { total = 4294967296 / seats * seats; rights = rights }) }
+        ensures seats { IfOk result (λ r. r.1.items ≡ replicate seats (opened r.0.id (4294967296 / seats))) }
         ensures rights { IfOk result (λ r. r.2.items ≡ replicate rights r.0.id) }
         ensures refused { ¬ (IsSeatCount seats × IsRightCount rights) → result ≡ Err GateError.NoSeats }
         ensures memory { IsSeatCount seats × IsRightCount rights → IsOkUnless result GateError.OutOfMemory }
@@ -53,8 +53,8 @@ impl<A: Allocator> Gate<A> {
     ) -> Result<(Gate<A>, Vec<Seat, A>, Vec<Right, A>), GateError>
     where
         A: Clone,
-        ensures gate { IfOk result (λ r. r.0.size ≡ record { total = MOST_DRAWS / seats * seats; rights = rights }) }
-        ensures seats { IfOk result (λ r. r.1.items ≡ replicate seats (opened r.0.id (MOST_DRAWS / seats))) }
+        ensures gate { IfOk result (λ r. r.0.size ≡ record { total = 4294967296 / seats * seats; rights = rights }) }
+        ensures seats { IfOk result (λ r. r.1.items ≡ replicate seats (opened r.0.id (4294967296 / seats))) }
         ensures rights { IfOk result (λ r. r.2.items ≡ replicate rights r.0.id) }
         ensures refused { ¬ (IsSeatCount seats × IsRightCount rights) → result ≡ Err GateError.NoSeats }
         ensures memory { IsSeatCount seats × IsRightCount rights → IsOkUnless result GateError.OutOfMemory }

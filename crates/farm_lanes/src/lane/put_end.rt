@@ -9,7 +9,6 @@ ghost use Rattle.farm_lanes.specs.LaneRule.{end_record};
 
 use crate::lane::item::Item;
 use crate::lane::steps::{LanePass, LaneSender, send};
-use crate::limits::MOST_PUTS;
 use std::alloc::{Allocator, Global};
 use std::marker::Model;
 use std::sync::Wait;
@@ -92,9 +91,9 @@ impl<T: Drop, A: Allocator> PutEnd<T, A> {
         self.count
     }
 
-    /// Puts a value, which gets the sender's next number.
+    /// Puts a value, which gets the sender's next number. A put end puts at most 4,294,967,295 values.
     pub fn put<R: Wait>(&mut self, rt: &R, value: T)
-        requires { length self.old.put < MOST_PUTS }
+        requires { length self.old.put < 4294967295 }
         ensures { self.new ≡ with_put self.old (Value self.old.sender (length self.old.put) value) }
     {
         let item = Item::Value {
@@ -134,7 +133,7 @@ impl<T: Drop, A: Allocator> EndedPut<T, A> {
     /// How many items this end put: its values and the end mark.
     pub fn count(&self) -> u64
         ensures all { result ≡ length self.now.put }
-        ensures most { result ≤ MOST_PUTS + 1 }
+        ensures most { result ≤ 4294967296 }
     {
         self.count
     }
