@@ -11,27 +11,29 @@ use std::sync::atomic::{AtomicU64, Ordering};
 
 const HEADER: &[u8] = b"order,stripe,target,length,survivors\n";
 
-// Two requests and two closes in turn: one answer.
+// Two requests and two closes in turn: one answer, with any settings.
 #[test]
 fn one_fragment_and_its_report(rt: HostRuntime) -> Result<(), AllocError> {
-    let mut input = input_of(rt.alloc(), LIST)?;
-    let mut output = shelf_of(
-        rt.alloc(),
-        &[("rack0.csv", b"kept"), ("rack0.report.csv", b"replaced")],
-    )?;
-    let served = serve_over(&rt, rt.alloc(), &mut input, &mut output);
-    assert_eq!(&rt;
-        served,
-        Ok(Served {
-            racks: 1,
-            answers: 1
-        })
-    );
-    assert!(&rt; has_file(&output, "rack0-0.abc.x0", b"abc"));
-    assert!(&rt; has_file(&output, "rack0.report.csv", REPORT));
-    assert!(&rt; has_file(&output, "rack0.csv", b"kept"));
-    assert!(&rt; output.file("rack0-1.abc.x0").is_none());
-    assert!(&rt; has_file(&input, "rack0.csv", LIST));
+    for settings in [(2, 1), (1, 1), (16, 1024)] {
+        let mut input = input_of(rt.alloc(), LIST)?;
+        let mut output = shelf_of(
+            rt.alloc(),
+            &[("rack0.csv", b"kept"), ("rack0.report.csv", b"replaced")],
+        )?;
+        let served = serve_with(&rt, rt.alloc(), settings, &mut input, &mut output);
+        assert_eq!(&rt;
+            served,
+            Ok(Served {
+                racks: 1,
+                answers: 1
+            })
+        );
+        assert!(&rt; has_file(&output, "rack0-0.abc.x0", b"abc"));
+        assert!(&rt; has_file(&output, "rack0.report.csv", REPORT));
+        assert!(&rt; has_file(&output, "rack0.csv", b"kept"));
+        assert!(&rt; output.file("rack0-1.abc.x0").is_none());
+        assert!(&rt; has_file(&input, "rack0.csv", LIST));
+    }
     Ok(())
 }
 
@@ -183,7 +185,7 @@ fn digests_by_any_number_of_threads(rt: HostRuntime) -> Result<(), AllocError> {
     for workers in [1, 2, 3, 5, 16] {
         let mut output = MemoryShelf::new(rt.alloc());
         assert_eq!(&rt;
-            serve_with(&rt, rt.alloc(), workers, &mut input, &mut output),
+            serve_with(&rt, rt.alloc(), (workers, 1), &mut input, &mut output),
             Ok(Served {
                 racks: 3,
                 answers: 6

@@ -75,18 +75,18 @@ pub(crate) fn serve_over<R: Threads + Wait + Sync>(
     input: &mut MemoryShelf,
     output: &mut MemoryShelf,
 ) -> Result<Served, ServeFault> {
-    serve_with(rt, alloc, 2, input, output)
+    serve_with(rt, alloc, (2, 1), input, output)
 }
 
-/// The same with as many workers as asked, of 1 to 16.
+/// The same with so many workers and a queue of that capacity, both within the limits.
 pub(crate) fn serve_with<R: Threads + Wait + Sync>(
     rt: &R,
     alloc: Global,
-    workers: usize,
+    (workers, queue): (usize, usize),
     input: &mut MemoryShelf,
     output: &mut MemoryShelf,
 ) -> Result<Served, ServeFault> {
-    let Ok(settings) = Settings::new(workers, 1) else {
+    let Ok(settings) = Settings::new(workers, queue) else {
         return Err(ServeFault::NoThread);
     };
     if input.failures() > 1000 || output.failures() > 1000 {
