@@ -42,7 +42,7 @@ row_sum-single coef r q v =
     (λ p. cond (same_place q p) (times (coef r p) v) 0) (λ p. mul-cond (coef r p) v (same_place q p))
     ∙ sum_over-single q (λ p. times (coef r p) v)
 
-zeros : (ps : List Place) → sum_over ps (λ p. 0) ≡ 0
+pub zeros : (ps : List Place) → sum_over ps (λ p. 0) ≡ 0
 zeros [] = refl
 zeros (p ∷ ps) = ap (λ x. bit_xor 0 x) (zeros ps) ∙ xor_zero_r 0
 

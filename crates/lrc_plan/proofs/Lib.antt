@@ -8,3 +8,5 @@ pub mod EvaluationSteps
 pub mod FittingStripes
 pub mod Grafts
 pub mod ScaledValues
+pub mod Dependences
+pub mod Ranks

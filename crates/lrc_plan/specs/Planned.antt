@@ -73,8 +73,8 @@ pub record IsPlan (code : Code) (survives : Place → Bool) (target : Place)
   pub of_survivors : AreChecks code survives checks
   pub local : IsLocal code survives target → IsSomeAnd value (IsLocalTree code target)
 
--- as many checks as a reduction of the equations by the lost places has rows without a pivot
-abbrev pub HasCheckCount : Code → (Place → Bool) → ℕ → Type 0
-HasCheckCount code survives n =
-    (r : Reduction) × IsReduction code (λ p. not (survives p)) r
-    × (n ≡ rows_without_pivot (pivot_of r) (length code.equations))
+-- as many checks as each reduction of the equations by the lost places has rows without a pivot; and there is a reduction
+pub record HasCheckCount (code : Code) (survives : Place → Bool) (n : ℕ) : Type 0 where
+  pub each : (r : Reduction) → IsReduction code (λ p. not (survives p)) r
+      → n ≡ rows_without_pivot (pivot_of r) (length code.equations)
+  pub some : (r : Reduction) × IsReduction code (λ p. not (survives p)) r
