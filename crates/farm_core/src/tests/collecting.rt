@@ -4,7 +4,7 @@ ghost use Rattle.lrc_code.specs.Requests.{Asked};
 ghost use Rattle.farm_core.specs.Orders.{before_close, served};
 ghost use Rattle.farm_core.specs.Replies.{IsInPlace};
 
-use crate::tests::requests::{GLOBAL, LOCAL, SEVERAL, is_byte, is_several, list_of, racks_of};
+use crate::tests::requests::{GLOBAL, LOCAL, SEVERAL, is_byte, is_several, racks_of};
 use crate::{CollectFault, Collector, FinishFault, Order, RackList, Racks, Reply};
 use lrc_code::{Outcome, Request};
 use lrc_plan::solve;
@@ -142,38 +142,42 @@ fn a_starved_reply_and_a_missing_one(rt: HostRuntime) -> Result<(), AllocError> 
     Ok(())
 }
 
+// Whether a reply is refused as a stranger, and handed back.
+fn is_stranger<'a>(collector: &mut Collector<'a>, reply: Reply<'a>) -> bool {
+    let (rack, number) = (reply.rack(), reply.number());
+    match collector.accept(reply) {
+        Err(CollectFault::Stranger { reply }) => reply.rack() == rack && reply.number() == number,
+        _ => false,
+    }
+}
+
+// The outcome of a reply that is refused as a second one.
+fn outcome_of_second<'a>(collector: &mut Collector<'a>, reply: Reply<'a>) -> Option<Outcome> {
+    match collector.accept(reply) {
+        Err(CollectFault::Double { reply }) => reply.into_outcome(),
+        _ => None,
+    }
+}
+
 #[test]
 fn strangers_and_second_replies(rt: HostRuntime) -> Result<(), AllocError> {
     let alloc = rt.alloc();
     let racks = racks_of(&rt, alloc, &[&[LOCAL]])?;
     let mut collector = Collector::new(alloc, &racks)?;
-    let lists = racks.lists();
-    let Some(list) = lists.first() else {
+    let Some(list) = racks.lists().first() else {
         panic!(rt; "no list");
     };
     let requests = requests_of(alloc, list)?;
     let Some(request) = requests.first() else {
         panic!(rt; "no request");
     };
-    let Err(CollectFault::Stranger { reply }) = collector.accept(Reply::starved(1, 0, request))
-    else {
-        panic!(rt; "a reply of rack 1 was accepted");
-    };
-    assert!(rt; reply.rack() == 1 && reply.number() == 0);
-    let Err(CollectFault::Stranger { reply }) = collector.accept(Reply::starved(0, 1, request))
-    else {
-        panic!(rt; "a second request was accepted");
-    };
-    assert!(rt; reply.rack() == 0 && reply.number() == 1);
+    assert!(rt; is_stranger(&mut collector, Reply::starved(1, 0, request)));
+    assert!(rt; is_stranger(&mut collector, Reply::starved(0, 1, request)));
     assert!(rt; collector.accept(Reply::starved(0, 0, request)).is_ok());
     let outcome = solve(alloc, alloc, request)?;
-    let Err(CollectFault::Double { reply }) = collector.accept(Reply::done(0, 0, request, outcome))
-    else {
-        panic!(rt; "a second reply was accepted");
-    };
-    let Some(outcome) = reply.into_outcome() else {
-        panic!(rt; "another reply was handed back");
-    };
-    assert!(rt; is_byte(&outcome, 0x01));
+    let second = Reply::done(0, 0, request, outcome);
+    assert!(rt;
+        matches!(outcome_of_second(&mut collector, second), Some(outcome) if is_byte(&outcome, 0x01))
+    );
     Ok(())
 }

@@ -1,4 +1,5 @@
-//! Runs in which a pause holds two requests until each has met the other, so that one thread alone can't answer both.
+//! Runs in which a pause holds requests: two until each has met the other, so that one thread alone can't answer both; and one until
+//! the other worker has ended.
 use crate::tests::requests::{GLOBAL, LOCAL, SEVERAL, is_byte, is_several, racks_of};
 use crate::{Pause, Settings, run};
 use lrc_code::Outcome;
@@ -7,6 +8,9 @@ use std::sync::atomic::{AtomicBool, Ordering};
 use std::thread;
 
 const MOST_TURNS: u64 = 1_000_000;
+
+// Enough for another worker to answer two requests and to end.
+const LATE_TURNS: u64 = 200_000;
 
 // For rack 1, holds request 0 until request 1 was answered, and request 1 until request 0 was begun.
 #[derive(Drop)]
@@ -56,6 +60,21 @@ impl Pause for Crossed {
     }
 }
 
+// Holds the first request for long.
+struct Late;
+
+impl Pause for Late {
+    fn before(&self, rack: usize, number: u64) {
+        if rack == 0 && number == 0 {
+            for _ in 0..LATE_TURNS {
+                thread::yield_now();
+            }
+        }
+    }
+
+    fn after(&self, _rack: usize, _number: u64) {}
+}
+
 fn are_local_several_global(answers: &[Outcome]) -> bool {
     match answers {
         [first, second, third] => {
@@ -89,6 +108,24 @@ fn two_workers_meet(rt: HostRuntime) -> Result<(), AllocError> {
             }
             _ => panic!(rt; "not two racks"),
         }
+    }
+    Ok(())
+}
+
+/// The collector waits for the worker that ends last: in a queue of one its reply and its mark have no room together.
+#[test]
+fn one_worker_ends_late(rt: HostRuntime) -> Result<(), AllocError> {
+    let alloc = rt.alloc();
+    let racks = racks_of(&rt, alloc, &[&[LOCAL, SEVERAL, GLOBAL]])?;
+    let Ok(settings) = Settings::new(2, 1) else {
+        panic!(rt; "settings out of their limits");
+    };
+    let Ok(answers) = run(&rt, alloc, &racks, settings, &Late) else {
+        panic!(rt; "no answers");
+    };
+    match answers.as_slice() {
+        [only] => assert!(rt; are_local_several_global(only.as_slice())),
+        _ => panic!(rt; "not one rack"),
     }
     Ok(())
 }

@@ -2,43 +2,58 @@
 use crate::ends::{Feeder, WorkerEnds};
 use crate::room::{Room, room_for};
 use crate::settling::Desk;
-use crate::tests::requests::{GLOBAL, LOCAL, SEVERAL, is_byte, is_several, request};
+use crate::tests::requests::{Entry, GLOBAL, LOCAL, SEVERAL, is_byte, is_several, racks_of};
 use crate::threads::put_stops;
-use crate::{NoPause, Order, RackList, Racks, Reply, Settings, feed, work};
-use farm_lanes::Item;
+use crate::{NoPause, Reply, Settings, feed, work};
+use farm_lanes::{Item, TakeEnd};
+use lrc_code::Outcome;
 use std::alloc::{AllocError, Global};
 use std::process::Abort;
+use std::sync::Wait;
 
-// A rack with two requests, a close and a request behind it.
-fn one_rack(rt: &impl Abort, alloc: Global) -> Result<Racks, AllocError> {
-    let mut orders = Vec::new(alloc);
-    for (target, survivors) in [SEVERAL, LOCAL] {
-        let Some(request) = request(alloc, target, survivors)? else {
-            panic!(rt; "a request was refused");
-        };
-        orders.push(Order::Rebuild(request))?;
-    }
-    orders.push(Order::Close)?;
-    let (target, survivors) = GLOBAL;
-    let Some(behind) = request(alloc, target, survivors)? else {
-        panic!(rt; "a request was refused");
+// Feeds a list that is closed behind its second request.
+fn feeds<R: Abort + Wait>(rt: &R, feeder: Option<Feeder<'_>>) {
+    let Some(feeder) = feeder else {
+        panic!(rt; "no feeder");
     };
-    orders.push(Order::Rebuild(behind))?;
-    let Ok(list) = RackList::new(orders) else {
-        panic!(rt; "too many orders");
-    };
-    let mut lists = Vec::new(alloc);
-    lists.push(list)?;
-    match Racks::new(lists) {
-        Ok(racks) => Ok(racks),
-        Err(_) => panic!(rt; "too many racks"),
-    }
+    let Feeder {
+        gate,
+        seat,
+        right,
+        rack,
+        list,
+        jobs,
+    } = feeder;
+    let fed = feed(rt, &gate, seat, right, rack, list, jobs);
+    assert!(rt; fed.close == Some(2) && fed.right.is_none() && fed.jobs.count() == 3);
 }
 
-// The reply that was put next, if an item is one.
-fn reply_in<'a>(item: Item<Reply<'a>>) -> Option<Reply<'a>> {
-    match item {
-        Item::Value { value, .. } => Some(value),
+// Works until a stop: so many items are taken, and so many put.
+fn works<R: Abort + Wait>(
+    rt: &R,
+    alloc: Global,
+    ends: Option<WorkerEnds<'_>>,
+    taken: u64,
+    put: u64,
+) {
+    let Some(WorkerEnds { jobs, replies }) = ends else {
+        panic!(rt; "no worker");
+    };
+    let worked = work(rt, alloc, jobs, replies, &NoPause);
+    assert!(rt; worked.jobs.count() == taken && worked.replies.count() == put);
+}
+
+// The outcome of the next reply, which has this number; none of an end mark.
+fn next_outcome<'a, R: Abort + Wait>(
+    rt: &R,
+    replies: &mut TakeEnd<Reply<'a>>,
+    number: u64,
+) -> Option<Outcome> {
+    match replies.take(rt) {
+        Item::Value { value, .. } => {
+            assert!(rt; value.number() == number);
+            value.into_outcome()
+        }
         Item::End { .. } => None,
     }
 }
@@ -47,7 +62,7 @@ fn reply_in<'a>(item: Item<Reply<'a>>) -> Option<Reply<'a>> {
 #[test]
 fn a_feeder_and_two_workers(rt: HostRuntime) -> Result<(), AllocError> {
     let alloc = rt.alloc();
-    let racks = one_rack(&rt, alloc)?;
+    let racks = racks_of(&rt, alloc, &[&[SEVERAL, LOCAL, Entry::Close, GLOBAL]])?;
     let Ok(settings) = Settings::new(2, 8) else {
         panic!(rt; "settings out of their limits");
     };
@@ -61,44 +76,17 @@ fn a_feeder_and_two_workers(rt: HostRuntime) -> Result<(), AllocError> {
         stops,
         space: _,
     } = room;
-    let Some(feeder) = feeders.pop() else {
-        panic!(rt; "no feeder");
-    };
-    let Feeder {
-        gate,
-        seat,
-        right,
-        rack,
-        list,
-        jobs,
-    } = feeder;
-    let fed = feed(&rt, &gate, seat, right, rack, list, jobs);
-    assert!(rt; fed.close == Some(2) && fed.right.is_none() && fed.jobs.count() == 3);
+    feeds(&rt, feeders.pop());
     let _stopped = put_stops(&rt, stops, 2);
-    let Some(WorkerEnds { jobs, replies }) = workers.pop() else {
-        panic!(rt; "no worker");
-    };
-    let first = work(&rt, alloc, jobs, replies, &NoPause);
-    assert!(rt; first.jobs.count() == 4 && first.replies.count() == 3);
-    let Some(WorkerEnds { jobs, replies }) = workers.pop() else {
-        panic!(rt; "no second worker");
-    };
-    let second = work(&rt, alloc, jobs, replies, &NoPause);
-    assert!(rt; second.jobs.count() == 1 && second.replies.count() == 1);
+    works(&rt, alloc, workers.pop(), 4, 3);
+    works(&rt, alloc, workers.pop(), 1, 1);
     let Desk { mut replies, .. } = desk;
-    let Some(reply) = reply_in(replies.take(&rt)) else {
-        panic!(rt; "no first reply");
-    };
     assert!(rt;
-        reply.number() == 0 && matches!(reply.into_outcome(), Some(outcome) if is_several(&outcome))
+        matches!(next_outcome(&rt, &mut replies, 0), Some(outcome) if is_several(&outcome))
     );
-    let Some(reply) = reply_in(replies.take(&rt)) else {
-        panic!(rt; "no second reply");
-    };
     assert!(rt;
-        reply.number() == 1
-            && matches!(reply.into_outcome(), Some(outcome) if is_byte(&outcome, 0x01))
+        matches!(next_outcome(&rt, &mut replies, 1), Some(outcome) if is_byte(&outcome, 0x01))
     );
-    assert!(rt; reply_in(replies.take(&rt)).is_none());
+    assert!(rt; next_outcome(&rt, &mut replies, 2).is_none());
     Ok(())
 }

@@ -4,30 +4,21 @@ use lrc_code::{Fragment, Outcome, Place, Request};
 use std::alloc::{AllocError, Global};
 use std::process::Abort;
 
-/// A request, or that its making was refused.
-pub(crate) fn request(
-    alloc: Global,
-    target: Place,
-    survivors: &[(Place, u8)],
-) -> Result<Option<Request>, AllocError> {
-    let mut fragments = Vec::new(alloc);
-    for (place, byte) in survivors {
-        fragments.push(Fragment {
-            place: *place,
-            bytes: vec![in alloc; *byte]?,
-        })?;
-    }
-    Ok(Request::new(String::from_str(alloc, "a")?, target, 1, fragments).ok())
+/// An entry of a list: a lost place and the survivors with their one byte each, or a close.
+#[derive(Clone, Copy)]
+pub(crate) enum Entry {
+    Lost(Place, &'static [(Place, u8)]),
+    Close,
 }
 
 /// x0 from its group: rebuilt 01.
-pub(crate) const LOCAL: (Place, &[(Place, u8)]) = (
+pub(crate) const LOCAL: Entry = Entry::Lost(
     Place::X0,
     &[(Place::X1, 2), (Place::X2, 3), (Place::Px, 0)],
 );
 
 /// y0 with y1, y2 and py lost too: several.
-pub(crate) const SEVERAL: (Place, &[(Place, u8)]) = (
+pub(crate) const SEVERAL: Entry = Entry::Lost(
     Place::Y0,
     &[
         (Place::X0, 1),
@@ -40,7 +31,7 @@ pub(crate) const SEVERAL: (Place, &[(Place, u8)]) = (
 );
 
 /// p1 from all data: rebuilt 6E.
-pub(crate) const GLOBAL: (Place, &[(Place, u8)]) = (
+pub(crate) const GLOBAL: Entry = Entry::Lost(
     Place::P1,
     &[
         (Place::X0, 1),
@@ -52,19 +43,50 @@ pub(crate) const GLOBAL: (Place, &[(Place, u8)]) = (
     ],
 );
 
-/// A list of these requests, in their order.
-pub(crate) fn list_of(
+// A request, which is accepted.
+fn request(
+    rt: &impl Abort,
     alloc: Global,
-    requests: &[(Place, &[(Place, u8)])],
-) -> Result<Option<RackList>, AllocError> {
-    let mut orders = Vec::new(alloc);
-    for (target, survivors) in requests {
-        let Some(request) = request(alloc, *target, survivors)? else {
-            return Ok(None);
-        };
-        orders.push(Order::Rebuild(request))?;
+    target: Place,
+    survivors: &[(Place, u8)],
+) -> Result<Request, AllocError> {
+    let mut fragments = Vec::new(alloc);
+    for (place, byte) in survivors {
+        fragments.push(Fragment {
+            place: *place,
+            bytes: vec![in alloc; *byte]?,
+        })?;
     }
-    Ok(RackList::new(orders).ok())
+    match Request::new(String::from_str(alloc, "a")?, target, 1, fragments) {
+        Ok(request) => Ok(request),
+        Err(_) => panic!(rt; "a request was refused"),
+    }
+}
+
+fn order(rt: &impl Abort, alloc: Global, entry: &Entry) -> Result<Order, AllocError> {
+    match entry {
+        Entry::Lost(target, survivors) => {
+            let request = request(rt, alloc, *target, survivors)?;
+            Ok(Order::Rebuild(request))
+        }
+        Entry::Close => Ok(Order::Close),
+    }
+}
+
+/// A list of these entries, in their order.
+pub(crate) fn list_of(
+    rt: &impl Abort,
+    alloc: Global,
+    entries: &[Entry],
+) -> Result<RackList, AllocError> {
+    let mut orders = Vec::new(alloc);
+    for entry in entries {
+        orders.push(order(rt, alloc, entry)?)?;
+    }
+    match RackList::new(orders) {
+        Ok(list) => Ok(list),
+        Err(_) => panic!(rt; "too many orders"),
+    }
 }
 
 /// Whether the answer is a fragment of this one byte.
@@ -81,18 +103,15 @@ pub(crate) fn is_several(outcome: &Outcome) -> bool {
     matches!(outcome, Outcome::Several)
 }
 
-/// Racks with these lists, which are within the limits.
+/// Racks with lists of these entries.
 pub(crate) fn racks_of(
     rt: &impl Abort,
     alloc: Global,
-    lists: &[&[(Place, &[(Place, u8)])]],
+    lists: &[&[Entry]],
 ) -> Result<Racks, AllocError> {
     let mut all = Vec::new(alloc);
-    for requests in lists {
-        let Some(list) = list_of(alloc, requests)? else {
-            panic!(rt; "a request was refused");
-        };
-        all.push(list)?;
+    for entries in lists {
+        all.push(list_of(rt, alloc, entries)?)?;
     }
     match Racks::new(all) {
         Ok(racks) => Ok(racks),
