@@ -2,6 +2,7 @@
 use Rattle.std.proofs.Common.{◌≡◌, ◌<◌, ◌+◌, ◌++◌, ◌∙◌, ℕ, List, [], ◌∷◌, Some, None, length, take, map, get_or, refl, ap, sym, option_map, string_bytes, arith}
 use Rattle.std.proofs.lemmas.List.{take_more, get_or-map, length-map}
 use Rattle.farm_files.specs.Files.{Files, Told, put, put_all}
+use Rattle.std.specs.Cow.{cow_slice_items}
 use Rattle.farm_files.specs.Named.{named}
 use Rattle.farm_files.specs.declared.writing.NamedFile.{NamedFile}
 
@@ -17,7 +18,7 @@ over (Some m) fs f = ap Some (sym (put_all-append m fs (f ∷ [])))
 pub put_more : (files : List NamedFile) (i : ℕ) (file : NamedFile) (old mid new : Told) (name bytes : List ℕ)
     → i < length files → file ≡ get_or files i file
     → mid ≡ option_map (λ m. put_all m (take i (map named files))) old
-    → name ≡ string_bytes file.name → bytes ≡ file.bytes.items
+    → name ≡ string_bytes file.name → bytes ≡ cow_slice_items file.bytes
     → new ≡ option_map (λ m. put m name bytes) mid
     → new ≡ option_map (λ m. put_all m (take (i + 1) (map named files))) old
 put_more files i file old mid new name bytes within is so named_so bytes_so wrote =

@@ -14,20 +14,21 @@ use crate::report::{report_on, requests_before_close};
 use crate::shelf::{Shelf, ShelfFault};
 use lrc_code::{Outcome, Place};
 use std::alloc::{AllocError, Global};
+use std::borrow::CowSlice;
 use std::thread::Threads;
 
-/// A file that is to be written.
+/// A file that is to be written: a rebuilt fragment, which the answers lend, or a report of its own.
 #[derive(Drop)]
-pub(crate) struct NamedFile {
+pub(crate) struct NamedFile<'a> {
     pub(crate) name: String,
-    pub(crate) bytes: Vec<u8>,
+    pub(crate) bytes: CowSlice<'a, u8>,
 }
 
 // Writes the files in order, up to the first write that fails.
 pub(crate) fn write_files<O: Shelf>(
     alloc: Global,
     output: &mut O,
-    files: &[NamedFile],
+    files: &[NamedFile<'_>],
 ) -> Result<(), ShelfFault>
     requires { O.failed output.old < 2 ^ 63 }
     ensures ok { OnOk result (O.files output.new ≡ option_map (λ old. put_all old (map named files.now)) (O.files output.old)) }
@@ -41,20 +42,20 @@ pub(crate) fn write_files<O: Shelf>(
 }
 
 // Adds the fragment of a request, where it was rebuilt.
-fn push_rebuilt(
+fn push_rebuilt<'a>(
     alloc: Global,
-    files: &mut Vec<NamedFile>,
+    files: &mut Vec<NamedFile<'a>>,
     rack: usize,
     number: usize,
     listed: &Listed,
-    outcome: &Outcome,
+    outcome: &'a Outcome,
 ) -> Result<(), AllocError>
     ensures { OnOk result (map named files.new.items ≡ map named files.old.items ++ rebuilt_file rack number listed.now outcome.now) }
 {
     match outcome {
         Outcome::Rebuilt(bytes) => {
             let name = names::rebuilt_file(alloc, rack, number, listed.stripe(), listed.target())?;
-            let bytes = Vec::from_slice(alloc, bytes.as_slice())?;
+            let bytes = CowSlice::Borrowed(bytes.as_slice());
             files.push(NamedFile { name, bytes })?;
             Ok(())
         }
@@ -64,12 +65,12 @@ fn push_rebuilt(
 }
 
 // Adds a rack's rebuilt fragments, then its report.
-fn push_rack(
+fn push_rack<'a>(
     alloc: Global,
-    files: &mut Vec<NamedFile>,
+    files: &mut Vec<NamedFile<'a>>,
     rack: usize,
     requests: &[&Listed],
-    outcomes: &[Outcome],
+    outcomes: &'a [Outcome],
     digests: &[Option<[u8; 32]>],
     unread: &[Vec<Place>],
 ) -> Result<(), AllocError>
@@ -78,7 +79,7 @@ fn push_rack(
     requires unread { length unread.now ≡ length requests.now }
     ensures { OnOk result (map named files.new.items ≡ map named files.old.items ++ rack_files rack (map (λ r. r.now) requests.now) outcomes.now (map (λ u. u.items) unread.now)) }
 {
-    let bytes = report_on(alloc, requests, outcomes, digests, unread)?;
+    let report = report_on(alloc, requests, outcomes, digests, unread)?;
     for number in 0..requests.len() {
         push_rebuilt(
             alloc,
@@ -90,19 +91,20 @@ fn push_rack(
         )?;
     }
     let name = names::report_file(alloc, rack)?;
+    let bytes = CowSlice::Owned(report);
     files.push(NamedFile { name, bytes })?;
     Ok(())
 }
 
 /// The files of all racks, in the order in which they are written. Their digests are made in at most this many threads.
-pub(crate) fn make_files<R: Threads + Sync>(
+pub(crate) fn make_files<'a, R: Threads + Sync>(
     rt: &R,
     alloc: Global,
     threads: usize,
     lists: &[Vec<Record>],
-    answers: &[Vec<Outcome>],
+    answers: &'a [Vec<Outcome>],
     unread: &[Vec<Vec<Place>>],
-) -> Result<Vec<NamedFile>, AllocError>
+) -> Result<Vec<NamedFile<'a>>, AllocError>
     requires threads { 0 < threads }
     requires answers { AllZip (λ l os. length os.items ≡ length (before_close l.items)) lists.now answers.now }
     requires unread { AllZip (λ l us. length us.items ≡ length (before_close l.items)) lists.now unread.now }
