@@ -17,7 +17,7 @@ use std::alloc::{AllocError, Global};
 use std::borrow::CowSlice;
 use std::thread::Threads;
 
-/// A file that is to be written: a rebuilt fragment, which the answers lend, or a report of its own.
+/// A file that is to be written: a rebuilt fragment, borrowed from the answers, or a report of its own.
 #[derive(Drop)]
 pub(crate) struct NamedFile<'a> {
     pub(crate) name: String,
