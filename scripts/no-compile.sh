@@ -1,19 +1,15 @@
 #!/usr/bin/env bash
 # Edits that must not compile, which the gate takes none of: each crate's no-compile/*.edit names the compiler's error
-# in its first line, and is then in the form of a must-fail edit. Each is applied to a copy of the repository.
+# in its first line, and is then in the form of a must-fail edit. Each is applied to a copy of the repository, and all
+# are tried at once.
 set -euo pipefail
 cd "$(dirname "$0")/.."
-copy=$(mktemp -d)
-trap 'rm -rf "$copy"' EXIT
-mkdir "$copy/tree"
-git ls-files -z --cached --others --exclude-standard | xargs -0 cp --parents -t "$copy/tree"
-passed=0
-failed=0
-for edit in crates/*/no-compile/*.edit; do
-  [ -e "$edit" ] || continue
-  crate=$(basename "$(dirname "$(dirname "$edit")")")
-  expected=$(sed -n '1s/^error: //p' "$edit")
-  python3 - "$edit" "$copy/tree/crates/$crate" <<'PY'
+copies=$(mktemp -d)
+trap 'rm -rf "$copies"' EXIT
+
+# make_edit EDIT CRATE: makes the edit in this copy of its crate.
+make_edit() {
+  python3 - "$1" "$2" <<'PY'
 import sys
 edit, crate = sys.argv[1:]
 lines = open(edit, encoding='utf-8').read().splitlines()[1:]
@@ -32,16 +28,35 @@ for line in lines:
         text = text.replace(old, value)
         open(path, 'w', encoding='utf-8').write(text)
 PY
+}
+
+# try_edit EDIT COPY: says whether the edit is refused with the error that it names. Fails where it isn't.
+try_edit() {
+  local edit=$1 copy=$2 crate expected
+  crate=$(basename "$(dirname "$(dirname "$edit")")")
+  expected=$(sed -n '1s/^error: //p' "$edit")
+  mkdir -p "$copy/tree"
+  git ls-files -z --cached --others --exclude-standard | xargs -0 cp --parents -t "$copy/tree"
+  make_edit "$edit" "$copy/tree/crates/$crate"
   (cd "$copy/tree/crates/$crate" && rt try --test) > "$copy/said" 2>&1 || true
   if grep -q "error\[$expected\]" "$copy/said"; then
     echo "no-compile $edit: refused with $expected"
-    passed=$((passed + 1))
   else
     echo "no-compile $edit: NOT refused with $expected"
     head -20 "$copy/said"
-    failed=$((failed + 1))
+    return 1
   fi
-  cp -r "crates/$crate/src" "$copy/tree/crates/$crate/"
+}
+
+trials=()
+for edit in crates/*/no-compile/*.edit; do
+  [ -e "$edit" ] || continue
+  try_edit "$edit" "$copies/${#trials[@]}" &
+  trials+=($!)
 done
-echo "$passed passed, $failed failed"
-[ "$failed" = 0 ] && [ "$passed" != 0 ]
+failed=0
+for trial in "${trials[@]}"; do
+  wait "$trial" || failed=$((failed + 1))
+done
+echo "$((${#trials[@]} - failed)) passed, $failed failed"
+[ "$failed" = 0 ] && [ "${#trials[@]}" != 0 ]

@@ -1,6 +1,6 @@
 -- What a room that is ready is made of.
 use Rattle.std.proofs.Common.{◌≡◌, ℕ, ◌+◌, ◌<◌, ◌≤◌, List, [], ◌∷◌, ◌++◌, length, map, refl, sym, ap, ◌∙◌, subst, ⊎_elim, arith}
-use Rattle.std.proofs.lemmas.List.{map-append}
+use Rattle.std.proofs.lemmas.List.{map-append, length_push}
 use mathlib.Core.Option.{some}
 use lib.ListN.{get_elem?}
 use Rattle.farm_lanes.proofs.Lists.{at_back, at_front, at_map, at_snoc_or}
@@ -24,6 +24,11 @@ module _ {A : Type 0} where
 
   pub each_rest : (P : A → Type 0) (all rest : List A) (x : A) → all ≡ rest ++ x ∷ [] → Each P all → Each P rest
   each_rest P all rest x is each k y at = each k y (subst (λ l. get_elem? l k ≡ some y) (sym is) (at_front rest (x ∷ []) k y at))
+
+  -- the one item of a list of one
+  pub only_last : (all rest : List A) (x : A) → all ≡ rest ++ x ∷ [] → length all ≡ 1 → all ≡ x ∷ []
+  only_last all [] x is one = is
+  only_last all (y ∷ rest) x is one = absurd (let a = ap (λ (l : List A). length l) is in let b = length_push rest x in omega arith)
 
   pub each_middle : (P : A → Type 0) (all done rest : List A) (x : A) → all ≡ done ++ x ∷ rest → Each P all → P x
   each_middle P all done rest x is each = each (length done) x (subst (λ l. get_elem? l (length done) ≡ some x) (sym is) (at_back done (x ∷ rest) 0 x refl (length done) (omega arith)))

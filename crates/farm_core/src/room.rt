@@ -1,7 +1,7 @@
 //! What a run takes before its first thread starts.
-ghost use Rattle.std.specs.Prelude.{◌≡◌, ◌+◌, ◌≤◌, ◌<◌, [], IfOk, length, map, slice_index_or, vec_len, vec_capacity};
+ghost use Rattle.std.specs.Prelude.{◌≡◌, ◌+◌, ◌≤◌, ◌<◌, [], ◌∷◌, ◌++◌, IfOk, length, map, slice_index_or, vec_len, vec_capacity};
 ghost use Rattle.farm_lanes.specs.Lists.{Each, EachAt};
-ghost use Rattle.farm_lanes.specs.LaneEnds.{LaneName, IsUnusedPut, IsUnusedTake, new_take};
+ghost use Rattle.farm_lanes.specs.LaneEnds.{LaneName, AreNewEnds, IsUnusedPut, IsUnusedTake, new_take};
 ghost use Rattle.farm_core.specs.declared.jobs.Job.{Job};
 ghost use Rattle.farm_core.specs.Threads.{AreListed};
 ghost use Rattle.farm_core.specs.Ready.{IsReady};
@@ -15,7 +15,7 @@ use crate::reply::Reply;
 use crate::settings::Settings;
 use crate::settling::Desk;
 use crate::space::{Space, space_for};
-use farm_lanes::{Gate, Lane, PutEnd, TakeEnd};
+use farm_lanes::{Gate, Lane, LaneError, PutEnd, TakeEnd};
 use std::alloc::{AllocError, Global};
 
 /// What the threads are given, and room for what they give back.
@@ -26,6 +26,38 @@ pub struct Room<'a> {
     pub feeders: Vec<Feeder<'a>>,
     pub stops: PutEnd<Job<'a>>,
     pub space: Space<'a>,
+}
+
+// The ends of a new request lane: the put ends of so many feeders, the one for the stops, and the workers' take ends.
+fn request_lane<'a>(
+    alloc: Global,
+    capacity: usize,
+    feeders: usize,
+    workers: usize,
+) -> Result<(Vec<PutEnd<Job<'a>>>, PutEnd<Job<'a>>, Vec<TakeEnd<Job<'a>>>), LaneError>
+    requires { feeders ≤ 16 }
+    ensures { IfOk result (λ r. AreNewEnds (feeders + 1) workers (r.0.items ++ r.1 ∷ []) r.2.items) }
+{
+    let (mut puts, takes) = Lane::open(alloc, capacity, feeders + 1, workers)?;
+    let Some(stops) = puts.pop() else {
+        unreachable!();
+    };
+    Ok((puts, stops, takes))
+}
+
+// The ends of a new reply lane: the workers' put ends, and the collector's take end.
+fn reply_lane<'a>(
+    alloc: Global,
+    capacity: usize,
+    workers: usize,
+) -> Result<(Vec<PutEnd<Reply<'a>>>, TakeEnd<Reply<'a>>), LaneError>
+    ensures { IfOk result (λ r. AreNewEnds workers 1 r.0.items (r.1 ∷ [])) }
+{
+    let (puts, mut takes) = Lane::open(alloc, capacity, workers, 1)?;
+    let Some(last) = takes.pop() else {
+        unreachable!();
+    };
+    Ok((puts, last))
 }
 
 // A pair of ends for each worker.
@@ -110,14 +142,8 @@ pub fn room_for<'a>(
     let count = racks.lists().len();
     let workers = settings.workers();
     let collector = Collector::new(alloc, racks)?;
-    let (mut job_puts, job_takes) = Lane::open(alloc, settings.queue(), count + 1, workers)?;
-    let (reply_puts, mut reply_takes) = Lane::open(alloc, settings.queue(), workers, 1)?;
-    let Some(stops) = job_puts.pop() else {
-        unreachable!();
-    };
-    let Some(replies) = reply_takes.pop() else {
-        unreachable!();
-    };
+    let (job_puts, stops, job_takes) = request_lane(alloc, settings.queue(), count, workers)?;
+    let (reply_puts, replies) = reply_lane(alloc, settings.queue(), workers)?;
     let ends = worker_ends(alloc, job_takes, reply_puts)?;
     let feeders = feeders_for(alloc, racks, job_puts)?;
     let space = space_for(alloc, count, workers)?;

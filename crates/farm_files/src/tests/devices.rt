@@ -1,7 +1,7 @@
 //! Shelves whose calls fail, one at a time.
 use crate::tests::shared::{
     LIST, REPORT, REPORT_WITHOUT_PX, REPORT_WITHOUT_X1, REPORT_WITHOUT_X2, has_file, input_of,
-    serve_over,
+    serve_onto, serve_shelf,
 };
 use crate::{MemoryShelf, ServeFault, Served, Shelf, ShelfFault};
 use std::alloc::AllocError;
@@ -58,17 +58,22 @@ fn failed_reads(rt: HostRuntime) -> Result<(), AllocError> {
     for (call, (expected, report)) in rows.into_iter().enumerate() {
         let mut input = input_of(rt.alloc(), LIST)?;
         input.fail_at(call as u64);
-        let mut output = MemoryShelf::new(rt.alloc());
-        let served = serve_over(&rt, rt.alloc(), &mut input, &mut output);
-        assert_eq!(&rt; served, expected, "call {call}");
-        assert_eq!(&rt; output.file("rack0.report.csv"), report, "call {call}");
+        let run = serve_shelf(&rt, rt.alloc(), &mut input);
+        assert!(&rt; run.served == expected, "call {call}");
+        assert!(&rt;
+            run.output.file("rack0.report.csv") == report,
+            "call {call}"
+        );
         let fragment = if call == 5 {
             Some(b"abc".as_slice())
         } else {
             None
         };
-        assert_eq!(&rt; output.file("rack0-0.abc.x0"), fragment, "call {call}");
-        assert_eq!(&rt; input.failures(), u64::from(call < 5), "call {call}");
+        assert!(&rt;
+            run.output.file("rack0-0.abc.x0") == fragment,
+            "call {call}"
+        );
+        assert!(&rt; input.failures() == u64::from(call < 5), "call {call}");
     }
     Ok(())
 }
@@ -90,15 +95,14 @@ fn failed_writes(rt: HostRuntime) -> Result<(), AllocError> {
         let mut input = input_of(rt.alloc(), LIST)?;
         let mut output = MemoryShelf::new(rt.alloc());
         output.fail_at(call as u64);
-        let served = serve_over(&rt, rt.alloc(), &mut input, &mut output);
-        assert_eq!(&rt; served, expected, "call {call}");
-        assert_eq!(&rt;
-            output.file("rack0-0.abc.x0"),
-            Some(fragment),
+        let run = serve_onto(&rt, rt.alloc(), (2, 1), &mut input, output);
+        assert!(&rt; run.served == expected, "call {call}");
+        assert!(&rt; run.wrote("rack0-0.abc.x0", fragment), "call {call}");
+        assert!(&rt;
+            run.output.file("rack0.report.csv") == report,
             "call {call}"
         );
-        assert_eq!(&rt; output.file("rack0.report.csv"), report, "call {call}");
-        assert_eq!(&rt; output.failures(), u64::from(call < 2), "call {call}");
+        assert!(&rt; run.output.failures() == u64::from(call < 2), "call {call}");
     }
     Ok(())
 }

@@ -1,44 +1,54 @@
 //! One run over real folders, which the test makes where it runs.
 use crate::tests::shared::{FRAGMENTS, LIST, REPORT};
-use crate::{FolderShelf, Served, Shelf, ShelfFault, serve};
+use crate::{FolderShelf, Shelf, ShelfFault, serve};
 use farm_core::{NoPause, Settings};
+use std::alloc::{AllocError, Global};
 use std::fs;
+use std::rt::Files;
+
+// A folder with the list and its fragments, and an empty one.
+fn make_folders<R: Files>(rt: &R, alloc: Global) -> bool {
+    for folder in ["served/in", "served/out"] {
+        if fs::create_dir_all(rt, folder).is_err() {
+            return false;
+        }
+    }
+    for (name, bytes) in FRAGMENTS {
+        let Ok(path) = format!(in alloc; "served/in/{name}") else {
+            return false;
+        };
+        if fs::write(rt, path.as_str(), bytes).is_err() {
+            return false;
+        }
+    }
+    fs::write(rt, "served/in/rack0.csv", LIST).is_ok()
+}
+
+// Whether the bytes of a file, as far as the limit, are these, and the device was never seen to fail.
+fn reads<S: Shelf>(shelf: &mut S, alloc: Global, name: &str, limit: usize, bytes: &[u8]) -> bool {
+    if shelf.failures() != 0 {
+        return false;
+    }
+    match shelf.read(alloc, name, limit) {
+        Ok(Some(read)) => read.as_slice() == bytes,
+        _ => false,
+    }
+}
 
 #[test]
-fn one_run_over_folders(rt: HostRuntime) {
-    assert!(&rt;
-        fs::create_dir_all(&rt, "served/in").is_ok()
-            && fs::create_dir_all(&rt, "served/out").is_ok()
-    );
-    assert!(&rt; fs::write(&rt, "served/in/rack0.csv", LIST).is_ok());
-    for (name, bytes) in FRAGMENTS {
-        let path = format!(in rt.alloc(); "served/in/{name}");
-        assert!(&rt; path.is_ok_and(|path| fs::write(&rt, path.as_str(), bytes).is_ok()));
-    }
-    let input = FolderShelf::open(&rt, rt.alloc(), "served/in");
-    let output = FolderShelf::open(&rt, rt.alloc(), "served/out");
-    let settings = Settings::new(1, 1);
-    assert!(&rt; input.is_ok() && output.is_ok() && settings.is_ok());
-    if let (Ok(mut input), Ok(mut output), Ok(settings)) = (input, output, settings) {
-        assert!(&rt; input.failures() == 0 && output.failures() == 0);
-        let served = serve(&rt, rt.alloc(), &mut input, &mut output, settings, &NoPause);
-        assert_eq!(&rt;
-            served,
-            Ok(Served {
-                racks: 1,
-                answers: 1
-            })
-        );
-        assert!(&rt; output.failures() == 0);
-        let report = output.read(rt.alloc(), "rack0.report.csv", 1000);
-        assert!(&rt; report.is_ok_and(|read| read.is_some_and(|text| text.as_slice() == REPORT)));
-        assert!(&rt; output.failures() == 0);
-        let fragment = output.read(rt.alloc(), "rack0-0.abc.x0", 2);
-        assert!(&rt;
-            fragment.is_ok_and(|read| read.is_some_and(|bytes| bytes.as_slice()
-                == b"ab".as_slice()))
-        );
-    }
+fn one_run_over_folders(rt: HostRuntime) -> Result<(), AllocError> {
+    assert!(&rt; make_folders(&rt, rt.alloc()));
+    let mut input = FolderShelf::open(&rt, rt.alloc(), "served/in")?;
+    let mut output = FolderShelf::open(&rt, rt.alloc(), "served/out")?;
+    let Ok(settings) = Settings::new(1, 1) else {
+        panic!(&rt; "one worker is refused");
+    };
+    assert!(&rt; input.failures() == 0 && output.failures() == 0);
+    let served = serve(&rt, rt.alloc(), &mut input, &mut output, settings, &NoPause);
+    assert!(&rt; served.is_ok_and(|served| served.racks == 1 && served.answers == 1));
+    assert!(&rt; reads(&mut output, rt.alloc(), "rack0.report.csv", 1000, REPORT));
+    assert!(&rt; reads(&mut output, rt.alloc(), "rack0-0.abc.x0", 2, b"ab"));
+    Ok(())
 }
 
 // A folder that isn't there has no files, and can't be written.

@@ -137,40 +137,43 @@ fn survivors_in_their_order(rt: HostRuntime) {
     }
 }
 
-// The limits of bytes and of records, and just over them.
 #[test]
-fn limits(rt: HostRuntime) -> Result<(), AllocError> {
+fn limit_of_bytes(rt: HostRuntime) -> Result<(), AllocError> {
     let mut bytes = Vec::from_slice(rt.alloc(), HEADER)?;
     for _ in HEADER.len()..1_048_576 {
         bytes.push(b'\n')?;
     }
-    assert_eq!(&rt; read_list(rt.alloc(), &bytes).map(|list| list.len()), Ok(0));
+    assert!(&rt; read_list(rt.alloc(), &bytes).is_ok_and(|list| list.is_empty()));
     bytes.push(b'\n')?;
     assert_eq!(&rt;
         read_list(rt.alloc(), &bytes).err(),
         Some(ListFault::InputTooLong)
     );
+    Ok(())
+}
 
-    let mut bytes = Vec::from_slice(rt.alloc(), HEADER)?;
-    for _ in 0..4096 {
+// So many closes, and these bytes behind them.
+fn closes_with(alloc: Global, closes: usize, last: &[u8]) -> Result<Vec<u8>, AllocError> {
+    let mut bytes = Vec::from_slice(alloc, HEADER)?;
+    for _ in 0..closes {
         bytes.extend_from_slice(b"close,,,,\n")?;
     }
-    assert_eq!(&rt;
-        read_list(rt.alloc(), &bytes).map(|list| list.len()),
-        Ok(4096)
-    );
-    let whole = bytes.len();
-    bytes.extend_from_slice(b"close,,,,\n")?;
-    assert_eq!(&rt;
-        read_list(rt.alloc(), &bytes).err(),
-        Some(ListFault::TooManyOrders)
-    );
-    bytes.truncate(whole);
-    bytes.extend_from_slice(b"x\n")?;
-    assert_eq!(&rt;
-        read_list(rt.alloc(), &bytes).err(),
-        Some(ListFault::TooManyOrders)
-    );
+    bytes.extend_from_slice(last)?;
+    Ok(bytes)
+}
+
+// The record behind the greatest number of them is one too many, whatever it is.
+#[test]
+fn limit_of_records(rt: HostRuntime) -> Result<(), AllocError> {
+    let bytes = closes_with(rt.alloc(), 4096, b"")?;
+    assert!(&rt; read_list(rt.alloc(), &bytes).is_ok_and(|list| list.len() == 4096));
+    for last in [b"close,,,,\n".as_slice(), b"x\n"] {
+        let bytes = closes_with(rt.alloc(), 4096, last)?;
+        assert_eq!(&rt;
+            read_list(rt.alloc(), &bytes).err(),
+            Some(ListFault::TooManyOrders)
+        );
+    }
     Ok(())
 }
 

@@ -1,37 +1,29 @@
 //! Whole runs of `serve` over shelves in memory.
 use crate::tests::shared::{
-    EMPTY_REPORT, LIST, REPORT, REPORT_WITHOUT_PX, has_file, input_of, serve_over, serve_with,
-    shelf_of,
+    EMPTY_REPORT, LIST, REPORT, REPORT_WITHOUT_PX, has_file, input_of, serve_files, serve_onto,
+    serve_shelf, shelf_of,
 };
-use crate::{ListFault, MemoryShelf, ServeFault, Served, Shelf, serve};
+use crate::{ListFault, MemoryShelf, ServeFault, Shelf, serve};
 use farm_core::{Pause, Settings};
 use lrc_code::RequestFault;
-use std::alloc::AllocError;
+use std::alloc::{AllocError, Global};
 use std::sync::atomic::{AtomicU64, Ordering};
 
 const HEADER: &[u8] = b"order,stripe,target,length,survivors\n";
 
-// Two requests and two closes in turn: one answer, with any settings.
+// Two requests and two closes in turn: one answer, with any settings. A report that stands there is replaced.
 #[test]
 fn one_fragment_and_its_report(rt: HostRuntime) -> Result<(), AllocError> {
+    let standing: [(&str, &[u8]); 2] = [("rack0.csv", b"kept"), ("rack0.report.csv", b"replaced")];
     for settings in [(2, 1), (1, 1), (16, 1024)] {
         let mut input = input_of(rt.alloc(), LIST)?;
-        let mut output = shelf_of(
-            rt.alloc(),
-            &[("rack0.csv", b"kept"), ("rack0.report.csv", b"replaced")],
-        )?;
-        let served = serve_with(&rt, rt.alloc(), settings, &mut input, &mut output);
-        assert_eq!(&rt;
-            served,
-            Ok(Served {
-                racks: 1,
-                answers: 1
-            })
-        );
-        assert!(&rt; has_file(&output, "rack0-0.abc.x0", b"abc"));
-        assert!(&rt; has_file(&output, "rack0.report.csv", REPORT));
-        assert!(&rt; has_file(&output, "rack0.csv", b"kept"));
-        assert!(&rt; output.file("rack0-1.abc.x0").is_none());
+        let output = shelf_of(rt.alloc(), &standing)?;
+        let run = serve_onto(&rt, rt.alloc(), settings, &mut input, output);
+        assert!(&rt; run.has_served(1, 1));
+        assert!(&rt; run.wrote("rack0-0.abc.x0", b"abc"));
+        assert!(&rt; run.wrote("rack0.report.csv", REPORT));
+        assert!(&rt; run.wrote("rack0.csv", b"kept"));
+        assert!(&rt; run.left_out("rack0-1.abc.x0"));
         assert!(&rt; has_file(&input, "rack0.csv", LIST));
     }
     Ok(())
@@ -48,15 +40,9 @@ fn carriage_returns_and_a_mark(rt: HostRuntime) -> Result<(), AllocError> {
         list.push(*byte)?;
     }
     let mut input = input_of(rt.alloc(), &list)?;
-    let mut output = MemoryShelf::new(rt.alloc());
-    assert_eq!(&rt;
-        serve_over(&rt, rt.alloc(), &mut input, &mut output),
-        Ok(Served {
-            racks: 1,
-            answers: 1
-        })
-    );
-    assert!(&rt; has_file(&output, "rack0.report.csv", REPORT));
+    let run = serve_shelf(&rt, rt.alloc(), &mut input);
+    assert!(&rt; run.has_served(1, 1));
+    assert!(&rt; run.wrote("rack0.report.csv", REPORT));
     Ok(())
 }
 
@@ -76,16 +62,10 @@ fn survivors_left_out(rt: HostRuntime) -> Result<(), AllocError> {
         if let Some(bytes) = bytes {
             input.place(rt.alloc(), "abc.px", bytes)?;
         }
-        let mut output = MemoryShelf::new(rt.alloc());
-        assert_eq!(&rt;
-            serve_over(&rt, rt.alloc(), &mut input, &mut output),
-            Ok(Served {
-                racks: 1,
-                answers: 1
-            })
-        );
-        assert!(&rt; has_file(&output, "rack0.report.csv", REPORT_WITHOUT_PX));
-        assert!(&rt; output.file("rack0-0.abc.x0").is_none());
+        let run = serve_shelf(&rt, rt.alloc(), &mut input);
+        assert!(&rt; run.has_served(1, 1));
+        assert!(&rt; run.wrote("rack0.report.csv", REPORT_WITHOUT_PX));
+        assert!(&rt; run.left_out("rack0-0.abc.x0"));
     }
     Ok(())
 }
@@ -96,7 +76,8 @@ fn racks_in_order(rt: HostRuntime) -> Result<(), AllocError> {
     let first =
         b"order,stripe,target,length,survivors\nrebuild,a,x0,1,y0 y1 y2 py\nrebuild,a,x0,1,px x2 x1\n";
     let second = b"order,stripe,target,length,survivors\nrebuild,a,y0,1,\n";
-    let mut input = shelf_of(
+    let run = serve_files(
+        &rt,
         rt.alloc(),
         &[
             ("rack0.csv", first),
@@ -110,21 +91,13 @@ fn racks_in_order(rt: HostRuntime) -> Result<(), AllocError> {
             ("a.px", &[0]),
         ],
     )?;
-    let mut output = MemoryShelf::new(rt.alloc());
-    assert_eq!(&rt;
-        serve_over(&rt, rt.alloc(), &mut input, &mut output),
-        Ok(Served {
-            racks: 2,
-            answers: 3
-        })
-    );
+    assert!(&rt; run.has_served(2, 3));
     let report =
         b"number,stripe,target,length,outcome,digest,unread\n0,a,x0,1,contradiction,,\n1,a,x0,1,rebuilt,4bf5122f344554c53bde2ebb8cd2b7e3d1600ad631c385a5d7cce23c7785459a,\n";
-    assert!(&rt; has_file(&output, "rack0.report.csv", report));
-    assert!(&rt; has_file(&output, "rack0-1.a.x0", &[1]));
+    assert!(&rt; run.wrote("rack0.report.csv", report));
+    assert!(&rt; run.wrote("rack0-1.a.x0", &[1]));
     assert!(&rt;
-        has_file(
-            &output,
+        run.wrote(
             "rack1.report.csv",
             b"number,stripe,target,length,outcome,digest,unread\n0,a,y0,1,several,,\n"
         )
@@ -157,44 +130,42 @@ const THIRD_REPORT: &[u8] = b"number,stripe,target,length,outcome,digest,unread
 2,e,x0,1,rebuilt,3f79bb7b435b05321651daefd374cdc681dc06faa65e374e38337b88ca046dea,
 ";
 
+// Five stripes, and three racks of which one has no request.
+fn five_stripes(alloc: Global) -> Result<MemoryShelf, AllocError> {
+    let lists: [(&str, &[u8]); 3] = [
+        ("rack0.csv", FIRST_LIST),
+        ("rack1.csv", HEADER),
+        ("rack2.csv", THIRD_LIST),
+    ];
+    let mut shelf = shelf_of(alloc, &lists)?;
+    for byte in b"abcde" {
+        place_stripe(&mut shelf, alloc, *byte)?;
+    }
+    Ok(shelf)
+}
+
+// The fragments of the stripe that is named by a letter: x1 and x2 of the byte 00, and px of the letter's byte.
+fn place_stripe(shelf: &mut MemoryShelf, alloc: Global, letter: u8) -> Result<(), AllocError> {
+    let stripe = letter as char;
+    for (place, byte) in [("x1", 0), ("x2", 0), ("px", letter)] {
+        let name = format!(in alloc; "{stripe}.{place}")?;
+        shelf.place(alloc, &name, &[byte])?;
+    }
+    Ok(())
+}
+
 // However many threads make the digests, each stands in the row of its own fragment.
 #[test]
 fn digests_by_any_number_of_threads(rt: HostRuntime) -> Result<(), AllocError> {
-    let mut input = shelf_of(
-        rt.alloc(),
-        &[
-            ("rack0.csv", FIRST_LIST),
-            ("rack1.csv", HEADER),
-            ("rack2.csv", THIRD_LIST),
-        ],
-    )?;
-    for (stripe, byte) in [
-        ("a", b"a"),
-        ("b", b"b"),
-        ("c", b"c"),
-        ("d", b"d"),
-        ("e", b"e"),
-    ] {
-        for place in ["x1", "x2"] {
-            let name = format!(in rt.alloc(); "{stripe}.{place}")?;
-            input.place(rt.alloc(), &name, &[0])?;
-        }
-        let name = format!(in rt.alloc(); "{stripe}.px")?;
-        input.place(rt.alloc(), &name, byte)?;
-    }
+    let mut input = five_stripes(rt.alloc())?;
     for workers in [1, 2, 3, 5, 16] {
-        let mut output = MemoryShelf::new(rt.alloc());
-        assert_eq!(&rt;
-            serve_with(&rt, rt.alloc(), (workers, 1), &mut input, &mut output),
-            Ok(Served {
-                racks: 3,
-                answers: 6
-            })
-        );
-        assert!(&rt; has_file(&output, "rack0.report.csv", FIRST_REPORT));
-        assert!(&rt; has_file(&output, "rack1.report.csv", EMPTY_REPORT));
-        assert!(&rt; has_file(&output, "rack2.report.csv", THIRD_REPORT));
-        assert!(&rt; has_file(&output, "rack2-2.e.x0", b"e"));
+        let output = MemoryShelf::new(rt.alloc());
+        let run = serve_onto(&rt, rt.alloc(), (workers, 1), &mut input, output);
+        assert!(&rt; run.has_served(3, 6));
+        assert!(&rt; run.wrote("rack0.report.csv", FIRST_REPORT));
+        assert!(&rt; run.wrote("rack1.report.csv", EMPTY_REPORT));
+        assert!(&rt; run.wrote("rack2.report.csv", THIRD_REPORT));
+        assert!(&rt; run.wrote("rack2-2.e.x0", b"e"));
     }
     Ok(())
 }
@@ -240,66 +211,56 @@ fn the_pause_is_handed_on(rt: HostRuntime) -> Result<(), AllocError> {
 #[test]
 fn a_list_without_requests(rt: HostRuntime) -> Result<(), AllocError> {
     let mut input = input_of(rt.alloc(), HEADER)?;
-    let mut output = MemoryShelf::new(rt.alloc());
-    assert_eq!(&rt;
-        serve_over(&rt, rt.alloc(), &mut input, &mut output),
-        Ok(Served {
-            racks: 1,
-            answers: 0
-        })
-    );
-    assert!(&rt; has_file(&output, "rack0.report.csv", EMPTY_REPORT));
+    let run = serve_shelf(&rt, rt.alloc(), &mut input);
+    assert!(&rt; run.has_served(1, 0));
+    assert!(&rt; run.wrote("rack0.report.csv", EMPTY_REPORT));
     Ok(())
 }
 
 #[test]
 fn no_list_at_all(rt: HostRuntime) -> Result<(), AllocError> {
-    let mut input = shelf_of(rt.alloc(), &[("rack1.csv", HEADER), ("rack00.csv", HEADER)])?;
-    let mut output = MemoryShelf::new(rt.alloc());
-    assert_eq!(&rt;
-        serve_over(&rt, rt.alloc(), &mut input, &mut output),
-        Err(ServeFault::NoRacks)
-    );
-    assert!(&rt; output.file("rack1.report.csv").is_none());
+    let files: [(&str, &[u8]); 2] = [("rack1.csv", HEADER), ("rack00.csv", HEADER)];
+    let run = serve_files(&rt, rt.alloc(), &files)?;
+    assert_eq!(&rt; run.served, Err(ServeFault::NoRacks));
+    assert!(&rt; run.left_out("rack1.report.csv"));
     Ok(())
 }
 
-// Sixteen racks are served; a seventeenth list is refused, but only once the lists before it are read.
+// A shelf with an empty list for each of so many racks.
+fn empty_lists(alloc: Global, racks: usize) -> Result<MemoryShelf, AllocError> {
+    let mut shelf = MemoryShelf::new(alloc);
+    for rack in 0..racks {
+        let name = format!(in alloc; "rack{rack}.csv")?;
+        shelf.place(alloc, &name, HEADER)?;
+    }
+    Ok(shelf)
+}
+
 #[test]
 fn sixteen_racks(rt: HostRuntime) -> Result<(), AllocError> {
-    let mut input = MemoryShelf::new(rt.alloc());
-    for rack in 0..16usize {
-        let name = format!(in rt.alloc(); "rack{rack}.csv")?;
-        input.place(rt.alloc(), &name, HEADER)?;
-    }
-    let mut output = MemoryShelf::new(rt.alloc());
-    assert_eq!(&rt;
-        serve_over(&rt, rt.alloc(), &mut input, &mut output),
-        Ok(Served {
-            racks: 16,
-            answers: 0
-        })
-    );
-    assert!(&rt; has_file(&output, "rack15.report.csv", EMPTY_REPORT));
+    let mut input = empty_lists(rt.alloc(), 16)?;
+    let run = serve_shelf(&rt, rt.alloc(), &mut input);
+    assert!(&rt; run.has_served(16, 0));
+    assert!(&rt; run.wrote("rack15.report.csv", EMPTY_REPORT));
+    Ok(())
+}
 
-    input.place(rt.alloc(), "rack16.csv", HEADER)?;
-    let mut output = MemoryShelf::new(rt.alloc());
-    assert_eq!(&rt;
-        serve_over(&rt, rt.alloc(), &mut input, &mut output),
-        Err(ServeFault::TooManyRacks)
-    );
-    assert!(&rt; output.file("rack0.report.csv").is_none());
+// A seventeenth list is refused, but only once the lists before it are read.
+#[test]
+fn seventeen_racks(rt: HostRuntime) -> Result<(), AllocError> {
+    let mut input = empty_lists(rt.alloc(), 17)?;
+    let run = serve_shelf(&rt, rt.alloc(), &mut input);
+    assert_eq!(&rt; run.served, Err(ServeFault::TooManyRacks));
+    assert!(&rt; run.left_out("rack0.report.csv"));
 
     input.place(rt.alloc(), "rack3.csv", b"x")?;
+    let run = serve_shelf(&rt, rt.alloc(), &mut input);
     let fault = ServeFault::List {
         rack: 3,
         fault: ListFault::BadHeader,
     };
-    assert_eq!(&rt;
-        serve_over(&rt, rt.alloc(), &mut input, &mut output),
-        Err(fault)
-    );
-    assert!(&rt; output.file("rack0.report.csv").is_none());
+    assert_eq!(&rt; run.served, Err(fault));
+    assert!(&rt; run.left_out("rack0.report.csv"));
     Ok(())
 }
 
@@ -323,12 +284,9 @@ fn a_refused_list(rt: HostRuntime) -> Result<(), AllocError> {
     for (bytes, fault) in rows {
         let mut input = input_of(rt.alloc(), LIST)?;
         input.place(rt.alloc(), "rack1.csv", bytes)?;
-        let mut output = MemoryShelf::new(rt.alloc());
-        assert_eq!(&rt;
-            serve_over(&rt, rt.alloc(), &mut input, &mut output),
-            Err(ServeFault::List { rack: 1, fault })
-        );
-        assert!(&rt; output.file("rack0.report.csv").is_none());
+        let run = serve_shelf(&rt, rt.alloc(), &mut input);
+        assert_eq!(&rt; run.served, Err(ServeFault::List { rack: 1, fault }));
+        assert!(&rt; run.left_out("rack0.report.csv"));
     }
     Ok(())
 }

@@ -60,6 +60,30 @@ pub(crate) fn input_of(alloc: Global, list: &[u8]) -> Result<MemoryShelf, AllocE
     Ok(shelf)
 }
 
+/// What serving gave, and the shelf that it wrote to.
+#[derive(Drop)]
+pub(crate) struct Run {
+    pub(crate) served: Result<Served, ServeFault>,
+    pub(crate) output: MemoryShelf,
+}
+
+impl Run {
+    /// Whether so many racks were served, with so many answers.
+    pub(crate) fn has_served(&self, racks: usize, answers: u64) -> bool {
+        self.served == Ok(Served { racks, answers })
+    }
+
+    /// Whether a file of this name was written, with these bytes.
+    pub(crate) fn wrote(&self, name: &str, bytes: &[u8]) -> bool {
+        has_file(&self.output, name, bytes)
+    }
+
+    /// Whether no file of this name was written.
+    pub(crate) fn left_out(&self, name: &str) -> bool {
+        self.output.file(name).is_none()
+    }
+}
+
 /// Whether the shelf has a file of this name with these bytes.
 pub(crate) fn has_file(shelf: &MemoryShelf, name: &str, bytes: &[u8]) -> bool {
     match shelf.file(name) {
@@ -68,18 +92,39 @@ pub(crate) fn has_file(shelf: &MemoryShelf, name: &str, bytes: &[u8]) -> bool {
     }
 }
 
-/// Serves with two workers and a queue of one, over shelves whose devices failed a thousand times at most.
-pub(crate) fn serve_over<R: Threads + Wait + Sync>(
+/// Serves these files with two workers and a queue of one.
+pub(crate) fn serve_files<R: Threads + Wait + Sync>(
+    rt: &R,
+    alloc: Global,
+    files: &[(&str, &[u8])],
+) -> Result<Run, AllocError> {
+    let mut input = shelf_of(alloc, files)?;
+    Ok(serve_shelf(rt, alloc, &mut input))
+}
+
+/// The same from a shelf whose device failed a thousand times at most.
+pub(crate) fn serve_shelf<R: Threads + Wait + Sync>(
     rt: &R,
     alloc: Global,
     input: &mut MemoryShelf,
-    output: &mut MemoryShelf,
-) -> Result<Served, ServeFault> {
-    serve_with(rt, alloc, (2, 1), input, output)
+) -> Run {
+    serve_onto(rt, alloc, (2, 1), input, MemoryShelf::new(alloc))
 }
 
-/// The same with so many workers and a queue of that capacity, both within the limits.
-pub(crate) fn serve_with<R: Threads + Wait + Sync>(
+/// The same onto a shelf of that kind too, with so many workers and a queue of that capacity, both within the limits.
+pub(crate) fn serve_onto<R: Threads + Wait + Sync>(
+    rt: &R,
+    alloc: Global,
+    settings: (usize, usize),
+    input: &mut MemoryShelf,
+    output: MemoryShelf,
+) -> Run {
+    let mut output = output;
+    let served = serve_with(rt, alloc, settings, input, &mut output);
+    Run { served, output }
+}
+
+fn serve_with<R: Threads + Wait + Sync>(
     rt: &R,
     alloc: Global,
     (workers, queue): (usize, usize),

@@ -1,4 +1,4 @@
-use Rattle.std.proofs.Common.{rules, arith, true≢false, ◌≡◌, ◌+◌, ◌≤◌, ◌∙◌, refl, ap, sym, subst, inl, inr, length}
+use Rattle.std.proofs.Common.{rules, arith, true≢false, ◌∙◌, refl, ap, sym, subst, inl, inr, length}
 use Rattle.std.proofs.lemmas.List.{length_push}
 use Rattle.farm_lanes.specs.declared.lane.item.Item.{Item}
 use Rattle.farm_lanes.specs.declared.lane.item.Item.TheVariants.{Value, End}

@@ -1,4 +1,4 @@
-use Rattle.std.proofs.Common.{arith, ◌≡◌, ◌<◌, List, length, sym, subst}
+use Rattle.std.proofs.Common.{arith, List, sym, subst}
 use Rattle.farm_lanes.specs.LaneEnds.{PutView}
 use Rattle.farm_lanes.specs.LaneRecord.{values}
 use Rattle.farm_core.specs.declared.jobs.Job.{Job}
