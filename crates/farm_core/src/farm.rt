@@ -9,6 +9,7 @@ use crate::pause::Pause;
 use crate::room::{Room, room_for};
 use crate::settings::Settings;
 use crate::settling::{Cleared, settle_all};
+use crate::shared::Shared;
 use crate::space::Space;
 use crate::started::{Started, join_all, start_all};
 use crate::threads::start_collector;
@@ -52,12 +53,9 @@ impl From<GateError> for FarmError {
 
 // Starts the threads, stops and joins them, and gives the answers.
 fn run_in<'s, 'a: 's, E, R: Threads + Wait + Sync, P: Pause>(
-    rt: &'s R,
-    alloc: Global,
+    shared: &'s Shared<'s, R, P>,
     scope: &Scope<'s, E>,
-    refused: &'s Refusals,
     room: Room<'a>,
-    pause: &'s P,
 ) -> Result<Vec<Vec<Outcome>>, FarmError>
     requires { IsReady room }
     ensures { IfOk result (λ v. AreExpected room.entry.desk.collector.racks (map (λ answers. answers.items) v.items)) }
@@ -74,24 +72,14 @@ fn run_in<'s, 'a: 's, E, R: Threads + Wait + Sync, P: Pause>(
         mut feeding,
         ends,
     } = space;
-    let collecting = match start_collector(rt, scope, &refused.collector, desk) {
+    let collecting = match start_collector(shared, scope, desk) {
         Ok(collecting) => collecting,
         Err(Cleared { replies, .. }) => {
-            end_all(rt, replies, workers, feeders, stops);
+            end_all(shared.rt, replies, workers, feeders, stops);
             return Err(FarmError::NoThread);
         }
     };
-    let (all, taker) = start_all(
-        rt,
-        alloc,
-        scope,
-        refused,
-        workers,
-        feeders,
-        pause,
-        &mut working,
-        &mut feeding,
-    );
+    let (all, taker) = start_all(shared, scope, workers, feeders, &mut working, &mut feeding);
     let started = Started {
         all,
         collecting,
@@ -100,8 +88,8 @@ fn run_in<'s, 'a: 's, E, R: Threads + Wait + Sync, P: Pause>(
         stops,
         taker,
     };
-    match join_all(rt, started, ends) {
-        Some(joined) => settle_all(rt, alloc, joined, pause),
+    match join_all(shared.rt, started, ends) {
+        Some(joined) => settle_all(shared.rt, shared.alloc, joined, shared.pause),
         None => Err(FarmError::NoThread),
     }
 }
@@ -118,14 +106,19 @@ pub fn run<R: Threads + Wait + Sync, P: Pause>(
     ensures { IfOk result (λ v. AreExpected racks.now (map (λ answers. answers.items) v.items)) }
 {
     let room = room_for(alloc, racks, settings)?;
-    let none_refused = Refusals::none();
-    let refused = &none_refused;
+    let lent = Shared {
+        rt,
+        alloc,
+        pause,
+        refused: Refusals::none(),
+    };
+    let shared = &lent;
     thread::scope(
         thread::scope_env(),
         rt,
         |scope| -> Result<Vec<Vec<Outcome>>, FarmError>
             requires { IsReady room }
             ensures { IfOk result (λ v. AreExpected room.entry.desk.collector.racks (map (λ answers. answers.items) v.items)) }
-        { run_in(rt, alloc, scope, refused, room, pause) },
+        { run_in(shared, scope, room) },
     )
 }

@@ -14,6 +14,7 @@ mod room;
 mod row;
 mod settings;
 mod settling;
+mod shared;
 mod space;
 mod started;
 mod taking;

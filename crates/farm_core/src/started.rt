@@ -6,18 +6,18 @@ ghost use Rattle.farm_core.specs.Threads.{ends_of, feeders_of};
 ghost use Rattle.farm_core.specs.Cleared.{HasJoined};
 ghost use Rattle.farm_core.specs.Ready.{IsReady, AreStarted};
 
-use crate::ending::{Refusals, end_feeders, take_mark};
+use crate::ending::{end_feeders, take_mark};
 use crate::ends::{Feeder, WorkerEnds};
 use crate::jobs::Job;
 use crate::pause::Pause;
 use crate::settling::{Cleared, Joined};
+use crate::shared::Shared;
 use crate::space::EndSpace;
 use crate::threads::{
     ClearOf, FeederHandle, Worker, join_feeders, join_workers, put_stops, start_feeders,
     start_workers,
 };
 use farm_lanes::{PutEnd, TakeEnd};
-use std::alloc::Global;
 use std::sync::Wait;
 use std::thread::{PromisedHandle, Scope, Threads};
 
@@ -35,13 +35,10 @@ pub struct Started<'a> {
 /// Starts the workers, and where none is refused the feeders; the put ends of the threads that weren't started are ended. Says
 /// whether no thread was refused, and gives an end of the request lane where no worker takes from it.
 pub fn start_all<'s, 'a: 's, E, R: Threads + Wait + Sync, P: Pause>(
-    rt: &'s R,
-    alloc: Global,
+    shared: &'s Shared<'s, R, P>,
     scope: &Scope<'s, E>,
-    refused: &'s Refusals,
     ends: Vec<WorkerEnds<'a>>,
     feeders: Vec<Feeder<'a>>,
-    pause: &'s P,
     workers: &mut Vec<Worker<'a>>,
     feeding: &mut Vec<FeederHandle<'a>>,
 ) -> (bool, Option<TakeEnd<Job<'a>>>)
@@ -52,12 +49,12 @@ pub fn start_all<'s, 'a: 's, E, R: Threads + Wait + Sync, P: Pause>(
     ensures workers_len { vec_len workers.new ≤ vec_len ends.entry }
     ensures feeders_len { vec_len feeding.new ≤ vec_len feeders.entry }
 {
-    let Some(left) = start_workers(rt, alloc, scope, &refused.worker, ends, pause, workers) else {
-        let all = start_feeders(rt, scope, &refused.feeder, feeders, feeding);
+    let Some(left) = start_workers(shared, scope, ends, workers) else {
+        let all = start_feeders(shared, scope, feeders, feeding);
         return (all, None);
     };
     let mut taker = if workers.is_empty() { Some(left) } else { None };
-    end_feeders(rt, feeders, &mut taker);
+    end_feeders(shared.rt, feeders, &mut taker);
     (false, taker)
 }
 

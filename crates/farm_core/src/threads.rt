@@ -13,11 +13,12 @@ use crate::jobs::{Job, Worked, idle, work};
 use crate::pause::Pause;
 use crate::reply::Reply;
 use crate::settling::{Cleared, Desk, clear};
+use crate::shared::Shared;
 use farm_lanes::{EndedPut, Gate, PutEnd, Right, Seat, TakeEnd};
 use std::alloc::Global;
 use std::snapshot::Snapshot;
 use std::sync::Wait;
-use std::sync::atomic::{AtomicBool, AtomicUsize, Ordering};
+use std::sync::atomic::Ordering;
 use std::thread::{Promise, PromisedHandle, Scope, Threads};
 
 /// The ends that a worker was given.
@@ -34,32 +35,26 @@ pub type Worker<'a> = PromisedHandle<Worked<'a>, WorkOf<'a>>;
 
 // What the worker of this number does: it works, unless it is the one that no thread was made for.
 fn work_with<'a, R: Wait, P: Pause>(
-    rt: &R,
-    alloc: Global,
-    refused: &AtomicUsize,
+    shared: &Shared<R, P>,
     number: usize,
     ends: WorkerEnds<'a>,
-    pause: &P,
 ) -> Worked<'a>
     ensures { HasWorked ends.entry.jobs ends.entry.replies result.jobs result.replies }
 {
     let WorkerEnds { jobs, replies } = ends;
-    if refused.load(Ordering::SeqCst) == number {
-        idle(rt, jobs, replies)
+    if shared.refused.worker.load(Ordering::SeqCst) == number {
+        idle(shared.rt, jobs, replies)
     } else {
-        work(rt, alloc, jobs, replies, pause)
+        work(shared.rt, shared.alloc, jobs, replies, shared.pause)
     }
 }
 
 // Starts a worker. Where no thread can be made it ends here at once, without work.
 fn start_worker<'s, 'a: 's, E, R: Threads + Wait + Sync, P: Pause>(
-    rt: &'s R,
-    alloc: Global,
+    shared: &'s Shared<'s, R, P>,
     scope: &Scope<'s, E>,
-    refused: &'s AtomicUsize,
     number: usize,
     ends: WorkerEnds<'a>,
-    pause: &'s P,
 ) -> Result<Worker<'a>, Worked<'a>>
     ensures started { IfOk result (λ h. h.promise.0.value ≡ ends.entry) }
     ensures ended { IfErr result (λ w. HasWorked ends.entry.jobs ends.entry.replies w.jobs w.replies) }
@@ -67,11 +62,11 @@ fn start_worker<'s, 'a: 's, E, R: Threads + Wait + Sync, P: Pause>(
     let promise = WorkOf(Snapshot::of(&ends));
     let body = move || -> Worked
         ensures { HasWorked ends.entry.jobs ends.entry.replies result.jobs result.replies }
-    { work_with(rt, alloc, refused, number, ends, pause) };
+    { work_with(shared, number, ends) };
     match scope.spawn_with(promise, body) {
         Ok(handle) => Ok(handle),
         Err(back) => {
-            refused.store(number, Ordering::SeqCst);
+            shared.refused.worker.store(number, Ordering::SeqCst);
             Err((back.value)())
         }
     }
@@ -88,7 +83,7 @@ impl<'a> Promise<Cleared<'a>> for ClearOf<'a> {
 }
 
 // What the collector's thread does. Where no thread was made for it, it waits for no worker and takes nothing.
-fn clear_with<'a, R: Wait>(rt: &R, refused: &AtomicBool, desk: Desk<'a>) -> Cleared<'a>
+fn clear_with<'a, R: Wait, P: Pause>(shared: &Shared<R, P>, desk: Desk<'a>) -> Cleared<'a>
     requires empty { IsNothingYet desk.collector.racks desk.collector }
     requires unused { IsUnusedTake desk.replies }
     ensures { HasCleared desk.entry.collector.racks desk.entry.replies result.all.collector result.all.fault result.replies }
@@ -98,13 +93,13 @@ fn clear_with<'a, R: Wait>(rt: &R, refused: &AtomicBool, desk: Desk<'a>) -> Clea
         replies,
         workers,
     } = desk;
-    let workers = if refused.load(Ordering::SeqCst) {
+    let workers = if shared.refused.collector.load(Ordering::SeqCst) {
         0
     } else {
         workers
     };
     clear(
-        rt,
+        shared.rt,
         Desk {
             collector,
             replies,
@@ -114,10 +109,9 @@ fn clear_with<'a, R: Wait>(rt: &R, refused: &AtomicBool, desk: Desk<'a>) -> Clea
 }
 
 // Starts the collector's thread. Where no thread can be made, its desk is left as it was.
-pub fn start_collector<'s, 'a: 's, E, R: Wait + Sync>(
-    rt: &'s R,
+pub fn start_collector<'s, 'a: 's, E, R: Wait + Sync, P: Pause>(
+    shared: &'s Shared<'s, R, P>,
     scope: &Scope<'s, E>,
-    refused: &'s AtomicBool,
     desk: Desk<'a>,
 ) -> Result<PromisedHandle<Cleared<'a>, ClearOf<'a>>, Cleared<'a>>
     requires empty { IsNothingYet desk.collector.racks desk.collector }
@@ -128,11 +122,11 @@ pub fn start_collector<'s, 'a: 's, E, R: Wait + Sync>(
     let body = move || -> Cleared
         requires { IsNothingYet desk.collector.racks desk.collector × IsUnusedTake desk.replies }
         ensures { HasCleared desk.entry.collector.racks desk.entry.replies result.all.collector result.all.fault result.replies }
-    { clear_with(rt, refused, desk) };
+    { clear_with(shared, desk) };
     match scope.spawn_with(promise, body) {
         Ok(handle) => Ok(handle),
         Err(back) => {
-            refused.store(true, Ordering::SeqCst);
+            shared.refused.collector.store(true, Ordering::SeqCst);
             Err((back.value)())
         }
     }
@@ -159,12 +153,9 @@ pub fn join_workers<'a, R: Threads>(
 // Starts a worker for each pair of ends, in order. After a refusal no further one is started, and the others end here; of the
 // last of these the end is given back by which it was to take.
 pub fn start_workers<'s, 'a: 's, E, R: Threads + Wait + Sync, P: Pause>(
-    rt: &'s R,
-    alloc: Global,
+    shared: &'s Shared<'s, R, P>,
     scope: &Scope<'s, E>,
-    refused: &'s AtomicUsize,
     ends: Vec<WorkerEnds<'a>>,
-    pause: &'s P,
     handles: &mut Vec<Worker<'a>>,
 ) -> Option<TakeEnd<Job<'a>>>
     requires empty { handles.old.items ≡ [] }
@@ -176,13 +167,13 @@ pub fn start_workers<'s, 'a: 's, E, R: Threads + Wait + Sync, P: Pause>(
     let mut left = None;
     for end in ends {
         if left.is_none() {
-            match start_worker(rt, alloc, scope, refused, handles.len(), end, pause) {
+            match start_worker(shared, scope, handles.len(), end) {
                 Ok(handle) => handles.push_reserved(handle),
                 Err(ended) => left = Some(ended.jobs),
             }
         } else {
             let WorkerEnds { jobs, replies } = end;
-            left = Some(idle(rt, jobs, replies).jobs);
+            left = Some(idle(shared.rt, jobs, replies).jobs);
         }
     }
     left
@@ -229,27 +220,25 @@ fn feed_all<'a, R: Wait>(rt: &R, feeder: Feeder<'a>) -> EndedPut<Job<'a>>
 }
 
 // What a feeder does: it feeds its list, unless a feeder was refused before it began.
-fn feed_with<'a, R: Wait>(
-    rt: &R,
-    refused: &AtomicBool,
+fn feed_with<'a, R: Wait, P: Pause>(
+    shared: &Shared<R, P>,
     feeder: Feeder<'a>,
 ) -> Option<EndedPut<Job<'a>>>
     ensures { IfSome result (λ e. HasPutAll feeder.entry.rack feeder.entry.list.now feeder.entry.jobs e) }
 {
-    if refused.load(Ordering::SeqCst) {
+    if shared.refused.feeder.load(Ordering::SeqCst) {
         let Feeder { jobs, .. } = feeder;
-        let _ended = jobs.end(rt);
+        let _ended = jobs.end(shared.rt);
         None
     } else {
-        Some(feed_all(rt, feeder))
+        Some(feed_all(shared.rt, feeder))
     }
 }
 
 // Starts a feeder. Where no thread can be made, its end is ended here.
-fn start_feeder<'s, 'a: 's, E, R: Threads + Wait + Sync>(
-    rt: &'s R,
+fn start_feeder<'s, 'a: 's, E, R: Threads + Wait + Sync, P: Pause>(
+    shared: &'s Shared<'s, R, P>,
     scope: &Scope<'s, E>,
-    refused: &'s AtomicBool,
     feeder: Feeder<'a>,
 ) -> Option<FeederHandle<'a>>
     ensures { IfSome result (λ h. h.promise.0.value ≡ feeder.entry) }
@@ -257,11 +246,11 @@ fn start_feeder<'s, 'a: 's, E, R: Threads + Wait + Sync>(
     let promise = FeedOf(Snapshot::of(&feeder));
     let body = move || -> Option<EndedPut<Job>>
         ensures { IfSome result (λ e. HasPutAll feeder.entry.rack feeder.entry.list.now feeder.entry.jobs e) }
-    { feed_with(rt, refused, feeder) };
+    { feed_with(shared, feeder) };
     match scope.spawn_with(promise, body) {
         Ok(handle) => Some(handle),
         Err(back) => {
-            refused.store(true, Ordering::SeqCst);
+            shared.refused.feeder.store(true, Ordering::SeqCst);
             let _none = (back.value)();
             None
         }
@@ -280,10 +269,9 @@ fn spend(gate: &Gate, seat: Seat, right: Right)
 
 // Starts a feeder for each rack, in order. After a refusal no further one is started, and the ends of the others are ended here:
 // the workers take their marks. Says whether none was refused.
-pub fn start_feeders<'s, 'a: 's, E, R: Threads + Wait + Sync>(
-    rt: &'s R,
+pub fn start_feeders<'s, 'a: 's, E, R: Threads + Wait + Sync, P: Pause>(
+    shared: &'s Shared<'s, R, P>,
     scope: &Scope<'s, E>,
-    refused: &'s AtomicBool,
     feeders: Vec<Feeder<'a>>,
     handles: &mut Vec<FeederHandle<'a>>,
 ) -> bool
@@ -296,13 +284,13 @@ pub fn start_feeders<'s, 'a: 's, E, R: Threads + Wait + Sync>(
     let mut all = true;
     for feeder in feeders {
         if all {
-            match start_feeder(rt, scope, refused, feeder) {
+            match start_feeder(shared, scope, feeder) {
                 Some(handle) => handles.push_reserved(handle),
                 None => all = false,
             }
         } else {
             let Feeder { jobs, .. } = feeder;
-            let _ended = jobs.end(rt);
+            let _ended = jobs.end(shared.rt);
         }
     }
     all
