@@ -1,9 +1,10 @@
-# `make demo` proves, builds and runs the program on the sample in demo/; `make test` is the gate.
+# `make demo` proves, builds and runs the program on the sample in demo/; `make test` is the gate, and `make wrong-bodies` tries
+# the wrong bodies that it leaves out.
 
 # The processor level that programs are built for: v3 has 32-byte vectors (AVX2), v2 those of 16 bytes.
 CPU := $(shell grep -q avx2 /proc/cpuinfo && echo x86-64-v3 || echo x86-64-v2)
 
-.PHONY: build demo test bench
+.PHONY: build demo test wrong-bodies bench
 
 # Proves the program and what it stands on, and builds crates/rebuild/out/rebuild.
 build:
@@ -21,6 +22,9 @@ test:
 	scripts/reference-lines.sh
 	scripts/ends.sh
 	scripts/demo.sh
+
+wrong-bodies:
+	scripts/try-wrong-bodies.sh
 
 bench: build
 	scripts/bench.sh $(CPU)

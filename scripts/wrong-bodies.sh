@@ -1,6 +1,6 @@
 #!/usr/bin/env bash
-# Compares the tables of docs/WRONG_BODIES.md with the edits in crates/*/must-fail and crates/*/no-compile: each edit has
-# its row, and each row of those tables its edit. With the word `rows` it prints the rows that the edits ask for.
+# Compares the tables of docs/WRONG_BODIES.md with the edits in must-fail, wrong-bodies and no-compile of crates/*: each edit
+# has its row, and each row of those tables its edit. With the word `rows` it prints the rows that the edits ask for.
 set -euo pipefail
 cd "$(dirname "$0")/.."
 scratch=$(mktemp -d)
@@ -12,6 +12,11 @@ rows() {
     crate=$(basename "$(dirname "$(dirname "$edit")")")
     name=$(basename "$edit" .edit)
     echo "$crate: | ${name//_/ } | \`$(sed -n '1s/^file: //p' "$edit")\` |"
+  done
+  for edit in crates/*/wrong-bodies/*.edit; do
+    crate=$(basename "$(dirname "$(dirname "$edit")")")
+    name=$(basename "$edit" .edit)
+    echo "Left out of the gate: | ${name//_/ } | \`$crate\` | \`$(sed -n '1s/^file: //p' "$edit")\` |"
   done
   for edit in crates/*/no-compile/*.edit; do
     crate=$(basename "$(dirname "$(dirname "$edit")")")

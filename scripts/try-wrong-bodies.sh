@@ -1,0 +1,19 @@
+#!/usr/bin/env bash
+# The edits of crates/*/wrong-bodies, which the proofs must refuse like those of must-fail, and which the gate leaves out for
+# time. They are tried in a copy of the repository where they stand in for the gate's. With names of crates it tries theirs.
+set -euo pipefail
+cd "$(dirname "$0")/.."
+copy=$(mktemp -d)
+trap 'rm -rf "$copy"' EXIT
+git ls-files -z --cached --others --exclude-standard | xargs -0 cp --parents -t "$copy"
+cd "$copy"
+if [ $# = 0 ]; then
+  for edits in crates/*/wrong-bodies; do
+    set -- "$@" "$(basename "$(dirname "$edits")")"
+  done
+fi
+for crate; do
+  rm -r "crates/$crate/must-fail"
+  mv "crates/$crate/wrong-bodies" "crates/$crate/must-fail"
+done
+rt must-fail "$@"
