@@ -8,7 +8,6 @@ pub mod Rows
 pub mod RackDigests
 pub mod Put
 pub mod PutAll
-pub mod Front
 pub mod ReadFiles
 pub mod ReadSurvivors
 pub mod ReadRequests

@@ -57,41 +57,41 @@ list_absent there rack name named e = ap (λ n. option_map list_of (there n)) (s
 abbrev counted : ℕ → List ℕ → Option (List ℕ)
 counted len b = cond (length b == len) (Some b) None
 
-whole_from : (x : Option (List ℕ)) (bytes : List ℕ) (len : ℕ) → len ≤ 65536 → Some bytes ≡ option_map (take 65537) x → length bytes ≡ len → option_and_then (counted len) x ≡ Some bytes
-whole_from None bytes len small e h = cc
-whole_from (Some b) bytes len small e h =
-    let same : bytes ≡ take 65537 b = cc in
-    let size : length (take 65537 b) ≡ len = ap length (sym same) ∙ h in
-    let all : take 65537 b ≡ b = take_all 65537 b (omega (arith, length-take 65537 b, size)) in
+whole_from : (x : Option (List ℕ)) (bytes : List ℕ) (len limit : ℕ) → len < limit → Some bytes ≡ option_map (take limit) x → length bytes ≡ len → option_and_then (counted len) x ≡ Some bytes
+whole_from None bytes len limit more e h = cc
+whole_from (Some b) bytes len limit more e h =
+    let same : bytes ≡ take limit b = cc in
+    let size : length (take limit b) ≡ len = ap length (sym same) ∙ h in
+    let all : take limit b ≡ b = take_all limit b (omega (arith, length-take limit b, size, more)) in
     let long : length b ≡ len = ap length (sym all) ∙ size in
     elim (eqb_tells (length b) len) as (λ _. counted len b ≡ Some bytes) [ inl p ↦ rw (p.0) (ap Some (sym all ∙ sym same)) | inr p ↦ absurd (p.1 long) ]
 
-other_from : (x : Option (List ℕ)) (bytes : List ℕ) (len : ℕ) → len ≤ 65536 → Some bytes ≡ option_map (take 65537) x → (length bytes ≡ len → ⊥) → option_and_then (counted len) x ≡ None
-other_from None bytes len small e h = cc
-other_from (Some b) bytes len small e h =
-    let same : bytes ≡ take 65537 b = cc in
+other_from : (x : Option (List ℕ)) (bytes : List ℕ) (len limit : ℕ) → len < limit → Some bytes ≡ option_map (take limit) x → (length bytes ≡ len → ⊥) → option_and_then (counted len) x ≡ None
+other_from None bytes len limit more e h = cc
+other_from (Some b) bytes len limit more e h =
+    let same : bytes ≡ take limit b = cc in
     elim (eqb_tells (length b) len) as (λ _. counted len b ≡ None) [
-      | inl p ↦ absurd (h (ap length (same ∙ take_all 65537 b (omega (arith, p.1))) ∙ p.1))
+      | inl p ↦ absurd (h (ap length (same ∙ take_all limit b (omega (arith, p.1, more))) ∙ p.1))
       | inr p ↦ rw (p.0) refl
     ]
 
-pub fragment_read : (there : Files) (r : ListedRequest) (p : Place) (name bytes : List ℕ) → r.len ≤ 65536 → name ≡ fragment_name r.stripe p → Some bytes ≡ option_map (take 65537) (there name) → length bytes ≡ r.len
+pub fragment_read : (there : Files) (r : ListedRequest) (p : Place) (name bytes : List ℕ) (limit : ℕ) → r.len < limit → name ≡ fragment_name r.stripe p → Some bytes ≡ option_map (take limit) (there name) → length bytes ≡ r.len
     → Some bytes ≡ fragment there r (p, false)
 unfolding fragment
-fragment_read there r p name bytes small named e h = sym (ap (λ n. option_and_then (counted r.len) (there n)) (sym named) ∙ whole_from (there name) bytes r.len small e h)
+fragment_read there r p name bytes limit more named e h = sym (ap (λ n. option_and_then (counted r.len) (there n)) (sym named) ∙ whole_from (there name) bytes r.len limit more e h)
 
-pub fragment_other : (there : Files) (r : ListedRequest) (p : Place) (name bytes : List ℕ) → r.len ≤ 65536 → name ≡ fragment_name r.stripe p → Some bytes ≡ option_map (take 65537) (there name) → (length bytes ≡ r.len → ⊥)
+pub fragment_other : (there : Files) (r : ListedRequest) (p : Place) (name bytes : List ℕ) (limit : ℕ) → r.len < limit → name ≡ fragment_name r.stripe p → Some bytes ≡ option_map (take limit) (there name) → (length bytes ≡ r.len → ⊥)
     → None ≡ fragment there r (p, false)
 unfolding fragment
-fragment_other there r p name bytes small named e h = sym (ap (λ n. option_and_then (counted r.len) (there n)) (sym named) ∙ other_from (there name) bytes r.len small e h)
+fragment_other there r p name bytes limit more named e h = sym (ap (λ n. option_and_then (counted r.len) (there n)) (sym named) ∙ other_from (there name) bytes r.len limit more e h)
 
-absent_from : (x : Option (List ℕ)) (len : ℕ) → None ≡ option_map (take 65537) x → option_and_then (counted len) x ≡ None
-absent_from None len e = refl
-absent_from (Some b) len e = cc
+absent_from : (x : Option (List ℕ)) (len limit : ℕ) → None ≡ option_map (take limit) x → option_and_then (counted len) x ≡ None
+absent_from None len limit e = refl
+absent_from (Some b) len limit e = cc
 
-pub fragment_absent : (there : Files) (r : ListedRequest) (p : Place) (name : List ℕ) → name ≡ fragment_name r.stripe p → None ≡ option_map (take 65537) (there name) → None ≡ fragment there r (p, false)
+pub fragment_absent : (there : Files) (r : ListedRequest) (p : Place) (name : List ℕ) (limit : ℕ) → name ≡ fragment_name r.stripe p → None ≡ option_map (take limit) (there name) → None ≡ fragment there r (p, false)
 unfolding fragment
-fragment_absent there r p name named e = sym (ap (λ n. option_and_then (counted r.len) (there n)) (sym named) ∙ absent_from (there name) r.len e)
+fragment_absent there r p name limit named e = sym (ap (λ n. option_and_then (counted r.len) (there n)) (sym named) ∙ absent_from (there name) r.len limit e)
 
 pub fragment_failed : (there : Files) (r : ListedRequest) (p : Place) → None ≡ fragment there r (p, true)
 unfolding fragment

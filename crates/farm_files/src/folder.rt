@@ -1,7 +1,6 @@
 //! A shelf over a folder of the system.
-ghost use Rattle.std.specs.Prelude.{◌≡◌, ◌≤◌, ◌-◌, ◌++◌, ℕ, None, IfOk, IfErr, OnOk, length, take};
-ghost use Rattle.farm_files.specs.declared.shelf.ShelfFault.TheVariants.{OutOfMemory};
-ghost use Rattle.farm_files.specs.Folder.{IsFront, folder_failed};
+ghost use Rattle.std.specs.Prelude.{◌≡◌, ℕ, None, IfOk, IfSome, take};
+ghost use Rattle.farm_files.specs.Folder.{folder_failed};
 
 use crate::shelf::{Shelf, ShelfFault};
 use std::alloc::{AllocError, Global};
@@ -9,11 +8,8 @@ use std::fs;
 use std::io::{ErrorKind, Read, Write};
 use std::rt::Files;
 
-// The most calls that reading a file may take.
-const READ_TURNS: u32 = 16_777_216;
-
-// A whole fragment of the greatest length comes in one call.
-const BLOCK: usize = 65_537;
+// The room that is taken before the first read, if the limit isn't less. A fragment of the greatest length fits it.
+const FIRST_ROOM: usize = 65_537;
 
 /// A shelf over a folder of the system. Contracts see only how often it failed, since other programs may change the
 /// folder's files.
@@ -45,38 +41,18 @@ impl<R: Files + Clone + Drop> FolderShelf<R> {
 }
 
 // The first bytes of a file, as many as the limit at most.
-fn read_front<F: Read>(alloc: Global, file: &mut F, limit: usize) -> Result<Vec<u8>, ShelfFault>
-    ensures { IfOk result (λ bytes. IsFront (F.remaining file.old) (F.remaining file.new) limit bytes.items) }
+fn read_front<F: Read + Drop>(alloc: Global, file: F, limit: usize) -> Result<Vec<u8>, ShelfFault>
+    ensures { IfOk result (λ bytes. IfSome (F.remaining file) (λ all. bytes.items ≡ take limit all)) }
 {
-    let mut bytes = Vec::new(alloc);
-    let mut block = [0u8; BLOCK];
-    for _turn in 0..READ_TURNS {
-        if bytes.len() >= limit {
-            return Ok(bytes);
-        }
-        match file.read(&mut block) {
-            Ok(0) => return Ok(bytes),
-            Ok(n) => add_front(&mut bytes, &block[..n], limit)?,
-            Err(e) => {
-                if e.kind() != ErrorKind::Interrupted {
-                    return Err(ShelfFault::Device);
-                }
-            }
-        }
-    }
-    Err(ShelfFault::Device)
-}
-
-// Adds what a read gave, up to the limit.
-fn add_front(bytes: &mut Vec<u8>, block: &[u8], limit: usize) -> Result<(), ShelfFault>
-    requires { length bytes.old.items ≤ limit }
-    ensures added { OnOk result (bytes.new.items ≡ bytes.old.items ++ take (limit - length bytes.old.items) block.now) }
-    ensures memory { IfErr result (λ f. f ≡ OutOfMemory) }
-{
-    let size = block.len().min(limit - bytes.len());
-    match bytes.extend_from_slice(&block[..size]) {
-        Ok(()) => Ok(()),
-        Err(_) => Err(ShelfFault::OutOfMemory),
+    let Ok(mut bytes) = Vec::with_capacity(alloc, limit.min(FIRST_ROOM)) else {
+        return Err(ShelfFault::OutOfMemory);
+    };
+    match file.take(limit as u64).read_to_end(&mut bytes) {
+        Ok(_) => Ok(bytes),
+        Err(e) => match e.kind() {
+            ErrorKind::OutOfMemory => Err(ShelfFault::OutOfMemory),
+            _ => Err(ShelfFault::Device),
+        },
     }
 }
 
@@ -99,7 +75,7 @@ impl<R: Files + Clone + Drop> Shelf for FolderShelf<R> {
             return Err(ShelfFault::OutOfMemory);
         };
         let read = match fs::open(&self.rt, path.as_str()) {
-            Ok(mut file) => read_front(alloc, &mut file, limit),
+            Ok(file) => read_front(alloc, file, limit),
             Err(e) => {
                 if e.kind() == ErrorKind::NotFound {
                     return Ok(None);

@@ -29,9 +29,6 @@ const RACK_LIMIT: usize = 16;
 // One byte more than a list may have.
 const LIST_ROOM: usize = 1_048_577;
 
-// One byte more than a fragment may have.
-const FRAGMENT_ROOM: usize = 65_537;
-
 // The list of a rack, where it is there.
 fn read_rack_list<I: Shelf>(
     alloc: Global,
@@ -95,7 +92,8 @@ fn list_fault(rack: usize, fault: ListFault) -> ServeFault
     }
 }
 
-// The bytes of a listed survivor, where they are there and as many as listed and the device doesn't fail.
+// The bytes of a listed survivor, where they are there and as many as listed and the device doesn't fail. One byte more than listed
+// is read, so that a longer file shows.
 fn read_fragment<I: Shelf>(
     alloc: Global,
     input: &mut I,
@@ -110,13 +108,14 @@ fn read_fragment<I: Shelf>(
     ensures few { I.failed input.new ≤ I.failed input.old + 1 }
 {
     let name = fragment_file(alloc, listed.stripe(), place)?;
-    let bytes = match input.read(alloc, name.as_str(), FRAGMENT_ROOM) {
+    let length = listed.length() as usize;
+    let bytes = match input.read(alloc, name.as_str(), length + 1) {
         Ok(Some(bytes)) => bytes,
         Ok(None) => return Ok(None),
         Err(ShelfFault::Device) => return Ok(None),
         Err(ShelfFault::OutOfMemory) => return Err(AllocError),
     };
-    if bytes.len() == listed.length() as usize {
+    if bytes.len() == length {
         Ok(Some(bytes))
     } else {
         Ok(None)

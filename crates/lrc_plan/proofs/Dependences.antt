@@ -12,7 +12,7 @@ use Rattle.lrc_code.specs.Places.{same_place}
 use Rattle.lrc_code.specs.Code.{narrow_places}
 use Rattle.lrc_code.specs.Sums.{GivesBytes, sum_over}
 use Rattle.lrc_code.proofs.PlaceSums.{same_place-eq, same_place-refl, same_place-sym, sum_over-same}
-use Rattle.lrc_plan.proofs.Extension.{row_sum-add, row_sum-single, zeros}
+use Rattle.lrc_plan.proofs.Extension.{row_sum-add, row_sum-single, products_small, cond_small, zeros}
 
 -- ---- lists of places
 
@@ -136,14 +136,6 @@ dot-more : (f v : Place → ℕ) (q : Place) (x : ℕ)
 dot-more f v q x =
     row_sum-add (λ r. f) 0 v (λ p. cond (same_place q p) x 0) ∙ ap (bit_xor (dot f v)) (row_sum-single (λ r. f) 0 q x)
 
-dot_small : (ps : List Place) (f v : Place → ℕ) → sum_over ps (λ p. times (f p) (v p)) < 256
-dot_small [] f v = omega arith
-dot_small (p ∷ ps) f v = xor_lt 8 _ _ (times_lt _ _) (dot_small ps f v)
-
-cond_small : (t : Bool) (n : ℕ) → n < 256 → cond t n 0 < 256
-cond_small true n h = h
-cond_small false n h = omega arith
-
 -- ---- dependences
 
 -- the pivots of the first n rows
@@ -212,7 +204,7 @@ module _ (n : ℕ) (rows : ℕ → Place → ℕ) (ps : List Place) (apart : Apa
       dot-more (rows n) d.bytes q x
       ∙ ap (bit_xor (dot (rows n) d.bytes))
       (sym (times-assoc (rows n q) c (dot (rows n) d.bytes)) ∙ ap (λ y. times y (dot (rows n) d.bytes)) inverse
-      ∙ times-one (dot (rows n) d.bytes) (dot_small narrow_places (rows n) d.bytes))
+      ∙ times-one (dot (rows n) d.bytes) (products_small narrow_places (rows n) d.bytes))
       ∙ xor_self (dot (rows n) d.bytes)
 
   at_other : (i : ℕ) → i < n → dot (rows i) bytes ≡ 0

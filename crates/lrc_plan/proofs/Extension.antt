@@ -46,6 +46,16 @@ pub zeros : (ps : List Place) → sum_over ps (λ p. 0) ≡ 0
 zeros [] = refl
 zeros (p ∷ ps) = ap (λ x. bit_xor 0 x) (zeros ps) ∙ xor_zero_r 0
 
+-- a sum of products is a byte
+pub products_small : (ps : List Place) (c b : Place → ℕ) → sum_over ps (λ p. times (c p) (b p)) < 256
+products_small [] c b = omega arith
+products_small (p ∷ ps) c b = xor_lt 8 _ _ (times_lt _ _) (products_small ps c b)
+
+-- a byte or 0 is a byte
+pub cond_small : (t : Bool) (n : ℕ) → n < 256 → cond t n 0 < 256
+cond_small true n h = h
+cond_small false n h = omega arith
+
 -- what a pivot's place gets
 abbrev pub part : Option Place → ℕ → Place → ℕ
 part None v p = 0
@@ -125,20 +135,11 @@ module _ (survives : Place → Bool) (coef : ℕ → Place → ℕ) (pivot : ℕ
   own : (r : ℕ) → r < 4 → (q : Place) → pivot r ≡ Some q → (v : ℕ) → v < 256 → term (pivot r) (coef r) v ≡ v
   own r hr q e v k = ap (λ o. term o (coef r) v) e ∙ ap (λ c. times c v) (red.one r q hr e) ∙ times-one v k
 
-  row_small : (ps : List Place) (r : ℕ) (b : Place → ℕ) → GivesBytes b
-      → sum_over ps (λ p. times (coef r p) (b p)) < 256
-  row_small [] r b h = omega arith
-  row_small (p ∷ ps) r b h = xor_lt 8 _ _ (times_lt _ _) (row_small ps r b h)
-
-  cond_small : (t : Bool) (n : ℕ) → n < 256 → cond t n 0 < 256
-  cond_small true n h = h
-  cond_small false n h = omega arith
-
   kept_small : GivesBytes kept
   kept_small p = cond_small (survives p) (s p) (small p)
 
   val_small : (j : ℕ) → val j < 256
-  val_small j = xor_lt 8 _ _ (row_small narrow_places j kept kept_small) (times_lt _ _)
+  val_small j = xor_lt 8 _ _ (products_small narrow_places (coef j) kept) (times_lt _ _)
 
   part_small : (o : Option Place) (v : ℕ) → v < 256 → (p : Place) → part o v p < 256
   part_small None v h p = omega arith

@@ -124,6 +124,40 @@ fn copy_in_refused_leaves_its_source(rt: HostRuntime) -> Result<(), AllocError> 
     Ok(())
 }
 
+// How a call ended in a heap.
+#[derive(Drop)]
+enum Ended {
+    Refused,
+    Granted,
+    Wrongly,
+}
+
+// How a graft of 02 * x2 for both leaves of x1 + x1 ends in this heap; the trees are in the other one.
+fn graft_in(heap: &LocalHeap, roomy: &LocalHeap) -> Result<Ended, AllocError> {
+    let host = sum_of_leaves(roomy, Place::X1, Place::X1)?;
+    let scion = scaled_leaf(roomy, 0x02, Place::X2)?;
+    match host.graft(heap, Place::X1, scion) {
+        Ok(tree) if tree.leaf_count() == 2 && tree.leaves().has(Place::X2) => Ok(Ended::Granted),
+        Ok(_) => Ok(Ended::Wrongly),
+        Err(back) => are_given_back(&back.host, &back.scion, roomy),
+    }
+}
+
+// Whether these are the trees that were to be grafted.
+fn are_given_back<A: Allocator, B: Allocator>(
+    host: &Tree<A>,
+    scion: &Tree<B>,
+    roomy: &LocalHeap,
+) -> Result<Ended, AllocError> {
+    let same_host = are_same(host, &sum_of_leaves(roomy, Place::X1, Place::X1)?);
+    let same_scion = are_same(scion, &scaled_leaf(roomy, 0x02, Place::X2)?);
+    if same_host && same_scion {
+        Ok(Ended::Refused)
+    } else {
+        Ok(Ended::Wrongly)
+    }
+}
+
 #[test]
 fn graft_refused_gives_both_trees_back(rt: HostRuntime) -> Result<(), AllocError> {
     let alloc = rt.alloc();
@@ -134,19 +168,13 @@ fn graft_refused_gives_both_trees_back(rt: HostRuntime) -> Result<(), AllocError
             continue;
         };
         let number = fitting(&heap, 2);
-        let host = sum_of_leaves(&roomy, Place::X1, Place::X1)?;
-        let scion = scaled_leaf(&roomy, 0x02, Place::X2)?;
-        match host.graft(&heap, Place::X1, scion) {
-            Ok(tree) => {
-                assert!(&rt; tree.leaf_count() == 2 && tree.leaves().has(Place::X2));
+        match graft_in(&heap, &roomy)? {
+            Ended::Granted => {
                 assert!(&rt; refused.next == 3);
                 return Ok(());
             }
-            Err(back) => {
-                assert!(&rt; refused.follows(number), "{size} bytes");
-                assert!(&rt; are_same(&back.host, &sum_of_leaves(&roomy, Place::X1, Place::X1)?));
-                assert!(&rt; are_same(&back.scion, &scaled_leaf(&roomy, 0x02, Place::X2)?));
-            }
+            Ended::Refused => assert!(&rt; refused.follows(number), "{size} bytes"),
+            Ended::Wrongly => assert!(&rt; false, "{size} bytes"),
         }
     }
     assert!(&rt; false, "it was never granted");
@@ -165,18 +193,30 @@ fn plans_in_turn(alloc: Global, survivors: PlaceSet, target: Place) -> Result<bo
             continue;
         };
         let number = fitting(&heap, same.checks.len());
-        match plan(&heap, survivors, target) {
-            Ok(plan) => {
-                return Ok(refused.next == allocations(&same) && are_same_plans(&plan, &same));
-            }
-            Err(AllocError) => {
-                if !refused.follows(number) {
-                    return Ok(false);
-                }
-            }
+        match plan_in(&heap, survivors, target, &same) {
+            Ended::Granted => return Ok(refused.next == allocations(&same)),
+            Ended::Refused if refused.follows(number) => {}
+            _ => return Ok(false),
         }
     }
     Ok(false)
+}
+
+// How planning ends in this heap, where the plan is to be the same as another.
+fn plan_in<A: Allocator>(
+    heap: &LocalHeap,
+    survivors: PlaceSet,
+    target: Place,
+    same: &Plan<A>,
+) -> Ended {
+    if survivors.has(target) {
+        return Ended::Wrongly;
+    }
+    match plan(heap, survivors, target) {
+        Ok(plan) if are_same_plans(&plan, same) => Ended::Granted,
+        Ok(_) => Ended::Wrongly,
+        Err(AllocError) => Ended::Refused,
+    }
 }
 
 #[test]
@@ -285,20 +325,22 @@ fn answers_in_turn(alloc: Global, request: &Request, answer: Answer) -> Result<b
             continue;
         };
         let number = fitting(&heap, plan.checks.len()).min(planned);
-        match solve_in(&heap, &heap, request) {
-            Ok(solved) => {
-                return Ok(
-                    refused.next == planned.wrapping_add(bytes) && is_answer(&solved, answer),
-                );
-            }
-            Err(AllocError) => {
-                if !refused.follows(number) {
-                    return Ok(false);
-                }
-            }
+        match solve_once(&heap, request, answer) {
+            Ended::Granted => return Ok(refused.next == planned.wrapping_add(bytes)),
+            Ended::Refused if refused.follows(number) => {}
+            _ => return Ok(false),
         }
     }
     Ok(false)
+}
+
+// How solving ends in this heap, where the answer is to be this one.
+fn solve_once(heap: &LocalHeap, request: &Request, answer: Answer) -> Ended {
+    match solve_in(heap, heap, request) {
+        Ok(solved) if is_answer(&solved, answer) => Ended::Granted,
+        Ok(_) => Ended::Wrongly,
+        Err(AllocError) => Ended::Refused,
+    }
 }
 
 #[test]

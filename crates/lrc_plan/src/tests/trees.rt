@@ -5,7 +5,7 @@ ghost use Rattle.lrc_plan.specs.Form.{Leaf, Sum};
 ghost use Rattle.lrc_plan.specs.Evaluation.{CanEvaluate};
 ghost use Rattle.lrc_plan.specs.Tree.{form_of};
 
-use super::fixtures::{Answer, CASES, are_same, request_of, scaled_leaf, sum_of_leaves};
+use super::fixtures::{Answer, CASES, Case, are_same, request_of, scaled_leaf, sum_of_leaves};
 use crate::{Tree, evaluate, evaluate_both, plan};
 use bumpalo::Bump;
 use lrc_code::{Place, Request};
@@ -99,27 +99,49 @@ fn gives_at_any_forks<R: Threads + Sync>(
     Ok(true)
 }
 
+// What the value tree of a case's request gives.
+#[derive(Drop)]
+enum Given {
+    // There is none.
+    NoTree,
+    // The same bytes in every way, which are those of the case if it has any.
+    Same,
+    // And it has some.
+    Rebuilt,
+    // Something else.
+    Other,
+}
+
+fn given_by_value_tree<R: Threads + Sync>(
+    rt: &R,
+    alloc: Global,
+    case: &Case,
+) -> Result<Given, AllocError> {
+    let Some(request) = request_of(alloc, case)? else {
+        return Ok(Given::Other);
+    };
+    let Some(tree) = value_tree(alloc, &request)? else {
+        return Ok(Given::NoTree);
+    };
+    let bytes = evaluate(alloc, &tree, &request)?;
+    if !gives_at_any_forks(rt, alloc, &tree, &request, &bytes)? {
+        return Ok(Given::Other);
+    }
+    match case.answer {
+        Answer::Rebuilt(expected) if bytes.as_slice() == expected => Ok(Given::Rebuilt),
+        Answer::Rebuilt(_) => Ok(Given::Other),
+        _ => Ok(Given::Same),
+    }
+}
+
 #[test]
 fn value_trees_give_the_same_bytes_at_any_forks(rt: HostRuntime) -> Result<(), AllocError> {
-    let alloc = rt.alloc();
     let mut rebuilt = 0u32;
     for case in &CASES {
-        let Some(request) = request_of(alloc, case)? else {
-            assert!(&rt; false, "{} is refused", case.name);
-            return Ok(());
-        };
-        let Some(tree) = value_tree(alloc, &request)? else {
-            continue;
-        };
-        let bytes = evaluate(alloc, &tree, &request)?;
-        assert!(&rt;
-            gives_at_any_forks(&rt, alloc, &tree, &request, &bytes)?,
-            "{}, by both branches",
-            case.name
-        );
-        if let Answer::Rebuilt(expected) = case.answer {
-            assert!(&rt; bytes.as_slice() == expected, "{}", case.name);
-            rebuilt = rebuilt.wrapping_add(1);
+        match given_by_value_tree(&rt, rt.alloc(), case)? {
+            Given::NoTree | Given::Same => {}
+            Given::Rebuilt => rebuilt = rebuilt.wrapping_add(1),
+            Given::Other => assert!(&rt; false, "{}", case.name),
         }
     }
     assert!(&rt; rebuilt == 9);
