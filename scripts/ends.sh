@@ -72,4 +72,20 @@ ends bad-stripe 1 '' 'rack0.csv: record 2: E21 E1' farm "$scratch/bad" "$scratch
 ends no-output-folder 3 '' E24 farm demo/farm "$scratch/none"
 ends_full served-full 3 '' farm demo/farm "$scratch/out"
 ends served 0 'served 2 racks, 7 answers' '' farm demo/farm "$scratch/out"
+
+# The greatest list and the greatest fragments that a folder may have, and then a fragment and the list with a byte more.
+mkdir "$scratch/greatest" "$scratch/rebuilt"
+list=$scratch/greatest/rack0.csv
+printf 'order,stripe,target,length,survivors\nrebuild,a,x0,65536,x1 x2 px\n' > "$list"
+head -c $((1048576 - $(wc -c < "$list"))) "$scratch/feeds" >> "$list"
+for place in x1 x2 px; do
+  head -c 65536 /dev/zero > "$scratch/greatest/a.$place"
+done
+ends greatest-files 0 'served 1 racks, 1 answers' '' farm "$scratch/greatest" "$scratch/rebuilt"
+cmp "$scratch/rebuilt/rack0-0.a.x0" "$scratch/greatest/a.x1" || fail greatest-files 'rebuilt something else'
+echo >> "$scratch/greatest/a.px"
+ends longer-fragment 0 'served 1 racks, 1 answers' '' farm "$scratch/greatest" "$scratch/rebuilt"
+grep -qx '0,a,x0,65536,several,,px' "$scratch/rebuilt/rack0.report.csv" || fail longer-fragment 'took it'
+echo >> "$list"
+ends longer-list 1 '' 'rack0.csv: E25' farm "$scratch/greatest" "$scratch/rebuilt"
 echo "ends: $passed runs ended as they must"
