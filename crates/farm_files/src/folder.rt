@@ -5,7 +5,7 @@ ghost use Rattle.farm_files.specs.Folder.{folder_failed};
 use crate::shelf::{Shelf, ShelfFault};
 use std::alloc::{AllocError, Global};
 use std::fs;
-use std::io::{ErrorKind, Read, Write};
+use std::io::{ErrorKind, Read};
 use std::rt::Files;
 
 // The room that is taken before the first read, if the limit isn't less. A fragment of the greatest length fits it.
