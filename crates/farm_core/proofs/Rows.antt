@@ -9,7 +9,6 @@ use Rattle.farm_core.specs.Replies.{Entry}
 use Rattle.farm_core.specs.Rows.{entries, Answers, HasShape, IsGap}
 use Rattle.farm_core.specs.Faults.{entry_of}
 use Rattle.lrc_code.specs.Answers.{IsAnswer}
-use Rattle.lrc_code.specs.Code.{narrow}
 use Rattle.farm_core.specs.declared.reply.ReplyResult.TheVariants.{Done}
 use Rattle.std.proofs.lemmas.List.{map-append}
 use Rattle.farm_core.specs.declared.orders.Order.{Order}
@@ -50,7 +49,7 @@ gap_at_seam (x ∷ done) rest = let h = gap_at_seam done rest in (omega (arith, 
 
 -- one answer more
 pub Answers-more : (cells : List (Option Replied)) (cell : Option Replied) (reply : Replied) (os os' : List Outcome) (o : Outcome) →
-    AllZip Answers (entries cells) os → cell ≡ Some reply → reply.result ≡ Done o → IsAnswer narrow reply.request o → os' ≡ os ++ o ∷ []
+    AllZip Answers (entries cells) os → cell ≡ Some reply → reply.result ≡ Done o → IsAnswer reply.request o → os' ≡ os ++ o ∷ []
     → AllZip Answers (entries (cells ++ cell ∷ [])) os'
 Answers-more cells cell reply os os' o all is says right grown =
     let here : Answers (option_map entry_of cell) o = subst (λ (c : Option Replied). Answers (option_map entry_of c) o) (sym is) (right, says) in

@@ -12,7 +12,6 @@ use Rattle.farm_core.specs.declared.reply.ReplyResult.TheVariants.{Starved}
 use Rattle.lrc_code.specs.Requests.{Asked}
 use Rattle.lrc_code.specs.declared.outcomes.Outcome.{Outcome}
 use Rattle.lrc_code.specs.Answers.{IsAnswer}
-use Rattle.lrc_code.specs.Code.{narrow}
 use Rattle.farm_core.proofs.Rows.{shape_at}
 
 abbrev Table : Type 0
@@ -81,7 +80,7 @@ row_answers (c ∷ row) (r ∷ rs) [] len place all = absurd all
 row_answers (None ∷ row) (r ∷ rs) (o ∷ os) len place all = absurd all.0
 row_answers (Some e ∷ row) (r ∷ rs) (o ∷ os) len place all =
     let same : e.request ≡ r = place 0 e r refl in
-    (subst (λ (q : Asked). IsAnswer narrow q o) same all.0.0, row_answers row rs os (omega arith) (λ k f d is. place (suc k) f d is) all.1)
+    (subst (λ (q : Asked). IsAnswer q o) same all.0.0, row_answers row rs os (omega arith) (λ k f d is. place (suc k) f d is) all.1)
 
 -- the answers of all racks
 pub table_answers : {V : Type 0} (items : V → List Outcome) (racks : List (List Order)) (table : Table) (vs : List V) → HasShape racks table

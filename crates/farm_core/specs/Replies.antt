@@ -2,7 +2,6 @@
 use Rattle.std.specs.Prelude.{ℕ, ◌≡◌, ◌<◌, ◌⊎◌, ⊤, List, [], slice_index_or, Option, Some, None}
 use Rattle.lrc_code.specs.Requests.{Asked}
 use Rattle.lrc_code.specs.Answers.{IsAnswer}
-use Rattle.lrc_code.specs.Code.{narrow}
 use Rattle.farm_core.specs.declared.orders.Order.{Order}
 use Rattle.farm_core.specs.declared.reply.ReplyResult.{ReplyResult}
 use Rattle.farm_core.specs.declared.reply.ReplyResult.TheVariants.{Done, Starved}
@@ -10,7 +9,7 @@ use Rattle.farm_core.specs.Orders.{served, IsServed}
 
 -- what a reply may say of a request: its answer, or that memory was wanting
 abbrev pub IsRight : Asked → ReplyResult → Type 0
-IsRight request (Done outcome) = IsAnswer narrow request outcome
+IsRight request (Done outcome) = IsAnswer request outcome
 IsRight request Starved = ⊤
 
 -- a reply: to the request of a rack and a number, and what became of it

@@ -2,7 +2,6 @@
 use Rattle.std.specs.Prelude.{ℕ, ◌≡◌, ◌<◌, List, [], map, length, slice_index_or, Option, Some, None, option_map}
 use Rattle.lrc_code.specs.declared.outcomes.Outcome.{Outcome}
 use Rattle.lrc_code.specs.Answers.{IsAnswer}
-use Rattle.lrc_code.specs.Code.{narrow}
 use Rattle.farm_core.specs.declared.orders.Order.{Order}
 use Rattle.farm_core.specs.Replies.{Replied}
 use Rattle.farm_core.specs.declared.reply.ReplyResult.TheVariants.{Done}
@@ -17,7 +16,7 @@ entries cells = map (option_map entry_of) cells
 -- this outcome answers the request of this entry, which says so
 abbrev pub Answers : Option Entry → Outcome → Type 0
 Answers None outcome = ⊥
-Answers (Some e) outcome = IsAnswer narrow e.request outcome × (e.result ≡ Done outcome)
+Answers (Some e) outcome = IsAnswer e.request outcome × (e.result ≡ Done outcome)
 
 -- there is a row for each rack, with a cell for each request that is served
 abbrev pub HasShape : List (List Order) → List (List (Option Entry)) → Type 0

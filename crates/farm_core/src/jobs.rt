@@ -1,7 +1,6 @@
 //! Jobs, and the worker.
 ghost use Rattle.std.specs.Prelude.{◌≡◌, IfOk};
 ghost use Rattle.lrc_code.specs.Answers.{IsAnswer};
-ghost use Rattle.lrc_code.specs.Code.{narrow};
 ghost use Rattle.farm_lanes.specs.LaneEnds.{IsUnusedPut, IsUnusedTake};
 ghost use Rattle.farm_core.specs.Work.{HasWorked, HasStopped};
 
@@ -34,7 +33,7 @@ pub struct Worked<'a> {
 
 // The request's answer. Its plan is made in an arena of its own, which ends here.
 fn answer_in_arena(alloc: Global, request: &Request) -> Result<Outcome, AllocError>
-    ensures { IfOk result (IsAnswer narrow request.now) }
+    ensures { IfOk result (IsAnswer request.now) }
 {
     let arena = Bump::new(alloc);
     let outcome = solve(alloc, &arena, request)?;

@@ -1,7 +1,6 @@
 //! Replies to requests, and why a collector refuses.
 ghost use Rattle.std.specs.Prelude.{◌≡◌, IfSome, IfNone};
 ghost use Rattle.lrc_code.specs.Answers.{IsAnswer};
-ghost use Rattle.lrc_code.specs.Code.{narrow};
 ghost use Rattle.farm_core.specs.declared.reply.ReplyResult.TheVariants.{Done, Starved};
 ghost use Rattle.farm_core.specs.declared.reply.FinishFault.TheVariants.{OutOfMemory};
 
@@ -41,7 +40,7 @@ impl<'a> Model for Reply<'a> {
 impl<'a> Reply<'a> {
     /// The answer to a request.
     pub fn done(rack: usize, number: u64, request: &'a Request, outcome: Outcome) -> Reply<'a>
-        requires { IsAnswer narrow request.now outcome }
+        requires { IsAnswer request.now outcome }
         ensures { result ≡ record { rack = rack; number = number; request = request.now; result = Done outcome } }
     {
         Reply {
@@ -80,7 +79,7 @@ impl<'a> Reply<'a> {
 
     /// The answer, if there was memory for it.
     pub fn into_outcome(self) -> Option<Outcome>
-        ensures done { IfSome result (λ o. (self.entry.result ≡ Done o) × IsAnswer narrow self.entry.request o) }
+        ensures done { IfSome result (λ o. (self.entry.result ≡ Done o) × IsAnswer self.entry.request o) }
         ensures starved { IfNone result (self.entry.result ≡ Starved) }
     {
         let Reply {

@@ -63,10 +63,10 @@ module _ (r : Asked) (accepted : refusal r ≡ None) (bytes : All (λ s. AreByte
 
     -- ---- a fitting stripe extends the survivors' bytes at each position
 
-    fits_at : (st : Place → List ℕ) → Fits narrow r st → (p : Place) → (length (st p) ≡ r.len) × AreBytes (st p)
+    fits_at : (st : Place → List ℕ) → Fits r st → (p : Place) → (length (st p) ≡ r.len) × AreBytes (st p)
     fits_at st f p = at_places (λ q. (length (st q) ≡ r.len) × AreBytes (st q)) (λ k d lt. f.in_code.is_stripe k d lt) p
 
-    fits_extends : (st : Place → List ℕ) → Fits narrow r st → (i : ℕ) → i < r.len
+    fits_extends : (st : Place → List ℕ) → Fits r st → (i : ℕ) → i < r.len
         → Extends narrow survives (byte_at r i) (bytes_at st i)
     fits_extends st f i h = record {
       bytes = λ p. (fits_at st f p).1 i 0 (subst (λ n. i < n) (sym (fits_at st f p).0) h);
@@ -86,7 +86,7 @@ module _ (r : Asked) (accepted : refusal r ≡ None) (bytes : All (λ s. AreByte
     length-made e p = length-map-range_with_len (λ j. e j p) 0 r.len
 
     made_fits : (e : ℕ → Place → ℕ) → ((i : ℕ) → i < r.len → Extends narrow survives (byte_at r i) (e i))
-        → Fits narrow r (made e)
+        → Fits r (made e)
     made_fits e x = record {
       in_code = record {
         is_stripe = λ k d lt. stripe (get_or narrow_places k d);
@@ -116,7 +116,7 @@ module _ (r : Asked) (accepted : refusal r ≡ None) (bytes : All (λ s. AreByte
     module _ (checks : List Form) (of_survivors : AreChecks narrow survives checks) where
       -- ---- some check isn't 0
 
-      pub contradiction : (¬ All (IsZero r) checks) → IsAnswer narrow r Contradiction
+      pub contradiction : (¬ All (IsZero r) checks) → IsAnswer r Contradiction
       contradiction n st f = n (λ k d lt i h. (of_survivors.possible (byte_at r i) (byte_at-lt i)).0
           (bytes_at st i, fits_extends st f i h) k d lt)
 
@@ -145,7 +145,7 @@ module _ (r : Asked) (accepted : refusal r ≡ None) (bytes : All (λ s. AreByte
 
         pub rebuilt : (t : Form)
             → ((s e : Place → ℕ) → GivesBytes s → Extends narrow survives s e → meaning s t ≡ e r.target)
-            → (out : List ℕ) → IsValue r t out → IsAnswer narrow r (Rebuilt out)
+            → (out : List ℕ) → IsValue r t out → IsAnswer r (Rebuilt out)
         rebuilt t right out v = (
           (made chosen, made_fits chosen chosen_is),
           (λ st f. ext_get_or 0 (st r.target) out ((fits_at st f r.target).0 ∙ sym v.len)
@@ -154,7 +154,7 @@ module _ (r : Asked) (accepted : refusal r ≡ None) (bytes : All (λ s. AreByte
         )
 
         -- a second stripe: the first and the sum of two extensions that differ
-        pub several : ExtensionsDiffer narrow survives r.target → IsAnswer narrow r Several
+        pub several : ExtensionsDiffer narrow survives r.target → IsAnswer r Several
         several (s, d, e, hs, hd, he, apart) = (
           made chosen,
           made other,

@@ -28,7 +28,7 @@ pub fn solve<A: Allocator + Clone>(
     plan_alloc: A,
     request: &Request,
 ) -> Result<Outcome, AllocError>
-    ensures { IfOk result (IsAnswer narrow request.now) }
+    ensures { IfOk result (IsAnswer request.now) }
 {
     match solve_in(alloc, plan_alloc, request)? {
         Solved::Rebuilt(bytes) => Ok(Outcome::Rebuilt(Bytes::new(bytes))),
@@ -43,7 +43,7 @@ pub(crate) fn solve_in<A: Allocator + Clone, B: Allocator>(
     plan_alloc: A,
     request: &Request,
 ) -> Result<Solved<B>, AllocError>
-    ensures { IfOk result (λ s. IsAnswer narrow request.now (outcome_of s)) }
+    ensures { IfOk result (λ s. IsAnswer request.now (outcome_of s)) }
 {
     let survivors = request.survivors();
     let target = request.target();
@@ -63,7 +63,7 @@ fn apply<A: Allocator, B: Allocator>(
 ) -> Result<Solved<B>, AllocError>
     requires survivors { (p : Place) → is_in survivors p ≡ is_among p request.now.survivors }
     requires plan { IsPlan narrow (is_in survivors) request.now.target (value_form plan.now) (check_forms plan.now) }
-    ensures { IfOk result (λ s. IsAnswer narrow request.now (outcome_of s)) }
+    ensures { IfOk result (λ s. IsAnswer request.now (outcome_of s)) }
 {
     let length = request.length() as usize;
     if has_no_trees(plan) {

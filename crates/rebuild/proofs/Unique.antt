@@ -4,7 +4,6 @@ use Rattle.std.specs.List.{AllZip, filter}
 use Rattle.std.specs.Option.{option_map, option_map_or}
 use Rattle.std.specs.Str.Lines.{lines}
 use Rattle.lrc_code.specs.Answers.{IsAnswer}
-use Rattle.lrc_code.specs.Code.{narrow}
 use Rattle.lrc_code.specs.Requests.{Asked, refusal}
 use Rattle.lrc_code.proofs.CodeLaws.{answer-unique}
 use Rattle.rebuild.specs.declared.line.replies.LineRefusal.{LineRefusal}
@@ -28,7 +27,7 @@ not_refused line asked e is none h =
 reply_once : (line : List ℕ) (a b : Reply) → IsReply line a → IsReply line b → a ≡ b
 reply_once line (Ok o) (Ok p) (x, is, none, answer) (y, is', none', answer') =
     let same : y ≡ x = some_once (request_of line) y x is' is in
-    ap Ok (answer-unique narrow x o p answer (let P : Asked → Type 0 = λ r. IsAnswer narrow r p in subst P same answer'))
+    ap Ok (answer-unique x o p answer (let P : Asked → Type 0 = λ r. IsAnswer r p in subst P same answer'))
 reply_once line (Ok o) (Err f) (x, is, none, answer) h = absurd (not_refused line x f is none h)
 reply_once line (Err e) (Ok p) h (y, is, none, answer) = absurd (not_refused line y e is none h)
 reply_once line (Err e) (Err f) h k = ap Err (some_once (refusal_of line) e f h k)

@@ -6,7 +6,6 @@ use Rattle.hex.specs.Hex.{encode_upper}
 use Rattle.lrc_code.specs.declared.outcomes.Outcome.{Outcome}
 use Rattle.lrc_code.specs.declared.outcomes.Outcome.TheVariants.{Rebuilt, Contradiction, Several}
 use Rattle.lrc_code.specs.Answers.{IsAnswer}
-use Rattle.lrc_code.specs.Code.{narrow}
 use Rattle.lrc_code.specs.Requests.{Asked, code_of, refusal}
 use Rattle.rebuild.specs.declared.line.replies.LineRefusal.{LineRefusal}
 use Rattle.rebuild.specs.declared.line.replies.LineRefusal.TheVariants.{BadLine, Refused}
@@ -22,7 +21,7 @@ refusal_of line = option_map_or (λ asked. option_map Refused (refusal asked)) (
 
 -- the reply to a line: an answer to the request that it writes, or why it is refused
 abbrev pub IsReply : List ℕ → Reply → Type 0
-IsReply line (Ok outcome) = (asked : Asked) × (request_of line ≡ Some asked) × (refusal asked ≡ None) × IsAnswer narrow asked outcome
+IsReply line (Ok outcome) = (asked : Asked) × (request_of line ≡ Some asked) × (refusal asked ≡ None) × IsAnswer asked outcome
 IsReply line (Err e) = refusal_of line ≡ Some e
 
 -- a refusal's number

@@ -2,7 +2,6 @@ use Rattle.std.proofs.Common.{◌≡◌, sym, ◌∙◌, subst, refl, map, get_o
 use Rattle.std.proofs.lemmas.List.Elements.{All-map}
 use Rattle.lrc_code.specs.declared.outcomes.Outcome.TheVariants.{Rebuilt}
 use Rattle.lrc_code.specs.Sets.{is_in}
-use Rattle.lrc_code.specs.Code.{narrow}
 use Rattle.lrc_code.specs.Answers.{IsAnswer}
 use Rattle.std.proofs.lemmas.List.{length-map}
 use Rattle.lrc_plan.specs.Tree.{form_of}
@@ -45,7 +44,7 @@ returns-in-Some g c =
     let right = rw c.in-Some.is at c.requires.plan.of_target.right in
     let n : length c.add_value.new.dst ≡ c.in_ok-bytes.bytes.len = omega arith in
     let e = written c.in_ok-bytes.bytes.len c.add_value.new.dst (drop (length c.add_value.new.dst) _) n in
-    subst (λ f. IsAnswer narrow c.args.request.now (Rebuilt f)) (sym e)
+    subst (λ f. IsAnswer c.args.request.now (Rebuilt f)) (sym e)
     (rebuilt c.args.request.now c.length-length.ensures.accepted c.length-length.ensures.bytes
     (is_in c.args.survivors) c.requires.survivors (map form_of c.args.plan.now.checks.items)
     c.requires.plan.of_survivors zero _ right _ c.add_value.ensures)
