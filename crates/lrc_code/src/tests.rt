@@ -5,7 +5,9 @@ use crate::{
 };
 use std::alloc::{AllocError, Global};
 
-const NAMES: [&str; 10] = ["x0", "x1", "x2", "y0", "y1", "y2", "px", "py", "p0", "p1"];
+const NAMES: [&str; 16] = [
+    "x0", "x1", "x2", "y0", "y1", "y2", "px", "py", "p0", "p1", "x3", "x4", "x5", "y3", "y4", "y5",
+];
 
 fn text(alloc: Global, text: &str) -> Result<String, AllocError> {
     String::from_str(alloc, text)
@@ -31,20 +33,20 @@ fn asked(
 
 #[test]
 fn places_by_name_and_index(rt: HostRuntime) {
-    for index in 0..10usize {
+    for index in 0..16usize {
         let place = Place::from_index(index);
         assert!(&rt; place.is_some_and(|p| p.index() == index));
         assert_eq!(&rt; place.map(|p| p.name()), Some(NAMES[index]));
         assert_eq!(&rt; Place::parse(NAMES[index]), place);
         let group = match index {
-            0 | 1 | 2 | 6 => Some(Group::X),
-            3 | 4 | 5 | 7 => Some(Group::Y),
+            0 | 1 | 2 | 6 | 10 | 11 | 12 => Some(Group::X),
+            3 | 4 | 5 | 7 | 13 | 14 | 15 => Some(Group::Y),
             _ => None,
         };
         assert_eq!(&rt; place.and_then(|p| p.group()), group);
     }
-    assert!(&rt; Place::from_index(10).is_none());
-    for name in ["", "x", "x3", "X0", "x0 ", "px0", "z9"] {
+    assert!(&rt; Place::from_index(16).is_none());
+    for name in ["", "x", "x6", "X0", "x0 ", "px0", "z9"] {
         assert!(&rt; Place::parse(name).is_none(), "{name}");
     }
     assert!(&rt; Place::named(b"\xffp").is_none());
