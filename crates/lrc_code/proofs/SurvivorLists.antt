@@ -1,7 +1,7 @@
 -- Survivors as the fragments that are handed in.
 use Rattle.std.proofs.Common.{◌≡◌, ℕ, suc, zero, ◌+◌, ◌<◌, List, [], ◌∷◌, length, get_or, map, Bool, true, false, refl, ap, ap₂, sym, ◌∙◌, arith, take, cond, All}
-use Rattle.std.specs.Prelude.{◌||◌, not, ◌==◌}
-use Rattle.std.specs.List.{list_any}
+use Rattle.std.specs.Prelude.{◌||◌, ◌&&◌, not, ◌==◌}
+use Rattle.std.specs.List.{list_any, list_all}
 use Rattle.std.proofs.lemmas.List.Folds.{list_any_more}
 use Rattle.lrc_code.specs.Sets.{is_in}
 use Rattle.lrc_code.specs.declared.requests.Fragment.{Fragment}
@@ -15,6 +15,13 @@ use Rattle.lrc_code.specs.Survivors.{survivor_of, survivors_of}
 pub list_any-map : {X Y : Type 0} (p : X → Bool) (h : Y → X) (ys : List Y) → list_any p (map h ys) ≡ list_any (λ y. p (h y)) ys
 list_any-map p h [] = refl
 list_any-map p h (y ∷ ys) = ap (λ b. p (h y) || b) (list_any-map p h ys)
+
+pub list_all-map : {X Y : Type 0} (p : X → Bool) (h : Y → X) (ys : List Y) → list_all p (map h ys) ≡ list_all (λ y. p (h y)) ys
+list_all-map p h [] = refl
+list_all-map p h (y ∷ ys) = ap (λ b. p (h y) && b) (list_all-map p h ys)
+
+pub all_survivors : (p : Place → Bool) (xs : List Fragment) → list_all (λ f. p f.place) xs ≡ list_all (λ s. p s.place) (survivors_of xs)
+all_survivors p xs = sym (list_all-map (λ s. p s.place) survivor_of xs)
 
 pub among_survivors : (p : Place) (xs : List Fragment) → list_any (λ f. same_place p f.place) xs ≡ is_among p (survivors_of xs)
 among_survivors p xs = sym (list_any-map (λ s. same_place p s.place) survivor_of xs)
