@@ -2,6 +2,7 @@
 use Rattle.std.proofs.Common.{◌≡◌, ◌↔◌, ℕ, suc, zero, ◌<◌, ◌^◌, true, false, Bool, List, [], ◌∷◌, length, map, get_or, slice_index, refl, sym, ◌∙◌, ap, ap₂, subst, arith, cond, lit<, All, nat_lt}
 use Rattle.std.specs.Prelude.{if◌then◌else◌, ◌||◌}
 use Rattle.std.specs.List.{list_all, list_any}
+use Rattle.std.proofs.lemmas.List.Folds.{list_any_at}
 use Rattle.std.specs.Int.Bits.{bit_xor, xor_zero_r, xor_zero_l}
 use Rattle.lrc_field.specs.Field.{times}
 use Rattle.lrc_field.proofs.FieldLaws.{times-zero, times-xor_l}
@@ -14,7 +15,7 @@ use Rattle.lrc_code.specs.Code.{Code, combination, narrow, wide, narrow_places, 
 use Rattle.lrc_code.specs.Codes.{tables_of}
 use Rattle.lrc_code.specs.Sums.{sum_over}
 use Rattle.lrc_code.specs.Reduction.{coefficient_at, rows_by_index, row_at}
-use Rattle.lrc_code.proofs.PlaceSums.{same_place-comm, sum_over-add, sum_over-same, sum_over-single, combination-sum_over}
+use Rattle.lrc_code.proofs.PlaceSums.{same_place-refl, same_place-comm, sum_over-add, sum_over-same, sum_over-single, combination-sum_over}
 
 -- ---- the codes' places
 
@@ -171,3 +172,8 @@ coefficient_at-none q (p ∷ ps) (c ∷ row) h =
     or_parts : (a b : Bool) → (a || b) ≡ false → (a ≡ false) × (b ≡ false)
     or_parts true b h = absurd (cc)
     or_parts false b h = (refl, h)
+
+-- the places of a code are its places
+pub own_places : (code : CodeName) → All (λ p. has_place (tables_of code) p ≡ true) (tables_of code).places
+own_places code = λ k d lt. list_any_at (same_place (get_or (tables_of code).places k d)) (tables_of code).places k d lt
+    (same_place-refl (get_or (tables_of code).places k d))

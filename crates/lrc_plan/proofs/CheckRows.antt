@@ -1,8 +1,8 @@
 -- One row more.
-use Rattle.lrc_code.specs.Code.{narrow}
+use Rattle.lrc_code.specs.Code.{Code}
 use Rattle.std.proofs.lemmas.List.{map-append}
 use Rattle.std.proofs.lemmas.Bool.{true_from_ne_false}
-use Rattle.lrc_code.specs.Code.{narrow_places}
+use Rattle.lrc_code.specs.Places.{all_places}
 use Rattle.lrc_plan.specs.Form.{has_leaf}
 use Rattle.lrc_code.proofs.PlaceSums.{at_places}
 use Rattle.std.proofs.Common.{get_or, add-one, ◌≡◌, ◌≢◌, ◌<◌, ℕ, ◌+◌, suc, Bool, true, cond, List, [], ◌∷◌, ◌++◌, Option, Some, None, is_none, All, map, refl, sym, ◌∙◌, ap, subst, arith, inl, inr, length-append}
@@ -73,13 +73,13 @@ module _ (survives : Place → Bool) (coef : ℕ → Place → ℕ) (pivot : ℕ
       grown o m x y z = rw m (omega arith)
 
   -- all four rows
-  pub checks_done : AreReduced survives coef pivot → (checks : List Form)
-      → AreChecksBelow survives coef pivot 4 checks → AreChecks narrow survives checks
-  checks_done red checks c = record {
+  pub checks_done : (code : Code) → AreReduced code survives coef pivot → (checks : List Form)
+      → AreChecksBelow survives coef pivot 4 checks → AreChecks code survives checks
+  checks_done code red checks c = record {
     leaves = c.leaves;
     possible = λ s h. (
-      λ x. (c.means s h).1 ((has_extension survives coef pivot red s h).0 x),
-      λ a. (has_extension survives coef pivot red s h).1 ((c.means s h).0 a),
+      λ x. (c.means s h).1 ((has_extension code survives coef pivot red s h).0 x),
+      λ a. (has_extension code survives coef pivot red s h).1 ((c.means s h).0 a),
     );
   }
 
@@ -97,15 +97,15 @@ push_step f survives coef pivot n x xs ys g e l d k c =
     (checks_push survives coef pivot n (f x) (map f xs) e l d k c)))
 
 -- leaves of a row without a pivot survive
-pub row_survives : (survives : Place → Bool) (coef : ℕ → Place → ℕ) (pivot : ℕ → Option Place)
-    (red : AreReduced survives coef pivot) (n : ℕ) (t : Form)
+pub row_survives : (code : Code) (survives : Place → Bool) (coef : ℕ → Place → ℕ) (pivot : ℕ → Option Place)
+    (red : AreReduced code survives coef pivot) (n : ℕ) (t : Form)
     → n < 4 → pivot n ≡ None
     → ((p : Place) → has_leaf t p ≡ true → coef n p ≢ 0) → LeavesSurvive survives t
-row_survives survives coef pivot red n t h e k = λ p l. true_from_ne_false (survives p)
+row_survives code survives coef pivot red n t h e k = λ p l. true_from_ne_false (survives p)
     (λ m. k p l (red.free n p h e m))
 
 -- a row is not all 00
-pub not_all_zero : (survives : Place → Bool) (coef : ℕ → Place → ℕ) (pivot : ℕ → Option Place)
-    (red : AreReduced survives coef pivot) (n : ℕ)
-    → n < 4 → ((k : ℕ) (d : Place) → k < 10 → coef n (get_or narrow_places k d) ≡ 0) → ⊥
-not_all_zero survives coef pivot red n h z = let w = red.full n h in w.1 (at_places (λ p. coef n p ≡ 0) z w.0)
+pub not_all_zero : (code : Code) (survives : Place → Bool) (coef : ℕ → Place → ℕ) (pivot : ℕ → Option Place)
+    (red : AreReduced code survives coef pivot) (n : ℕ)
+    → n < 4 → ((k : ℕ) (d : Place) → k < 16 → coef n (get_or all_places k d) ≡ 0) → ⊥
+not_all_zero code survives coef pivot red n h z = let w = red.full n h in w.1 (at_places (λ p. coef n p ≡ 0) z w.0)

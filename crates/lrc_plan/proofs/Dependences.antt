@@ -8,10 +8,10 @@ use Rattle.lrc_field.specs.Field.{times}
 use Rattle.lrc_field.proofs.Shift.{swap_mid}
 use Rattle.lrc_field.proofs.FieldLaws.{times_lt, times-zero, times-zero_r, times-one, times-xor, times-xor_l, times-assoc, times-inverse}
 use Rattle.lrc_code.specs.declared.places.Place.{Place}
-use Rattle.lrc_code.specs.Places.{same_place}
-use Rattle.lrc_code.specs.Code.{narrow_places}
+use Rattle.lrc_code.specs.Places.{same_place, all_places}
 use Rattle.lrc_code.specs.Sums.{GivesBytes, sum_over}
 use Rattle.lrc_code.proofs.PlaceSums.{same_place-eq, same_place-refl, same_place-sym, sum_over-same}
+use Rattle.lrc_plan.specs.ReducedRows.{dot}
 use Rattle.lrc_plan.proofs.Extension.{row_sum-add, row_sum-single, products_small, cond_small, zeros}
 
 -- ---- lists of places
@@ -104,11 +104,8 @@ nonzero_in f (r ∷ ps) = elim (eqb_tells (f r) 0) [
 
 -- ---- sums of products
 
-abbrev pub dot : (Place → ℕ) → (Place → ℕ) → ℕ
-dot f v = sum_over narrow_places (λ p. times (f p) (v p))
-
 dot-zero : (f v : Place → ℕ) → ((p : Place) → times (f p) (v p) ≡ 0) → dot f v ≡ 0
-dot-zero f v h = sum_over-same narrow_places (λ p. times (f p) (v p)) (λ p. 0) h ∙ zeros narrow_places
+dot-zero f v h = sum_over-same all_places (λ p. times (f p) (v p)) (λ p. 0) h ∙ zeros all_places
 
 -- only the places of a list count, and the function is 0 there
 dot-none : (f v : Place → ℕ) (ps : List Place) → ((p : Place) → member p ps ≡ true → f p ≡ 0)
@@ -204,14 +201,14 @@ module _ (n : ℕ) (rows : ℕ → Place → ℕ) (ps : List Place) (apart : Apa
       dot-more (rows n) d.bytes q x
       ∙ ap (bit_xor (dot (rows n) d.bytes))
       (sym (times-assoc (rows n q) c (dot (rows n) d.bytes)) ∙ ap (λ y. times y (dot (rows n) d.bytes)) inverse
-      ∙ times-one (dot (rows n) d.bytes) (products_small narrow_places (rows n) d.bytes))
+      ∙ times-one (dot (rows n) d.bytes) (products_small all_places (rows n) d.bytes))
       ∙ xor_self (dot (rows n) d.bytes)
 
   at_other : (i : ℕ) → i < n → dot (rows i) bytes ≡ 0
   at_other i h =
       dot-more (rows i) d.bytes q x
       ∙ ap (bit_xor (dot (rows i) d.bytes)) (sym (times-assoc (rows i q) c (dot (rows n) d.bytes)))
-      ∙ sym (scaled narrow_places (times (rows i q) c) (rows i) (rows n) d.bytes)
+      ∙ sym (scaled all_places (times (rows i q) c) (rows i) (rows n) d.bytes)
       ∙ d.each i h
 
   dependence-extend : Dependence (suc n) rows ps

@@ -1,5 +1,5 @@
 -- Bytes for the lost places that satisfy the rows.
-use Rattle.lrc_code.specs.Code.{narrow}
+use Rattle.lrc_code.specs.Code.{Code}
 use Rattle.std.proofs.Common.{◌≡◌, ◌≢◌, ◌<◌, ℕ, Bool, true, false, cond, List, [], ◌∷◌, Option, Some, None, refl, sym, ◌∙◌, ap, arith, lit<, inl, inr, ◌⊎◌, ◌↔◌}
 use Rattle.std.proofs.lemmas.Bool.{eq-eqb}
 use Rattle.std.proofs.lemmas.Bool.Decides.{eqb_tells}
@@ -7,15 +7,14 @@ use Rattle.lrc_code.specs.declared.places.Place.{Place}
 use Rattle.lrc_code.specs.declared.places.Place.TheVariants.{X0}
 use Rattle.std.specs.Int.Bits.{bit_xor}
 use Rattle.lrc_field.specs.Field.{times}
-use Rattle.lrc_code.specs.Places.{index_of, same_place}
+use Rattle.lrc_code.specs.Places.{index_of, same_place, all_places}
 use Rattle.lrc_code.specs.Sums.{GivesBytes, sum_over}
-use Rattle.lrc_code.specs.Code.{narrow_places}
 use Rattle.std.specs.Int.Bits.{xor_assoc, xor_zero_r, xor_zero_l, xor_self}
 use Rattle.std.proofs.lemmas.Nat.{xor_lt}
 use Rattle.lrc_field.proofs.FieldLaws.{times-zero_r, times-zero, times-xor, times-one, times-one_r, times_lt}
 use Rattle.lrc_code.proofs.PlaceSums.{same_place-eq, sum_over-add, sum_over-same, sum_over-single}
 use Rattle.lrc_plan.specs.Planned.{ExtensionsDiffer}
-use Rattle.lrc_plan.specs.ReducedRows.{row_sum, AreReduced}
+use Rattle.lrc_plan.specs.ReducedRows.{dot, row_sum, AreReduced, GiveTarget}
 use Rattle.lrc_plan.specs.Extensions.{Extends}
 
 one-ne-zero : ◌≡◌ {A = ℕ} 1 0 → ⊥
@@ -25,10 +24,10 @@ one-ne-zero e = absurd (omega (arith, e))
 pub row_sum-add : (coef : ℕ → Place → ℕ) (r : ℕ) (b d : Place → ℕ)
     → row_sum coef r (λ p. bit_xor (b p) (d p)) ≡ bit_xor (row_sum coef r b) (row_sum coef r d)
 row_sum-add coef r b d =
-    sum_over-same narrow_places (λ p. times (coef r p) (bit_xor (b p) (d p)))
+    sum_over-same all_places (λ p. times (coef r p) (bit_xor (b p) (d p)))
     (λ p. bit_xor (times (coef r p) (b p)) (times (coef r p) (d p)))
     (λ p. times-xor (coef r p) (b p) (d p))
-    ∙ sum_over-add narrow_places (λ p. times (coef r p) (b p)) (λ p. times (coef r p) (d p))
+    ∙ sum_over-add all_places (λ p. times (coef r p) (b p)) (λ p. times (coef r p) (d p))
 
 mul-cond : (c v : ℕ) (t : Bool) → times c (cond t v 0) ≡ cond t (times c v) 0
 mul-cond c v true = refl
@@ -38,7 +37,7 @@ mul-cond c v false = times-zero_r c
 pub row_sum-single : (coef : ℕ → Place → ℕ) (r : ℕ) (q : Place) (v : ℕ)
     → row_sum coef r (λ p. cond (same_place q p) v 0) ≡ times (coef r q) v
 row_sum-single coef r q v =
-    sum_over-same narrow_places (λ p. times (coef r p) (cond (same_place q p) v 0))
+    sum_over-same all_places (λ p. times (coef r p) (cond (same_place q p) v 0))
     (λ p. cond (same_place q p) (times (coef r p) v) 0) (λ p. mul-cond (coef r p) v (same_place q p))
     ∙ sum_over-single q (λ p. times (coef r p) v)
 
@@ -69,12 +68,12 @@ term (Some q) c v = times (c q) v
 row_sum-part : (coef : ℕ → Place → ℕ) (r : ℕ) (o : Option Place) (v : ℕ)
     → row_sum coef r (part o v) ≡ term o (coef r) v
 row_sum-part coef r None v =
-    sum_over-same narrow_places (λ p. times (coef r p) 0) (λ p. 0) (λ p. times-zero_r (coef r p))
-    ∙ zeros narrow_places
+    sum_over-same all_places (λ p. times (coef r p) 0) (λ p. 0) (λ p. times-zero_r (coef r p))
+    ∙ zeros all_places
 row_sum-part coef r (Some q) v = row_sum-single coef r q v
 
-module _ (survives : Place → Bool) (coef : ℕ → Place → ℕ) (pivot : ℕ → Option Place)
-    (red : AreReduced survives coef pivot) (s : Place → ℕ) (small : GivesBytes s) (f : Place) (x : ℕ)
+module _ (code : Code) (survives : Place → Bool) (coef : ℕ → Place → ℕ) (pivot : ℕ → Option Place)
+    (red : AreReduced code survives coef pivot) (s : Place → ℕ) (small : GivesBytes s) (f : Place) (x : ℕ)
     (x_small : x < 256) where
   -- the survivors' bytes, and 0 elsewhere
   abbrev pub kept : Place → ℕ
@@ -139,7 +138,7 @@ module _ (survives : Place → Bool) (coef : ℕ → Place → ℕ) (pivot : ℕ
   kept_small p = cond_small (survives p) (s p) (small p)
 
   val_small : (j : ℕ) → val j < 256
-  val_small j = xor_lt 8 _ _ (products_small narrow_places (coef j) kept) (times_lt _ _)
+  val_small j = xor_lt 8 _ _ (products_small all_places (coef j) kept) (times_lt _ _)
 
   part_small : (o : Option Place) (v : ℕ) → v < 256 → (p : Place) → part o v p < 256
   part_small None v h p = omega arith
@@ -273,7 +272,7 @@ module _ (survives : Place → Bool) (coef : ℕ → Place → ℕ) (pivot : ℕ
 
   -- the extension is one, where the rows without a pivot hold of the survivors
   pub is_extension : (survives f ≡ false) ⊎ (x ≡ 0)
-      → ((r : ℕ) → r < 4 → pivot r ≡ None → row_sum coef r kept ≡ 0) → Extends narrow survives s extension
+      → ((r : ℕ) → r < 4 → pivot r ≡ None → row_sum coef r kept ≡ 0) → Extends code survives s extension
   is_extension w hold = record {
     bytes = extension-small;
     solves = (red.same extension extension-small).1 (λ r h. row r h (pivot r) refl);
@@ -328,83 +327,76 @@ module _ (survives : Place → Bool) (coef : ℕ → Place → ℕ) (pivot : ℕ
             | inr w ↦ ap (λ b. cond b (val j) 0) w.0
           ]
 
-module _ (survives : Place → Bool) (coef : ℕ → Place → ℕ) (pivot : ℕ → Option Place)
-    (red : AreReduced survives coef pivot) (s : Place → ℕ) (small : GivesBytes s) where
-  bare : Place → ℕ
-  bare p = cond (survives p) (s p) 0
+-- coefficients that are 0 at lost places read the survivors alone
+pub reads_survivors : (survives : Place → Bool) (s c e : Place → ℕ) → ((p : Place) → survives p ≡ true → e p ≡ s p)
+    → ((p : Place) → survives p ≡ false → c p ≡ 0) → dot c e ≡ dot c s
+reads_survivors survives s c e k z = sum_over-same all_places _ _ (λ p. at p (survives p) refl)
+  where
+    at : (p : Place) (t : Bool) → survives p ≡ t → times (c p) (e p) ≡ times (c p) (s p)
+    at p true h = ap (λ y. times (c p) y) (k p h)
+    at p false h = rw (z p h) (times-zero (e p) ∙ sym (times-zero (s p)))
 
-  -- a row that is 0 at lost places reads the survivors alone
-  pub reads_survivors : (c e : Place → ℕ) → ((p : Place) → survives p ≡ true → e p ≡ s p)
-      → ((p : Place) → survives p ≡ false → c p ≡ 0)
-      → sum_over narrow_places (λ p. times (c p) (e p)) ≡ sum_over narrow_places (λ p. times (c p) (s p))
-  reads_survivors c e k z = sum_over-same narrow_places _ _ (λ p. at p (survives p) refl)
-    where
-      at : (p : Place) (t : Bool) → survives p ≡ t → times (c p) (e p) ≡ times (c p) (s p)
-      at p true h = ap (λ y. times (c p) y) (k p h)
-      at p false h = rw (z p h) (times-zero (e p) ∙ sym (times-zero (s p)))
-
+module _ (code : Code) (survives : Place → Bool) (coef : ℕ → Place → ℕ) (pivot : ℕ → Option Place)
+    (red : AreReduced code survives coef pivot) (s : Place → ℕ) (small : GivesBytes s) where
   -- when survivors' bytes have an extension
-  pub has_extension : ((e : Place → ℕ) × Extends narrow survives s e) ↔
+  pub has_extension : ((e : Place → ℕ) × Extends code survives s e) ↔
       ((r : ℕ) → r < 4 → pivot r ≡ None → row_sum coef r s ≡ 0)
   has_extension = (there, back)
     where
-      there : (e : Place → ℕ) × Extends narrow survives s e → (r : ℕ) → r < 4 → pivot r ≡ None
+      there : (e : Place → ℕ) × Extends code survives s e → (r : ℕ) → r < 4 → pivot r ≡ None
           → row_sum coef r s ≡ 0
       there (e, x) r h n =
-          sym (reads_survivors (coef r) e x.kept (λ p l. red.free r p h n l))
+          sym (reads_survivors survives s (coef r) e x.kept (λ p l. red.free r p h n l))
           ∙ (red.same e x.bytes).0 x.solves r h
 
       back : ((r : ℕ) → r < 4 → pivot r ≡ None → row_sum coef r s ≡ 0)
-          → (e : Place → ℕ) × Extends narrow survives s e
+          → (e : Place → ℕ) × Extends code survives s e
       back k = (
-        extension survives coef pivot red s small X0 0
+        extension code survives coef pivot red s small X0 0
             (omega arith),
-        is_extension survives coef pivot red s small X0 0 (omega arith) (inr refl)
-            (λ r h n. reads_survivors (coef r) (λ p. cond (survives p) (s p) 0)
+        is_extension code survives coef pivot red s small X0 0 (omega arith) (inr refl)
+            (λ r h n. reads_survivors survives s (coef r) (λ p. cond (survives p) (s p) 0)
             (λ p t. ap (λ b. cond b (s p) 0) t) (λ p l. red.free r p h n l) ∙ k r h n),
       )
 
-  -- the target's byte, where its row is 0 at every other lost place
-  pub determined : (r : ℕ) (t : Place) (e : Place → ℕ) → r < 4 → pivot r ≡ Some t
-      → ((p : Place) → survives p ≡ false → same_place t p ≡ false → coef r p ≡ 0)
-      → Extends narrow survives s e
-      → sum_over narrow_places (λ p. times (cond (same_place t p) 0 (coef r p)) (s p)) ≡ e t
-  determined r t e h n z x =
-      reads_back ∙ sum_is (sum_over narrow_places (λ p. times (cut p) (e p))) (e t)
-      (sym split_row ∙ (red.same e x.bytes).0 x.solves r h)
+-- the target's byte, where coefficients whose sum is 0 are 0 at every other lost place
+module _ (code : Code) (survives : Place → Bool) (c : Place → ℕ) (t : Place) (one : c t ≡ 1) (z : GiveTarget survives c t) where
+  pub determined : (s e : Place → ℕ) → dot c e ≡ 0 → Extends code survives s e
+      → dot (λ p. cond (same_place t p) 0 (c p)) s ≡ e t
+  determined s e holds x = reads_back ∙ sum_is (dot cut e) (e t) (sym split_row ∙ holds)
     where
       cut : Place → ℕ
-      cut p = cond (same_place t p) 0 (coef r p)
+      cut p = cond (same_place t p) 0 (c p)
 
       sum_is : (a b : ℕ) → bit_xor a b ≡ 0 → a ≡ b
       sum_is a b k =
           sym (xor_zero_r a) ∙ ap (λ y. bit_xor a y) (sym (xor_self b)) ∙ sym (xor_assoc a b b)
           ∙ ap (λ y. bit_xor y b) k ∙ xor_zero_l b
 
-      cut_lost : (p : Place) (u : Bool) → same_place t p ≡ u → survives p ≡ false → cond u 0 (coef r p) ≡ 0
+      cut_lost : (p : Place) (u : Bool) → same_place t p ≡ u → survives p ≡ false → cond u 0 (c p) ≡ 0
       cut_lost p true k l = refl
       cut_lost p false k l = z p l k
 
-      reads_back : sum_over narrow_places (λ p. times (cut p) (s p)) ≡ sum_over narrow_places (λ p. times (cut p) (e p))
-      reads_back = sym (reads_survivors cut e x.kept (λ p l. cut_lost p (same_place t p) refl l))
+      reads_back : dot cut s ≡ dot cut e
+      reads_back = sym (reads_survivors survives s cut e x.kept (λ p l. cut_lost p (same_place t p) refl l))
 
-      piece : (c y : ℕ) (u : Bool) → times c y ≡ bit_xor (times (cond u 0 c) y) (cond u (times c y) 0)
-      piece c y true = sym (ap (λ v. bit_xor v (times c y)) (times-zero y) ∙ xor_zero_l (times c y))
-      piece c y false = sym (xor_zero_r (times c y))
+      piece : (d y : ℕ) (u : Bool) → times d y ≡ bit_xor (times (cond u 0 d) y) (cond u (times d y) 0)
+      piece d y true = sym (ap (λ v. bit_xor v (times d y)) (times-zero y) ∙ xor_zero_l (times d y))
+      piece d y false = sym (xor_zero_r (times d y))
 
-      own_byte : times (coef r t) (e t) ≡ e t
-      own_byte = ap (λ c. times c (e t)) (red.one r t h n) ∙ times-one (e t) (x.bytes t)
+      own_byte : times (c t) (e t) ≡ e t
+      own_byte = ap (λ d. times d (e t)) one ∙ times-one (e t) (x.bytes t)
 
-      split_row : row_sum coef r e ≡ bit_xor (sum_over narrow_places (λ p. times (cut p) (e p))) (e t)
+      split_row : dot c e ≡ bit_xor (dot cut e) (e t)
       split_row =
-          sum_over-same narrow_places _ _ (λ p. piece (coef r p) (e p) (same_place t p))
-          ∙ sum_over-add narrow_places (λ p. times (cut p) (e p))
-          (λ p. cond (same_place t p) (times (coef r p) (e p)) 0)
-          ∙ ap (λ y. bit_xor (sum_over narrow_places (λ p. times (cut p) (e p))) y)
-          (sum_over-single t (λ p. times (coef r p) (e p)) ∙ own_byte)
+          sum_over-same all_places _ _ (λ p. piece (c p) (e p) (same_place t p))
+          ∙ sum_over-add all_places (λ p. times (cut p) (e p))
+          (λ p. cond (same_place t p) (times (c p) (e p)) 0)
+          ∙ ap (λ y. bit_xor (dot cut e) y)
+          (sum_over-single t (λ p. times (c p) (e p)) ∙ own_byte)
 
-module _ (survives : Place → Bool) (coef : ℕ → Place → ℕ) (pivot : ℕ → Option Place)
-    (red : AreReduced survives coef pivot) where
+module _ (code : Code) (survives : Place → Bool) (coef : ℕ → Place → ℕ) (pivot : ℕ → Option Place)
+    (red : AreReduced code survives coef pivot) where
   abbrev nil : Place → ℕ
   nil p = 0
 
@@ -417,23 +409,23 @@ module _ (survives : Place → Bool) (coef : ℕ → Place → ℕ) (pivot : ℕ
 
   nil_row : (r : ℕ) → row_sum coef r (λ p. cond (survives p) 0 0) ≡ 0
   nil_row r =
-      sum_over-same narrow_places _ (λ p. 0)
+      sum_over-same all_places _ (λ p. 0)
       (λ p. ap (λ y. times (coef r p) y) (same_cond (survives p)) ∙ times-zero_r (coef r p))
-      ∙ zeros narrow_places
+      ∙ zeros all_places
 
   -- nothing, changed at one place
   abbrev moved : Place → (x : ℕ) → x < 256 → Place → ℕ
-  moved f x h = extension survives coef pivot red nil nil_small f x h
+  moved f x h = extension code survives coef pivot red nil nil_small f x h
 
-  moves : (f : Place) (x : ℕ) (h : x < 256) → survives f ≡ false → Extends narrow survives nil (moved f x h)
-  moves f x h l = is_extension survives coef pivot red nil nil_small f x h (inl l) (λ r k n. nil_row r)
+  moves : (f : Place) (x : ℕ) (h : x < 256) → survives f ≡ false → Extends code survives nil (moved f x h)
+  moves f x h l = is_extension code survives coef pivot red nil nil_small f x h (inl l) (λ r k n. nil_row r)
 
   first_zero : (a b c v : ℕ) → a ≡ 0 → bit_xor b c ≡ v → bit_xor a (bit_xor b c) ≡ v
   first_zero a b c v p q = ap (λ y. bit_xor y (bit_xor b c)) p ∙ xor_zero_l (bit_xor b c) ∙ q
 
   -- a lost place that is no pivot takes any byte
   pub free_differs : (t : Place) → survives t ≡ false → ((j : ℕ) → j < 4 → pivot j ≢ Some t)
-      → ExtensionsDiffer narrow survives t
+      → ExtensionsDiffer code survives t
   free_differs t l none = (
     nil,
     moved t 0 (omega arith),
@@ -447,15 +439,15 @@ module _ (survives : Place → Bool) (coef : ℕ → Place → ℕ) (pivot : ℕ
   )
     where
       value : (x : ℕ) (h : x < 256) → moved t x h t ≡ x
-      value x h = first_zero (cond (survives t) 0 0) (parts survives coef pivot red nil nil_small t x h t)
+      value x h = first_zero (cond (survives t) 0 0) (parts code survives coef pivot red nil nil_small t x h t)
           (cond (same_place t t) x 0) x (same_cond (survives t))
           (ap (λ y. bit_xor y (cond (same_place t t) x 0))
-          (no_parts survives coef pivot red nil nil_small t x h t none) ∙ xor_zero_l
+          (no_parts code survives coef pivot red nil nil_small t x h t none) ∙ xor_zero_l
           (cond (same_place t t) x 0) ∙ ap (λ b. cond b x 0) (eq-eqb (index_of t) (index_of t) refl))
 
   -- so does a pivot whose row has another lost place
   pub pivot_differs : (r : ℕ) (t f : Place) → r < 4 → pivot r ≡ Some t → survives f ≡ false
-      → same_place f t ≡ false → coef r f ≢ 0 → ExtensionsDiffer narrow survives t
+      → same_place f t ≡ false → coef r f ≢ 0 → ExtensionsDiffer code survives t
   pivot_differs r t f h e l apart c = (
     nil,
     moved f 0 (omega arith),
@@ -469,10 +461,10 @@ module _ (survives : Place → Bool) (coef : ℕ → Place → ℕ) (pivot : ℕ
   )
     where
       value : (x : ℕ) (h : x < 256) → moved f x h t ≡ times (coef r f) x
-      value x k = first_zero (cond (survives t) 0 0) (parts survives coef pivot red nil nil_small f x k t)
+      value x k = first_zero (cond (survives t) 0 0) (parts code survives coef pivot red nil nil_small f x k t)
           (cond (same_place f t) x 0) (times (coef r f) x) (same_cond (survives t))
           (ap (λ y. bit_xor y (cond (same_place f t) x 0))
-          (own_part survives coef pivot red nil nil_small f x k r t h e) ∙ ap
+          (own_part code survives coef pivot red nil nil_small f x k r t h e) ∙ ap
           (λ b. bit_xor (bit_xor (row_sum coef r (λ p. cond (survives p) 0 0)) (times (coef r f) x))
           (cond b x 0)) apart ∙ xor_zero_r
           (bit_xor (row_sum coef r (λ p. cond (survives p) 0 0)) (times (coef r f) x)) ∙ ap

@@ -1,7 +1,7 @@
 -- From plans to answers: stripes made of extensions at each position.
 use Rattle.std.proofs.Common.{◌≡◌, ℕ, suc, ◌<◌, ◌≤◌, List, [], ◌∷◌, length, map, get_or, Bool, true, cond, None, refl, ap, ap₂, sym, ◌∙◌, subst, arith, inl, inr, ◌⊎◌, All, lit<, zero-add}
 use Rattle.std.specs.Prelude.{◌||◌}
-use Rattle.std.specs.List.{range_with_len}
+use Rattle.std.specs.List.{range_with_len, list_any}
 use Rattle.std.specs.Int.Bits.{bit_xor, xor_self, xor_zero_r}
 use Rattle.std.proofs.lemmas.Nat.{xor_lt}
 use Rattle.std.proofs.lemmas.Bool.{cases_lt, cases_Bool}
@@ -11,13 +11,15 @@ use Rattle.lrc_field.proofs.Shift.{cancel}
 use Rattle.lrc_code.specs.declared.places.Place.{Place}
 use Rattle.lrc_code.specs.declared.outcomes.Outcome.TheVariants.{Rebuilt, Contradiction, Several}
 use Rattle.lrc_code.specs.Places.{same_place}
-use Rattle.lrc_code.specs.Code.{AreBytes, narrow, narrow_places, narrow_equations, combination, Solves, bytes_at}
+use Rattle.lrc_code.specs.Code.{Code, AreBytes, has_place, combination, Solves, bytes_at}
+use Rattle.lrc_code.specs.Codes.{tables_of}
+use Rattle.lrc_code.proofs.CodeTables.{own_places}
 use Rattle.lrc_code.specs.Requests.{Asked, Survivor, is_among, bytes_of, refusal}
 use Rattle.lrc_code.specs.Answers.{Fits, IsAnswer}
 use Rattle.lrc_code.specs.Sums.{GivesBytes}
-use Rattle.lrc_code.proofs.PlaceSums.{at_places, same_place-eq}
+use Rattle.lrc_code.proofs.PlaceSums.{same_place-eq}
 use Rattle.lrc_code.proofs.CodeLaws.{code-linear}
-use Rattle.lrc_code.proofs.RequestLaws.{accepted_length, accepted_lengths, accepted_bytes, survivors_hold_bytes, among_at}
+use Rattle.lrc_code.proofs.RequestLaws.{accepted_target, accepted_places, accepted_length, accepted_lengths, accepted_bytes, survivors_hold_bytes, among_at}
 use Rattle.lrc_plan.specs.Form.{Form, meaning}
 use Rattle.lrc_plan.specs.Extensions.{Extends}
 use Rattle.lrc_plan.specs.Evaluation.{byte_at, CanEvaluate, IsValue}
@@ -47,7 +49,27 @@ pub All-of_map : {X : Type 0} (P : Form → Type 0) (f : X → Form) (xs : List 
 All-of_map P f xs h = λ k d lt. subst P (get_or-map f xs k d (f d) lt)
     (h k (f d) (subst (λ n. k < n) (sym (length-map xs f)) lt))
 
+-- what holds along a list holds at its members
+in_list : (P : Place → Type 0) (ps : List Place) → All P ps → (p : Place) → list_any (same_place p) ps ≡ true → P p
+in_list P [] h p a = absurd (cc)
+in_list P (q ∷ ps) h p a = elim (cases_Bool (same_place p q)) [
+  | inl t ↦ subst P (sym (same_place-eq p q t)) (h 0 q (omega arith))
+  | inr f ↦ in_list P ps (λ k d lt. h (suc k) d (omega arith)) p (sym (ap (λ b. b || list_any (same_place p) ps) f) ∙ a)
+]
+
+-- equal bytes along the places
+map_along : (ps : List Place) (b d : Place → ℕ) → All (λ p. b p ≡ d p) ps → map b ps ≡ map d ps
+map_along [] b d h = refl
+map_along (p ∷ ps) b d h = ap₂ (λ x xs. x ∷ xs) (h 0 p (omega arith)) (map_along ps b d (λ k e lt. h (suc k) e (omega arith)))
+
+solves_along : (rows : List (List ℕ)) (ps : List Place) (b d : Place → ℕ) → All (λ p. b p ≡ d p) ps
+    → Solves rows ps b → Solves rows ps d
+solves_along rows ps b d h s = λ k row lt. ap (combination (get_or rows k row)) (sym (map_along ps b d h)) ∙ s k row lt
+
 module _ (r : Asked) (accepted : refusal r ≡ None) (bytes : All (λ s. AreBytes s.bytes) r.survivors) where
+  abbrev code : Code
+  code = tables_of r.code
+
   pub whole : AreWhole r
   whole p h = (accepted_lengths r accepted p h, survivors_hold_bytes r p bytes)
 
@@ -63,16 +85,36 @@ module _ (r : Asked) (accepted : refusal r ≡ None) (bytes : All (λ s. AreByte
 
     -- ---- a fitting stripe extends the survivors' bytes at each position
 
-    fits_at : (st : Place → List ℕ) → Fits r st → (p : Place) → (length (st p) ≡ r.len) × AreBytes (st p)
-    fits_at st f p = at_places (λ q. (length (st q) ≡ r.len) × AreBytes (st q)) (λ k d lt. f.in_code.is_stripe k d lt) p
+    fits_at : (st : Place → List ℕ) → Fits r st → (p : Place) → has_place code p ≡ true → (length (st p) ≡ r.len) × AreBytes (st p)
+    fits_at st f p h = in_list (λ q. (length (st q) ≡ r.len) × AreBytes (st q)) code.places f.in_code.is_stripe p h
+
+    -- its bytes at a position, and 00 at the places outside the code
+    abbrev trimmed : (Place → List ℕ) → ℕ → Place → ℕ
+    trimmed st i p = cond (has_place code p) (bytes_at st i p) 0
+
+    trimmed_at : (st : Place → List ℕ) (i : ℕ) (p : Place) → has_place code p ≡ true → trimmed st i p ≡ bytes_at st i p
+    trimmed_at st i p h = ap (λ b. cond b (bytes_at st i p) 0) h
 
     fits_extends : (st : Place → List ℕ) → Fits r st → (i : ℕ) → i < r.len
-        → Extends narrow survives (byte_at r i) (bytes_at st i)
+        → Extends code survives (byte_at r i) (trimmed st i)
     fits_extends st f i h = record {
-      bytes = λ p. (fits_at st f p).1 i 0 (subst (λ n. i < n) (sym (fits_at st f p).0) h);
-      solves = f.in_code.solves i h;
-      kept = λ p l. ap (λ xs. get_or xs i 0) (stripe_bytes st r.survivors f.survivors p (sym (same p) ∙ l));
+      bytes = small;
+      solves = solves_along code.equations code.places (bytes_at st i) (trimmed st i)
+          (λ k d lt. sym (trimmed_at st i (get_or code.places k d) (own_places r.code k d lt))) (f.in_code.solves i h);
+      kept = λ p l. trimmed_at st i p (accepted_places r accepted p (sym (same p) ∙ l))
+          ∙ ap (λ xs. get_or xs i 0) (stripe_bytes st r.survivors f.survivors p (sym (same p) ∙ l));
     }
+      where
+        small : (p : Place) → trimmed st i p < 256
+        small p = elim (cases_Bool (has_place code p)) as (λ _. trimmed st i p < 256) [
+          | inl t ↦ (let w = fits_at st f p t in
+              subst (λ x. x < 256) (sym (trimmed_at st i p t)) (w.1 i 0 (subst (λ n. i < n) (sym w.0) h)))
+          | inr o ↦ subst (λ b. cond b (bytes_at st i p) 0 < 256) (sym o) (lit< tt)
+        ]
+
+    -- a fitting stripe's byte at the target
+    target_at : (st : Place → List ℕ) (i : ℕ) → trimmed st i r.target ≡ bytes_at st i r.target
+    target_at st i = trimmed_at st i r.target (accepted_target r accepted)
 
     -- ---- extensions at each position make a fitting stripe
 
@@ -85,12 +127,12 @@ module _ (r : Asked) (accepted : refusal r ≡ None) (bytes : All (λ s. AreByte
     length-made : (e : ℕ → Place → ℕ) (p : Place) → length (made e p) ≡ r.len
     length-made e p = length-map-range_with_len (λ j. e j p) 0 r.len
 
-    made_fits : (e : ℕ → Place → ℕ) → ((i : ℕ) → i < r.len → Extends narrow survives (byte_at r i) (e i))
+    made_fits : (e : ℕ → Place → ℕ) → ((i : ℕ) → i < r.len → Extends code survives (byte_at r i) (e i))
         → Fits r (made e)
     made_fits e x = record {
       in_code = record {
-        is_stripe = λ k d lt. stripe (get_or narrow_places k d);
-        solves = λ k h. solves_same narrow_equations narrow_places (e k) (bytes_at (made e) k)
+        is_stripe = λ k d lt. stripe (get_or code.places k d);
+        solves = λ k h. solves_same code.equations code.places (e k) (bytes_at (made e) k)
             (λ p. sym (made_at e k p 0 h)) (x k h).solves;
       };
       survivors = λ k d lt. survivor (get_or r.survivors k d) (among_at r.survivors k d lt)
@@ -113,17 +155,17 @@ module _ (r : Asked) (accepted : refusal r ≡ None) (bytes : All (λ s. AreByte
             subst (λ n. i < n) (length-made e y.place) lt in made_at e i y.place 0 h
             ∙ (x i h).kept y.place (same y.place ∙ a))
 
-    module _ (checks : List Form) (of_survivors : AreChecks narrow survives checks) where
+    module _ (checks : List Form) (of_survivors : AreChecks code survives checks) where
       -- ---- some check isn't 0
 
       pub contradiction : (¬ All (IsZero r) checks) → IsAnswer r Contradiction
       contradiction n st f = n (λ k d lt i h. (of_survivors.possible (byte_at r i) (byte_at-lt i)).0
-          (bytes_at st i, fits_extends st f i h) k d lt)
+          (trimmed st i, fits_extends st f i h) k d lt)
 
       -- ---- all checks are 0
 
       module _ (zero_checks : All (IsZero r) checks) where
-        extension : (i : ℕ) → i < r.len → (e : Place → ℕ) × Extends narrow survives (byte_at r i) e
+        extension : (i : ℕ) → i < r.len → (e : Place → ℕ) × Extends code survives (byte_at r i) e
         extension i h = (of_survivors.possible (byte_at r i) (byte_at-lt i)).1 (λ k d lt. zero_checks k d lt i h)
 
         pick : (i : ℕ) → (i < r.len) ⊎ (r.len ≤ i) → Place → ℕ
@@ -131,7 +173,7 @@ module _ (r : Asked) (accepted : refusal r ≡ None) (bytes : All (λ s. AreByte
         pick i (inr le) = λ p. 0
 
         pick_is : (i : ℕ) (w : (i < r.len) ⊎ (r.len ≤ i)) → i < r.len
-            → Extends narrow survives (byte_at r i) (pick i w)
+            → Extends code survives (byte_at r i) (pick i w)
         unfolding pick extension
         pick_is i (inl lt) h = (extension i lt).1
         pick_is i (inr le) h = absurd (omega (arith, le, h))
@@ -139,22 +181,24 @@ module _ (r : Asked) (accepted : refusal r ≡ None) (bytes : All (λ s. AreByte
         chosen : ℕ → Place → ℕ
         chosen i = pick i (cases_lt i r.len)
 
-        chosen_is : (i : ℕ) → i < r.len → Extends narrow survives (byte_at r i) (chosen i)
+        chosen_is : (i : ℕ) → i < r.len → Extends code survives (byte_at r i) (chosen i)
         unfolding chosen pick
         chosen_is i h = pick_is i (cases_lt i r.len) h
 
         pub rebuilt : (t : Form)
-            → ((s e : Place → ℕ) → GivesBytes s → Extends narrow survives s e → meaning s t ≡ e r.target)
+            → ((s e : Place → ℕ) → GivesBytes s → Extends code survives s e → meaning s t ≡ e r.target)
             → (out : List ℕ) → IsValue r t out → IsAnswer r (Rebuilt out)
         rebuilt t right out v = (
           (made chosen, made_fits chosen chosen_is),
-          (λ st f. ext_get_or 0 (st r.target) out ((fits_at st f r.target).0 ∙ sym v.len)
-              (λ i lt. let h : i < r.len = subst (λ n. i < n) (fits_at st f r.target).0 lt in
-              sym (v.at i h ∙ right (byte_at r i) (bytes_at st i) (byte_at-lt i) (fits_extends st f i h)))),
+          (λ st f.
+              let long = (fits_at st f r.target (accepted_target r accepted)).0 in
+              ext_get_or 0 (st r.target) out (long ∙ sym v.len)
+              (λ i lt. let h : i < r.len = subst (λ n. i < n) long lt in
+              sym (v.at i h ∙ right (byte_at r i) (trimmed st i) (byte_at-lt i) (fits_extends st f i h) ∙ target_at st i))),
         )
 
         -- a second stripe: the first and the sum of two extensions that differ
-        pub several : ExtensionsDiffer narrow survives r.target → IsAnswer r Several
+        pub several : ExtensionsDiffer code survives r.target → IsAnswer r Several
         several (s, d, e, hs, hd, he, apart) = (
           made chosen,
           made other,
@@ -167,11 +211,11 @@ module _ (r : Asked) (accepted : refusal r ≡ None) (bytes : All (λ s. AreByte
             other : ℕ → Place → ℕ
             other i p = bit_xor (chosen i p) (bit_xor (d p) (e p))
 
-            other_is : (i : ℕ) → i < r.len → Extends narrow survives (byte_at r i) (other i)
+            other_is : (i : ℕ) → i < r.len → Extends code survives (byte_at r i) (other i)
             other_is i h = record {
               bytes = λ p. xor_lt 8 _ _ ((chosen_is i h).bytes p) (xor_lt 8 _ _ (hd.bytes p) (he.bytes p));
-              solves = code-linear narrow (chosen i) (λ p. bit_xor (d p) (e p)) (chosen_is i h).solves
-                  (code-linear narrow d e hd.solves he.solves);
+              solves = code-linear code (chosen i) (λ p. bit_xor (d p) (e p)) (chosen_is i h).solves
+                  (code-linear code d e hd.solves he.solves);
               kept = λ p l. ap (bit_xor (chosen i p))
                   (ap₂ bit_xor (hd.kept p l) (he.kept p l) ∙ xor_self (s p)) ∙ xor_zero_r (chosen i p) ∙
                   (chosen_is i h).kept p l;

@@ -6,8 +6,10 @@ use Rattle.std.proofs.lemmas.Bool.{cases_Bool}
 use Rattle.lrc_field.specs.Field.{times}
 use Rattle.lrc_field.proofs.FieldLaws.{times-zero, times-zero_r, times-one}
 use Rattle.lrc_code.specs.declared.places.Place.{Place}
-use Rattle.lrc_code.specs.Places.{same_place}
-use Rattle.lrc_code.specs.Code.{narrow, narrow_places}
+use Rattle.lrc_code.specs.Places.{same_place, all_places}
+use Rattle.lrc_code.specs.declared.codes.Code.{Code as CodeName}
+use Rattle.lrc_code.specs.Code.{Code}
+use Rattle.lrc_code.specs.Codes.{tables_of}
 use Rattle.lrc_code.specs.Sums.{GivesBytes}
 use Rattle.lrc_code.specs.Reduction.{Reduction, IsReduction}
 use Rattle.lrc_code.proofs.PlaceSums.{same_place-eq, same_place-refl, sum_over-same, sum_over-single}
@@ -44,8 +46,8 @@ row_of_pivot pivot (suc n) q h = at (row_of_pivot pivot n q) (pivot n) refl h
       | inr f ↦ below (before (sym (ap (λ b. b || member q (pivots_below pivot n)) f) ∙ k))
     ]
 
-module _ (survives : Place → Bool) (coef : ℕ → Place → ℕ) (pivot : ℕ → Option Place)
-    (red : AreReduced survives coef pivot) where
+module _ (code : Code) (survives : Place → Bool) (coef : ℕ → Place → ℕ) (pivot : ℕ → Option Place)
+    (red : AreReduced code survives coef pivot) where
   -- two rows have different pivots
   not_again : (i j : ℕ) (p q : Place) → i < 4 → j < 4 → i ≢ j → pivot i ≡ Some p → pivot j ≡ Some q
       → same_place p q ≡ false
@@ -88,7 +90,7 @@ module _ (survives : Place → Bool) (coef : ℕ → Place → ℕ) (pivot : ℕ
     where
       single : (i : ℕ) → i < 4 → pivot i ≡ Some q → row_sum coef i bytes ≡ bytes q
       single i h e =
-          sum_over-same narrow_places (λ p. times (coef i p) (bytes p)) (λ p. cond (same_place q p) (bytes p) 0) term
+          sum_over-same all_places (λ p. times (coef i p) (bytes p)) (λ p. cond (same_place q p) (bytes p) 0) term
           ∙ sum_over-single q bytes
         where
           there : (p : Place) → same_place q p ≡ true → times (coef i p) (bytes p) ≡ bytes p
@@ -117,27 +119,27 @@ module _ (survives : Place → Bool) (coef : ℕ → Place → ℕ) (pivot : ℕ
           term p = at p (same_place q p) refl
 
 -- no reduction has more pivots than another
-no_more_pivots : (survives : Place → Bool) (coef other : ℕ → Place → ℕ) (pivot pivot' : ℕ → Option Place)
-    → AreReduced survives coef pivot → AreReduced survives other pivot'
+no_more_pivots : (code : Code) (survives : Place → Bool) (coef other : ℕ → Place → ℕ) (pivot pivot' : ℕ → Option Place)
+    → AreReduced code survives coef pivot → AreReduced code survives other pivot'
     → length (pivots_below pivot 4) < length (pivots_below pivot' 4) → ⊥
-no_more_pivots survives coef other pivot pivot' red red' h =
-    d.nonzero (only_zero survives other pivot' red' d.bytes d.small d.outside
+no_more_pivots code survives coef other pivot pivot' red red' h =
+    d.nonzero (only_zero code survives other pivot' red' d.bytes d.small d.outside
     ((red'.same d.bytes d.small).0 ((red.same d.bytes d.small).1 d.each)) d.place)
   where
     free : (i : ℕ) (p : Place) → i < 4 → pivot i ≡ None → member p (pivots_below pivot' 4) ≡ true → coef i p ≡ 0
     free i p k e m = let w = row_of_pivot pivot' 4 p m in red.free i p k e (red'.lost w.0 p w.1 w.2)
 
     d : Dependence 4 coef (pivots_below pivot' 4)
-    d = dependence 4 pivot coef (pivots_below pivot' 4) red.small free (pivots_apart survives other pivot' red' 4 (omega arith)) h
+    d = dependence 4 pivot coef (pivots_below pivot' 4) red.small free (pivots_apart code survives other pivot' red' 4 (omega arith)) h
 
-pub same_rows_without_pivot : (survives : Place → Bool) (r t : Reduction)
-    → IsReduction narrow (λ p. not (survives p)) r → IsReduction narrow (λ p. not (survives p)) t
+pub same_rows_without_pivot : (code : CodeName) (survives : Place → Bool) (r t : Reduction)
+    → IsReduction (tables_of code) (λ p. not (survives p)) r → IsReduction (tables_of code) (λ p. not (survives p)) t
     → rows_without_pivot (pivot_of r) 4 ≡ rows_without_pivot (pivot_of t) 4
-same_rows_without_pivot survives r t a b =
-    let less = no_more_pivots survives (coef_of r) (coef_of t) (pivot_of r) (pivot_of t)
-    (reduced_rows survives r a) (reduced_rows survives t b) in
-    let more = no_more_pivots survives (coef_of t) (coef_of r) (pivot_of t) (pivot_of r)
-    (reduced_rows survives t b) (reduced_rows survives r a) in
+same_rows_without_pivot code survives r t a b =
+    let less = no_more_pivots (tables_of code) survives (coef_of r) (coef_of t) (pivot_of r) (pivot_of t)
+    (reduced_rows code survives r a) (reduced_rows code survives t b) in
+    let more = no_more_pivots (tables_of code) survives (coef_of t) (coef_of r) (pivot_of t) (pivot_of r)
+    (reduced_rows code survives t b) (reduced_rows code survives r a) in
     counted (length (pivots_below (pivot_of r) 4)) (length (pivots_below (pivot_of t) 4)) _ _ less more
     (count_pivots (pivot_of r) 4) (count_pivots (pivot_of t) 4)
   where

@@ -1,52 +1,69 @@
 -- What a reduction of the equations tells of its rows, as functions of the places.
 use Rattle.std.proofs.Common.{◌≡◌, ◌↔◌, ℕ, ◌<◌, Bool, true, false, [], length, map, get_or, Option, Some, None, refl, sym, ◌∙◌, ap, subst, inl, inr, lit<}
-use Rattle.std.specs.Prelude.{not}
-use Rattle.std.proofs.lemmas.Bool.{cases_lt}
+use Rattle.std.specs.Prelude.{not, ◌&&◌}
+use Rattle.std.proofs.lemmas.Bool.{cases_lt, cases_Bool}
 use Rattle.std.proofs.lemmas.List.{get_or_past}
+use Rattle.lrc_field.specs.Field.{times}
+use Rattle.lrc_field.proofs.FieldLaws.{times-zero}
 use Rattle.lrc_code.specs.declared.places.Place.{Place}
+use Rattle.lrc_code.specs.declared.codes.Code.{Code as CodeName}
 use Rattle.lrc_code.specs.Places.{index_of}
-use Rattle.lrc_code.specs.Code.{Code, combination, narrow, narrow_places, narrow_equations, Solves}
-use Rattle.lrc_code.specs.Reduction.{Reduction, IsReduction, IsPivot, row_at}
-use Rattle.lrc_code.proofs.Clearing.{solves_each, solves_from}
-use Rattle.lrc_code.proofs.PlaceSums.{combination-sum_over, index_of-lt}
+use Rattle.lrc_code.specs.Code.{Code, Solves, has_place}
+use Rattle.lrc_code.specs.Codes.{tables_of}
+use Rattle.lrc_code.specs.Reduction.{Reduction, IsReduction, IsPivot, row_at, row_sum_over}
+use Rattle.lrc_code.proofs.CodeTables.{four_equations, sum_over-code}
+use Rattle.lrc_code.proofs.PlaceSums.{index_of-lt}
 use Rattle.lrc_plan.specs.ReducedRows.{AreReduced, row_sum}
 use Rattle.lrc_plan.specs.Rows.{coef_of, pivot_of}
 
--- only what is lost counts
-pub reduction_by : (code : Code) (f g : Place → Bool) (r : Reduction) → ((p : Place) → f p ≡ g p)
-    → IsReduction code f r → IsReduction code g r
-reduction_by code f g r same red = record {
+-- lost places outside the code don't count
+pub reduction_of : (code : Code) (survives lost : Place → Bool) (r : Reduction)
+    → ((p : Place) → lost p ≡ (has_place code p && not (survives p)))
+    → IsReduction code lost r → IsReduction code (λ p. not (survives p)) r
+reduction_of code survives lost r is red = record {
   as_many = red.as_many;
   rows = red.rows;
   same = red.same;
+  outside = red.outside;
   full = red.full;
-  pivots = λ i h. moved i (get_or r.pivots i None) (red.pivots i h);
+  pivots = λ i h. moved i h (get_or r.pivots i None) (red.pivots i h);
 }
   where
-    moved : (i : ℕ) (o : Option Place) → IsPivot f r.rows i o → IsPivot g r.rows i o
-    moved i None p = λ q l. p q (same q ∙ l)
-    moved i (Some q) p = (sym (same q) ∙ p.0, p.1, p.2)
+    second : (a b : Bool) → (a && b) ≡ true → b ≡ true
+    second true b h = h
+    second false b h = absurd (cc)
 
-pub four_equations : length narrow_equations ≡ 4
-unfolding narrow_equations
-four_equations = refl
+    both : (a b : Bool) → a ≡ true → b ≡ true → (a && b) ≡ true
+    both true b h k = k
+    both false b h k = absurd (cc)
 
-module _ (survives : Place → Bool) (r : Reduction) (red : IsReduction narrow (λ p. not (survives p)) r) where
+    moved : (i : ℕ) → i < length code.equations → (o : Option Place) → IsPivot lost r.rows i o → IsPivot (λ p. not (survives p)) r.rows i o
+    moved i h None p = λ q l. elim (cases_Bool (has_place code q)) [
+      | inl t ↦ p q (is q ∙ both (has_place code q) (not (survives q)) t l)
+      | inr f ↦ red.outside i q h f
+    ]
+    moved i h (Some q) p = (second (has_place code q) (not (survives q)) (sym (is q) ∙ p.0), p.1, p.2)
+
+module _ (code : CodeName) (survives : Place → Bool) (r : Reduction) (red : IsReduction (tables_of code) (λ p. not (survives p)) r) where
   four : length r.rows ≡ 4
-  four = red.as_many ∙ four_equations
+  four = red.as_many ∙ four_equations code
 
-  in_equations : (i : ℕ) → i < 4 → i < length narrow_equations
-  in_equations i h = subst (λ n. i < n) (sym four_equations) h
+  in_equations : (i : ℕ) → i < 4 → i < length (tables_of code).equations
+  in_equations i h = subst (λ n. i < n) (sym (four_equations code)) h
 
-  sum_is : (i : ℕ) (b : Place → ℕ)
-      → combination (row_at r.rows i) (map b narrow_places) ≡ row_sum (coef_of r) i b
-  sum_is i b = combination-sum_over (row_at r.rows i) b
+  below_four : (i : ℕ) → i < length (tables_of code).equations → i < 4
+  below_four i h = subst (λ n. i < n) (four_equations code) h
+
+  sum_is : (i : ℕ) (b : Place → ℕ) → i < 4
+      → row_sum_over r.rows i (tables_of code).places b ≡ row_sum (coef_of r) i b
+  sum_is i b h = sum_over-code code (λ p. times (coef_of r i p) (b p))
+      (λ p o. ap (λ c. times c (b p)) (red.outside i p (in_equations i h) o) ∙ times-zero (b p))
 
   same : (b : Place → ℕ)
-      → Solves narrow.equations narrow.places b ↔ ((i : ℕ) → i < 4 → row_sum (coef_of r) i b ≡ 0)
+      → Solves (tables_of code).equations (tables_of code).places b ↔ ((i : ℕ) → i < 4 → row_sum (coef_of r) i b ≡ 0)
   same b = (
-    (λ s i h. sym (sum_is i b) ∙ solves_each r.rows (map b narrow_places) four ((red.same b).0 s) i h),
-    (λ h. (red.same b).1 (solves_from r.rows (map b narrow_places) four (λ i k. sum_is i b ∙ h i k))),
+    (λ s i h. sym (sum_is i b h) ∙ (red.same b).0 s i (in_equations i h)),
+    (λ h. (red.same b).1 (λ i k. sum_is i b (below_four i k) ∙ h i (below_four i k))),
   )
 
   small : (i : ℕ) (p : Place) → coef_of r i p < 256
@@ -70,7 +87,7 @@ module _ (survives : Place → Bool) (r : Reduction) (red : IsReduction narrow (
   not_true true h = absurd (cc)
   not_true false h = refl
 
-  pub reduced_rows : AreReduced survives (coef_of r) (pivot_of r)
+  pub reduced_rows : AreReduced (tables_of code) survives (coef_of r) (pivot_of r)
   reduced_rows = record {
     same = λ b bytes. same b;
     small = small;

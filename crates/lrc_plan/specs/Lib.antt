@@ -6,7 +6,9 @@ pub mod EvaluationParts
 pub mod Planned
 pub mod PlanForms
 pub mod Rows
+pub mod GroupRows
 pub mod ReducedRows
 pub mod Sums
+pub mod ValueRows
 pub mod ChecksBelow
 pub mod Solved

@@ -1,5 +1,5 @@
 //! Plans: trees that give a lost fragment from survivors, what they give, and the answer to a request. The code
-//! is the (6,2,2) code of Huang et al., "Erasure Coding in Windows Azure Storage", USENIX ATC 2012, sections 2
+//! is the (6,2,2) code or the (12,2,2) code of Huang et al., "Erasure Coding in Windows Azure Storage", USENIX ATC 2012, sections 2
 //! and 3.
 #![tactic(auto)]
 
@@ -22,7 +22,7 @@ mod value;
 pub use both_branches::evaluate_both;
 pub use evaluation::evaluate;
 pub use grafting::GraftRefused;
-pub use planning::plan;
+pub use planning::{plan, plan_in};
 pub use plans::Plan;
 pub use solving::solve;
 pub use tree::Tree;

@@ -5,9 +5,9 @@ ghost use Rattle.lrc_code.specs.declared.places.Place.{Place};
 ghost use Rattle.lrc_code.specs.Sums.{GivesBytes};
 ghost use Rattle.lrc_code.specs.Places.{index_of};
 ghost use Rattle.lrc_field.specs.Field.{times};
-ghost use Rattle.lrc_plan.specs.Form.{meaning, has_leaf, depth};
+ghost use Rattle.lrc_plan.specs.Form.{meaning, has_leaf, leaf_total, depth};
 ghost use Rattle.lrc_plan.specs.Tree.{form_of};
-ghost use Rattle.lrc_plan.specs.Sums.{MeansRow, MeansOneMore, some_leaf, some_depth};
+ghost use Rattle.lrc_plan.specs.Sums.{MeansRow, MeansOneMore, some_leaf, some_depth, some_leaf_total, terms};
 
 use crate::tree::Tree;
 use lrc_code::Place;
@@ -19,6 +19,8 @@ fn product<A: Allocator>(alloc: A, scalar: Gf, place: Place) -> Result<Tree<A>, 
     ensures value { IfOk result (λ t. (b : Place → ℕ) → GivesBytes b → meaning b (form_of t) ≡ times scalar (b place)) }
     ensures depth { IfOk result (λ t. depth (form_of t) ≤ 2) }
     ensures leaf { IfOk result (λ t. (p : Place) → has_leaf (form_of t) p ≡ true → p ≡ place) }
+    ensures own { IfOk result (λ t. has_leaf (form_of t) place ≡ true) }
+    ensures total { IfOk result (λ t. leaf_total (form_of t) ≡ 1) }
 {
     let leaf = Tree::Leaf(place);
     if scalar.byte() == 1 {
@@ -30,7 +32,7 @@ fn product<A: Allocator>(alloc: A, scalar: Gf, place: Place) -> Result<Tree<A>, 
 // The sum of a row's products over places, with no tree where all coefficients are 0.
 pub(crate) fn row_tree<A: Allocator + Clone>(
     alloc: &A,
-    row: &[Gf; 10],
+    row: &[Gf; 16],
     places: &[Place],
 ) -> Result<Option<Tree<A>>, AllocError>
     ensures value { IfOk result (λ o. MeansRow row.now places.now (option_map form_of o)) }
@@ -38,6 +40,9 @@ pub(crate) fn row_tree<A: Allocator + Clone>(
     ensures leaves { IfOk result (λ o. IfSome o (λ t.
         (p : Place) → has_leaf (form_of t) p ≡ true → slice_index row.now (index_of p) ≢ 0)) }
     ensures none { IfOk result (λ o. IsNone o → All (λ p. slice_index row.now (index_of p) ≡ 0) places.now) }
+    ensures all { IfOk result (λ o. All (λ p.
+        slice_index row.now (index_of p) ≢ 0 → some_leaf (option_map form_of o) p ≡ true) places.now) }
+    ensures total { IfOk result (λ o. some_leaf_total (option_map form_of o) ≡ terms row.now places.now) }
 {
     match places {
         [] => Ok(None),
@@ -66,6 +71,8 @@ fn added<A: Allocator + Clone>(
     ensures leaves { IfOk result (λ o. IfSome o (λ t. (p : Place)
         → has_leaf (form_of t) p ≡ (has_leaf (form_of own) p || some_leaf (option_map form_of others) p))) }
     ensures some { IfOk result IsSome }
+    ensures total { IfOk result (λ o. some_leaf_total (option_map form_of o)
+        ≡ leaf_total (form_of own) + some_leaf_total (option_map form_of others)) }
 {
     match others {
         None => Ok(Some(own)),

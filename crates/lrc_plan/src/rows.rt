@@ -2,18 +2,17 @@
 ghost use Rattle.std.specs.Prelude.{◌≡◌, ◌≢◌, ◌<◌, ℕ, true, false, Some, MatchOption, slice_index};
 ghost use Rattle.std.specs.Bool.{OnTrue};
 ghost use Rattle.lrc_code.specs.declared.places.Place.{Place};
-ghost use Rattle.lrc_code.specs.Places.{index_of};
+ghost use Rattle.lrc_code.specs.Places.{index_of, all_places};
 ghost use Rattle.lrc_code.specs.Sets.{is_in};
 ghost use Rattle.lrc_plan.specs.Rows.{coef_of, pivot_of};
 ghost use Rattle.lrc_plan.specs.Planned.{rows_without_pivot};
-ghost use Rattle.lrc_plan.specs.ReducedRows.{GivesTarget, HasOtherLost};
-ghost use Rattle.lrc_code.specs.Code.{narrow_places};
+ghost use Rattle.lrc_plan.specs.ReducedRows.{GiveTarget, HaveOtherLost};
 
 use lrc_code::{Place, PlaceSet, Reduced};
 use lrc_field::Gf;
 
-/// The places of the (6,2,2) code, in the order of its tables.
-pub(crate) const PLACES: [Place; 10] = [
+/// All places, in the order of their indexes.
+pub(crate) const PLACES: [Place; 16] = [
     Place::X0,
     Place::X1,
     Place::X2,
@@ -24,10 +23,16 @@ pub(crate) const PLACES: [Place; 10] = [
     Place::Py,
     Place::P0,
     Place::P1,
+    Place::X3,
+    Place::X4,
+    Place::X5,
+    Place::Y3,
+    Place::Y4,
+    Place::Y5,
 ];
 
 // The coefficients of a row.
-pub(crate) fn row_of(reduced: &Reduced, row: usize) -> [Gf; 10]
+pub(crate) fn row_of(reduced: &Reduced, row: usize) -> [Gf; 16]
     requires { row < 4 }
     ensures { (p : Place) → slice_index result (index_of p) ≡ coef_of reduced.now row p }
 {
@@ -42,6 +47,12 @@ pub(crate) fn row_of(reduced: &Reduced, row: usize) -> [Gf; 10]
         reduced.coefficient(row, Place::Py),
         reduced.coefficient(row, Place::P0),
         reduced.coefficient(row, Place::P1),
+        reduced.coefficient(row, Place::X3),
+        reduced.coefficient(row, Place::X4),
+        reduced.coefficient(row, Place::X5),
+        reduced.coefficient(row, Place::Y3),
+        reduced.coefficient(row, Place::Y4),
+        reduced.coefficient(row, Place::Y5),
     ]
 }
 
@@ -74,22 +85,17 @@ pub(crate) fn row_with_pivot(reduced: &Reduced, place: Place) -> Option<usize>
 
 // Whether the row is 00 at each lost place but the target, and so gives the target from survivors.
 pub(crate) fn determines(
-    reduced: &Reduced,
-    row: usize,
+    row: &[Gf; 16],
     survivors: PlaceSet,
     target: Place,
     places: &[Place],
 ) -> bool
-    requires row { row < 4 }
-    requires places { places.now ≡ narrow_places }
-    ensures yes { OnTrue result (GivesTarget (is_in survivors) (coef_of reduced.now) row target) }
-    ensures no { result ≡ false → HasOtherLost (is_in survivors) (coef_of reduced.now) row target }
+    requires { places.now ≡ all_places }
+    ensures yes { OnTrue result (GiveTarget (is_in survivors) (λ p. slice_index row.now (index_of p)) target) }
+    ensures no { result ≡ false → HaveOtherLost (is_in survivors) (λ p. slice_index row.now (index_of p)) target }
 {
     for place in places {
-        if !survivors.has(*place)
-            && *place != target
-            && reduced.coefficient(row, *place).byte() != 0
-        {
+        if !survivors.has(*place) && *place != target && row[place.index()].byte() != 0 {
             return false;
         }
     }

@@ -1,7 +1,7 @@
 //! Answers to requests.
 ghost use Rattle.std.specs.Prelude.{◌≡◌, true, false, IfOk, IsNone, All, length, vec_len};
 ghost use Rattle.lrc_code.specs.declared.places.Place.{Place};
-ghost use Rattle.lrc_code.specs.Code.{narrow};
+ghost use Rattle.lrc_code.specs.Codes.{tables_of};
 ghost use Rattle.lrc_code.specs.Answers.{IsAnswer};
 ghost use Rattle.lrc_code.specs.Requests.{is_among};
 ghost use Rattle.lrc_code.specs.Sets.{is_in};
@@ -13,14 +13,14 @@ ghost use Rattle.lrc_plan.specs.EvaluationParts.{AreZeros, IsZero};
 ghost use Rattle.lrc_plan.specs.Solved.{outcome_of};
 
 use crate::evaluation::{add_value, are_zeros, zeros};
-use crate::planning::plan;
+use crate::planning::plan_in;
 use crate::plans::Plan;
 use crate::solved::Solved;
 use crate::tree::Tree;
 use lrc_code::{Bytes, Outcome, PlaceSet, Request};
 use std::alloc::{AllocError, Allocator, Global};
 
-/// The answer to a request over all stripes of the (6,2,2) code: the target's bytes that every fitting stripe
+/// The answer to a request over all stripes of its code: the target's bytes that every fitting stripe
 /// has, or that no stripe fits, or that two fitting stripes differ at the target. The plan stands in
 /// `plan_alloc`, the bytes in `alloc`.
 pub fn solve<A: Allocator + Clone>(
@@ -48,7 +48,7 @@ pub(crate) fn solve_in<A: Allocator + Clone, B: Allocator>(
     let survivors = request.survivors();
     let target = request.target();
     let _ = request.length();
-    let plan = plan(plan_alloc, survivors, target)?;
+    let plan = plan_in(plan_alloc, request.code(), survivors, target)?;
     let solved = apply(alloc, survivors, &plan, request)?;
     Ok(solved)
 }
@@ -62,7 +62,7 @@ fn apply<A: Allocator, B: Allocator>(
     request: &Request,
 ) -> Result<Solved<B>, AllocError>
     requires survivors { (p : Place) → is_in survivors p ≡ is_among p request.now.survivors }
-    requires plan { IsPlan narrow (is_in survivors) request.now.target (value_form plan.now) (check_forms plan.now) }
+    requires plan { IsPlan (tables_of request.now.code) (is_in survivors) request.now.target (value_form plan.now) (check_forms plan.now) }
     ensures { IfOk result (λ s. IsAnswer request.now (outcome_of s)) }
 {
     let length = request.length() as usize;

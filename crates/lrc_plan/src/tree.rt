@@ -3,8 +3,9 @@ ghost use Rattle.std.specs.Prelude.{◌≡◌, ◌||◌, ℕ, min, map};
 ghost use Rattle.std.specs.Int.Bits.{bit_xor};
 ghost use Rattle.lrc_field.specs.Field.{times};
 ghost use Rattle.lrc_code.specs.declared.places.Place.{Place};
+ghost use Rattle.lrc_code.specs.Places.{all_places};
 ghost use Rattle.lrc_code.specs.Sets.{is_in};
-ghost use Rattle.lrc_code.specs.Code.{combination, narrow, narrow_places};
+ghost use Rattle.lrc_code.specs.Code.{combination};
 ghost use Rattle.lrc_plan.specs.Form.{leaf_total, has_leaf, meaning, AreCoefficients};
 ghost use Rattle.lrc_plan.specs.Tree.{form_of};
 
@@ -52,19 +53,19 @@ impl<A: Allocator> Tree<A> {
         }
     }
 
-    /// The coefficients of the same combination, in the order of the places.
-    pub fn coefficients(&self) -> [Gf; 10]
-        ensures { AreCoefficients narrow result (form_of self.now) }
+    /// The coefficients of the same combination, by the places' indexes; 00 where no leaf is.
+    pub fn coefficients(&self) -> [Gf; 16]
+        ensures { AreCoefficients result (form_of self.now) }
     {
-        let mut sums = [Gf::new(0); 10];
+        let mut sums = [Gf::new(0); 16];
         self.add_coefficients(Gf::new(1), &mut sums);
         sums
     }
 
     // Adds the tree's coefficients, times a factor.
-    fn add_coefficients(&self, factor: Gf, sums: &mut [Gf; 10])
-        ensures { (b : Place → ℕ) → combination sums.new (map b narrow_places)
-            ≡ bit_xor (combination sums.old (map b narrow_places)) (times factor (meaning b (form_of self.now))) }
+    fn add_coefficients(&self, factor: Gf, sums: &mut [Gf; 16])
+        ensures { (b : Place → ℕ) → combination sums.new (map b all_places)
+            ≡ bit_xor (combination sums.old (map b all_places)) (times factor (meaning b (form_of self.now))) }
     {
         match self {
             Tree::Leaf(place) => {

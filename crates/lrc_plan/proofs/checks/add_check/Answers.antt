@@ -1,7 +1,8 @@
 use Rattle.std.proofs.Common.{refl, ◌≡◌, sym, ap, ◌∙◌, None, get_or, arith}
 use Rattle.lrc_code.specs.Sets.{is_in}
 use Rattle.lrc_field.specs.Field.{times}
-use Rattle.lrc_code.specs.Code.{narrow_places}
+use Rattle.lrc_code.specs.Places.{all_places}
+use Rattle.lrc_code.specs.Codes.{tables_of}
 use Rattle.lrc_code.proofs.PlaceSums.{sum_over-same}
 use Rattle.lrc_plan.specs.Tree.{form_of}
 use Rattle.lrc_plan.specs.Rows.{coef_of, pivot_of}
@@ -19,16 +20,16 @@ returns-in_ok-push-in-Some-2 g c =
     let depth = rw c.in-Some-2.is at c.in_ok-tree-in-None.ensures.depth in
     push_step form_of survives coef pivot c.args.row c.in-Some-2.tree c.args.checks.now.items _
     c.in_ok-push-in-Some-2.ensures.items none
-    (row_survives survives coef pivot c.requires.reduced c.args.row
+    (row_survives (tables_of c.args.code) survives coef pivot c.requires.reduced c.args.row
     (form_of c.in-Some-2.tree) c.requires.row none
     (λ p l z. leaves p l (c.row_of-coefficients.ensures p ∙ z)))
     (omega (arith, depth))
-    (λ s h. value s h ∙ sum_over-same narrow_places _ _
+    (λ s h. value s h ∙ sum_over-same all_places _ _
     (λ p. ap (λ x. times x (s p)) (c.row_of-coefficients.ensures p))) c.requires.below
 
 pub returns-in-None-2 : goal.returns-in-None-2
 returns-in-None-2 g c =
     let zeros = c.in_ok-tree-in-None.ensures.none (rw c.in-None-2.is refl) in
-    absurd (not_all_zero (is_in c.args.survivors) (coef_of c.args.reduced.now)
+    absurd (not_all_zero (tables_of c.args.code) (is_in c.args.survivors) (coef_of c.args.reduced.now)
     (pivot_of c.args.reduced.now) c.requires.reduced c.args.row c.requires.row
-    (λ k d lt. sym (c.row_of-coefficients.ensures (get_or narrow_places k d)) ∙ zeros k d lt))
+    (λ k d lt. sym (c.row_of-coefficients.ensures (get_or all_places k d)) ∙ zeros k d lt))

@@ -1,5 +1,6 @@
 use Rattle.std.proofs.Common.{◌≡◌, sym, ap, ◌∙◌, arith, length, vec_len}
 use Rattle.std.proofs.lemmas.List.{length-map}
+use Rattle.lrc_code.specs.Codes.{tables_of}
 use Rattle.lrc_code.specs.Sets.{is_in}
 use Rattle.lrc_plan.specs.Tree.{form_of}
 use Rattle.lrc_plan.specs.Rows.{coef_of, pivot_of}
@@ -11,7 +12,7 @@ pub returns-clause-checks : goal.returns-clause-checks
 returns-clause-checks g c =
     let e : c.loop-row.row ≡ 4 = omega arith in
     checks_done (is_in c.args.survivors) (coef_of c.args.reduced.now)
-    (pivot_of c.args.reduced.now) c.requires _ (rw e at c.loop-row.invariant)
+    (pivot_of c.args.reduced.now) (tables_of c.args.code) c.requires _ (rw e at c.loop-row.invariant)
 
 pub returns-clause-count : goal.returns-clause-count
 returns-clause-count g c =

@@ -3,17 +3,17 @@ use Rattle.std.proofs.lemmas.Grind.{get_or_default_zero}
 use Rattle.lrc_code.specs.declared.places.Place.{Place}
 use Rattle.std.specs.Int.Bits.{bit_xor}
 use Rattle.lrc_field.specs.Field.{times}
-use Rattle.lrc_code.specs.Places.{index_of}
-use Rattle.lrc_code.specs.Code.{combination, narrow_places}
+use Rattle.lrc_code.specs.Places.{index_of, all_places}
+use Rattle.lrc_code.specs.Code.{combination}
 use Rattle.std.specs.Int.Bits.{xor_assoc}
 use Rattle.lrc_field.proofs.FieldLaws.{times-xor, times-assoc}
 use Rattle.lrc_code.proofs.PlaceSums.{combination-set}
 use Rattle.lrc_plan.proofs.tree.Tree.+add_coefficients.Goals as goal
 
 -- one coefficient grows by the factor
-added_at : (out : List ℕ) (q : Place) (i x v d : ℕ) (b : Place → ℕ) → length out ≡ 10 → i ≡ index_of q → i < 10
-    → v ≡ bit_xor (get_or out i x) d → combination (slice_set out i v) (map b narrow_places) ≡ bit_xor
-    (combination out (map b narrow_places)) (times d (b q))
+added_at : (out : List ℕ) (q : Place) (i x v d : ℕ) (b : Place → ℕ) → length out ≡ 16 → i ≡ index_of q → i < 16
+    → v ≡ bit_xor (get_or out i x) d → combination (slice_set out i v) (map b all_places) ≡ bit_xor
+    (combination out (map b all_places)) (times d (b q))
 added_at out q i x v d b len at small sum =
     let r = get_or_default_zero out i x (omega arith) in
     let e = combination-set out q d b len in

@@ -1,0 +1,14 @@
+-- The equation of a group, by the places' indexes.
+use Rattle.std.specs.Prelude.{◌≡◌, ℕ, ◌&&◌, Option, List, map, if◌then◌else◌}
+use Rattle.lrc_code.specs.declared.places.Place.{Place}
+use Rattle.lrc_code.specs.declared.places.Group.{Group}
+use Rattle.lrc_code.specs.Places.{group_of, all_places}
+use Rattle.lrc_code.specs.Code.{Code, has_place}
+use Rattle.lrc_plan.specs.Planned.{same_group}
+
+-- 1 at the code's places of the group, 0 at the others
+abbrev pub group_coefficient : Code → Option Group → Place → ℕ
+group_coefficient code g p = if has_place code p && same_group (group_of p) g then 1 else 0
+
+abbrev pub group_row : Code → Option Group → List ℕ
+group_row code g = map (group_coefficient code g) all_places
