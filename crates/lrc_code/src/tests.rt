@@ -1,7 +1,9 @@
 //! Names, sets, refusals, one stripe and one reduction, with values from outside.
+ghost use Rattle.std.specs.Prelude.{◌≡◌, length, IfOk};
+
 use crate::text::parse_number;
 use crate::{
-    Bytes, Fragment, Group, Place, PlaceSet, Request, RequestFault, encode, is_stripe_name, reduce,
+    Bytes, Code, Fragment, Group, Place, PlaceSet, Request, RequestFault, encode, encode_wide, is_stripe_name, reduce, reduce_in,
 };
 use std::alloc::{AllocError, Global};
 
@@ -103,7 +105,7 @@ fn names_of_stripes(rt: HostRuntime) {
 
 #[test]
 fn refusals_in_order(rt: HostRuntime) -> Result<(), AllocError> {
-    let rows: [(&str, Place, u32, &[Place], Option<u8>); 12] = [
+    let rows: [(&str, Place, u32, &[Place], Option<u8>); 16] = [
         ("a", Place::X0, 1, &[], None),
         ("a", Place::X0, 65_536, &[], None),
         ("a", Place::X0, 1, &[Place::X1, Place::X2, Place::Px], None),
@@ -111,6 +113,10 @@ fn refusals_in_order(rt: HostRuntime) -> Result<(), AllocError> {
         ("A", Place::X0, 0, &[Place::X0, Place::X0], Some(1)),
         ("a", Place::X0, 0, &[Place::X0, Place::X0], Some(2)),
         ("a", Place::X0, 65_537, &[], Some(2)),
+        ("a", Place::X3, 1, &[], Some(29)),
+        ("a", Place::X3, 0, &[], Some(2)),
+        ("a", Place::X0, 1, &[Place::X1, Place::Y5], Some(29)),
+        ("a", Place::X0, 2, &[Place::Y5, Place::Y5], Some(29)),
         ("a", Place::X0, 1, &[Place::X1, Place::X1], Some(3)),
         ("a", Place::X0, 2, &[Place::X0, Place::X0], Some(3)),
         ("a", Place::X0, 1, &[Place::X0], Some(4)),
@@ -195,6 +201,65 @@ fn one_reduction(rt: HostRuntime) {
         } else {
             assert!(&rt; reduced.coefficient(row, Place::X0).byte() == 0);
         }
+    }
+    assert_eq!(&rt; pivots, 1);
+}
+
+#[test]
+fn places_of_the_codes(rt: HostRuntime) {
+    assert!(&rt; Code::Narrow.places().len() == 10 && Code::Wide.places().len() == 16);
+    assert!(&rt; !Code::Narrow.has(Place::X3) && Code::Narrow.has(Place::P1) && Code::Wide.has(Place::Y5));
+    assert!(&rt; Code::Narrow.named(b"x3").is_none());
+    assert_eq!(&rt; Code::Wide.named(b"x3"), Some(Place::X3));
+    let set = PlaceSet::empty().with(Place::X0).with(Place::X3);
+    assert!(&rt; Code::Narrow.others(set).len() == 9 && Code::Wide.others(set).len() == 14);
+}
+
+// A fragment of one byte.
+fn byte(alloc: Global, byte: u8) -> Result<Vec<u8>, AllocError>
+    ensures { IfOk result (λ v. length v.items ≡ 1) }
+{
+    let bytes = vec![in alloc; byte]?;
+    Ok(bytes)
+}
+
+// The stripe with x0 = x5 = 01, y0 = 02 and no other data.
+#[test]
+fn one_wide_stripe_encoded(rt: HostRuntime) -> Result<(), AllocError> {
+    let alloc = rt.alloc();
+    let sources = [
+        byte(alloc, 1)?,
+        byte(alloc, 0)?,
+        byte(alloc, 0)?,
+        byte(alloc, 0)?,
+        byte(alloc, 0)?,
+        byte(alloc, 1)?,
+        byte(alloc, 2)?,
+        byte(alloc, 0)?,
+        byte(alloc, 0)?,
+        byte(alloc, 0)?,
+        byte(alloc, 0)?,
+        byte(alloc, 0)?,
+    ];
+    let stripe = encode_wide(alloc, &sources)?;
+    let expected: [u8; 16] = [1, 0, 0, 0, 0, 1, 2, 0, 0, 0, 0, 0, 0x00, 0x02, 0x72, 0xa6];
+    for k in 0..16usize {
+        assert_eq!(&rt; stripe[k].as_slice(), [expected[k]].as_slice(), "fragment {k}");
+    }
+    Ok(())
+}
+
+// With x5 lost alone in the (12,2,2) code one row has a pivot. A lost place outside the code plays no part.
+#[test]
+fn one_reduction_of_each_code(rt: HostRuntime) {
+    let wide = reduce_in(Code::Wide, PlaceSet::empty().with(Place::X5));
+    let narrow = reduce_in(Code::Narrow, PlaceSet::empty().with(Place::X5));
+    let mut pivots = 0u32;
+    for row in 0..4usize {
+        if wide.pivot(row) == Some(Place::X5) {
+            pivots = pivots.wrapping_add(1);
+        }
+        assert!(&rt; narrow.pivot(row).is_none() && narrow.coefficient(row, Place::X5).byte() == 0);
     }
     assert_eq!(&rt; pivots, 1);
 }

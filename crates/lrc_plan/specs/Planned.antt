@@ -6,15 +6,10 @@ use Rattle.lrc_code.specs.declared.places.Group.TheVariants as group
 use Rattle.lrc_code.specs.Places.{same_place, group_of}
 use Rattle.lrc_code.specs.Sums.{GivesBytes}
 use Rattle.lrc_plan.specs.Form.{Form, meaning, has_leaf, leaf_total, depth}
-use Rattle.lrc_code.specs.Code.{Code, has_place}
+use Rattle.lrc_code.specs.Code.{Code}
 use Rattle.lrc_code.specs.Reduction.{Reduction, IsReduction}
 use Rattle.lrc_plan.specs.Rows.{pivot_of}
 use Rattle.lrc_plan.specs.Extensions.{Extends}
-
--- the survivors and the target are at places of the code
-pub record AreOf (code : Code) (survives : Place → Bool) (target : Place) : Type 0 where
-  pub wanted : has_place code target ≡ true
-  pub surviving : (p : Place) → survives p ≡ true → has_place code p ≡ true
 
 -- all leaves survive
 abbrev pub LeavesSurvive : (Place → Bool) → Form → Type 0

@@ -1,8 +1,8 @@
 //! Plans and grafts against a table, in the global allocator and in an arena.
 use super::fixtures::{are_same, scaled_leaf, set_of, sum_of_leaves};
-use crate::{Tree, plan};
+use crate::{Tree, plan, plan_in};
 use bumpalo::Bump;
-use lrc_code::{Place, PlaceSet};
+use lrc_code::{Code, Place, PlaceSet};
 use std::alloc::{AllocError, Allocator, Global};
 
 // Whether the plan of x0 is local, of three leaves, with so many checks.
@@ -88,16 +88,17 @@ fn local_plans_and_grafts(rt: HostRuntime) -> Result<(), AllocError> {
     Ok(())
 }
 
-// Whether the target's plan has a value, and how many checks; none where the target survives.
+// Whether the target's plan has a value, and how many checks; none where the target survives or isn't in the code.
 fn counts<A: Allocator + Clone>(
     alloc: A,
+    code: Code,
     survivors: PlaceSet,
     target: Place,
 ) -> Result<Option<(bool, usize)>, AllocError> {
-    if survivors.has(target) {
+    if survivors.has(target) || !code.has(target) {
         return Ok(None);
     }
-    let plan = plan(alloc, survivors, target)?;
+    let plan = plan_in(alloc, code, survivors, target)?;
     Ok(Some((plan.value.is_some(), plan.checks.len())))
 }
 
@@ -116,17 +117,21 @@ fn numbers_of_checks(rt: HostRuntime) -> Result<(), AllocError> {
         (PlaceSet::empty(), Place::X0, (false, 0)),
     ];
     for (survivors, target, expected) in cases {
-        assert!(&rt; counts(alloc, survivors, target)? == Some(expected));
-        assert!(&rt; counts(&bump, survivors, target)? == Some(expected));
+        assert!(&rt; counts(alloc, Code::Narrow, survivors, target)? == Some(expected));
+        assert!(&rt; counts(&bump, Code::Narrow, survivors, target)? == Some(expected));
     }
     Ok(())
 }
 
 // Whether each of these lost places has a value.
-fn all_have_values<A: Allocator + Clone>(alloc: &A, lost: &[Place]) -> Result<bool, AllocError> {
-    let survivors = set_of(lost).others();
+fn all_have_values<A: Allocator + Clone>(
+    alloc: &A,
+    code: Code,
+    lost: &[Place],
+) -> Result<bool, AllocError> {
+    let survivors = code.others(set_of(lost));
     for target in lost {
-        match counts(alloc.clone()?, survivors, *target)? {
+        match counts(alloc.clone()?, code, survivors, *target)? {
             Some((true, _)) => {}
             _ => return Ok(false),
         }
@@ -137,7 +142,7 @@ fn all_have_values<A: Allocator + Clone>(alloc: &A, lost: &[Place]) -> Result<bo
 // The places whose bits are set.
 fn places_of(alloc: Global, bits: usize) -> Result<Vec<Place>, AllocError> {
     let mut places = Vec::new(alloc);
-    for index in 0..10usize {
+    for index in 0..16usize {
         if (bits >> index) & 1 == 1 {
             if let Some(place) = Place::from_index(index) {
                 places.push(place)?;
@@ -151,15 +156,20 @@ fn places_of(alloc: Global, bits: usize) -> Result<Vec<Place>, AllocError> {
 fn recovered<A: Allocator + Clone>(
     alloc: Global,
     plan_alloc: &A,
+    code: Code,
     len: usize,
 ) -> Result<(usize, usize), AllocError> {
     let mut sets = Vec::new(alloc);
     let mut whole = Vec::new(alloc);
-    for bits in 0..1024usize {
-        let lost = places_of(alloc, bits)?;
-        if lost.len() == len {
+    let end: usize = match code {
+        Code::Narrow => 1024,
+        Code::Wide => 65_536,
+    };
+    for bits in 0..end {
+        if bits.count_ones() as usize == len {
+            let lost = places_of(alloc, bits)?;
             sets.push(bits)?;
-            if all_have_values(plan_alloc, &lost)? {
+            if all_have_values(plan_alloc, code, &lost)? {
                 whole.push(bits)?;
             }
         }
@@ -171,9 +181,30 @@ fn recovered<A: Allocator + Clone>(
 fn sets_of_three_and_four_lost_places(rt: HostRuntime) -> Result<(), AllocError> {
     let alloc = rt.alloc();
     let bump = Bump::new(alloc);
-    assert!(&rt; recovered(alloc, &alloc, 3)? == (120, 120));
-    assert!(&rt; recovered(alloc, &alloc, 4)? == (210, 180));
-    assert!(&rt; recovered(alloc, &&bump, 3)? == (120, 120));
-    assert!(&rt; recovered(alloc, &&bump, 4)? == (210, 180));
+    assert!(&rt; recovered(alloc, &alloc, Code::Narrow, 3)? == (120, 120));
+    assert!(&rt; recovered(alloc, &alloc, Code::Narrow, 4)? == (210, 180));
+    assert!(&rt; recovered(alloc, &&bump, Code::Narrow, 3)? == (120, 120));
+    assert!(&rt; recovered(alloc, &&bump, Code::Narrow, 4)? == (210, 180));
+    assert!(&rt; recovered(alloc, &alloc, Code::Wide, 3)? == (560, 560));
+    assert!(&rt; recovered(alloc, &&bump, Code::Wide, 3)? == (560, 560));
+    Ok(())
+}
+
+// The plan of x0 in the (12,2,2) code from the six others of its group: six leaves.
+#[test]
+fn local_plan_of_six(rt: HostRuntime) -> Result<(), AllocError> {
+    let alloc = rt.alloc();
+    let six = [Place::X1, Place::X2, Place::X3, Place::X4, Place::X5, Place::Px];
+    let survivors = set_of(&six);
+    if !survivors.has(Place::X0) {
+        let plan = plan_in(alloc, Code::Wide, survivors, Place::X0)?;
+        assert!(&rt; plan.checks.len() == 0);
+        assert!(&rt; plan.value.is_some());
+        if let Some(value) = &plan.value {
+            let leaves = value.leaves();
+            assert!(&rt; value.leaf_count() == 6 && leaves.len() == 6);
+            assert!(&rt; six.iter().all(|place| leaves.has(*place)));
+        }
+    }
     Ok(())
 }
