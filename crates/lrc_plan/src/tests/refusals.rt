@@ -9,7 +9,7 @@ use crate::solved::Solved;
 use crate::solving::solve_in;
 use crate::{Plan, Tree, plan};
 use linked_list_allocator::LocalHeap;
-use lrc_code::{Place, PlaceSet, Request};
+use lrc_code::{Code, Place, PlaceSet, Request};
 use lrc_field::Gf;
 use std::alloc::{AllocError, Allocator, Global};
 
@@ -183,7 +183,7 @@ fn graft_refused_gives_both_trees_back(rt: HostRuntime) -> Result<(), AllocError
 
 // Whether the plan is refused at each of its allocations in turn, and then is the same as without refusal.
 fn plans_in_turn(alloc: Global, survivors: PlaceSet, target: Place) -> Result<bool, AllocError> {
-    if survivors.has(target) {
+    if survivors.has(target) || !Code::Narrow.has(target) {
         return Ok(false);
     }
     let same = plan(alloc, survivors, target)?;
@@ -193,7 +193,7 @@ fn plans_in_turn(alloc: Global, survivors: PlaceSet, target: Place) -> Result<bo
             continue;
         };
         let number = fitting(&heap, same.checks.len());
-        match plan_in(&heap, survivors, target, &same) {
+        match plan_in_heap(&heap, survivors, target, &same) {
             Ended::Granted => return Ok(refused.next == allocations(&same)),
             Ended::Refused if refused.follows(number) => {}
             _ => return Ok(false),
@@ -203,13 +203,13 @@ fn plans_in_turn(alloc: Global, survivors: PlaceSet, target: Place) -> Result<bo
 }
 
 // How planning ends in this heap, where the plan is to be the same as another.
-fn plan_in<A: Allocator>(
+fn plan_in_heap<A: Allocator>(
     heap: &LocalHeap,
     survivors: PlaceSet,
     target: Place,
     same: &Plan<A>,
 ) -> Ended {
-    if survivors.has(target) {
+    if survivors.has(target) || !Code::Narrow.has(target) {
         return Ended::Wrongly;
     }
     match plan(heap, survivors, target) {
@@ -306,7 +306,7 @@ fn is_answer<A: Allocator>(solved: &Solved<A>, answer: Answer) -> bool {
 fn answers_in_turn(alloc: Global, request: &Request, answer: Answer) -> Result<bool, AllocError> {
     let survivors = request.survivors();
     let target = request.target();
-    if survivors.has(target) {
+    if survivors.has(target) || !Code::Narrow.has(target) {
         return Ok(false);
     }
     let plan = plan(alloc, survivors, target)?;

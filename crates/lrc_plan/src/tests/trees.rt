@@ -8,7 +8,7 @@ ghost use Rattle.lrc_plan.specs.Tree.{form_of};
 use super::fixtures::{Answer, CASES, Case, are_same, request_of, scaled_leaf, sum_of_leaves};
 use crate::{Tree, evaluate, evaluate_both, plan};
 use bumpalo::Bump;
-use lrc_code::{Place, Request};
+use lrc_code::{Code, Place, Request};
 use lrc_field::Gf;
 use std::alloc::{AllocError, Allocator, Global};
 use std::thread::Threads;
@@ -55,7 +55,7 @@ fn value_tree(alloc: Global, request: &Request) -> Result<Option<Tree<Global>>, 
 {
     let survivors = request.survivors();
     let target = request.target();
-    if survivors.has(target) {
+    if survivors.has(target) || !Code::Narrow.has(target) {
         return Ok(None);
     }
     let bump = Bump::new(alloc);
