@@ -100,6 +100,12 @@ plain_place place.Px = refl
 plain_place place.Py = refl
 plain_place place.P0 = refl
 plain_place place.P1 = refl
+plain_place place.X3 = refl
+plain_place place.X4 = refl
+plain_place place.X5 = refl
+plain_place place.Y3 = refl
+plain_place place.Y4 = refl
+plain_place place.Y5 = refl
 
 plain_places : (ps : List Place) → IsPlain (join_with_byte 32 (map name_of ps))
 plain_places [] = refl

@@ -3,6 +3,7 @@ use Rattle.std.proofs.Common.{◌≡◌, ◌<◌, ◌∙◌, Bor, ℕ, List, [],
 use Rattle.std.proofs.lemmas.Simd.{map-map}
 use Rattle.std.specs.List.{slice_split}
 use Rattle.lrc_code.specs.Text.{place_named}
+use Rattle.lrc_code.specs.declared.codes.Code.TheVariants.{Narrow}
 use Rattle.lrc_code.specs.Code.{narrow}
 use Rattle.lrc_code.specs.Text.{every, is_space}
 use Rattle.std.specs.Prelude.{nat_le, ◌&&◌, Some, Err}
@@ -49,9 +50,9 @@ name_is_text bs h = IsUtf8-from_ascii bs (ascii_name bs (and_right (nat_le 1 (le
 pub bad_stripe : (n : ℕ) (stripe target size survivors : List ℕ) (p : Place) (m : ℕ) (s : List Place) → Some p ≡ place_named narrow target → Some m ≡ number size → Some s ≡ places survivors
     → (IsUtf8 stripe → ⊥) → rebuild_at n (listed stripe target size survivors) ≡ Err (fault.Refused n refused.BadStripe)
 bad_stripe n stripe target size survivors p m s is_target is_size are bad =
-    let form : listed stripe target size survivors ≡ Some (record { stripe = stripe; target = p; len = m; survivors = s }) = rw (sym is_target, sym is_size, sym are) refl in
+    let form : listed stripe target size survivors ≡ Some (record { code = Narrow; stripe = stripe; target = p; len = m; survivors = s }) = rw (sym is_target, sym is_size, sym are) refl in
     ap (rebuild_at n) form ∙ by (is_name stripe) refl
   where
-    by : (b : Bool) → is_name stripe ≡ b → rebuild_at n (Some (record { stripe = stripe; target = p; len = m; survivors = s })) ≡ Err (fault.Refused n refused.BadStripe)
+    by : (b : Bool) → is_name stripe ≡ b → rebuild_at n (Some (record { code = Narrow; stripe = stripe; target = p; len = m; survivors = s })) ≡ Err (fault.Refused n refused.BadStripe)
     by true h = absurd (bad (name_is_text stripe h))
     by false h = rw h refl

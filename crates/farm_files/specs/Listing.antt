@@ -8,6 +8,7 @@ use Rattle.std.specs.Cmp.Lexicographic.{pointwise}
 use Rattle.csv.specs.Reading.{default_config, records, strip_bom}
 use Rattle.lrc_code.specs.declared.places.Place.{Place}
 use Rattle.lrc_code.specs.Text.{place_named}
+use Rattle.lrc_code.specs.declared.codes.Code.TheVariants.{Narrow}
 use Rattle.lrc_code.specs.Code.{narrow}
 use Rattle.farm_files.specs.Listed.{ListedRequest, listed_refusal}
 use Rattle.farm_files.specs.declared.listing.Record.{Record}
@@ -31,7 +32,7 @@ places (b ∷ bs) = every (map (place_named narrow) (slice_split is_space (b ∷
 -- the request that four fields list, where each has its form
 abbrev pub listed : List ℕ → List ℕ → List ℕ → List ℕ → Option ListedRequest
 listed stripe target size survivors =
-    option_and_then (λ p. option_and_then (λ n. option_map (λ s. record { stripe = stripe; target = p; len = n; survivors = s }) (places survivors)) (number size)) (place_named narrow target)
+    option_and_then (λ p. option_and_then (λ n. option_map (λ s. record { code = Narrow; stripe = stripe; target = p; len = n; survivors = s }) (places survivors)) (number size)) (place_named narrow target)
 
 -- the order of record n that lists a request, where it has its form
 abbrev pub rebuild_at : ℕ → Option ListedRequest → Result Record ListFault

@@ -42,7 +42,7 @@ survivor there r read = option_map (λ b. record { place = read.0; bytes = b }) 
 
 -- the request with the survivors that were read
 abbrev pub asked : Files → ListedRequest → Reads → Asked
-asked there r reads = record { stripe = r.stripe; target = r.target; len = r.len; survivors = filter_map (survivor there r) reads }
+asked there r reads = record { code = r.code; stripe = r.stripe; target = r.target; len = r.len; survivors = filter_map (survivor there r) reads }
 
 -- the places of the others
 abbrev pub unread : Files → ListedRequest → Reads → List Place

@@ -1,16 +1,19 @@
 //! Requests as they are listed.
 ghost use Rattle.std.specs.Prelude.{◌≡◌, ◌≤◌, length, MatchResult, None, Some, Bool};
-ghost use Rattle.std.specs.List.{list_any};
+ghost use Rattle.std.specs.List.{list_any, list_all};
 ghost use Rattle.std.specs.String.{string_bytes};
 ghost use Rattle.lrc_code.specs.Places.{same_place};
+ghost use Rattle.lrc_code.specs.Code.{has_place as code_has};
+ghost use Rattle.lrc_code.specs.Codes.{tables_of};
 ghost use Rattle.farm_files.specs.Listed.{ListedRequest, is_listed, listed_refusal, stands_twice};
 
-use lrc_code::{Place, RequestFault, is_stripe_name};
+use lrc_code::{Code, Place, RequestFault, is_stripe_name};
 use std::marker::Model;
 
 /// A request as it is listed, before its fragments are read. None of the first four refusals holds of it.
 #[derive(Debug, Drop)]
 pub struct Listed {
+    code: Code,
     stripe: String,
     target: Place,
     length: u32,
@@ -24,9 +27,9 @@ impl Model for Listed {
 
     ghost Value = { ListedRequest };
 
-    ghost view = { λ r. record { stripe = string_bytes r.stripe; target = r.target; len = r.length; survivors = r.survivors.items } };
+    ghost view = { λ r. record { code = r.code; stripe = string_bytes r.stripe; target = r.target; len = r.length; survivors = r.survivors.items } };
 
-    ghost invariant = { λ r. listed_refusal (record { stripe = string_bytes r.stripe; target = r.target; len = r.length; survivors = r.survivors.items }) ≡ None };
+    ghost invariant = { λ r. listed_refusal (record { code = r.code; stripe = string_bytes r.stripe; target = r.target; len = r.length; survivors = r.survivors.items }) ≡ None };
 }
 
 // Whether a place is among others.
@@ -34,6 +37,13 @@ fn has_place(place: Place, places: &[Place]) -> bool
     ensures { result ≡ is_listed place places.now }
 {
     places.iter().any(|other| place == *other)
+}
+
+// Whether all places are the code's.
+fn has_all(code: Code, places: &[Place]) -> bool
+    ensures { result ≡ list_all (code_has (tables_of code)) places.now }
+{
+    places.iter().all(|place| code.has(*place))
 }
 
 fn has_repeated(places: &[Place]) -> bool
@@ -46,22 +56,26 @@ fn has_repeated(places: &[Place]) -> bool
 }
 
 impl Listed {
-    /// A listed request, unless one of E1 to E4 holds: then the first of them in this order. Takes no memory.
+    /// A listed request, unless one of E1, E2, E29, E3 and E4 holds: then the first of them in this order. Takes no memory.
     pub fn new(
+        code: Code,
         stripe: String,
         target: Place,
         length: u32,
         survivors: Vec<Place>,
     ) -> Result<Listed, RequestFault>
         ensures { MatchResult result
-            (λ r. (r ≡ record { stripe = string_bytes stripe; target = target; len = length; survivors = survivors.items }) × (listed_refusal r ≡ None))
-            (λ e. listed_refusal (record { stripe = string_bytes stripe; target = target; len = length; survivors = survivors.items }) ≡ Some e) }
+            (λ r. (r ≡ record { code = code; stripe = string_bytes stripe; target = target; len = length; survivors = survivors.items }) × (listed_refusal r ≡ None))
+            (λ e. listed_refusal (record { code = code; stripe = string_bytes stripe; target = target; len = length; survivors = survivors.items }) ≡ Some e) }
     {
         if !is_stripe_name(&stripe) {
             return Err(RequestFault::BadStripe);
         }
         if length == 0 || length > 65_536 {
             return Err(RequestFault::BadLength);
+        }
+        if !(code.has(target) && has_all(code, &survivors)) {
+            return Err(RequestFault::WrongCode);
         }
         if has_repeated(&survivors) {
             return Err(RequestFault::Repeated);
@@ -70,11 +84,19 @@ impl Listed {
             return Err(RequestFault::NotLost);
         }
         Ok(Listed {
+            code,
             stripe,
             target,
             length,
             survivors,
         })
+    }
+
+    /// The code of the stripe.
+    pub fn code(&self) -> Code
+        ensures { result ≡ self.now.code }
+    {
+        self.code
     }
 
     /// The stripe's name.
@@ -103,7 +125,7 @@ impl Listed {
     /// The survivors, in the list's order.
     pub fn survivors(&self) -> &[Place]
         ensures value { result.now ≡ self.now.survivors }
-        ensures few { length self.now.survivors ≤ 10 }
+        ensures few { length self.now.survivors ≤ 16 }
     {
         self.survivors.as_slice()
     }

@@ -13,7 +13,7 @@ use crate::listed::Listed;
 use crate::text::split_at_spaces;
 use csv::{ByteRecord, ReaderBuilder};
 use lrc_code::text::parse_number;
-use lrc_code::{Place, RequestFault};
+use lrc_code::{Code, Place, RequestFault};
 use std::alloc::{AllocError, Global};
 use thiserror::Error;
 
@@ -200,7 +200,7 @@ fn rebuild_of(alloc: Global, number: usize, fields: &Fields<'_>) -> Result<Recor
     ensures ok { IfOk result (λ o. rebuild_at number (listed fields.now.stripe.now fields.now.target.now fields.now.length.now fields.now.survivors.now) ≡ Ok o) }
     ensures err { IfErr result (λ f. IsRebuildFault f number (listed fields.now.stripe.now fields.now.target.now fields.now.length.now fields.now.survivors.now)) }
 {
-    let Some(target) = Place::named(fields.target) else {
+    let Some(target) = Code::Narrow.named(fields.target) else {
         return Err(ListFault::BadRecord { number });
     };
     let Some(length) = parse_number(fields.length) else {
@@ -220,7 +220,7 @@ fn rebuild_of(alloc: Global, number: usize, fields: &Fields<'_>) -> Result<Recor
             fault: RequestFault::BadStripe,
         });
     };
-    match Listed::new(stripe, target, length, survivors) {
+    match Listed::new(Code::Narrow, stripe, target, length, survivors) {
         Ok(listed) => Ok(Record::Rebuild(listed)),
         Err(fault) => Err(ListFault::Refused { number, fault }),
     }
@@ -242,7 +242,7 @@ fn parse_names(alloc: Global, names: &[&[u8]]) -> Result<Option<Vec<Place>>, All
 {
     let mut places = Vec::new(alloc);
     for name in names {
-        match Place::named(name) {
+        match Code::Narrow.named(name) {
             Some(place) => places.push(place)?,
             None => return Ok(None),
         }

@@ -128,12 +128,12 @@ fn read_survivors<I: Shelf>(
     input: &mut I,
     listed: &Listed,
 ) -> Result<(Vec<Fragment>, Vec<Place>), AllocError>
-    requires { I.failed input.old + 10 < 2 ^ 63 }
+    requires { I.failed input.old + 16 < 2 ^ 63 }
     ensures same { I.files input.new ≡ I.files input.old }
     ensures read { IfOk result (λ v. (reads : Reads) × AreReads listed.now reads × (I.failed input.new ≡ I.failed input.old + failures reads)
         × ((there : Files) → I.files input.old ≡ Some there → (survivors_of v.0.items ≡ filter_map (survivor there listed.now) reads) × (v.1.items ≡ unread there listed.now reads))) }
     ensures part { IfOk result (λ v. ArePart listed.now.len listed.now.survivors (survivors_of v.0.items)) }
-    ensures few { I.failed input.new ≤ I.failed input.old + 10 }
+    ensures few { I.failed input.new ≤ I.failed input.old + 16 }
 {
     let mut fragments = Vec::new(alloc);
     let mut unread = Vec::new(alloc);
@@ -211,15 +211,21 @@ fn read_request<I: Shelf>(
     input: &mut I,
     listed: &Listed,
 ) -> Result<(Request, Vec<Place>), AllocError>
-    requires { I.failed input.old + 10 < 2 ^ 63 }
+    requires { I.failed input.old + 16 < 2 ^ 63 }
     ensures same { I.files input.new ≡ I.files input.old }
     ensures read { IfOk result (λ v. (reads : Reads) × AreReads listed.now reads × (I.failed input.new ≡ I.failed input.old + failures reads)
         × ((there : Files) → I.files input.old ≡ Some there → (v.0 ≡ asked there listed.now reads) × (v.1.items ≡ unread there listed.now reads))) }
-    ensures few { I.failed input.new ≤ I.failed input.old + 10 }
+    ensures few { I.failed input.new ≤ I.failed input.old + 16 }
 {
     let (fragments, unread) = read_survivors(alloc, input, listed)?;
     let stripe = String::from_str(alloc, listed.stripe())?;
-    let Ok(request) = Request::new(stripe, listed.target(), listed.length(), fragments) else {
+    let Ok(request) = Request::new_in(
+        listed.code(),
+        stripe,
+        listed.target(),
+        listed.length(),
+        fragments,
+    ) else {
         unreachable!();
     };
     Ok((request, unread))
@@ -231,13 +237,13 @@ fn read_rack<I: Shelf>(
     input: &mut I,
     rack: &[&Listed],
 ) -> Result<(RackList, Vec<Vec<Place>>), AllocError>
-    requires room { I.failed input.old + 10 * length rack.now < 2 ^ 63 }
+    requires room { I.failed input.old + 16 * length rack.now < 2 ^ 63 }
     requires orders { length rack.now ≤ 4096 }
     ensures same { I.files input.new ≡ I.files input.old }
     ensures read { IfOk result (λ v. (reads : List Reads) × AllZip AreReads (map (λ r. r.now) rack.now) reads × (I.failed input.new ≡ I.failed input.old + rack_failures reads)
         × ((there : Files) → I.files input.old ≡ Some there → (v.0 ≡ map Rebuild (asked_rack there (map (λ r. r.now) rack.now) reads)) × (map (λ u. u.items) v.1.items ≡ unread_rack there (map (λ r. r.now) rack.now) reads))) }
     ensures sizes { IfOk result (λ v. (length (before_close v.0) ≡ length rack.now) × (length v.1.items ≡ length rack.now)) }
-    ensures few { I.failed input.new ≤ I.failed input.old + 10 * length rack.now }
+    ensures few { I.failed input.new ≤ I.failed input.old + 16 * length rack.now }
 {
     let mut orders = Vec::new(alloc);
     let mut unread = Vec::new(alloc);
@@ -258,13 +264,13 @@ fn read_listed_rack<I: Shelf>(
     input: &mut I,
     list: &[Record],
 ) -> Result<(RackList, Vec<Vec<Place>>), AllocError>
-    requires room { I.failed input.old + 40960 < 2 ^ 63 }
+    requires room { I.failed input.old + 65536 < 2 ^ 63 }
     requires orders { length list.now ≤ 4096 }
     ensures same { I.files input.new ≡ I.files input.old }
     ensures read { IfOk result (λ v. (reads : List Reads) × AllZip AreReads (listed_before_close list.now) reads × (I.failed input.new ≡ I.failed input.old + rack_failures reads)
         × ((there : Files) → I.files input.old ≡ Some there → (before_close v.0 ≡ asked_rack there (listed_before_close list.now) reads) × (map (λ u. u.items) v.1.items ≡ unread_rack there (listed_before_close list.now) reads))) }
     ensures sizes { IfOk result (λ v. (length (before_close v.0) ≡ length (listed_before_close list.now)) × (length v.1.items ≡ length (listed_before_close list.now))) }
-    ensures few { I.failed input.new ≤ I.failed input.old + 40960 }
+    ensures few { I.failed input.new ≤ I.failed input.old + 65536 }
 {
     let requests = requests_before_close(alloc, list)?;
     let read = read_rack(alloc, input, requests.as_slice())?;

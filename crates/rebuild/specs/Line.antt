@@ -3,6 +3,7 @@ use Rattle.std.specs.Prelude.{◌==◌, ◌&&◌, ◌+◌, nat_le, ℕ, Bool, tr
 use Rattle.std.specs.List.{filter, list_all, slice_split}
 use Rattle.std.specs.Result.{result_ok}
 use Rattle.hex.specs.Hex.{decode_of}
+use Rattle.lrc_code.specs.declared.codes.Code.TheVariants.{Narrow}
 use Rattle.lrc_code.specs.Code.{narrow}
 use Rattle.lrc_code.specs.Requests.{Asked, Survivor}
 use Rattle.lrc_code.specs.Text.{every, is_space, number, place_named}
@@ -43,7 +44,7 @@ request_of_words (stripe ∷ target ∷ size ∷ rest) = do
   place ← place_named narrow target
   len ← number size
   survivors ← every (map survivor rest)
-  Some (record { stripe = stripe; target = place; len = len; survivors = survivors })
+  Some (record { code = Narrow; stripe = stripe; target = place; len = len; survivors = survivors })
 
 -- the request that a line writes, where it has the form of one
 abbrev pub request_of : List ℕ → Option Asked

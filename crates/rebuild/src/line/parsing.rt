@@ -15,7 +15,7 @@ use super::replies::LineRefusal;
 use super::words::Words;
 use hex::FromHexError;
 use lrc_code::text::parse_number;
-use lrc_code::{Fragment, Place, Request};
+use lrc_code::{Code, Fragment, Place, Request};
 use std::alloc::{AllocError, Global};
 
 /// The request that a line writes, or why the line is refused.
@@ -63,7 +63,7 @@ fn parse_parts(alloc: Global, line: &[u8]) -> Result<Option<Parts>, AllocError>
     else {
         return Ok(None);
     };
-    let (Some(target), Some(length)) = (Place::named(target), parse_number(length)) else {
+    let (Some(target), Some(length)) = (Code::Narrow.named(target), parse_number(length)) else {
         return Ok(None);
     };
     let Some(survivors) = parse_survivors(alloc, words)? else {
@@ -114,7 +114,7 @@ fn parse_survivor(alloc: Global, word: &[u8]) -> Result<Option<Fragment>, AllocE
     let Some(at) = find_byte(word, b'=') else {
         return Ok(None);
     };
-    let Some(place) = Place::named(&word[..at]) else {
+    let Some(place) = Code::Narrow.named(&word[..at]) else {
         return Ok(None);
     };
     match hex::decode(alloc, &word[at + 1..]) {

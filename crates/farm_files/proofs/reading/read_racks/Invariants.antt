@@ -15,7 +15,7 @@ invariant-loop-rack g l =
     × AreAllReads (map (λ l. l.items) (take l.rack l.lists)) reads
     × (g.I.Shelf.files l.input ≡ g.I.Shelf.files l.fn.input)
     × (g.I.Shelf.failed l.input ≡ g.I.Shelf.failed l.fn.input + all_failures reads)
-    × (g.I.Shelf.failed l.input ≤ g.I.Shelf.failed l.fn.input + 40960 * l.rack)
+    × (g.I.Shelf.failed l.input ≤ g.I.Shelf.failed l.fn.input + 65536 * l.rack)
     × (length l.racks.items ≡ l.rack)
     × AllZip (λ (list : Vec Record Global) (orders : List Order). length (before_close orders) ≡ length (listed_before_close list.items)) (take l.rack l.lists) l.racks.items
     × AllZip (λ (list : Vec Record Global) (us : Vec (Vec Place Global) Global). length us.items ≡ length (listed_before_close list.items)) (take l.rack l.lists) l.unread.items
