@@ -5,9 +5,9 @@ ghost use Rattle.std.specs.Str.{bytes_eq};
 ghost use Rattle.csv.specs.Records.{fields_of};
 ghost use Rattle.lrc_code.specs.Text.{every};
 ghost use Rattle.lrc_code.specs.Text.{place_named};
-ghost use Rattle.lrc_code.specs.Code.{narrow};
-ghost use Rattle.farm_files.specs.Listing.{IsFaultOf, IsNotFive, IsRecordFault, SoFar, Stops, close_at, header, list_of, listed, order_at, places, rebuild_at};
-ghost use Rattle.farm_files.specs.Views.{IsRebuildFault, five};
+ghost use Rattle.lrc_code.specs.Codes.{tables_of};
+ghost use Rattle.farm_files.specs.Listing.{IsFaultOf, IsNotFive, IsNotSix, IsRecordFault, SoFar, Stops, close_at, code_named, coded_header, header, list_of, listed, order_at, order_in, places, rebuild_at};
+ghost use Rattle.farm_files.specs.Views.{IsOrderFault, IsRebuildFault, five, six};
 
 use crate::listed::Listed;
 use crate::text::split_at_spaces;
@@ -71,11 +71,12 @@ pub fn read_list(alloc: Global, bytes: &[u8]) -> Result<Vec<Record>, ListFault>
         .from_reader(alloc, bytes);
     let mut list = Vec::new(alloc);
     let mut number = 0usize;
+    let mut coded = false;
     for row in rdr.into_byte_records() {
         let Ok(row) = row else {
             return Err(ListFault::OutOfMemory);
         };
-        take_row(alloc, &mut list, number, &row)?;
+        take_row(alloc, &mut list, number, &mut coded, &row)?;
         number += 1;
     }
     if number == 0 {
@@ -84,18 +85,21 @@ pub fn read_list(alloc: Global, bytes: &[u8]) -> Result<Vec<Record>, ListFault>
     Ok(list)
 }
 
-// Takes one more record: the header, or an order.
+// Takes one more record: the header, which tells whether records name their codes, or an order.
 fn take_row(
     alloc: Global,
     list: &mut Vec<Record>,
     number: usize,
+    coded: &mut bool,
     row: &ByteRecord,
 ) -> Result<(), ListFault>
-    ensures ok { OnOk result ((number ≤ 4096) × ((rows : List (List (List ℕ))) → length rows ≡ number → SoFar rows list.old.items → SoFar (rows ++ fields_of row.now ∷ []) list.new.items)) }
-    ensures err { IfErr result (λ f. (rows : List (List (List ℕ))) → length rows ≡ number → SoFar rows list.old.items → Stops f (rows ++ fields_of row.now ∷ [])) }
+    ensures ok { OnOk result ((number ≤ 4096) × ((rows : List (List (List ℕ))) → length rows ≡ number → SoFar coded.old rows list.old.items → SoFar coded.new (rows ++ fields_of row.now ∷ []) list.new.items)) }
+    ensures err { IfErr result (λ f. (rows : List (List (List ℕ))) → length rows ≡ number → SoFar coded.old rows list.old.items → Stops f (rows ++ fields_of row.now ∷ [])) }
 {
     if number == 0 {
-        return if is_header(row) {
+        let short = is_header(row);
+        *coded = !short;
+        return if short || (!short && is_coded_header(row)) {
             Ok(())
         } else {
             Err(ListFault::BadHeader)
@@ -104,7 +108,7 @@ fn take_row(
     if number > ORDER_LIMIT {
         return Err(ListFault::TooManyOrders);
     }
-    let order = order_of(alloc, number, row)?;
+    let order = order_of(alloc, *coded, number, row)?;
     match list.push(order) {
         Ok(()) => Ok(()),
         Err(_) => Err(ListFault::OutOfMemory),
@@ -152,6 +156,77 @@ fn five_fields(row: &ByteRecord) -> Option<Fields<'_>>
     }
 }
 
+// A record of six fields: the first five, and the last.
+#[derive(Clone, Copy)]
+struct CodedFields<'a> {
+    fields: Fields<'a>,
+    code: &'a [u8],
+}
+
+fn six_fields(row: &ByteRecord) -> Option<CodedFields<'_>>
+    ensures six { IfSome result (λ f. fields_of row.now ≡ six f) }
+    ensures other { IfNone result (IsNotSix (fields_of row.now)) }
+{
+    let Some(order) = row.get(0) else {
+        return None;
+    };
+    let Some(stripe) = row.get(1) else {
+        return None;
+    };
+    let Some(target) = row.get(2) else {
+        return None;
+    };
+    let Some(length) = row.get(3) else {
+        return None;
+    };
+    let Some(survivors) = row.get(4) else {
+        return None;
+    };
+    let Some(code) = row.get(5) else {
+        return None;
+    };
+    match row.get(6) {
+        Some(_) => None,
+        None => Some(CodedFields {
+            fields: Fields {
+                order,
+                stripe,
+                target,
+                length,
+                survivors,
+            },
+            code,
+        }),
+    }
+}
+
+fn is_coded_header(row: &ByteRecord) -> bool
+    ensures { result ≡ pointwise bytes_eq (fields_of row.now) coded_header }
+{
+    match six_fields(row) {
+        Some(f) => {
+            f.fields.order == b"order".as_slice()
+                && f.fields.stripe == b"stripe".as_slice()
+                && f.fields.target == b"target".as_slice()
+                && f.fields.length == b"length".as_slice()
+                && f.fields.survivors == b"survivors".as_slice()
+                && f.code == b"code".as_slice()
+        }
+        None => false,
+    }
+}
+
+// The code of this name.
+fn parse_code(text: &[u8]) -> Option<Code>
+    ensures { result ≡ code_named text.now }
+{
+    match text {
+        b"6-2-2" => Some(Code::Narrow),
+        b"12-2-2" => Some(Code::Wide),
+        _ => None,
+    }
+}
+
 fn is_header(row: &ByteRecord) -> bool
     ensures { result ≡ pointwise bytes_eq (fields_of row.now) header }
 {
@@ -168,45 +243,79 @@ fn is_header(row: &ByteRecord) -> bool
 }
 
 // The order of record `number`, by its fields.
-fn order_of(alloc: Global, number: usize, row: &ByteRecord) -> Result<Record, ListFault>
-    ensures ok { IfOk result (λ o. order_at number (fields_of row.now) ≡ Ok o) }
-    ensures err { IfErr result (λ f. IsRecordFault f number (fields_of row.now)) }
+fn order_of(
+    alloc: Global,
+    coded: bool,
+    number: usize,
+    row: &ByteRecord,
+) -> Result<Record, ListFault>
+    ensures ok { IfOk result (λ o. order_at coded number (fields_of row.now) ≡ Ok o) }
+    ensures err { IfErr result (λ f. IsRecordFault f coded number (fields_of row.now)) }
 {
+    if coded {
+        let Some(f) = six_fields(row) else {
+            return Err(ListFault::BadRecord { number });
+        };
+        return order_in(alloc, parse_code(f.code), f.code.is_empty(), number, &f.fields);
+    }
     let Some(fields) = five_fields(row) else {
         return Err(ListFault::BadRecord { number });
     };
+    order_in(alloc, Some(Code::Narrow), true, number, &fields)
+}
+
+// The order of record `number`, by five fields, over this code, where one is named, with or without something behind.
+fn order_in(
+    alloc: Global,
+    code: Option<Code>,
+    blank: bool,
+    number: usize,
+    fields: &Fields<'_>,
+) -> Result<Record, ListFault>
+    ensures ok { IfOk result (λ o. order_in code blank number fields.now.order.now fields.now.stripe.now fields.now.target.now fields.now.length.now fields.now.survivors.now ≡ Ok o) }
+    ensures err { IfErr result (λ f. IsOrderFault f number (order_in code blank number fields.now.order.now fields.now.stripe.now fields.now.target.now fields.now.length.now fields.now.survivors.now)) }
+{
     if fields.order == b"rebuild".as_slice() {
-        return rebuild_of(alloc, number, &fields);
+        let Some(code) = code else {
+            return Err(ListFault::BadRecord { number });
+        };
+        return rebuild_of(alloc, code, number, fields);
     }
-    if is_close(&fields) {
+    if is_close(blank, fields) {
         Ok(Record::Close)
     } else {
         Err(ListFault::BadRecord { number })
     }
 }
 
-fn is_close(fields: &Fields<'_>) -> bool
-    ensures { result ≡ (bytes_eq fields.now.order.now (codes "close") && (length fields.now.stripe.now == 0 && (length fields.now.target.now == 0 && (length fields.now.length.now == 0 && length fields.now.survivors.now == 0)))) }
+fn is_close(blank: bool, fields: &Fields<'_>) -> bool
+    ensures { result ≡ (bytes_eq fields.now.order.now (codes "close") && (length fields.now.stripe.now == 0 && (length fields.now.target.now == 0 && (length fields.now.length.now == 0 && (length fields.now.survivors.now == 0 && blank))))) }
 {
     fields.order == b"close".as_slice()
         && fields.stripe.is_empty()
         && fields.target.is_empty()
         && fields.length.is_empty()
         && fields.survivors.is_empty()
+        && blank
 }
 
 // The order of record `number`, which is to list a request.
-fn rebuild_of(alloc: Global, number: usize, fields: &Fields<'_>) -> Result<Record, ListFault>
-    ensures ok { IfOk result (λ o. rebuild_at number (listed fields.now.stripe.now fields.now.target.now fields.now.length.now fields.now.survivors.now) ≡ Ok o) }
-    ensures err { IfErr result (λ f. IsRebuildFault f number (listed fields.now.stripe.now fields.now.target.now fields.now.length.now fields.now.survivors.now)) }
+fn rebuild_of(
+    alloc: Global,
+    code: Code,
+    number: usize,
+    fields: &Fields<'_>,
+) -> Result<Record, ListFault>
+    ensures ok { IfOk result (λ o. rebuild_at number (listed code fields.now.stripe.now fields.now.target.now fields.now.length.now fields.now.survivors.now) ≡ Ok o) }
+    ensures err { IfErr result (λ f. IsRebuildFault f number (listed code fields.now.stripe.now fields.now.target.now fields.now.length.now fields.now.survivors.now)) }
 {
-    let Some(target) = Code::Narrow.named(fields.target) else {
+    let Some(target) = code.named(fields.target) else {
         return Err(ListFault::BadRecord { number });
     };
     let Some(length) = parse_number(fields.length) else {
         return Err(ListFault::BadRecord { number });
     };
-    let survivors = match parse_places(alloc, fields.survivors) {
+    let survivors = match parse_places(alloc, code, fields.survivors) {
         Ok(Some(survivors)) => survivors,
         Ok(None) => return Err(ListFault::BadRecord { number }),
         Err(_) => return Err(ListFault::OutOfMemory),
@@ -220,29 +329,37 @@ fn rebuild_of(alloc: Global, number: usize, fields: &Fields<'_>) -> Result<Recor
             fault: RequestFault::BadStripe,
         });
     };
-    match Listed::new(Code::Narrow, stripe, target, length, survivors) {
+    match Listed::new(code, stripe, target, length, survivors) {
         Ok(listed) => Ok(Record::Rebuild(listed)),
         Err(fault) => Err(ListFault::Refused { number, fault }),
     }
 }
 
 // The places that names with one space between two give.
-fn parse_places(alloc: Global, text: &[u8]) -> Result<Option<Vec<Place>>, AllocError>
-    ensures { IfOk result (λ v. option_map (λ s. s.items) v ≡ places text.now) }
+fn parse_places(
+    alloc: Global,
+    code: Code,
+    text: &[u8],
+) -> Result<Option<Vec<Place>>, AllocError>
+    ensures { IfOk result (λ v. option_map (λ s. s.items) v ≡ places code text.now) }
 {
     if text.is_empty() {
         return Ok(Some(Vec::new(alloc)));
     }
     let names = split_at_spaces(alloc, text)?;
-    parse_names(alloc, names.as_slice())
+    parse_names(alloc, code, names.as_slice())
 }
 
-fn parse_names(alloc: Global, names: &[&[u8]]) -> Result<Option<Vec<Place>>, AllocError>
-    ensures { IfOk result (λ v. option_map (λ s. s.items) v ≡ every (map (λ n. place_named narrow n.now) names.now)) }
+fn parse_names(
+    alloc: Global,
+    code: Code,
+    names: &[&[u8]],
+) -> Result<Option<Vec<Place>>, AllocError>
+    ensures { IfOk result (λ v. option_map (λ s. s.items) v ≡ every (map (λ n. place_named (tables_of code) n.now) names.now)) }
 {
     let mut places = Vec::new(alloc);
     for name in names {
-        match Code::Narrow.named(name) {
+        match code.named(name) {
             Some(place) => places.push(place)?,
             None => return Ok(None),
         }

@@ -73,7 +73,7 @@ pub returns : goal.returns
 returns c =
     let (plain, ready, left, config, y, source, rows, reached, number, so, small, few) = c.loop-row.invariant in
     let s = rw c.in-None.is at ((c.next.ensures.steps left plain).0 ready) in
-    let read = lists_all c.args.bytes.now rows small (c.loop-row.row-iterator.rdr.state, y, reached, rows-end (λ (s : Bor (List ℕ)). Some s.now) c.loop-row.row-iterator.rdr c.next.new.self.rdr [] default_config y config source s) ∙ listed_all rows c.loop-row.list.items c.loop-row.number (sym number) c.if-number-eq0.false so in
+    let read = lists_all c.args.bytes.now rows small (c.loop-row.row-iterator.rdr.state, y, reached, rows-end (λ (s : Bor (List ℕ)). Some s.now) c.loop-row.row-iterator.rdr c.next.new.self.rdr [] default_config y config source s) ∙ listed_all c.loop-row.coded rows c.loop-row.list.items c.loop-row.number (sym number) c.if-number-eq0.false so in
     record { read = read; few = list_few c.args.bytes.now c.loop-row.list.items read; fault = tt }
 
 pub returns-then-bytes-gt-LIST_LIMIT-clause-fault : goal.returns-then-bytes-gt-LIST_LIMIT-clause-fault

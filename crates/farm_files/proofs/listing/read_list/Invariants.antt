@@ -10,5 +10,5 @@ invariant-loop-row l = (l.row-iterator.rdr.trim ≡ trim.None) × Ready l.row-it
     × (y : List ℕ) × (source_of (λ s. Some s.now) l.row-iterator.rdr ≡ Some y)
     × (rows : List (List (List ℕ)))
     × Reached default_config st.StartRecord (strip_bom l.fn.bytes) rows l.row-iterator.rdr.state y
-    × (l.number ≡ length rows) × SoFar rows l.list.items
+    × (l.number ≡ length rows) × SoFar l.coded rows l.list.items
     × (length l.fn.bytes ≤ list_limit) × (l.number ≤ 4097)
