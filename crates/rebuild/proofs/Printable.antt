@@ -51,3 +51,9 @@ module _ (q : ℕ → Bool) where
   -- the first word passes it too
   pub first_word_passes : (line w : List ℕ) (more : List (List ℕ)) → list_all q line ≡ true → words line ≡ w ∷ more → list_all q w ≡ true
   first_word_passes line w more h e = (both (list_all q w) (list_all (list_all q) more) (sym (ap (list_all (list_all q)) e) ∙ kept-pass (slice_split is_space line) (parts-pass line h))).0
+
+  -- and so does the second
+  pub second_word_passes : (line w v : List ℕ) (more : List (List ℕ)) → list_all q line ≡ true → words line ≡ w ∷ v ∷ more → list_all q v ≡ true
+  second_word_passes line w v more h e =
+      let all = both (list_all q w) (list_all (list_all q) (v ∷ more)) (sym (ap (list_all (list_all q)) e) ∙ kept-pass (slice_split is_space line) (parts-pass line h)) in
+      (both (list_all q v) (list_all (list_all q) more) all.1).0

@@ -1,12 +1,12 @@
 //! The request that a line writes.
-ghost use Rattle.std.specs.Prelude.{◌≡◌, Ok, Some, None, IfOk, MatchResult, map, true};
+ghost use Rattle.std.specs.Prelude.{◌≡◌, ◌∷◌, Ok, Some, None, IfOk, MatchResult, map, true};
 ghost use Rattle.std.specs.List.{list_all};
 ghost use Rattle.std.specs.Option.{option_map};
 ghost use Rattle.std.specs.String.{string_bytes};
 ghost use Rattle.lrc_code.specs.Requests.{refusal};
 ghost use Rattle.lrc_code.specs.Survivors.{survivor_of, survivors_of};
 ghost use Rattle.lrc_code.specs.Text.{every};
-ghost use Rattle.rebuild.specs.Line.{request_of, is_printable, survivor, words};
+ghost use Rattle.rebuild.specs.Line.{line_code, request_in, request_of, is_printable, survivor, words};
 ghost use Rattle.rebuild.specs.Parts.{asked_of};
 ghost use Rattle.rebuild.specs.Reply.{refusal_of};
 
@@ -31,12 +31,13 @@ pub(crate) fn parse_line(
         return Ok(Err(LineRefusal::BadLine));
     };
     let Parts {
+        code,
         stripe,
         target,
         length,
         survivors,
     } = parts;
-    match Request::new(stripe, target, length, survivors) {
+    match Request::new_in(code, stripe, target, length, survivors) {
         Ok(request) => Ok(Ok(request)),
         Err(fault) => Ok(Err(LineRefusal::Refused(fault))),
     }
@@ -45,6 +46,7 @@ pub(crate) fn parse_line(
 // A request as a line writes it, before its refusals are tested.
 #[derive(Drop)]
 struct Parts {
+    code: Code,
     stripe: String,
     target: Place,
     length: u32,
@@ -59,18 +61,57 @@ fn parse_parts(alloc: Global, line: &[u8]) -> Result<Option<Parts>, AllocError>
         return Ok(None);
     }
     let mut words = Words::new(line);
-    let (Some(stripe), Some(target), Some(length)) = (words.next(), words.next(), words.next())
-    else {
+    let Some(first) = words.next() else {
         return Ok(None);
     };
-    let (Some(target), Some(length)) = (Code::Narrow.named(target), parse_number(length)) else {
+    let parts = match parse_line_code(first) {
+        None => parse_request(alloc, Code::Narrow, first, words)?,
+        Some(code) => {
+            let Some(stripe) = words.next() else {
+                return Ok(None);
+            };
+            parse_request(alloc, code, stripe, words)?
+        }
+    };
+    Ok(parts)
+}
+
+// The code that a line's first word names.
+fn parse_line_code(word: &[u8]) -> Option<Code>
+    ensures { result ≡ line_code word.now }
+{
+    if word == b"code=6-2-2".as_slice() {
+        return Some(Code::Narrow);
+    }
+    if word == b"code=12-2-2".as_slice() {
+        return Some(Code::Wide);
+    }
+    None
+}
+
+// The parts of the request over a code that a stripe's name and the words behind it write.
+fn parse_request(
+    alloc: Global,
+    code: Code,
+    stripe: &[u8],
+    others: Words<'_>,
+) -> Result<Option<Parts>, AllocError>
+    requires { list_all is_printable stripe.now ≡ true }
+    ensures { IfOk result (λ parts. option_map asked_of parts ≡ request_in code (stripe.now ∷ words others.entry.rest.now)) }
+{
+    let mut words = others;
+    let (Some(target), Some(length)) = (words.next(), words.next()) else {
         return Ok(None);
     };
-    let Some(survivors) = parse_survivors(alloc, words)? else {
+    let (Some(target), Some(length)) = (code.named(target), parse_number(length)) else {
+        return Ok(None);
+    };
+    let Some(survivors) = parse_survivors(alloc, code, words)? else {
         return Ok(None);
     };
     let stripe = copy_text(alloc, stripe)?;
     Ok(Some(Parts {
+        code,
         stripe,
         target,
         length,
@@ -93,13 +134,17 @@ fn copy_text(alloc: Global, text: &[u8]) -> Result<String, AllocError>
 }
 
 // The surviving fragments that words write, where each writes one.
-fn parse_survivors(alloc: Global, others: Words<'_>) -> Result<Option<Vec<Fragment>>, AllocError>
+fn parse_survivors(
+    alloc: Global,
+    code: Code,
+    others: Words<'_>,
+) -> Result<Option<Vec<Fragment>>, AllocError>
     ensures { IfOk result (λ fragments. option_map (λ fs. survivors_of fs.items) fragments
-        ≡ every (map survivor (words others.entry.rest.now))) }
+        ≡ every (map (survivor code) (words others.entry.rest.now))) }
 {
     let mut survivors = Vec::new(alloc);
     for word in others {
-        let Some(fragment) = parse_survivor(alloc, word)? else {
+        let Some(fragment) = parse_survivor(alloc, code, word)? else {
             return Ok(None);
         };
         survivors.push(fragment)?;
@@ -108,13 +153,17 @@ fn parse_survivors(alloc: Global, others: Words<'_>) -> Result<Option<Vec<Fragme
 }
 
 // The surviving fragment that a word writes, as in `x1=0F`.
-fn parse_survivor(alloc: Global, word: &[u8]) -> Result<Option<Fragment>, AllocError>
-    ensures { IfOk result (λ fragment. option_map survivor_of fragment ≡ survivor word.now) }
+fn parse_survivor(
+    alloc: Global,
+    code: Code,
+    word: &[u8],
+) -> Result<Option<Fragment>, AllocError>
+    ensures { IfOk result (λ fragment. option_map survivor_of fragment ≡ survivor code word.now) }
 {
     let Some(at) = find_byte(word, b'=') else {
         return Ok(None);
     };
-    let Some(place) = Code::Narrow.named(&word[..at]) else {
+    let Some(place) = code.named(&word[..at]) else {
         return Ok(None);
     };
     match hex::decode(alloc, &word[at + 1..]) {

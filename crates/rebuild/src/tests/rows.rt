@@ -4,7 +4,7 @@ use crate::line::{LineFault, line_status};
 use std::test::Fail;
 
 /// Lines that are answered, and their answers. Stripe a has the data 01 02 03 04 05 06.
-const ANSWERED: [(&[u8], &[u8]); 18] = [
+const ANSWERED: [(&[u8], &[u8]); 24] = [
     // The other three of a group give the lost one.
     (b"a x0 1 x1=02 x2=03 px=00", b"rebuilt 01"),
     // The local parity is lost too: the global parities give it, and two equations are left to check.
@@ -48,10 +48,40 @@ const ANSWERED: [(&[u8], &[u8]); 18] = [
         b"rebuilt FFFFFF",
     ),
     (b"0-z p1 1 p0=ff", b"several"),
+    // The (12,2,2) code: stripe b has the data x0 = x5 = 01, y0 = 02 and 00 elsewhere. The six others of a group.
+    (
+        b"code=12-2-2 b x0 1 x1=00 x2=00 x3=00 x4=00 x5=01 px=00",
+        b"rebuilt 01",
+    ),
+    (
+        b"code=12-2-2 b p1 1 x0=01 x1=00 x2=00 x3=00 x4=00 x5=01 y0=02 y1=00 y2=00 y3=00 y4=00 y5=00",
+        b"rebuilt A6",
+    ),
+    (
+        b"code=12-2-2 b p0 1 x0=01 x1=00 x2=00 x3=00 x4=00 x5=01 y0=02 y1=00 y2=00 y3=00 y4=00 y5=00",
+        b"rebuilt 72",
+    ),
+    // x0, x5 and px are lost.
+    (
+        b"code=12-2-2 b x5 1 x1=00 x2=00 x3=00 x4=00 y0=02 y1=00 y2=00 y3=00 y4=00 y5=00 py=02 p0=72 p1=A6",
+        b"rebuilt 01",
+    ),
+    // px is altered.
+    (
+        b"code=12-2-2 b x0 1 x1=00 x2=00 x3=00 x4=00 x5=01 y0=02 y1=00 y2=00 y3=00 y4=00 y5=00 px=01 py=02 p0=72 p1=A6",
+        b"contradiction",
+    ),
+    (b"code=6-2-2 a x0 1 x1=02 x2=03 px=00", b"rebuilt 01"),
 ];
 
 /// Lines that are refused, and by which number.
-const REFUSED: [(&[u8], &[u8]); 40] = [
+const REFUSED: [(&[u8], &[u8]); 46] = [
+    (b"b x3 1", b"refused E22"),
+    (b"code=6-2-2 b x3 1", b"refused E22"),
+    (b"code=12-2-2 b x6 1", b"refused E22"),
+    (b"code=12-2-2", b"refused E22"),
+    (b"code=6-2-2 x0 1", b"refused E22"),
+    (b"code=7-2-2 x0 1", b"refused E1"),
     (b"a x0 0", b"refused E2"),
     (b"a x0 65537", b"refused E2"),
     (b"a x0 1 x0=01", b"refused E4"),
