@@ -47,11 +47,11 @@ pub(crate) fn row_tree<A: Allocator + Clone>(
     match places {
         [] => Ok(None),
         [first, rest @ ..] => {
-            let others = row_tree(alloc, row, rest)?;
             let scalar = row[first.index()];
             if scalar.byte() == 0 {
-                return Ok(others);
+                return row_tree(alloc, row, rest);
             }
+            let others = row_tree(alloc, row, rest)?;
             let own = product(alloc.clone()?, scalar, *first)?;
             let sum = added(alloc, own, others)?;
             Ok(sum)

@@ -1,7 +1,9 @@
-use Rattle.std.proofs.Common.{rules, ◌≡◌, ◌∙◌, sym, ap, map, length, slice_index}
+use Rattle.std.proofs.Common.{rules, arith, ◌≡◌, ◌∙◌, sym, ap, map, length, slice_index}
+use Rattle.std.proofs.lemmas.List.{length-map}
 use Rattle.lrc_field.specs.Field.{times}
 use Rattle.lrc_field.specs.Sums.{sums}
 use Rattle.lrc_field.proofs.Scaled.{sums-scaled_zero}
+use Rattle.lrc_field.proofs.Sums.{summed_all}
 use Rattle.lrc_code.proofs.reduction.cleared_row.Goals as goal
 
 -- a row that has 0 in the column stays
@@ -10,3 +12,11 @@ returns-then-row-k-eq0 c =
     let zero : slice_index c.args.row c.args.k ≡ 0 = search rules in
     let same : length c.args.row ≡ length c.args.unit.now = search rules in
     sym (ap (λ f. sums c.args.row (map (times f) c.args.unit.now)) zero ∙ sums-scaled_zero c.args.row c.args.unit.now same)
+
+pub returns : goal.returns
+returns c =
+    let scalar : c.new-c.result ≡ slice_index c.args.row c.args.k = search rules in
+    let same : length c.args.row ≡ length c.args.unit.now = search rules in
+    summed_all c.args.row (map (times c.new-c.result) c.args.unit.now) c.loop-j.out c.loop-j.j
+        (same ∙ sym (length-map c.args.unit.now (times c.new-c.result))) (omega (arith, c.loop-j.invariant.len)) c.loop-j.invariant
+    ∙ ap (λ f. sums c.args.row (map (times f) c.args.unit.now)) scalar
