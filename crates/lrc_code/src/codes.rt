@@ -2,7 +2,7 @@
 ghost use Rattle.std.specs.Prelude.{◌≡◌, ◌&&◌, not};
 ghost use Rattle.lrc_code.specs.declared.places.Place.{Place};
 ghost use Rattle.lrc_code.specs.Code.{has_place};
-ghost use Rattle.lrc_code.specs.Codes.{tables_of};
+ghost use Rattle.lrc_code.specs.Codes.{code_named, code_text, tables_of};
 ghost use Rattle.lrc_code.specs.Sets.{is_in};
 ghost use Rattle.lrc_code.specs.Text.{place_named};
 
@@ -51,6 +51,27 @@ static WIDE_PLACES: [Place; 16] = [
 ];
 
 impl Code {
+    /// The code of this name, `6-2-2` or `12-2-2`, of bytes that need not be text.
+    pub fn parse(name: &[u8]) -> Option<Code>
+        ensures { result ≡ code_named name.now }
+    {
+        match name {
+            b"6-2-2" => Some(Code::Narrow),
+            b"12-2-2" => Some(Code::Wide),
+            _ => None,
+        }
+    }
+
+    /// The name.
+    pub fn text(self) -> &'static str
+        ensures { result.now ≡ code_text self }
+    {
+        match self {
+            Code::Narrow => "6-2-2",
+            Code::Wide => "12-2-2",
+        }
+    }
+
     /// The code's places, in the order of its tables.
     pub fn places(self) -> &'static [Place]
         ensures { result.now ≡ (tables_of self).places }

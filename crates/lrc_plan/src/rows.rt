@@ -95,7 +95,7 @@ pub(crate) fn determines(
     ensures no { result ≡ false → HaveOtherLost (is_in survivors) (λ p. slice_index row.now (index_of p)) target }
 {
     for place in places {
-        if !survivors.has(*place) && *place != target && row[place.index()].byte() != 0 {
+        if row[place.index()].byte() != 0 && !survivors.has(*place) && *place != target {
             return false;
         }
     }
