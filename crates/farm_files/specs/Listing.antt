@@ -9,8 +9,8 @@ use Rattle.csv.specs.Reading.{default_config, records, strip_bom}
 use Rattle.lrc_code.specs.declared.places.Place.{Place}
 use Rattle.lrc_code.specs.Text.{place_named}
 use Rattle.lrc_code.specs.declared.codes.Code.{Code as CodeName}
-use Rattle.lrc_code.specs.declared.codes.Code.TheVariants.{Narrow, Wide}
-use Rattle.lrc_code.specs.Codes.{tables_of}
+use Rattle.lrc_code.specs.declared.codes.Code.TheVariants.{Narrow}
+use Rattle.lrc_code.specs.Codes.{code_named, tables_of}
 use Rattle.farm_files.specs.Listed.{ListedRequest, listed_refusal}
 use Rattle.farm_files.specs.declared.listing.Record.{Record}
 use Rattle.farm_files.specs.declared.listing.Record.TheVariants as rec
@@ -24,10 +24,6 @@ abbrev pub order_limit : ℕ
 order_limit = 4096
 
 -- ---- one record
-
--- the code that a field names
-abbrev pub code_named : List ℕ → Option CodeName
-code_named text = if bytes_eq text (codes "6-2-2") then Some Narrow else if bytes_eq text (codes "12-2-2") then Some Wide else None
 
 -- place names of a code with one space between two
 abbrev pub places : CodeName → List ℕ → Option (List Place)

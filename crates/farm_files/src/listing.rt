@@ -6,7 +6,7 @@ ghost use Rattle.csv.specs.Records.{fields_of};
 ghost use Rattle.lrc_code.specs.Text.{every};
 ghost use Rattle.lrc_code.specs.Text.{place_named};
 ghost use Rattle.lrc_code.specs.Codes.{tables_of};
-ghost use Rattle.farm_files.specs.Listing.{IsFaultOf, IsNotFive, IsNotSix, IsRecordFault, SoFar, Stops, close_at, code_named, coded_header, header, list_of, listed, order_at, order_in, places, rebuild_at};
+ghost use Rattle.farm_files.specs.Listing.{IsFaultOf, IsNotFive, IsNotSix, IsRecordFault, SoFar, Stops, close_at, coded_header, header, list_of, listed, order_at, order_in, places, rebuild_at};
 ghost use Rattle.farm_files.specs.Views.{IsOrderFault, IsRebuildFault, five, six};
 
 use crate::listed::Listed;
@@ -216,17 +216,6 @@ fn is_coded_header(row: &ByteRecord) -> bool
     }
 }
 
-// The code of this name.
-fn parse_code(text: &[u8]) -> Option<Code>
-    ensures { result ≡ code_named text.now }
-{
-    match text {
-        b"6-2-2" => Some(Code::Narrow),
-        b"12-2-2" => Some(Code::Wide),
-        _ => None,
-    }
-}
-
 fn is_header(row: &ByteRecord) -> bool
     ensures { result ≡ pointwise bytes_eq (fields_of row.now) header }
 {
@@ -256,7 +245,7 @@ fn order_of(
         let Some(f) = six_fields(row) else {
             return Err(ListFault::BadRecord { number });
         };
-        return order_in(alloc, parse_code(f.code), f.code.is_empty(), number, &f.fields);
+        return order_in(alloc, Code::parse(f.code), f.code.is_empty(), number, &f.fields);
     }
     let Some(fields) = five_fields(row) else {
         return Err(ListFault::BadRecord { number });

@@ -1,12 +1,12 @@
 -- The request that a line of line mode writes.
-use Rattle.std.specs.Prelude.{◌==◌, ◌&&◌, ◌+◌, nat_le, ℕ, Bool, true, false, List, [], ◌∷◌, take, drop, map, Option, Some, None, if◌then◌else◌, position, codes}
+use Rattle.std.specs.Prelude.{◌==◌, ◌&&◌, ◌+◌, nat_le, ℕ, Bool, true, false, List, [], ◌∷◌, length, take, drop, map, Option, Some, None, if◌then◌else◌, position, codes}
 use Rattle.std.specs.List.{filter, list_all, slice_split}
 use Rattle.std.specs.Result.{result_ok}
 use Rattle.hex.specs.Hex.{decode_of}
 use Rattle.std.specs.Str.{bytes_eq}
 use Rattle.lrc_code.specs.declared.codes.Code.{Code as CodeName}
-use Rattle.lrc_code.specs.declared.codes.Code.TheVariants.{Narrow, Wide}
-use Rattle.lrc_code.specs.Codes.{tables_of}
+use Rattle.lrc_code.specs.declared.codes.Code.TheVariants.{Narrow}
+use Rattle.lrc_code.specs.Codes.{code_named, tables_of}
 use Rattle.lrc_code.specs.Requests.{Asked, Survivor}
 use Rattle.lrc_code.specs.Text.{every, is_space, number, place_named}
 
@@ -48,9 +48,9 @@ request_in code (stripe ∷ target ∷ size ∷ rest) = do
   survivors ← every (map (survivor code) rest)
   Some (record { code = code; stripe = stripe; target = place; len = len; survivors = survivors })
 
--- the code that a line's first word names
+-- the code that a line's first word names behind `code=`
 abbrev pub line_code : List ℕ → Option CodeName
-line_code word = if bytes_eq word (codes "code=6-2-2") then Some Narrow else if bytes_eq word (codes "code=12-2-2") then Some Wide else None
+line_code word = if nat_le 5 (length word) && bytes_eq (take 5 word) (codes "code=") then code_named (drop 5 word) else None
 
 -- behind such a word the request is over that code, else it is over the (6,2,2) code and begins with the word
 abbrev pub request_behind : Option CodeName → List ℕ → List (List ℕ) → Option Asked

@@ -1,7 +1,7 @@
 //! Lists, record by record and fault by fault.
 use crate::tests::shared::LIST;
 use crate::{ListFault, Record, read_list};
-use lrc_code::{Place, RequestFault};
+use lrc_code::{Code, Place, RequestFault};
 use std::alloc::{AllocError, Global};
 
 const HEADER: &[u8] = b"order,stripe,target,length,survivors\n";
@@ -16,8 +16,11 @@ fn list_with(alloc: Global, records: &[u8]) -> Result<Vec<u8>, AllocError> {
 #[test]
 fn faults_of_records(rt: HostRuntime) -> Result<(), AllocError> {
     let refused = |fault| ListFault::Refused { number: 1, fault };
-    let rows: [(&[u8], ListFault); 24] = [
+    let rows: [(&[u8], ListFault); 27] = [
         (b"rebuild,abc,x0,3", ListFault::BadRecord { number: 1 }),
+        (b"rebuild,abc,x3,3,", ListFault::BadRecord { number: 1 }),
+        (b"rebuild,abc,x0,3,x1 x3", ListFault::BadRecord { number: 1 }),
+        (b"rebuild,abc,x0,3,x1,6-2-2", ListFault::BadRecord { number: 1 }),
         (
             b"close,,,,\nbuild,abc,x0,3,",
             ListFault::BadRecord { number: 2 },
@@ -64,8 +67,11 @@ fn faults_of_records(rt: HostRuntime) -> Result<(), AllocError> {
 
 #[test]
 fn faults_of_headers(rt: HostRuntime) {
-    let rows: [&[u8]; 6] = [
+    let rows: [&[u8]; 9] = [
         b"",
+        b"order,stripe,target,length,survivors,Code\n",
+        b"order,stripe,target,length,code,survivors\n",
+        b"order,stripe,target,length,survivors,code,code\n",
         b"\n\n",
         b"order,stripe,target,length",
         b"order,stripe,target,length,survivors,\n",
@@ -78,6 +84,80 @@ fn faults_of_headers(rt: HostRuntime) {
             Some(ListFault::BadHeader),
             "row {number}"
         );
+    }
+}
+
+const CODED_HEADER: &[u8] = b"order,stripe,target,length,survivors,code\n";
+
+// In a list with codes each record has six fields, and each name is one of its code's.
+#[test]
+fn faults_of_records_with_codes(rt: HostRuntime) -> Result<(), AllocError> {
+    let refused = |fault| ListFault::Refused { number: 1, fault };
+    let rows: [(&[u8], ListFault); 20] = [
+        (b"rebuild,abc,x0,3,x1", ListFault::BadRecord { number: 1 }),
+        (b"rebuild,abc,x0,3,x1,", ListFault::BadRecord { number: 1 }),
+        (b"rebuild,abc,x0,3,x1,6-2-2,", ListFault::BadRecord { number: 1 }),
+        (b"rebuild,abc,x0,3,x1,7-2-2", ListFault::BadRecord { number: 1 }),
+        (b"rebuild,abc,x0,3,x1,12-2-2 ", ListFault::BadRecord { number: 1 }),
+        (b"rebuild,abc,x0,3,x1, 12-2-2", ListFault::BadRecord { number: 1 }),
+        (b"rebuild,abc,x0,3,x1,code=6-2-2", ListFault::BadRecord { number: 1 }),
+        (b"rebuild,abc,x3,3,,6-2-2", ListFault::BadRecord { number: 1 }),
+        (b"rebuild,abc,x0,3,x1 y5,6-2-2", ListFault::BadRecord { number: 1 }),
+        (b"rebuild,abc,x6,3,,12-2-2", ListFault::BadRecord { number: 1 }),
+        (b"rebuild,abc,x0,3,x1 y6,12-2-2", ListFault::BadRecord { number: 1 }),
+        (b"close,,,,", ListFault::BadRecord { number: 1 }),
+        (b"close,,,,,6-2-2", ListFault::BadRecord { number: 1 }),
+        (
+            b"close,,,,,\nrebuild,abc,x0,3,x3,6-2-2",
+            ListFault::BadRecord { number: 2 },
+        ),
+        (
+            b"rebuild,abc,x0,3,x3,12-2-2\nrebuild,abc,x0,3,x3,6-2-2",
+            ListFault::BadRecord { number: 2 },
+        ),
+        (b"rebuild,ABC,x3,0,x3 x3,12-2-2", refused(RequestFault::BadStripe)),
+        (b"rebuild,abc,x3,0,x3 x3,12-2-2", refused(RequestFault::BadLength)),
+        (b"rebuild,abc,x3,3,x3 x3,12-2-2", refused(RequestFault::Repeated)),
+        (b"rebuild,abc,x3,3,x3,12-2-2", refused(RequestFault::NotLost)),
+        (b"rebuild,abc,x0,3,x0,6-2-2", refused(RequestFault::NotLost)),
+    ];
+    for (number, (records, fault)) in rows.into_iter().enumerate() {
+        let mut bytes = Vec::from_slice(rt.alloc(), CODED_HEADER)?;
+        bytes.extend_from_slice(records)?;
+        assert_eq!(&rt;
+            read_list(rt.alloc(), &bytes).err(),
+            Some(fault),
+            "row {number}"
+        );
+    }
+    Ok(())
+}
+
+// Each record has its own code; a list without codes is of the (6,2,2) code.
+#[test]
+fn codes_of_records(rt: HostRuntime) -> Result<(), AllocError> {
+    let mut bytes = Vec::from_slice(rt.alloc(), CODED_HEADER)?;
+    bytes.extend_from_slice(
+        b"rebuild,abc,x0,3,x1 x2 x3 x4 x5 px,12-2-2\nclose,,,,,\nrebuild,abc,x0,3,x1 x2 px,6-2-2\n",
+    )?;
+    let list = read_list(rt.alloc(), &bytes);
+    assert!(&rt; list.as_ref().is_ok_and(|list| list.len() == 3));
+    if let Ok(list) = list {
+        assert!(&rt; has_code(&list, 0, Code::Wide, 6) && has_code(&list, 2, Code::Narrow, 3));
+        assert!(&rt; matches!(list.get(1), Some(Record::Close)));
+    }
+    let list = read_list(rt.alloc(), LIST);
+    assert!(&rt; list.as_ref().is_ok_and(|list| has_code(list, 0, Code::Narrow, 3)));
+    Ok(())
+}
+
+// Whether the record lists a request over the code, with so many survivors.
+fn has_code(list: &[Record], number: usize, code: Code, survivors: usize) -> bool {
+    match list.get(number) {
+        Some(Record::Rebuild(listed)) => {
+            listed.code() == code && listed.survivors().len() == survivors
+        }
+        _ => false,
     }
 }
 

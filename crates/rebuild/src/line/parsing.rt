@@ -76,15 +76,12 @@ fn parse_parts(alloc: Global, line: &[u8]) -> Result<Option<Parts>, AllocError>
     Ok(parts)
 }
 
-// The code that a line's first word names.
+// The code that a line's first word names behind `code=`.
 fn parse_line_code(word: &[u8]) -> Option<Code>
     ensures { result ≡ line_code word.now }
 {
-    if word == b"code=6-2-2".as_slice() {
-        return Some(Code::Narrow);
-    }
-    if word == b"code=12-2-2".as_slice() {
-        return Some(Code::Wide);
+    if word.len() >= 5 && &word[..5] == b"code=".as_slice() {
+        return Code::parse(&word[5..]);
     }
     None
 }
