@@ -245,7 +245,13 @@ fn order_of(
         let Some(f) = six_fields(row) else {
             return Err(ListFault::BadRecord { number });
         };
-        return order_in(alloc, Code::parse(f.code), f.code.is_empty(), number, &f.fields);
+        return order_in(
+            alloc,
+            Code::parse(f.code),
+            f.code.is_empty(),
+            number,
+            &f.fields,
+        );
     }
     let Some(fields) = five_fields(row) else {
         return Err(ListFault::BadRecord { number });
@@ -325,11 +331,7 @@ fn rebuild_of(
 }
 
 // The places that names with one space between two give.
-fn parse_places(
-    alloc: Global,
-    code: Code,
-    text: &[u8],
-) -> Result<Option<Vec<Place>>, AllocError>
+fn parse_places(alloc: Global, code: Code, text: &[u8]) -> Result<Option<Vec<Place>>, AllocError>
     ensures { IfOk result (λ v. option_map (λ s. s.items) v ≡ places code text.now) }
 {
     if text.is_empty() {
@@ -339,11 +341,7 @@ fn parse_places(
     parse_names(alloc, code, names.as_slice())
 }
 
-fn parse_names(
-    alloc: Global,
-    code: Code,
-    names: &[&[u8]],
-) -> Result<Option<Vec<Place>>, AllocError>
+fn parse_names(alloc: Global, code: Code, names: &[&[u8]]) -> Result<Option<Vec<Place>>, AllocError>
     ensures { IfOk result (λ v. option_map (λ s. s.items) v ≡ every (map (λ n. place_named (tables_of code) n.now) names.now)) }
 {
     let mut places = Vec::new(alloc);

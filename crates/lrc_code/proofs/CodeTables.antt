@@ -1,9 +1,9 @@
 -- What holds of the tables of both codes.
-use Rattle.std.proofs.Common.{◌≡◌, ◌↔◌, ℕ, suc, zero, ◌<◌, ◌^◌, true, false, Bool, List, [], ◌∷◌, length, map, get_or, slice_index, refl, sym, ◌∙◌, ap, ap₂, subst, arith, cond, lit<, All, nat_lt}
+use Rattle.std.proofs.Common.{◌≡◌, ℕ, true, false, Bool, List, [], ◌∷◌, length, map, get_or, slice_index, refl, sym, ◌∙◌, ap, ap₂, cond, All, nat_lt}
 use Rattle.std.specs.Prelude.{if◌then◌else◌, ◌||◌}
-use Rattle.std.specs.List.{list_all, list_any}
+use Rattle.std.specs.List.{list_any}
 use Rattle.std.proofs.lemmas.List.Folds.{list_any_at}
-use Rattle.std.specs.Int.Bits.{bit_xor, xor_zero_r, xor_zero_l}
+use Rattle.std.specs.Int.Bits.{bit_xor, xor_zero_r}
 use Rattle.lrc_field.specs.Field.{times}
 use Rattle.lrc_field.proofs.FieldLaws.{times-zero, times-xor_l}
 use Rattle.lrc_code.specs.declared.places.Place.{Place}
@@ -11,10 +11,10 @@ use Rattle.lrc_code.specs.declared.places.Place.TheVariants.{X0, X1, X2, Y0, Y1,
 use Rattle.lrc_code.specs.declared.codes.Code.{Code as CodeName}
 use Rattle.lrc_code.specs.declared.codes.Code.TheVariants.{Narrow, Wide}
 use Rattle.lrc_code.specs.Places.{index_of, same_place, all_places}
-use Rattle.lrc_code.specs.Code.{Code, combination, narrow, wide, narrow_places, wide_places, narrow_equations, wide_equations, has_place, Solves}
+use Rattle.lrc_code.specs.Code.{combination, narrow, wide, narrow_places, wide_places, narrow_equations, wide_equations, has_place}
 use Rattle.lrc_code.specs.Codes.{tables_of}
 use Rattle.lrc_code.specs.Sums.{sum_over}
-use Rattle.lrc_code.specs.Reduction.{coefficient_at, rows_by_index, row_at}
+use Rattle.lrc_code.specs.Reduction.{coefficient_at}
 use Rattle.lrc_code.proofs.PlaceSums.{same_place-refl, same_place-comm, sum_over-add, sum_over-same, sum_over-single, combination-sum_over}
 
 -- ---- the codes' places

@@ -1,5 +1,5 @@
 -- The parities of the (12,2,2) code.
-use Rattle.std.proofs.Common.{◌≡◌, ℕ, ◌<◌, ◌^◌, List, [], ◌∷◌, ◌++◌, map, refl, ap, ap₂, sym, ◌∙◌, lit<}
+use Rattle.std.proofs.Common.{◌≡◌, ℕ, ◌<◌, ◌^◌, List, [], ◌∷◌, ◌++◌, map, refl, ap₂, sym, ◌∙◌, lit<}
 use Rattle.std.specs.Int.Bits.{bit_xor}
 use Rattle.lrc_field.proofs.FieldLaws.{times-zero, times-one}
 use Rattle.lrc_code.specs.declared.places.Place.{Place}

@@ -3,7 +3,8 @@ ghost use Rattle.std.specs.Prelude.{◌≡◌, length, IfOk};
 
 use crate::text::parse_number;
 use crate::{
-    Bytes, Code, Fragment, Group, Place, PlaceSet, Request, RequestFault, encode, encode_wide, is_stripe_name, reduce, reduce_in,
+    Bytes, Code, Fragment, Group, Place, PlaceSet, Request, RequestFault, encode, encode_wide,
+    is_stripe_name, reduce, reduce_in,
 };
 use std::alloc::{AllocError, Global};
 
@@ -208,7 +209,9 @@ fn one_reduction(rt: HostRuntime) {
 #[test]
 fn places_of_the_codes(rt: HostRuntime) {
     assert!(&rt; Code::Narrow.places().len() == 10 && Code::Wide.places().len() == 16);
-    assert!(&rt; !Code::Narrow.has(Place::X3) && Code::Narrow.has(Place::P1) && Code::Wide.has(Place::Y5));
+    assert!(&rt;
+        !Code::Narrow.has(Place::X3) && Code::Narrow.has(Place::P1) && Code::Wide.has(Place::Y5)
+    );
     assert!(&rt; Code::Narrow.named(b"x3").is_none());
     assert_eq!(&rt; Code::Wide.named(b"x3"), Some(Place::X3));
     let set = PlaceSet::empty().with(Place::X0).with(Place::X3);
@@ -244,7 +247,11 @@ fn one_wide_stripe_encoded(rt: HostRuntime) -> Result<(), AllocError> {
     let stripe = encode_wide(alloc, &sources)?;
     let expected: [u8; 16] = [1, 0, 0, 0, 0, 1, 2, 0, 0, 0, 0, 0, 0x00, 0x02, 0x72, 0xa6];
     for k in 0..16usize {
-        assert_eq!(&rt; stripe[k].as_slice(), [expected[k]].as_slice(), "fragment {k}");
+        assert_eq!(&rt;
+            stripe[k].as_slice(),
+            [expected[k]].as_slice(),
+            "fragment {k}"
+        );
     }
     Ok(())
 }

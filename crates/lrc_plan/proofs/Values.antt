@@ -18,19 +18,19 @@ use Rattle.lrc_code.specs.declared.places.Group.TheVariants as group
 use Rattle.lrc_code.specs.declared.codes.Code.{Code as CodeName}
 use Rattle.lrc_code.specs.declared.codes.Code.TheVariants.{Narrow, Wide}
 use Rattle.lrc_code.specs.Places.{index_of, same_place, group_of, all_places}
-use Rattle.lrc_code.specs.Sums.{GivesBytes, sum_over}
-use Rattle.lrc_code.specs.Code.{Code, combination, narrow_equations, wide_equations, has_place, Solves}
+use Rattle.lrc_code.specs.Sums.{GivesBytes}
+use Rattle.lrc_code.specs.Code.{Code, narrow_equations, wide_equations, has_place, Solves}
 use Rattle.lrc_code.specs.Codes.{tables_of}
 use Rattle.lrc_code.specs.Reduction.{coefficient_at, row_at}
 use Rattle.lrc_code.proofs.PlaceSums.{at_places, sum_over-same, same_place-eq, same_place-comm}
-use Rattle.lrc_code.proofs.CodeTables.{at_index, combination-at, own_places, four_equations}
+use Rattle.lrc_code.proofs.CodeTables.{at_index, combination-at, own_places}
 use Rattle.lrc_code.proofs.Words.{word, word_small, word_apart, word_solves}
 use Rattle.lrc_plan.specs.Form.{Form, meaning, has_leaf}
 use Rattle.lrc_plan.specs.ReducedRows.{AreReduced, GiveTarget, HaveOtherLost, dot}
 use Rattle.lrc_plan.specs.GroupRows.{group_coefficient, group_row}
 use Rattle.lrc_plan.specs.ValueRows.{IsTargetRow, HasRowLeaves, cut}
 use Rattle.lrc_plan.specs.Extensions.{Extends}
-use Rattle.lrc_plan.specs.Planned.{LeavesSurvive, ExtensionsDiffer, IsTargetValue, IsLocal, IsLocalTree, group_others, same_group}
+use Rattle.lrc_plan.specs.Planned.{ExtensionsDiffer, IsTargetValue, IsLocal, IsLocalTree, group_others, same_group}
 use Rattle.lrc_plan.specs.Sums.{sum_meaning, some_leaf, some_leaf_total}
 use Rattle.lrc_plan.proofs.Extension.{determined}
 
@@ -276,8 +276,11 @@ local_tree code t row value is some leaves = at value moved
         → cut (λ q. slice_index row (index_of q)) t p ≢ 0
     nonzero p own e z =
         let parts = both (same_group (group_of p) (group_of t)) (not (same_place p t)) e in
-        absurd (omega (arith, sym (one_of (has_place (tables_of code) p) (same_group (group_of p) (group_of t)) own parts.0) ∙ sym (row_is p)
-        ∙ sym (ap (λ b. if b then 0 else slice_index row (index_of p)) (same_place-comm t p ∙ not_true (same_place p t) parts.1)) ∙ z))
+        absurd (omega (
+          arith,
+          sym (one_of (has_place (tables_of code) p) (same_group (group_of p) (group_of t)) own parts.0) ∙ sym (row_is p)
+              ∙ sym (ap (λ b. if b then 0 else slice_index row (index_of p)) (same_place-comm t p ∙ not_true (same_place p t) parts.1)) ∙ z,
+        ))
       where
         not_true : (b : Bool) → not b ≡ true → b ≡ false
         not_true true h = absurd (cc)

@@ -1,5 +1,5 @@
 -- The equation of a group, by the places' indexes.
-use Rattle.std.specs.Prelude.{◌≡◌, ℕ, ◌&&◌, Option, List, map, if◌then◌else◌}
+use Rattle.std.specs.Prelude.{ℕ, ◌&&◌, Option, List, map, if◌then◌else◌}
 use Rattle.lrc_code.specs.declared.places.Place.{Place}
 use Rattle.lrc_code.specs.declared.places.Group.{Group}
 use Rattle.lrc_code.specs.Places.{group_of, all_places}

@@ -1,7 +1,7 @@
 -- Rows from which a target's tree is made.
-use Rattle.std.specs.Prelude.{◌≡◌, ◌≢◌, ℕ, Bool, true, Option, All, List, slice_index, count_by, not, ◌==◌, if◌then◌else◌}
+use Rattle.std.specs.Prelude.{◌≡◌, ◌≢◌, ℕ, Bool, true, Option, count_by, not, ◌==◌, if◌then◌else◌}
 use Rattle.lrc_code.specs.declared.places.Place.{Place}
-use Rattle.lrc_code.specs.Places.{index_of, same_place, all_places}
+use Rattle.lrc_code.specs.Places.{same_place, all_places}
 use Rattle.lrc_code.specs.Code.{Code, Solves}
 use Rattle.lrc_code.specs.Sums.{GivesBytes}
 use Rattle.lrc_plan.specs.Form.{Form}

@@ -19,8 +19,14 @@ fn faults_of_records(rt: HostRuntime) -> Result<(), AllocError> {
     let rows: [(&[u8], ListFault); 27] = [
         (b"rebuild,abc,x0,3", ListFault::BadRecord { number: 1 }),
         (b"rebuild,abc,x3,3,", ListFault::BadRecord { number: 1 }),
-        (b"rebuild,abc,x0,3,x1 x3", ListFault::BadRecord { number: 1 }),
-        (b"rebuild,abc,x0,3,x1,6-2-2", ListFault::BadRecord { number: 1 }),
+        (
+            b"rebuild,abc,x0,3,x1 x3",
+            ListFault::BadRecord { number: 1 },
+        ),
+        (
+            b"rebuild,abc,x0,3,x1,6-2-2",
+            ListFault::BadRecord { number: 1 },
+        ),
         (
             b"close,,,,\nbuild,abc,x0,3,",
             ListFault::BadRecord { number: 2 },
@@ -96,15 +102,42 @@ fn faults_of_records_with_codes(rt: HostRuntime) -> Result<(), AllocError> {
     let rows: [(&[u8], ListFault); 20] = [
         (b"rebuild,abc,x0,3,x1", ListFault::BadRecord { number: 1 }),
         (b"rebuild,abc,x0,3,x1,", ListFault::BadRecord { number: 1 }),
-        (b"rebuild,abc,x0,3,x1,6-2-2,", ListFault::BadRecord { number: 1 }),
-        (b"rebuild,abc,x0,3,x1,7-2-2", ListFault::BadRecord { number: 1 }),
-        (b"rebuild,abc,x0,3,x1,12-2-2 ", ListFault::BadRecord { number: 1 }),
-        (b"rebuild,abc,x0,3,x1, 12-2-2", ListFault::BadRecord { number: 1 }),
-        (b"rebuild,abc,x0,3,x1,code=6-2-2", ListFault::BadRecord { number: 1 }),
-        (b"rebuild,abc,x3,3,,6-2-2", ListFault::BadRecord { number: 1 }),
-        (b"rebuild,abc,x0,3,x1 y5,6-2-2", ListFault::BadRecord { number: 1 }),
-        (b"rebuild,abc,x6,3,,12-2-2", ListFault::BadRecord { number: 1 }),
-        (b"rebuild,abc,x0,3,x1 y6,12-2-2", ListFault::BadRecord { number: 1 }),
+        (
+            b"rebuild,abc,x0,3,x1,6-2-2,",
+            ListFault::BadRecord { number: 1 },
+        ),
+        (
+            b"rebuild,abc,x0,3,x1,7-2-2",
+            ListFault::BadRecord { number: 1 },
+        ),
+        (
+            b"rebuild,abc,x0,3,x1,12-2-2 ",
+            ListFault::BadRecord { number: 1 },
+        ),
+        (
+            b"rebuild,abc,x0,3,x1, 12-2-2",
+            ListFault::BadRecord { number: 1 },
+        ),
+        (
+            b"rebuild,abc,x0,3,x1,code=6-2-2",
+            ListFault::BadRecord { number: 1 },
+        ),
+        (
+            b"rebuild,abc,x3,3,,6-2-2",
+            ListFault::BadRecord { number: 1 },
+        ),
+        (
+            b"rebuild,abc,x0,3,x1 y5,6-2-2",
+            ListFault::BadRecord { number: 1 },
+        ),
+        (
+            b"rebuild,abc,x6,3,,12-2-2",
+            ListFault::BadRecord { number: 1 },
+        ),
+        (
+            b"rebuild,abc,x0,3,x1 y6,12-2-2",
+            ListFault::BadRecord { number: 1 },
+        ),
         (b"close,,,,", ListFault::BadRecord { number: 1 }),
         (b"close,,,,,6-2-2", ListFault::BadRecord { number: 1 }),
         (
@@ -115,10 +148,22 @@ fn faults_of_records_with_codes(rt: HostRuntime) -> Result<(), AllocError> {
             b"rebuild,abc,x0,3,x3,12-2-2\nrebuild,abc,x0,3,x3,6-2-2",
             ListFault::BadRecord { number: 2 },
         ),
-        (b"rebuild,ABC,x3,0,x3 x3,12-2-2", refused(RequestFault::BadStripe)),
-        (b"rebuild,abc,x3,0,x3 x3,12-2-2", refused(RequestFault::BadLength)),
-        (b"rebuild,abc,x3,3,x3 x3,12-2-2", refused(RequestFault::Repeated)),
-        (b"rebuild,abc,x3,3,x3,12-2-2", refused(RequestFault::NotLost)),
+        (
+            b"rebuild,ABC,x3,0,x3 x3,12-2-2",
+            refused(RequestFault::BadStripe),
+        ),
+        (
+            b"rebuild,abc,x3,0,x3 x3,12-2-2",
+            refused(RequestFault::BadLength),
+        ),
+        (
+            b"rebuild,abc,x3,3,x3 x3,12-2-2",
+            refused(RequestFault::Repeated),
+        ),
+        (
+            b"rebuild,abc,x3,3,x3,12-2-2",
+            refused(RequestFault::NotLost),
+        ),
         (b"rebuild,abc,x0,3,x0,6-2-2", refused(RequestFault::NotLost)),
     ];
     for (number, (records, fault)) in rows.into_iter().enumerate() {
@@ -147,7 +192,10 @@ fn codes_of_records(rt: HostRuntime) -> Result<(), AllocError> {
         assert!(&rt; matches!(list.get(1), Some(Record::Close)));
     }
     let list = read_list(rt.alloc(), LIST);
-    assert!(&rt; list.as_ref().is_ok_and(|list| has_code(list, 0, Code::Narrow, 3)));
+    assert!(&rt;
+        list.as_ref()
+            .is_ok_and(|list| has_code(list, 0, Code::Narrow, 3))
+    );
     Ok(())
 }
 

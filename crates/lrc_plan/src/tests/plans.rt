@@ -194,7 +194,14 @@ fn sets_of_three_and_four_lost_places(rt: HostRuntime) -> Result<(), AllocError>
 #[test]
 fn local_plan_of_six(rt: HostRuntime) -> Result<(), AllocError> {
     let alloc = rt.alloc();
-    let six = [Place::X1, Place::X2, Place::X3, Place::X4, Place::X5, Place::Px];
+    let six = [
+        Place::X1,
+        Place::X2,
+        Place::X3,
+        Place::X4,
+        Place::X5,
+        Place::Px,
+    ];
     let survivors = set_of(&six);
     if !survivors.has(Place::X0) {
         let plan = plan_in(alloc, Code::Wide, survivors, Place::X0)?;

@@ -150,11 +150,7 @@ fn parse_survivors(
 }
 
 // The surviving fragment that a word writes, as in `x1=0F`.
-fn parse_survivor(
-    alloc: Global,
-    code: Code,
-    word: &[u8],
-) -> Result<Option<Fragment>, AllocError>
+fn parse_survivor(alloc: Global, code: Code, word: &[u8]) -> Result<Option<Fragment>, AllocError>
     ensures { IfOk result (λ fragment. option_map survivor_of fragment ≡ survivor code word.now) }
 {
     let Some(at) = find_byte(word, b'=') else {

@@ -25,5 +25,5 @@ returns c =
     let scalar : c.new-c.result ≡ slice_index c.args.row c.args.k = search rules in
     let same : length c.args.row ≡ length c.args.unit.now = search rules in
     summed_all c.args.row (map (times c.new-c.result) c.args.unit.now) c.loop-j.out c.loop-j.j
-        (same ∙ sym (length-map c.args.unit.now (times c.new-c.result))) (omega (arith, c.loop-j.invariant.len)) c.loop-j.invariant
+    (same ∙ sym (length-map c.args.unit.now (times c.new-c.result))) (omega (arith, c.loop-j.invariant.len)) c.loop-j.invariant
     ∙ ap (λ f. sums c.args.row (map (times f) c.args.unit.now)) scalar

@@ -22,5 +22,5 @@ pub returns : goal.returns
 returns c =
     let e : c.loop-k.k ≡ c.column_count-k-end.result = omega arith in
     reduced_end c.args.code c.args.lost c.loop-k.rows c.loop-k.pivots
-        (reduced_rest c.args.code c.args.lost c.loop-k.rows c.loop-k.pivots c.column_count-k-end.result c.column_count-k-end.ensures.few c.column_count-k-end.ensures.outside
-        (subst (IsReducedTo (rows_by_index (tables_of c.args.code)) c.args.lost c.loop-k.rows c.loop-k.pivots) e c.loop-k.invariant))
+    (reduced_rest c.args.code c.args.lost c.loop-k.rows c.loop-k.pivots c.column_count-k-end.result c.column_count-k-end.ensures.few c.column_count-k-end.ensures.outside
+    (subst (IsReducedTo (rows_by_index (tables_of c.args.code)) c.args.lost c.loop-k.rows c.loop-k.pivots) e c.loop-k.invariant))

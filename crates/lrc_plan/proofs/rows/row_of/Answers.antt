@@ -1,5 +1,4 @@
 use Rattle.std.proofs.Common.{◌≡◌, slice_index, [], ◌∷◌}
-use Rattle.lrc_code.specs.declared.places.Place.{Place}
 use Rattle.lrc_code.specs.declared.places.Place.TheVariants.{X0, X1, X2, Y0, Y1, Y2, Px, Py, P0, P1, X3, X4, X5, Y3, Y4, Y5}
 use Rattle.lrc_code.specs.Places.{index_of}
 use Rattle.lrc_plan.specs.Rows.{coef_of}
