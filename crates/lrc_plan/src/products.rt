@@ -7,7 +7,7 @@ ghost use Rattle.lrc_code.specs.Places.{index_of};
 ghost use Rattle.lrc_field.specs.Field.{times};
 ghost use Rattle.lrc_plan.specs.Form.{meaning, has_leaf, leaf_total, depth};
 ghost use Rattle.lrc_plan.specs.Tree.{form_of};
-ghost use Rattle.lrc_plan.specs.Sums.{MeansRow, MeansOneMore, some_leaf, some_depth, some_leaf_total, terms};
+ghost use Rattle.lrc_plan.specs.Sums.{MeansRow, MeansOneMore, some_leaf, some_depth, some_leaf_total, terms, from_first_term};
 
 use crate::tree::Tree;
 use lrc_code::Place;
@@ -29,6 +29,21 @@ fn product<A: Allocator>(alloc: A, scalar: Gf, place: Place) -> Result<Tree<A>, 
     Ok(Tree::Scale(scalar, Box::new(alloc, leaf)?))
 }
 
+// The places from the first on whose coefficient is not 00.
+fn from_first_term<'a>(row: &[Gf; 16], places: &'a [Place]) -> &'a [Place]
+    ensures { result.now ≡ from_first_term row.now places.now }
+{
+    match places {
+        [] => places,
+        [first, rest @ ..] => {
+            if row[first.index()].byte() != 0 {
+                return places;
+            }
+            from_first_term(row, rest)
+        }
+    }
+}
+
 // The sum of a row's products over places, with no tree where all coefficients are 0.
 pub(crate) fn row_tree<A: Allocator + Clone>(
     alloc: &A,
@@ -44,15 +59,11 @@ pub(crate) fn row_tree<A: Allocator + Clone>(
         slice_index row.now (index_of p) ≢ 0 → some_leaf (option_map form_of o) p ≡ true) places.now) }
     ensures total { IfOk result (λ o. some_leaf_total (option_map form_of o) ≡ terms row.now places.now) }
 {
-    match places {
+    match from_first_term(row, places) {
         [] => Ok(None),
         [first, rest @ ..] => {
-            let scalar = row[first.index()];
-            if scalar.byte() == 0 {
-                return row_tree(alloc, row, rest);
-            }
             let others = row_tree(alloc, row, rest)?;
-            let own = product(alloc.clone()?, scalar, *first)?;
+            let own = product(alloc.clone()?, row[first.index()], *first)?;
             let sum = added(alloc, own, others)?;
             Ok(sum)
         }
