@@ -11,7 +11,7 @@ abbrev pub IsCapacity : ℕ → Type 0
 IsCapacity k = (0 < k) × (k ≤ 1024)
 
 abbrev pub IsPutterCount : ℕ → Type 0
-IsPutterCount k = (0 < k) × (k ≤ 32)
+IsPutterCount k = (0 < k) × (k ≤ 128)
 
 abbrev pub IsTakerCount : ℕ → Type 0
 IsTakerCount k = (0 < k) × (k ≤ 32)

@@ -4,7 +4,7 @@
 pub const MOST_CAPACITY: usize = 1024;
 
 /// The greatest number of put ends of a lane.
-pub const MOST_PUT_ENDS: usize = 32;
+pub const MOST_PUT_ENDS: usize = 128;
 
 /// The greatest number of take ends of a lane.
 pub const MOST_TAKE_ENDS: usize = 32;

@@ -129,11 +129,11 @@ fn refuses_what_is_beyond_the_limits(rt: HostRuntime) {
         (1025, 1, 1, Some(LaneError::NoRoom)),
         (1, 0, 1, Some(LaneError::NoEnds)),
         (0, 1, 0, Some(LaneError::NoRoom)),
-        (1025, 33, 33, Some(LaneError::NoRoom)),
+        (1025, 129, 33, Some(LaneError::NoRoom)),
         (1, 1, 0, Some(LaneError::NoEnds)),
-        (1, 33, 1, Some(LaneError::NoEnds)),
+        (1, 129, 1, Some(LaneError::NoEnds)),
         (1, 1, 33, Some(LaneError::NoEnds)),
-        (1024, 32, 32, None),
+        (1024, 128, 32, None),
         (1, 1, 1, None),
     ] {
         let opened = Lane::open::<u64>(alloc, capacity, putters, takers);
