@@ -29,6 +29,7 @@ DEMO = ROOT / "demo"
 TESTS = [
     ("lrc_plan", "evaluate_both_at_two_forks"),
     ("farm_core", "two_workers_and_a_queue_of_one"),
+    ("farm_core", "six_feeds_with_two_workers"),
     ("farm_core", "collector_takes_its_room"),
     ("farm_files", "nothing_written_before_all_texts_are_made"),
     ("farm_files", "nothing_written_with_two_workers"),

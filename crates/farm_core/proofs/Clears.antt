@@ -15,25 +15,26 @@ use Rattle.farm_core.specs.declared.orders.Order.{Order}
 use Rattle.farm_core.specs.declared.jobs.Job.{Job}
 use Rattle.farm_core.specs.Replies.{Replied}
 use Rattle.farm_core.specs.declared.reply.CollectFault.{CollectFault}
-use Rattle.farm_core.specs.Replies.{Collected}
-use Rattle.farm_core.specs.Refused.{HasCollected}
+use Rattle.farm_core.specs.Boards.{Held}
+use Rattle.farm_core.specs.Held.{HasHeld}
 use Rattle.farm_core.specs.Jobs.{AreReplies}
 use Rattle.farm_core.specs.Settled.{HasAnswered}
 use Rattle.farm_core.specs.Cleared.{HasCleared, HasMore, took_on, TookLeft, TookReplies, HasOneEach, HasJoined}
 use Rattle.farm_core.proofs.Works.{taken_more, replies_append}
-use Rattle.farm_core.proofs.Settled.{Ran, one_each, each_to_its_request}
+use Rattle.farm_core.proofs.Settled.{Ran, one_each, each_is_so}
+use Rattle.farm_core.specs.Cleared.{IsDrawnAt}
 
-pub nothing_more : (c : Collected) (fault : Option CollectFault) → HasMore c fault [] c fault
-nothing_more c fault racks xs h = subst (λ l. HasCollected racks c fault l) (sym (append-nil xs)) h
+pub nothing_more : (c : Held) (fault : Option CollectFault) → HasMore c fault [] c fault
+nothing_more c fault racks xs h = subst (λ l. HasHeld racks c fault l) (sym (append-nil xs)) h
 
-pub more_and_more : (c c1 c2 : Collected) (f f1 f2 : Option CollectFault) (xs ys : List Replied) → HasMore c f xs c1 f1 → HasMore c1 f1 ys c2 f2 → HasMore c f (xs ++ ys) c2 f2
-more_and_more c c1 c2 f f1 f2 xs ys a b racks zs h = subst (λ l. HasCollected racks c2 f2 l) (append_assoc zs xs ys) (b racks (zs ++ xs) (a racks zs h))
+pub more_and_more : (c c1 c2 : Held) (f f1 f2 : Option CollectFault) (xs ys : List Replied) → HasMore c f xs c1 f1 → HasMore c1 f1 ys c2 f2 → HasMore c f (xs ++ ys) c2 f2
+more_and_more c c1 c2 f f1 f2 xs ys a b racks zs h = subst (λ l. HasHeld racks c2 f2 l) (append_assoc zs xs ys) (b racks (zs ++ xs) (a racks zs h))
 
-pub cleared_next : (racks : List (List Order)) (desk e e' : TakeView Replied) (c c' : Collected) (f f' : Option CollectFault) (x : Item Replied) → HasCleared racks desk c f e → e' ≡ with_taken e x → HasMore c f (values (x ∷ [])) c' f' → HasCleared racks desk c' f' e'
+pub cleared_next : (racks : List (List (List Order))) (desk e e' : TakeView Replied) (c c' : Held) (f f' : Option CollectFault) (x : Item Replied) → HasCleared racks desk c f e → e' ≡ with_taken e x → HasMore c f (values (x ∷ [])) c' f' → HasCleared racks desk c' f' e'
 cleared_next racks desk e e' c c' f f' x was more step = record {
   took = was.took ++ x ∷ [];
   desk_is = taken_more e e' desk.lane was.took x was.desk_is more;
-  collected = subst (λ l. HasCollected racks c' f' l) (sym (values-append was.took (x ∷ []))) (step racks (values was.took) was.collected);
+  collected = subst (λ l. HasHeld racks c' f' l) (sym (values-append was.took (x ∷ []))) (step racks (values was.took) was.collected);
 }
 
 module _ {T : Type 0} where
@@ -43,10 +44,10 @@ module _ {T : Type 0} where
   pub took_next : (e0 e e' : TakeView T) (more : List (Item T)) (x : Item T) → e ≡ took_on e0 more → e' ≡ with_taken e x → e' ≡ took_on e0 (more ++ x ∷ [])
   took_next e0 e e' more x was now = now ∙ (ap (λ (u : TakeView T). with_taken u x) was ∙ ap (take_end e0.lane) (append_assoc e0.taken more (x ∷ [])))
 
-pub left_begins : (jobs : TakeView Job) (c : Collected) (f : Option CollectFault) → TookLeft jobs 0 c f jobs c f
+pub left_begins : (jobs : TakeView Job) (c : Held) (f : Option CollectFault) → TookLeft jobs 0 c f jobs c f
 left_begins jobs c f = record { more = []; own = []; jobs_is = took_none jobs; count_is = refl; answered = tt; collected = nothing_more c f }
 
-pub left_next : (jobs j j' : TakeView Job) (n : ℕ) (c c1 c2 : Collected) (f f1 f2 : Option CollectFault) (x : Item Job) (own : List Replied) → TookLeft jobs n c f j c1 f1 → j' ≡ with_taken j x
+pub left_next : (jobs j j' : TakeView Job) (n : ℕ) (c c1 c2 : Held) (f f1 f2 : Option CollectFault) (x : Item Job) (own : List Replied) → TookLeft jobs n c f j c1 f1 → j' ≡ with_taken j x
     → AreReplies (values (x ∷ [])) own → HasMore c1 f1 own c2 f2 → TookLeft jobs (n + 1) c f j' c2 f2
 left_next jobs j j' n c c1 c2 f f1 f2 x own was now one step = record {
   more = was.more ++ x ∷ [];
@@ -57,7 +58,7 @@ left_next jobs j j' n c c1 c2 f f1 f2 x own was now one step = record {
   collected = more_and_more c c1 c2 f f1 f2 was.own own was.collected step;
 }
 
-pub replies_next : (desk e e' : TakeView Replied) (n : ℕ) (c c1 c2 : Collected) (f f1 f2 : Option CollectFault) (x : Item Replied) → TookReplies desk n c f e c1 f1 → e' ≡ with_taken e x → HasMore c1 f1 (values (x ∷ [])) c2 f2 → TookReplies desk (n + 1) c f e' c2 f2
+pub replies_next : (desk e e' : TakeView Replied) (n : ℕ) (c c1 c2 : Held) (f f1 f2 : Option CollectFault) (x : Item Replied) → TookReplies desk n c f e c1 f1 → e' ≡ with_taken e x → HasMore c1 f1 (values (x ∷ [])) c2 f2 → TookReplies desk (n + 1) c f e' c2 f2
 replies_next desk e e' n c c1 c2 f f1 f2 x was now step = record {
   more = was.more ++ x ∷ [];
   desk_is = took_next desk e e' was.more x was.desk_is now;
@@ -65,7 +66,7 @@ replies_next desk e e' n c c1 c2 f f1 f2 x was now step = record {
   collected = subst (λ l. HasMore c f l c2 f2) (sym (values-append was.more (x ∷ []))) (more_and_more c c1 c2 f f1 f2 (values was.more) (values (x ∷ [])) was.collected step);
 }
 
-pub collected_racks : (racks : List (List Order)) (c : Collected) (f : Option CollectFault) (xs : List Replied) → HasCollected racks c f xs → c.racks ≡ racks
+pub collected_racks : (racks : List (List (List Order))) (c : Held) (f : Option CollectFault) (xs : List Replied) → HasHeld racks c f xs → c.racks ≡ racks
 collected_racks racks c None xs h = h.racks_is
 collected_racks racks c (Some fault) xs h = h.gathered.racks_is
 
@@ -98,16 +99,17 @@ desk_whole replies desk more all = record {
     only (suc s) e at = absurd (some-ne-none e (sym at))
 
 -- both lanes were settled, and nothing is left in them
-pub finishes : (racks : List (List Order)) (put : List (PutView Job)) (jobs rest : List (TakeView Job)) (replies : List (PutView Replied)) (desk desk' : TakeView Replied) (last last' : TakeView Job) (c c1 c2 : Collected) (f f1 f2 : Option CollectFault) (missing left replied taken_replies put_jobs taken_jobs p t p' t' : ℕ)
+pub finishes : (racks : List (List (List Order))) (put : List (PutView Job)) (jobs rest : List (TakeView Job)) (replies : List (PutView Replied)) (desk desk' : TakeView Replied) (last last' : TakeView Job) (c c1 c2 : Held) (f f1 f2 : Option CollectFault) (missing left replied taken_replies put_jobs taken_jobs p t p' t' : ℕ)
     → HasJoined racks put jobs replies desk c f → jobs ≡ rest ++ last ∷ []
     → TookReplies desk missing c f desk' c1 f1 → TookLeft last left c1 f1 last' c2 f2
     → replied ≡ sum_by (λ (e : PutView Replied). length e.put) replies → taken_replies ≤ length desk.taken → replied ≤ taken_replies + missing
     → put_jobs ≡ sum_by (λ (e : PutView Job). length e.put) put → taken_jobs ≤ sum_by (λ (e : TakeView Job). length e.taken) jobs → put_jobs ≤ taken_jobs + left
     → IsSettled p t (puts_of put) (takes_of (rest ++ last' ∷ [])) → IsSettled p' t' (puts_of replies) (takes_of (desk' ∷ [])) → HasOneEach c2.racks c2 f2 × (c2.racks ≡ racks)
 finishes racks put jobs rest replies desk desk' last last' c c1 c2 f f1 f2 missing left replied taken_replies put_jobs taken_jobs p t p' t' joined jobs_are took_replies took_left is_replied le_taken enough_replies is_put le_jobs enough_jobs settled settled' =
-    let ran : Ran racks put rest last last' took_left.more took_left.own replies desk' = record {
-      enough_racks = joined.enough_racks;
-      all_put = joined.all_put;
+    let P = IsDrawnAt joined.drawn in
+    let ran : Ran P joined.count put rest last last' took_left.more took_left.own replies desk' = record {
+      once = joined.put_drawn.once;
+      all_put = joined.put_drawn.right;
       answered = subst (λ l. AllZip HasAnswered l replies) jobs_are joined.answered;
       more_taken = ap (λ (u : TakeView Job). u.taken) took_left.jobs_is;
       own_replies = took_left.answered;
@@ -137,13 +139,16 @@ finishes racks put jobs rest replies desk desk' last last' c c1 c2 f f1 f2 missi
           omega arith;
     } in
     let vals : values desk'.taken ≡ values desk.taken ++ values took_replies.more = ap (λ (u : TakeView Replied). values u.taken) took_replies.desk_is ∙ values-append desk.taken took_replies.more in
-    let got : HasCollected racks c2 f2 (values desk'.taken ++ took_left.own) =
-    subst (λ l. HasCollected racks c2 f2 (l ++ took_left.own)) (sym vals) (took_left.collected racks (values desk.taken ++ values took_replies.more) (took_replies.collected racks (values desk.taken) joined.collected)) in
+    let got : HasHeld racks c2 f2 (values desk'.taken ++ took_left.own) =
+    subst (λ l. HasHeld racks c2 f2 (l ++ took_left.own)) (sym vals) (took_left.collected racks (values desk.taken ++ values took_replies.more) (took_replies.collected racks (values desk.taken) joined.collected)) in
     let same : c2.racks ≡ racks = collected_racks racks c2 f2 (values desk'.taken ++ took_left.own) got in
     let all : HasOneEach racks c2 f2 = record {
+      count = joined.count;
+      drawn = joined.drawn;
+      all_drawn = joined.put_drawn.all_drawn;
       replies = values desk'.taken ++ took_left.own;
       collected = got;
-      each = one_each racks put rest last last' took_left.more took_left.own replies desk' ran;
-      right = each_to_its_request racks put rest last last' took_left.more took_left.own replies desk' ran;
+      each = one_each P joined.count put rest last last' took_left.more took_left.own replies desk' ran;
+      right = each_is_so P joined.count put rest last last' took_left.more took_left.own replies desk' ran;
     } in
     (subst (λ r. HasOneEach r c2 f2) (sym same) all, same)

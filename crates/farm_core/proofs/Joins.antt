@@ -1,34 +1,51 @@
 -- One worker more is joined.
-use Rattle.std.proofs.Common.{◌≡◌, ℕ, suc, ◌+◌, ◌<◌, List, [], ◌∷◌, ◌++◌, length, refl, sym, ap, ◌∙◌, subst, ⊎_elim, arith}
+use Rattle.std.proofs.Common.{◌≡◌, ℕ, zero, suc, ◌+◌, ◌<◌, List, [], ◌∷◌, ◌++◌, length, refl, sym, ap, ◌∙◌, subst, ⊎_elim, arith}
 use Rattle.std.specs.List.{AllZip}
 use Rattle.std.proofs.lemmas.List.{length_push}
-use mathlib.Core.Option.{some}
+use mathlib.Core.Option.{some, some-injective}
 use lib.ListN.{get_elem?}
 use Rattle.std.specs.declared.thread.PromisedHandle.{PromisedHandle}
 use Rattle.farm_lanes.proofs.Lists.{at_snoc_or, at_below}
-use Rattle.farm_lanes.specs.GateRecord.{IsSound}
 use Rattle.farm_lanes.specs.LaneEnds.{PutView, TakeView}
-use Rattle.farm_lanes.specs.SeatChanges.{made_close, missed_close}
 use Rattle.farm_lanes.specs.declared.gate.record.SeatRecord.{SeatRecord}
-use Rattle.farm_lanes.specs.declared.gate.record.GateSize.{GateSize}
-use Rattle.farm_lanes.specs.declared.gate.AlreadyClosed.{AlreadyClosed}
-use Rattle.std.specs.Prelude.{Option, Result, Ok, Err, MatchResult, false}
+use Rattle.std.specs.Prelude.{Option, Some, None}
 use Rattle.farm_core.specs.declared.jobs.Job.{Job}
 use Rattle.farm_core.specs.declared.jobs.Worked.{Worked}
 use Rattle.farm_core.specs.Replies.{Replied}
 use Rattle.farm_core.specs.declared.threads.WorkOf.{WorkOf}
 use Rattle.farm_core.specs.Work.{HasWorked}
-use Rattle.std.specs.declared.alloc.Global.{Global}
-use Rattle.farm_lanes.specs.declared.lane.put_end.EndedPut.{EndedPut}
 use Rattle.farm_core.specs.declared.threads.FeedOf.{FeedOf}
-use Rattle.farm_core.specs.Put.{HasPutAll}
-use Rattle.farm_core.specs.Threads.{WorkersJoined, FeedersJoined}
+use Rattle.farm_core.specs.Threads.{WorkersJoined, FeedersJoined, AreOfGate, AreRackFeeders, feeders_of}
+use Rattle.farm_lanes.specs.GateView.{GateName}
+use Rattle.farm_lanes.proofs.Lists.{at_map, at_front, at_back, sum_map}
+use Rattle.farm_lanes.specs.Lists.{Each}
+use Rattle.atomic_table.specs.Seated.{TableId}
+use Rattle.std.specs.List.{sum_by}
+use Rattle.std.proofs.lemmas.List.Sums.{sum_by-cons}
+use Rattle.farm_core.specs.declared.orders.Order.{Order}
+use Rattle.farm_core.specs.declared.ends.Feeder.{Feeder}
+use Rattle.farm_core.specs.declared.feeding.Fed.{Fed}
+use Rattle.farm_core.specs.declared.rack_feeders.RackFeeders.{RackFeeders}
+use Rattle.farm_core.specs.Feed.{HasFed, IsRightLeft}
+use Rattle.farm_core.specs.Left.{LeftBy}
+use Rattle.farm_core.specs.Joint.{IsOfGate, AreFed, HasDrawn}
+use Rattle.farm_core.specs.Cleared.{HavePut}
+use Rattle.farm_core.specs.RacksJoined.{AreAllFeeders, HavePutRacks}
+use Rattle.farm_core.proofs.Settled.{there}
+use Rattle.farm_core.proofs.Merged.{map_length}
+use Rattle.farm_core.proofs.AllRacks.{puts_none, puts_more}
+
+two_sums : {A B : Type 0} (f : A → ℕ) (g : B → ℕ) (xs : List A) (ys : List B) → length xs ≡ length ys → ((k : ℕ) (x : A) (y : B) → get_elem? xs k ≡ some x → get_elem? ys k ≡ some y → f x ≡ g y) → sum_by f xs ≡ sum_by g ys
+two_sums f g [] [] long same = refl
+two_sums f g [] (y ∷ ys) long same = absurd (omega arith)
+two_sums f g (x ∷ xs) [] long same = absurd (omega arith)
+two_sums f g (x ∷ xs) (y ∷ ys) long same = let a = sum_by-cons f x xs in let b = sum_by-cons g y ys in let c = same 0 x y refl refl in let d = two_sums f g xs ys (omega arith) (λ k. same (suc k)) in omega arith
 
 module _ {A : Type 0} where
-  snoc_old : (xs : List A) (a b : A) (k : ℕ) → k < length xs → get_elem? (xs ++ a ∷ []) k ≡ some b → get_elem? xs k ≡ some b
+  pub snoc_old : (xs : List A) (a b : A) (k : ℕ) → k < length xs → get_elem? (xs ++ a ∷ []) k ≡ some b → get_elem? xs k ≡ some b
   snoc_old xs a b k low at = ⊎_elim (λ old. old) (λ (new : (k ≡ length xs) × (a ≡ b)). absurd (let e = new.0 in omega arith)) (at_snoc_or xs a b k at)
 
-  snoc_new : (xs : List A) (a b : A) (k : ℕ) → k ≡ length xs → get_elem? (xs ++ a ∷ []) k ≡ some b → a ≡ b
+  pub snoc_new : (xs : List A) (a b : A) (k : ℕ) → k ≡ length xs → get_elem? (xs ++ a ∷ []) k ≡ some b → a ≡ b
   snoc_new xs a b k is at = ⊎_elim (λ old. absurd (let l = at_below xs k b old in omega arith)) (λ (new : (k ≡ length xs) × (a ≡ b)). new.1) (at_snoc_or xs a b k at)
 
 abbrev Handle : Type 0
@@ -55,27 +72,81 @@ answered_all R [] (r ∷ rs) same each = absurd (omega arith)
 answered_all R (j ∷ js) [] same each = absurd (omega arith)
 answered_all R (j ∷ js) (r ∷ rs) same each = (each 0 j r refl refl, answered_all R js rs (omega arith) (λ k. each (suc k)))
 
--- a seat with a gate's only right was told of no closing
-pub was_open : (size : GateSize) (s s' : SeatRecord) (result : Result ℕ AlreadyClosed) → MatchResult result (λ n. (s' ≡ made_close s n) × (s.knows ≡ false)) (λ _. s' ≡ missed_close s) → IsSound size s' → size.rights ≡ 1 → s.used ≡ 0 → s.made ≡ [] → s.knows ≡ false
-was_open size s s' (Ok n) closed sound one used made = closed.1
-was_open size s s' (Err e) closed sound one used made =
-    let a = ap (λ (q : SeatRecord). q.used) closed in
-    let b = sound.closed_by (omega arith) in
-    let c = ap (λ (q : SeatRecord). length q.made) closed in
-    let d = ap (λ (l : List ℕ). length l) made in
-    absurd (omega arith)
-
 abbrev FeederHandle : Type 0
-FeederHandle = PromisedHandle (Option (EndedPut Job Global)) FeedOf
+FeederHandle = PromisedHandle (Option Fed) FeedOf
 
 -- one feeder more is joined
-pub fed_next : (hs : List FeederHandle) (es : List (PutView Job)) (h : FeederHandle) (e : PutView Job) → FeedersJoined hs es → HasPutAll h.promise.0.value.rack h.promise.0.value.list.now h.promise.0.value.jobs e → FeedersJoined (hs ++ h ∷ []) (es ++ e ∷ [])
-fed_next hs es h e was one = record {
-  count = length_push es e ∙ (ap (λ n. n + 1) was.count ∙ sym (length_push hs h));
-  each = λ k h' e' at_h at_e. ⊎_elim
-      (λ old. let low = at_below hs k h' old in was.each k h' e' old (snoc_old es e e' k (let c = was.count in omega arith) at_e))
+pub fed_next : (hs : List FeederHandle) (fs : List Fed) (h : FeederHandle) (f : Fed) → FeedersJoined hs fs → LeftBy h.promise.0.value f → FeedersJoined (hs ++ h ∷ []) (fs ++ f ∷ [])
+fed_next hs fs h f was one = record {
+  count = length_push fs f ∙ (ap (λ n. n + 1) was.count ∙ sym (length_push hs h));
+  each = λ k h' f' at_h at_f. ⊎_elim
+      (λ old. let low = at_below hs k h' old in was.each k h' f' old (snoc_old fs f f' k (let c = was.count in omega arith) at_f))
       (λ (new : (k ≡ length hs) × (h ≡ h')). let c = new.0 in
-      let P : FeederHandle × PutView Job → Type 0 = λ p. HasPutAll p.0.promise.0.value.rack p.0.promise.0.value.list.now p.0.promise.0.value.jobs p.1 in
-      subst P (λ i. (new.1 i, snoc_new es e e' k (let f = was.count in omega arith) at_e i)) one)
+      let P : FeederHandle × Fed → Type 0 = λ p. LeftBy p.0.promise.0.value p.1 in
+      subst P (λ i. (new.1 i, snoc_new fs f f' k (let e = was.count in omega arith) at_f i)) one)
       (at_snoc_or hs h h' k at_h);
 }
+
+right_own : (id : TableId) (was : SeatRecord) (list : List Order) (all : Type 0) (o : Option TableId) (close : Option ℕ) (left : SeatRecord) (r : TableId) → o ≡ Some r → IsRightLeft id was list all o close left → r ≡ id
+right_own id was list all None close left r is said = absurd (cc)
+right_own id was list all (Some q) close left r is said = (let e : q ≡ r = cc in sym e ∙ said.0)
+
+-- what is left is of the gate of its feeder
+left_own : (gate : GateName) (f : Feeder) (fed : Fed) → f.gate.now ≡ gate → LeftBy f fed → IsOfGate gate.id fed
+left_own gate f fed same left = (
+  left.gate_is ∙ (f.own.0 ∙ ap (λ (g : GateName). g.id) same),
+  λ r is. right_own f.gate.now.id f.seat.has f.list.now (_) fed.right fed.close fed.seat.has r is left.right ∙ ap (λ (g : GateName). g.id) same,
+  left.within,
+)
+
+module _ (gate : GateName) (hs : List FeederHandle) (fs : List Fed) (joined : FeedersJoined hs fs) where
+  pub all_own : AreOfGate gate hs → Each (IsOfGate gate.id) fs
+  all_own own k fed at =
+      let h = there hs k (let a = at_below fs k fed at in let b = joined.count in omega arith) in
+      left_own gate h.0.promise.0.value fed (own k h.0 h.1) (joined.each k h.0 fed h.1 at)
+
+  -- the feeders of a rack were joined
+  pub rack_fed : (rack : ℕ) (lists : List (List Order)) → AreRackFeeders gate rack lists (feeders_of hs) → AreFed gate rack lists fs
+  rack_fed rack lists are =
+      let long = map_length (λ (h : FeederHandle). h.promise.0.value) hs in
+      record {
+        count = joined.count ∙ (sym long ∙ are.count);
+        rights = are.rights ∙ (long ∙ sym joined.count);
+        shares =
+            two_sums (λ (f : Fed). f.seat.has.share) (λ (h : FeederHandle). h.promise.0.value.seat.has.share) fs hs joined.count (λ k f h at_f at_h. (joined.each k h f at_h at_f).share_is)
+            ∙ (sym (sum_map (λ (f : Feeder). f.seat.has.share) (λ (h : FeederHandle). h.promise.0.value) hs) ∙ are.shares);
+        each = λ k list fed at_list at.
+            let h = there hs k (let a = at_below fs k fed at in let b = joined.count in omega arith) in
+            let f = h.0.promise.0.value in
+            let is = are.each k f (at_map (λ (h : FeederHandle). h.promise.0.value) hs k h.0 h.1) in
+            let same : f.list.now ≡ list = some-injective _ _ (sym is.2 ∙ at_list) in
+            let P : GateName × ℕ × ℕ × List Order → Type 0 = λ p. HasFed p.0 f.seat p.1 p.2 p.3 f.jobs fed.seat fed.right fed.close fed.jobs in
+            (f.seat, f.jobs, f.unclosed.0, f.unclosed.1, subst P (λ i. (is.3 i, is.0 i, is.1 i, same i)) (joined.each k h.0 fed h.1 at));
+      }
+
+-- a list of one more has a last
+pub last_of : {A : Type 0} (xs : List A) (n : ℕ) → length xs ≡ n + 1 → (front : List A) × (x : A) × (xs ≡ front ++ x ∷ []) × (length front ≡ n)
+last_of [] n long = absurd (omega arith)
+last_of (x ∷ []) n long = ([], x, refl, omega arith)
+last_of (x ∷ y ∷ xs) zero long = absurd (omega arith)
+last_of (x ∷ y ∷ xs) (suc n) long = let r = last_of (y ∷ xs) n (omega arith) in (x ∷ r.0, r.1, ap (λ l. x ∷ l) r.2, ap suc r.3)
+
+-- one rack more is joined
+pub racks_next : (racks : List RackFeeders) (puts more : List (PutView Job)) (r : RackFeeders) (fs : List Fed) → HavePutRacks racks puts → FeedersJoined r.handles.items fs
+    → ((rack : ℕ) (lists : List (List Order)) → AreFed r.gate.now rack lists fs → HasDrawn rack lists more) → HavePutRacks (racks ++ r ∷ []) (puts ++ more)
+racks_next racks puts more r fs was joined drawn lists are =
+    let parts = last_of lists (length racks) (sym are.count ∙ length_push racks r) in
+    let front = parts.0 in let feeds = parts.1 in
+    let before : AreAllFeeders front racks = record {
+      count = sym parts.3;
+      each = λ k feeds' r' at at_r. are.each k feeds' r' (subst (λ l. get_elem? l k ≡ some feeds') (sym parts.2) (at_front front (feeds ∷ []) k feeds' at)) (at_front racks (r ∷ []) k r' at_r);
+    } in
+    let here : AreRackFeeders r.gate.now (length front) feeds (feeders_of r.handles.items) =
+    are.each (length front) feeds r (subst (λ l. get_elem? l (length front) ≡ some feeds) (sym parts.2) (at_back front (feeds ∷ []) 0 feeds refl (length front) (omega arith)))
+    (at_back racks (r ∷ []) 0 r refl (length front) (let e = parts.3 in omega arith)) in
+    subst (λ (l : List (List (List Order))). HavePut l (puts ++ more)) (sym parts.2)
+    (puts_more front feeds puts more (was front before) (drawn (length front) feeds (rack_fed r.gate.now r.handles.items fs joined (length front) feeds here)))
+
+pub racks_none : HavePutRacks [] []
+racks_none [] are = puts_none
+racks_none (l ∷ lists) are = absurd (let e = are.count in omega arith)

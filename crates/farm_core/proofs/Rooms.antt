@@ -11,11 +11,7 @@ use Rattle.farm_core.specs.declared.orders.Order.{Order}
 use Rattle.farm_core.specs.declared.jobs.Job.{Job}
 use Rattle.farm_core.specs.declared.ends.Feeder.{Feeder}
 use Rattle.farm_core.specs.declared.ends.WorkerEnds.{WorkerEnds}
-use Rattle.farm_core.specs.declared.room.Room.{Room}
-use Rattle.farm_core.specs.Replies.{Replied, IsNothingYet}
-use Rattle.farm_core.specs.Threads.{AreListed}
-use Rattle.farm_core.specs.Ready.{IsReady}
-use Rattle.farm_core.proofs.Starts.{mapped_length}
+use Rattle.farm_core.specs.Replies.{Replied}
 
 module _ {A : Type 0} where
   -- the last of a list, those in front of it, and one in the middle
@@ -47,42 +43,3 @@ new_unused lane n puts new k e at = subst IsUnusedPut (sym (new.each k e at)) re
 
 pub front_unused : (n w : ℕ) (all rest : List (PutView Job)) (takes : List (TakeView Job)) (stops : PutView Job) → AreNewEnds (n + 1) w all takes → all ≡ rest ++ stops ∷ [] → Each IsUnusedPut rest
 front_unused n w all rest takes stops new is = new_unused new.lane n rest (popped_put new.lane n all rest stops new.put_ends is).1
-
-pub is_ready : (room : Room) (racks : List (List Order)) (n w : ℕ) (puts rest : List (PutView Job)) (takes : List (TakeView Job)) (reply_puts : List (PutView Replied)) (reply_takes none : List (TakeView Replied))
-    → (jobs : AreNewEnds (n + 1) w puts takes) → (replies : AreNewEnds w 1 reply_puts reply_takes)
-    → puts ≡ rest ++ room.stops ∷ [] → reply_takes ≡ none ++ room.desk.replies ∷ []
-    → IsNothingYet racks room.desk.collector → n ≡ length racks → n ≤ 16 → 0 < w → w ≤ 16
-    → map (λ (e : WorkerEnds). e.replies) room.workers.items ≡ reply_puts
-    → ((lane : LaneName Job) → Each (λ t. t ≡ new_take lane) takes → Each (λ (e : WorkerEnds). e.jobs ≡ new_take lane) room.workers.items)
-    → map (λ (f : Feeder). f.jobs) room.feeders.items ≡ rest → AreListed racks room.feeders.items
-    → room.space.ends.racks ≡ n → room.space.ends.workers ≡ w → IsReady room
-is_ready room racks n w puts rest takes reply_puts reply_takes none jobs replies stops desk nothing count few_racks working few worker_replies worker_jobs feeder_jobs listed space_racks space_workers =
-    let popped = popped_put jobs.lane n puts rest room.stops jobs.put_ends stops in
-    let last = popped_take replies.lane 0 reply_takes none room.desk.replies replies.take_ends desk in
-    let fed : length rest ≡ length room.feeders.items = mapped_length (λ (f : Feeder). f.jobs) room.feeders.items rest feeder_jobs in
-    let feeders : length room.feeders.items ≡ n = sym fed ∙ popped.1.count in
-    let worked : length reply_puts ≡ length room.workers.items = mapped_length (λ (e : WorkerEnds). e.replies) room.workers.items reply_puts worker_replies in
-    let workers : length room.workers.items ≡ w = sym worked ∙ replies.put_ends.count in
-    let same : racks ≡ room.desk.collector.racks = sym nothing.0 in
-    let all_jobs = jobs.ends in
-    let all_replies = replies.ends in
-    let takes_are = worker_jobs jobs.lane jobs.take_ends.each in record {
-      jobs_lane = jobs.lane;
-      replies_lane = replies.lane;
-      racks_count = feeders ∙ (count ∙ ap (λ (l : List (List Order)). length l) same);
-      few_racks = omega arith;
-      some_workers = omega arith;
-      few_workers = omega arith;
-      all_jobs = omega arith;
-      all_replies = omega arith;
-      workers_are = record {
-        each = λ k e at. (takes_are k e at, replies.put_ends.each k e.replies (subst (λ (l : List (PutView Replied)). get_elem? l k ≡ some e.replies) worker_replies (at_map (λ (x : WorkerEnds). x.replies) room.workers.items k e at)));
-      };
-      lists_are = subst (λ (l : List (List Order)). AreListed l room.feeders.items) same listed;
-      feeders_are = λ k f at. popped.1.each k f.jobs (subst (λ (l : List (PutView Job)). get_elem? l k ≡ some f.jobs) feeder_jobs (at_map (λ (x : Feeder). x.jobs) room.feeders.items k f at));
-      stops_is = popped.0 ∙ ap (new_put jobs.lane) (sym feeders);
-      desk_is = last.0;
-      nothing = subst (λ (l : List (List Order)). IsNothingYet l room.desk.collector) same nothing;
-      space_racks = space_racks ∙ sym feeders;
-      space_workers = space_workers ∙ sym workers;
-    }

@@ -1,5 +1,5 @@
 -- Laws of rows and tables of replies.
-use Rattle.std.proofs.Common.{ℕ, ◌≡◌, ◌+◌, List, [], ◌∷◌, ◌++◌, length, get_or, set, replicate, arith, refl, sym, ap, ◌∙◌, add-one, subst, suc, zero, Option, Some, None}
+use Rattle.std.proofs.Common.{ℕ, ◌≡◌, ◌+◌, List, [], ◌∷◌, ◌++◌, length, get_or, set, map, replicate, arith, refl, sym, ap, ◌∙◌, add-one, subst, suc, zero, Option, Some, None}
 use Rattle.std.specs.Option.{option_map}
 use Rattle.std.specs.List.{AllZip}
 use Rattle.std.proofs.Math.ListN.{get_or-map}
@@ -8,6 +8,7 @@ use Rattle.farm_core.specs.Orders.{before_close, served}
 use Rattle.farm_core.specs.Replies.{Entry}
 use Rattle.farm_core.specs.Rows.{entries, Answers, HasShape, IsGap}
 use Rattle.farm_core.specs.Faults.{entry_of}
+use Rattle.farm_core.specs.Boards.{filled}
 use Rattle.lrc_code.specs.Answers.{IsAnswer}
 use Rattle.farm_core.specs.declared.reply.ReplyResult.TheVariants.{Done}
 use Rattle.std.proofs.lemmas.List.{map-append}
@@ -57,3 +58,22 @@ Answers-more cells cell reply os os' o all is says right grown =
     let seen : AllZip Answers (entries (cells ++ cell ∷ [])) (os ++ o ∷ []) =
     subst (λ (row : List (Option Entry)). AllZip Answers row (os ++ o ∷ [])) (sym (map-append (option_map entry_of) cells (cell ∷ []))) more in
     subst (λ (t : List Outcome). AllZip Answers (entries (cells ++ cell ∷ [])) t) (sym grown) seen
+
+-- a row that begins with these entries
+pub filled_all : (es : List Entry) → filled (map Some es) ≡ es
+filled_all [] = refl
+filled_all (e ∷ es) = ap (λ l. e ∷ l) (filled_all es)
+
+pub filled_front : (es : List Entry) (rest : List (Option Entry)) → filled (map Some es ++ None ∷ rest) ≡ es
+filled_front [] rest = refl
+filled_front (e ∷ es) rest = ap (λ l. e ∷ l) (filled_front es rest)
+
+-- one entry more, and its outcome
+pub outcomes_more : {B : Type 0} (R : Entry → B → Type 0) (cells : List (Option Replied)) (cell : Option Replied) (reply : Replied) (os os' : List B) (o : B)
+    → ((es : List Entry) × (entries cells ≡ map Some es) × AllZip R es os) → cell ≡ Some reply → R (entry_of reply) o → os' ≡ os ++ o ∷ []
+    → (es : List Entry) × (entries (cells ++ cell ∷ []) ≡ map Some es) × AllZip R es os'
+outcomes_more R cells cell reply os os' o was is one grown = (
+  was.0 ++ entry_of reply ∷ [],
+  map-append (option_map entry_of) cells (cell ∷ []) ∙ (ap (λ (l : List (Option Entry)). l ++ option_map entry_of cell ∷ []) was.1 ∙ (ap (λ (x : Option Replied). map Some was.0 ++ option_map entry_of x ∷ []) is ∙ sym (map-append Some was.0 (entry_of reply ∷ [])))),
+  subst (λ l. AllZip R (was.0 ++ entry_of reply ∷ []) l) (sym grown) (all_zip_push R was.0 os (entry_of reply) o was.2 one),
+)

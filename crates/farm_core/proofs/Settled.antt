@@ -5,36 +5,32 @@ use Rattle.std.specs.List.{sum_by, All, AllZip}
 use Rattle.std.proofs.lemmas.List.Sums.{sum_by-cons, sum_by-append}
 use Rattle.std.proofs.lemmas.Bool.Decides.{nat_tests}
 use Rattle.std.proofs.lemmas.Bool.{cases_lt}
-use Rattle.std.proofs.lemmas.List.{get_or_past}
 use mathlib.Core.Option.{some, some-ne-none, some-injective}
 use lib.ListN.{get_elem?}
 use Rattle.lrc_code.specs.Requests.{Asked}
 use Rattle.farm_lanes.specs.declared.lane.item.Item.{Item}
 use Rattle.farm_lanes.specs.declared.lane.item.Item.TheVariants.{Value, End}
 use Rattle.farm_lanes.proofs.Lists.{at_snoc_or, sum_map, from_map, at_map, at_front, at_back}
-use Rattle.farm_lanes.proofs.Sums.{total_alone, total_none}
 use Rattle.farm_lanes.specs.LaneEnds.{PutView, TakeView, puts_of, takes_of}
 use Rattle.farm_lanes.specs.LaneRecord.{values, sender_of, number_of, IsLawful}
 use Rattle.farm_lanes.specs.LaneSettled.{IsSettled}
 use Rattle.farm_lanes.specs.Lists.{Each}
-use Rattle.farm_core.specs.declared.orders.Order.{Order}
 use Rattle.farm_core.specs.declared.jobs.Job.{Job}
 use Rattle.farm_core.specs.declared.jobs.Job.TheVariants.{Solve, Stop}
 use Rattle.farm_core.specs.Replies.{Replied}
-use Rattle.farm_core.specs.Orders.{before_close, served, IsServed}
-use Rattle.farm_core.specs.Gather.{replies_to, IsOneEach, IsToItsRequest}
+use Rattle.farm_core.specs.Boards.{replies_to, AreOneEach}
 use Rattle.farm_core.specs.Jobs.{AreReplies}
-use Rattle.farm_core.specs.Settled.{job_weight, reply_weight, IsRightJob, IsRightItem, serves, AllPut, HasAnswered}
-use Rattle.farm_core.proofs.Gathered.{replies_to-append}
+use Rattle.farm_core.specs.Settled.{job_weight, reply_weight, IsSoJob, IsSoItem, IsSoReply, HasAnswered}
+use Rattle.farm_lanes.specs.Counting.{once_below}
 
 abbrev pub jobs_to : ℕ → ℕ → List Job → ℕ
 jobs_to r k [] = 0
-jobs_to r k (Solve a b q ∷ js) = cond (nat_eq a r && nat_eq b k) 1 0 + jobs_to r k js
+jobs_to r k (Solve a f b q ∷ js) = cond (nat_eq a r && nat_eq b k) 1 0 + jobs_to r k js
 jobs_to r k (Stop ∷ js) = jobs_to r k js
 
 pub weigh_jobs : (r k : ℕ) (xs : List (Item Job)) → sum_by (job_weight r k) xs ≡ jobs_to r k (values xs)
 weigh_jobs r k [] = refl
-weigh_jobs r k (Value s i (Solve a b q) ∷ xs) = let a' = sum_by-cons (job_weight r k) (Value s i (Solve a b q)) xs in let b' = weigh_jobs r k xs in omega arith
+weigh_jobs r k (Value s i (Solve a f b q) ∷ xs) = let a' = sum_by-cons (job_weight r k) (Value s i (Solve a f b q)) xs in let b' = weigh_jobs r k xs in omega arith
 weigh_jobs r k (Value s i Stop ∷ xs) = let a' = sum_by-cons (job_weight r k) (Value s i Stop) xs in let b' = weigh_jobs r k xs in omega arith
 weigh_jobs r k (End s i ∷ xs) = let a' = sum_by-cons (job_weight r k) (End s i) xs in let b' = weigh_jobs r k xs in omega arith
 
@@ -48,10 +44,10 @@ pub replied : (r k : ℕ) (js : List Job) (rs : List Replied) → AreReplies js 
 replied r k [] [] all = refl
 replied r k [] (y ∷ ys) all = absurd all
 replied r k (Stop ∷ js) rs all = replied r k js rs all
-replied r k (Solve a b q ∷ js) [] all = absurd all
-replied r k (Solve a b q ∷ js) (y ∷ ys) all =
+replied r k (Solve a f b q ∷ js) [] all = absurd all
+replied r k (Solve a f b q ∷ js) (y ∷ ys) all =
     let rest = replied r k js ys all.1 in
-    let same : cond (nat_eq y.rack r && nat_eq y.number k) 1 0 ≡ cond (nat_eq a r && nat_eq b k) 1 0 + 0 = rw (all.0.0, all.0.1) (omega arith) in
+    let same : cond (nat_eq y.rack r && nat_eq y.number k) 1 0 ≡ cond (nat_eq a r && nat_eq b k) 1 0 + 0 = rw (all.0.0, all.0.2) (omega arith) in
     omega arith
 
 module _ {A : Type 0} where
@@ -64,6 +60,11 @@ module _ {A : Type 0} where
   every_all P (x ∷ xs) every zero d low = every.0
   every_all P (x ∷ xs) every (suc k) d low = every_all P xs every.1 k d (omega arith)
 
+  pub every_each : (P : A → Type 0) (xs : List A) → Every P xs → Each P xs
+  every_each P [] every k x at = absurd (some-ne-none x (sym at))
+  every_each P (y ∷ ys) every zero x at = subst P (some-injective y x at) every.0
+  every_each P (y ∷ ys) every (suc k) x at = every_each P ys every.1 k x at
+
   pub every_append : (P : A → Type 0) (xs ys : List A) → Every P xs → Every P ys → Every P (xs ++ ys)
   every_append P [] ys a b = b
   every_append P (x ∷ xs) ys a b = (a.0, every_append P xs ys a.1 b)
@@ -73,39 +74,63 @@ module _ {A : Type 0} where
   there (x ∷ xs) zero low = (x, refl)
   there (x ∷ xs) (suc k) low = there xs k (omega arith)
 
--- the jobs among right items are right
-pub right_jobs : (racks : List (List Order)) (xs : List (Item Job)) → Each (IsRightItem racks) xs → Every (IsRightJob racks) (values xs)
-right_jobs racks [] each = tt
-right_jobs racks (Value s i job ∷ xs) each = (each 0 (Value s i job) refl, right_jobs racks xs (λ k. each (suc k)))
-right_jobs racks (End s i ∷ xs) each = right_jobs racks xs (λ k. each (suc k))
+pub replies_to-append : (r k : ℕ) (xs ys : List Replied) → replies_to r k (xs ++ ys) ≡ replies_to r k xs + replies_to r k ys
+replies_to-append r k [] ys = omega arith
+replies_to-append r k (x ∷ xs) ys = let e = replies_to-append r k xs ys in omega arith
 
--- the replies to right jobs are to their requests
-pub right_replies : (racks : List (List Order)) (js : List Job) (rs : List Replied) → AreReplies js rs → Every (IsRightJob racks) js → Every (IsToItsRequest racks) rs
-right_replies racks [] [] all right = tt
-right_replies racks [] (y ∷ ys) all right = absurd all
-right_replies racks (Stop ∷ js) rs all right = right_replies racks js rs all right.1
-right_replies racks (Solve a b q ∷ js) [] all right = absurd all
-right_replies racks (Solve a b q ∷ js) (y ∷ ys) all right = (λ d. one d, right_replies racks js ys all.1 right.1)
-  where
-    one : (d : Asked) → y.request ≡ get_or (served racks y.rack) y.number d
-    one d = all.0.2 ∙ (right.0 d ∙ (ap (λ n. get_or (served racks a) n d) (sym all.0.1) ∙ ap (λ n. get_or (served racks n) y.number d) (sym all.0.0)))
+module _ (P : ℕ → ℕ → ℕ → Asked → Type 0) where
+  -- the jobs among such items are so
+  pub so_jobs : (xs : List (Item Job)) → Each (IsSoItem P) xs → Every (IsSoJob P) (values xs)
+  so_jobs [] each = tt
+  so_jobs (Value s i job ∷ xs) each = (each 0 (Value s i job) refl, so_jobs xs (λ k. each (suc k)))
+  so_jobs (End s i ∷ xs) each = so_jobs xs (λ k. each (suc k))
 
-abbrev pub IsRightReply : List (List Order) → Item Replied → Type 0
-IsRightReply racks (Value s i x) = IsToItsRequest racks x
-IsRightReply racks (End s i) = ⊤
+  -- the replies to such jobs are so
+  pub so_replies : (js : List Job) (rs : List Replied) → AreReplies js rs → Every (IsSoJob P) js → Every (IsSoReply P) rs
+  so_replies [] [] all so = tt
+  so_replies [] (y ∷ ys) all so = absurd all
+  so_replies (Stop ∷ js) rs all so = so_replies js rs all so.1
+  so_replies (Solve a f b q ∷ js) [] all so = absurd all
+  so_replies (Solve a f b q ∷ js) (y ∷ ys) all so =
+      let is = all.0 in
+      let Q : ℕ × ℕ × ℕ × Asked → Type 0 = λ p. P p.0 p.1 p.2 p.3 in
+      (subst Q (λ i. (sym is.0 i, sym is.1 i, sym is.2 i, sym is.3 i)) so.0, so_replies js ys all.1 so.1)
 
--- items of which the values are so
-pub reply_items : (racks : List (List Order)) (xs : List (Item Replied)) → Every (IsToItsRequest racks) (values xs) → Each (IsRightReply racks) xs
-reply_items racks [] every k x at = absurd (some-ne-none x (sym at))
-reply_items racks (Value s i y ∷ xs) every zero x at = subst (IsRightReply racks) (some-injective _ _ at) every.0
-reply_items racks (Value s i y ∷ xs) every (suc k) x at = reply_items racks xs every.1 k x at
-reply_items racks (End s i ∷ xs) every zero x at = subst (IsRightReply racks) (some-injective _ _ at) tt
-reply_items racks (End s i ∷ xs) every (suc k) x at = reply_items racks xs every k x at
+  abbrev pub IsSoReplyItem : Item Replied → Type 0
+  IsSoReplyItem (Value s i x) = IsSoReply P x
+  IsSoReplyItem (End s i) = ⊤
 
-pub reply_values : (racks : List (List Order)) (xs : List (Item Replied)) → Each (IsRightReply racks) xs → Every (IsToItsRequest racks) (values xs)
-reply_values racks [] each = tt
-reply_values racks (Value s i y ∷ xs) each = (each 0 (Value s i y) refl, reply_values racks xs (λ k. each (suc k)))
-reply_values racks (End s i ∷ xs) each = reply_values racks xs (λ k. each (suc k))
+  -- items of which the values are so
+  pub reply_items : (xs : List (Item Replied)) → Every (IsSoReply P) (values xs) → Each IsSoReplyItem xs
+  reply_items [] every k x at = absurd (some-ne-none x (sym at))
+  reply_items (Value s i y ∷ xs) every zero x at = subst IsSoReplyItem (some-injective _ _ at) every.0
+  reply_items (Value s i y ∷ xs) every (suc k) x at = reply_items xs every.1 k x at
+  reply_items (End s i ∷ xs) every zero x at = subst IsSoReplyItem (some-injective _ _ at) tt
+  reply_items (End s i ∷ xs) every (suc k) x at = reply_items xs every k x at
+
+  pub reply_values : (xs : List (Item Replied)) → Each IsSoReplyItem xs → Every (IsSoReply P) (values xs)
+  reply_values [] each = tt
+  reply_values (Value s i y ∷ xs) each = (each 0 (Value s i y) refl, reply_values xs (λ k. each (suc k)))
+  reply_values (End s i ∷ xs) each = reply_values xs (λ k. each (suc k))
+
+  -- items of jobs that are so
+  pub job_items : (xs : List (Item Job)) → Every (IsSoJob P) (values xs) → Each (IsSoItem P) xs
+  job_items [] every k x at = absurd (some-ne-none x (sym at))
+  job_items (Value s i y ∷ xs) every zero x at = subst (IsSoItem P) (some-injective _ _ at) every.0
+  job_items (Value s i y ∷ xs) every (suc k) x at = job_items xs every.1 k x at
+  job_items (End s i ∷ xs) every zero x at = subst (IsSoItem P) (some-injective _ _ at) tt
+  job_items (End s i ∷ xs) every (suc k) x at = job_items xs every k x at
+
+  -- the replies of all workers are so
+  pub all_so : (takers : List (TakeView Job)) (ended : List (PutView Replied)) → AllZip HasAnswered takers ended → ((t : ℕ) (e : TakeView Job) → get_elem? takers t ≡ some e → Each (IsSoItem P) e.taken)
+      → (s : ℕ) (e : PutView Replied) → get_elem? ended s ≡ some e → Each IsSoReplyItem e.put
+  all_so [] [] all so s e at = absurd (some-ne-none e (sym at))
+  all_so [] (w ∷ ws) all so s e at = absurd all
+  all_so (t ∷ ts) [] all so s e at = absurd all
+  all_so (t ∷ ts) (w ∷ ws) all so zero e at =
+      subst (λ (x : PutView Replied). Each IsSoReplyItem x.put) (some-injective _ _ at)
+      (reply_items w.put (so_replies (values t.taken) (values w.put) all.0 (so_jobs t.taken (so 0 t refl))))
+  all_so (t ∷ ts) (w ∷ ws) all so (suc s) e at = all_so ts ws all.1 (λ j. so (suc j)) s e at
 
 module _ {T : Type 0} where
   -- what holds of all that was put holds of all that was taken
@@ -152,56 +177,10 @@ all_replied r k (t ∷ ts) (w ∷ ws) all =
     let f = replied r k (values t.taken) (values w.put) all.0 in
     omega arith
 
--- the replies of all workers are to their requests
-pub all_right : (racks : List (List Order)) (takers : List (TakeView Job)) (ended : List (PutView Replied)) → AllZip HasAnswered takers ended → ((t : ℕ) (e : TakeView Job) → get_elem? takers t ≡ some e → Each (IsRightItem racks) e.taken)
-    → (s : ℕ) (e : PutView Replied) → get_elem? ended s ≡ some e → Each (IsRightReply racks) e.put
-all_right racks [] [] all right s e at = absurd (some-ne-none e (sym at))
-all_right racks [] (w ∷ ws) all right s e at = absurd all
-all_right racks (t ∷ ts) [] all right s e at = absurd all
-all_right racks (t ∷ ts) (w ∷ ws) all right zero e at =
-    subst (λ (x : PutView Replied). Each (IsRightReply racks) x.put) (some-injective _ _ at)
-    (reply_items racks w.put (right_replies racks (values t.taken) (values w.put) all.0 (right_jobs racks t.taken (right 0 t refl))))
-all_right racks (t ∷ ts) (w ∷ ws) all right (suc s) e at = all_right racks ts ws all.1 (λ j. right (suc j)) s e at
-
--- each request that is served was put once in all, and no other
-pub put_once : (racks : List (List Order)) (ended : List (PutView Job)) → length racks ≤ length ended → AllPut racks ended → (r k : ℕ) → sum_by (λ (e : PutView Job). sum_by (job_weight r k) e.put) ended ≡ serves racks r r k
-put_once racks ended enough all r k =
-    elim (cases_lt r (length ended)) [
-      | inl low ↦
-          (let here = there ended r low in
-          total_alone (λ (e : PutView Job). sum_by (job_weight r k) e.put) ended r here.0 here.1
-          (λ j e apart at. (all j e at).once r k ∙ not_here racks j r k apart)
-          ∙ (all r here.0 here.1).once r k)
-      | inr high ↦
-          total_none (λ (e : PutView Job). sum_by (job_weight r k) e.put) ended
-          (λ j e at. (all j e at).once r k ∙ not_here racks j r k (λ same. far ended j r e at same high))
-          ∙ sym (nothing racks r k (omega arith))
-    ]
-  where
-    not_here : (racks : List (List Order)) (j r k : ℕ) → j ≢ r → serves racks j r k ≡ 0
-    not_here racks j r k apart = small (serves racks j r k) (let t : cond (nat_eq j r && nat_lt k (length (served racks j))) 1 0 < 1 = grind (arith, nat_tests) in t)
-      where
-        small : (n : ℕ) → n < 1 → n ≡ 0
-        small n low = omega arith
-
-    far : (es : List (PutView Job)) (j r : ℕ) (e : PutView Job) → get_elem? es j ≡ some e → j ≡ r → length es ≤ r → ⊥
-    far [] j r e at same high = some-ne-none e (sym at)
-    far (x ∷ xs) zero r e at same high = absurd (omega arith)
-    far (x ∷ xs) (suc j) zero e at same high = absurd (omega arith)
-    far (x ∷ xs) (suc j) (suc r) e at same high = far xs j r e at (omega arith) (omega arith)
-
-    nothing : (racks : List (List Order)) (r k : ℕ) → length racks ≤ r → serves racks r r k ≡ 0
-    nothing racks r k past =
-        let out : served racks r ≡ [] = ap before_close (get_or_past racks r [] past) in
-        small (serves racks r r k) (let e = ap (λ (l : List Asked). length l) out in let t : cond (nat_eq r r && nat_lt k (length (served racks r))) 1 0 < 1 = grind (arith, nat_tests) in t)
-      where
-        small : (n : ℕ) → n < 1 → n ≡ 0
-        small n low = omega arith
-
 -- what a run knows when all threads were joined, all left was taken and both lanes were settled
-pub record Ran (racks : List (List Order)) (ended : List (PutView Job)) (takers : List (TakeView Job)) (last last_left : TakeView Job) (more : List (Item Job)) (own : List Replied) (replied : List (PutView Replied)) (desk : TakeView Replied) : Type 0 where
-  pub enough_racks : length racks ≤ length ended
-  pub all_put : AllPut racks ended
+pub record Ran (P : ℕ → ℕ → ℕ → Asked → Type 0) (count : ℕ → ℕ) (ended : List (PutView Job)) (takers : List (TakeView Job)) (last last_left : TakeView Job) (more : List (Item Job)) (own : List Replied) (replied : List (PutView Replied)) (desk : TakeView Replied) : Type 0 where
+  pub once : (r k : ℕ) → sum_by (λ (e : PutView Job). sum_by (job_weight r k) e.put) ended ≡ once_below k (count r)
+  pub all_put : Each (λ e. Each (IsSoItem P) e.put) ended
   pub answered : AllZip HasAnswered (takers ++ last ∷ []) replied
   pub more_taken : last_left.taken ≡ last.taken ++ more
   pub own_replies : AreReplies (values more) own
@@ -214,9 +193,9 @@ pub record Ran (racks : List (List Order)) (ended : List (PutView Job)) (takers 
   pub replies_settled : IsSettled put_replies taken_replies (puts_of replied) (takes_of (desk ∷ []))
   pub replies_taken : sum_by (λ (e : PutView Replied). length e.put) replied ≤ sum_by (λ (e : TakeView Replied). length e.taken) (desk ∷ [])
 
-module _ (racks : List (List Order)) (ended : List (PutView Job)) (takers : List (TakeView Job)) (last last_left : TakeView Job) (more : List (Item Job)) (own : List Replied) (replies : List (PutView Replied)) (desk : TakeView Replied) (ran : Ran racks ended takers last last_left more own replies desk) where
-  counted : (r k : ℕ) → replies_to r k (values desk.taken ++ own) ≡ serves racks r r k
-  counted r k =
+module _ (P : ℕ → ℕ → ℕ → Asked → Type 0) (count : ℕ → ℕ) (ended : List (PutView Job)) (takers : List (TakeView Job)) (last last_left : TakeView Job) (more : List (Item Job)) (own : List Replied) (replies : List (PutView Replied)) (desk : TakeView Replied) (ran : Ran P count ended takers last last_left more own replies desk) where
+  pub one_each : AreOneEach count (values desk.taken ++ own)
+  one_each r k =
       let f : TakeView Job → ℕ = λ e. sum_by (job_weight r k) e.taken in
       let g : PutView Replied → ℕ = λ e. sum_by (reply_weight r k) e.put in
       let a = replies_to-append r k (values desk.taken) own in
@@ -233,54 +212,33 @@ module _ (racks : List (List Order)) (ended : List (PutView Job)) (takers : List
       let o = weigh_jobs r k more in
       let p = replied r k (values more) own ran.own_replies in
       let q = all_weighed ran.put_jobs ran.taken_jobs ended (takers ++ last_left ∷ []) ran.jobs_settled ran.jobs_taken (job_weight r k) in
-      let u = put_once racks ended ran.enough_racks ran.all_put r k in
+      let u = ran.once r k in
       omega arith
 
-  pub one_each : IsOneEach racks (values desk.taken ++ own)
-  one_each r k = (
-    λ low. counted r k ∙ one r k low,
-    λ out. counted r k ∙ none r k out,
-  )
-    where
-      one : (r k : ℕ) → IsServed racks r k → serves racks r r k ≡ 1
-      one r k low = between (serves racks r r k) (let t : 0 < cond (nat_eq r r && nat_lt k (length (served racks r))) 1 0 = grind (arith, nat_tests) in t) (let t : cond (nat_eq r r && nat_lt k (length (served racks r))) 1 0 < 2 = grind (arith, nat_tests) in t)
-        where
-          between : (n : ℕ) → 0 < n → n < 2 → n ≡ 1
-          between n low high = omega arith
+  jobs_so : (t : ℕ) (ys : List (Item Job)) → get_elem? (takes_of (takers ++ last_left ∷ [])) t ≡ some ys → Each (IsSoItem P) ys
+  jobs_so = taken_have (puts_of ended) (takes_of (takers ++ last_left ∷ [])) ran.jobs_settled.prefix ran.jobs_settled.lawful (IsSoItem P)
+      (λ s xs at. let u = from_map (λ (e : PutView Job). e.put) ended s xs at in subst (Each (IsSoItem P)) u.2 (ran.all_put s u.0 u.1))
 
-      none : (r k : ℕ) → (IsServed racks r k → ⊥) → serves racks r r k ≡ 0
-      none r k out = elim (cases_lt k (length (served racks r))) [
-        | inl low ↦ absurd (out low)
-        | inr high ↦ small (serves racks r r k) (let t : cond (nat_eq r r && nat_lt k (length (served racks r))) 1 0 < 1 = grind (arith, nat_tests) in t)
-      ]
-        where
-          small : (n : ℕ) → n < 1 → n ≡ 0
-          small n low = omega arith
+  last_so : (e : TakeView Job) → e ≡ last_left → Each (IsSoItem P) e.taken
+  last_so e same = subst (λ (x : TakeView Job). Each (IsSoItem P) x.taken) (sym same)
+      (jobs_so (length takers + 0) last_left.taken (at_map (λ (x : TakeView Job). x.taken) (takers ++ last_left ∷ []) (length takers + 0) last_left (at_back takers (last_left ∷ []) 0 last_left refl (length takers + 0) refl)))
 
-  jobs_right : (t : ℕ) (ys : List (Item Job)) → get_elem? (takes_of (takers ++ last_left ∷ [])) t ≡ some ys → Each (IsRightItem racks) ys
-  jobs_right = taken_have (puts_of ended) (takes_of (takers ++ last_left ∷ [])) ran.jobs_settled.prefix ran.jobs_settled.lawful (IsRightItem racks)
-      (λ s xs at. let u = from_map (λ (e : PutView Job). e.put) ended s xs at in subst (Each (IsRightItem racks)) u.2 (ran.all_put s u.0 u.1).right)
+  parts_so : Each (IsSoItem P) (last.taken ++ more)
+  parts_so = subst (Each (IsSoItem P)) ran.more_taken (last_so last_left refl)
 
-  last_right : (e : TakeView Job) → e ≡ last_left → Each (IsRightItem racks) e.taken
-  last_right e same = subst (λ (x : TakeView Job). Each (IsRightItem racks) x.taken) (sym same)
-      (jobs_right (length takers + 0) last_left.taken (at_map (λ (x : TakeView Job). x.taken) (takers ++ last_left ∷ []) (length takers + 0) last_left (at_back takers (last_left ∷ []) 0 last_left refl (length takers + 0) refl)))
-
-  parts_right : Each (IsRightItem racks) (last.taken ++ more)
-  parts_right = subst (Each (IsRightItem racks)) ran.more_taken (last_right last_left refl)
-
-  each_right : (t : ℕ) (e : TakeView Job) → get_elem? (takers ++ last ∷ []) t ≡ some e → Each (IsRightItem racks) e.taken
-  each_right t e at = ⊎_elim
-      (λ was. jobs_right t e.taken (at_map (λ (x : TakeView Job). x.taken) (takers ++ last_left ∷ []) t e (at_front takers (last_left ∷ []) t e was)))
-      (λ (new : (t ≡ length takers) × (last ≡ e)). subst (λ (x : TakeView Job). Each (IsRightItem racks) x.taken) new.1 (λ i y there. parts_right i y (at_front last.taken more i y there)))
+  each_so : (t : ℕ) (e : TakeView Job) → get_elem? (takers ++ last ∷ []) t ≡ some e → Each (IsSoItem P) e.taken
+  each_so t e at = ⊎_elim
+      (λ was. jobs_so t e.taken (at_map (λ (x : TakeView Job). x.taken) (takers ++ last_left ∷ []) t e (at_front takers (last_left ∷ []) t e was)))
+      (λ (new : (t ≡ length takers) × (last ≡ e)). subst (λ (x : TakeView Job). Each (IsSoItem P) x.taken) new.1 (λ i y there. parts_so i y (at_front last.taken more i y there)))
       (at_snoc_or takers last e t at)
 
-  desk_right : Each (IsRightReply racks) desk.taken
-  desk_right = taken_have (puts_of replies) (takes_of (desk ∷ [])) ran.replies_settled.prefix ran.replies_settled.lawful (IsRightReply racks)
-      (λ s xs at. let u = from_map (λ (e : PutView Replied). e.put) replies s xs at in subst (Each (IsRightReply racks)) u.2 (all_right racks (takers ++ last ∷ []) replies ran.answered each_right s u.0 u.1))
+  desk_so : Each (IsSoReplyItem P) desk.taken
+  desk_so = taken_have (puts_of replies) (takes_of (desk ∷ [])) ran.replies_settled.prefix ran.replies_settled.lawful (IsSoReplyItem P)
+      (λ s xs at. let u = from_map (λ (e : PutView Replied). e.put) replies s xs at in subst (Each (IsSoReplyItem P)) u.2 (all_so P (takers ++ last ∷ []) replies ran.answered each_so s u.0 u.1))
       0 desk.taken refl
 
-  own_right : Every (IsToItsRequest racks) own
-  own_right = right_replies racks (values more) own ran.own_replies (right_jobs racks more (λ i y there. parts_right (length last.taken + i) y (at_back last.taken more i y there (length last.taken + i) refl)))
+  own_so : Every (IsSoReply P) own
+  own_so = so_replies P (values more) own ran.own_replies (so_jobs P more (λ i y there. parts_so (length last.taken + i) y (at_back last.taken more i y there (length last.taken + i) refl)))
 
-  pub each_to_its_request : All (IsToItsRequest racks) (values desk.taken ++ own)
-  each_to_its_request = every_all (IsToItsRequest racks) (values desk.taken ++ own) (every_append (IsToItsRequest racks) (values desk.taken) own (reply_values racks desk.taken desk_right) own_right)
+  pub each_is_so : Each (IsSoReply P) (values desk.taken ++ own)
+  each_is_so = every_each (IsSoReply P) (values desk.taken ++ own) (every_append (IsSoReply P) (values desk.taken) own (reply_values P desk.taken desk_so) own_so)

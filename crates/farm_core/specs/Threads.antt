@@ -10,9 +10,11 @@ use Rattle.farm_core.specs.Replies.{Replied}
 use Rattle.farm_core.specs.declared.threads.WorkOf.{WorkOf}
 use Rattle.farm_core.specs.declared.ends.WorkerEnds.{WorkerEnds}
 use Rattle.farm_core.specs.declared.ends.Feeder.{Feeder}
-use Rattle.farm_lanes.specs.declared.lane.put_end.EndedPut.{EndedPut}
-use Rattle.std.specs.declared.alloc.Global.{Global}
-use Rattle.farm_core.specs.Put.{HasPutAll}
+use Rattle.std.specs.List.{sum_by}
+use Rattle.farm_lanes.specs.GateView.{GateName}
+use Rattle.farm_lanes.specs.Lists.{Each}
+use Rattle.farm_core.specs.declared.feeding.Fed.{Fed}
+use Rattle.farm_core.specs.Left.{LeftBy}
 use Rattle.farm_core.specs.declared.orders.Order.{Order}
 use Rattle.farm_lanes.specs.Lists.{EachAt}
 use Rattle.farm_core.specs.declared.threads.FeedOf.{FeedOf}
@@ -23,7 +25,7 @@ abbrev pub ends_of : List (PromisedHandle Worked WorkOf) → List WorkerEnds
 ends_of handles = map (λ h. h.promise.0.value) handles
 
 -- what these feeders were given
-abbrev pub feeders_of : List (PromisedHandle (Option (EndedPut Job Global)) FeedOf) → List Feeder
+abbrev pub feeders_of : List (PromisedHandle (Option Fed) FeedOf) → List Feeder
 feeders_of handles = map (λ h. h.promise.0.value) handles
 
 -- the ends at each place are what the worker of that place left
@@ -36,15 +38,18 @@ pub record WorkersJoined (handles : List (PromisedHandle Worked WorkOf)) (jobs :
 pub record AreWorkerEnds (jobs_lane : LaneName Job) (replies_lane : LaneName Replied) (ends : List WorkerEnds) : Type 0 where
   pub each : (k : ℕ) (e : WorkerEnds) → get_elem? ends k ≡ some e → (e.jobs ≡ new_take jobs_lane) × (e.replies ≡ new_put replies_lane k)
 
--- the end at each place is what the feeder of that place left
-pub record FeedersJoined (handles : List (PromisedHandle (Option (EndedPut Job Global)) FeedOf)) (puts : List (PutView Job)) : Type 0 where
-  pub count : length puts ≡ length handles
-  pub each : (k : ℕ) (h : PromisedHandle (Option (EndedPut Job Global)) FeedOf) (e : PutView Job) → get_elem? handles k ≡ some h → get_elem? puts k ≡ some e → HasPutAll h.promise.0.value.rack h.promise.0.value.list.now h.promise.0.value.jobs e
+-- what each feeder left is at its place
+pub record FeedersJoined (handles : List (PromisedHandle (Option Fed) FeedOf)) (feds : List Fed) : Type 0 where
+  pub count : length feds ≡ length handles
+  pub each : (k : ℕ) (h : PromisedHandle (Option Fed) FeedOf) (f : Fed) → get_elem? handles k ≡ some h → get_elem? feds k ≡ some f → LeftBy h.promise.0.value f
 
--- the feeder at each place is of the rack of that number, with its list
-abbrev pub AreListed : List (List Order) → List Feeder → Type 0
-AreListed racks feeders = EachAt (λ k f. (f.rack ≡ k) × (f.list.now ≡ slice_index_or racks k [])) feeders
+-- all seats and rights of these feeders are this gate's
+abbrev pub AreOfGate : GateName → List (PromisedHandle (Option Fed) FeedOf) → Type 0
+AreOfGate gate handles = Each (λ h. h.promise.0.value.gate.now ≡ gate) handles
 
--- the feeders' put ends as they were given: those of the senders 0, 1, 2 and so on of a lane
-abbrev pub ArePutInOrder : LaneName Job → List Feeder → Type 0
-ArePutInOrder lane feeders = EachAt (λ k f. f.jobs ≡ new_put lane k) feeders
+-- the feeders of a rack: each at its place, with its list, and all seats and rights of their gate
+pub record AreRackFeeders (gate : GateName) (rack : ℕ) (lists : List (List Order)) (feeders : List Feeder) : Type 0 where
+  pub count : length feeders ≡ length lists
+  pub rights : gate.size.rights ≡ length feeders
+  pub shares : sum_by (λ (f : Feeder). f.seat.has.share) feeders ≡ gate.size.total
+  pub each : EachAt (λ k (f : Feeder). (f.rack ≡ rack) × (f.feed ≡ k) × (get_elem? lists k ≡ some f.list.now) × (f.gate.now ≡ gate)) feeders

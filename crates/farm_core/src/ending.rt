@@ -2,6 +2,7 @@
 
 use crate::ends::{Feeder, WorkerEnds};
 use crate::jobs::Job;
+use crate::rack_feeders::RackRoom;
 use crate::reply::Reply;
 use farm_lanes::{PutEnd, TakeEnd};
 use std::sync::Wait;
@@ -42,6 +43,18 @@ pub fn end_feeders<'a, R: Wait>(
     }
 }
 
+/// The same for the feeders of racks.
+pub fn end_racks<'a, R: Wait>(
+    rt: &R,
+    racks: Vec<RackRoom<'a>>,
+    taker: &mut Option<TakeEnd<Job<'a>>>,
+) {
+    for rack in racks {
+        let RackRoom { feeders, .. } = rack;
+        end_feeders(rt, feeders, taker);
+    }
+}
+
 /// Takes the mark of an end where no worker does.
 pub fn take_mark<'a, R: Wait>(rt: &R, taker: &mut Option<TakeEnd<Job<'a>>>) {
     if let Some(end) = taker.as_mut() {
@@ -66,7 +79,7 @@ pub fn end_all<'a, R: Wait>(
     rt: &R,
     desk: TakeEnd<Reply<'a>>,
     workers: Vec<WorkerEnds<'a>>,
-    feeders: Vec<Feeder<'a>>,
+    racks: Vec<RackRoom<'a>>,
     stops: PutEnd<Job<'a>>,
 ) {
     let mut desk = desk;
@@ -74,7 +87,7 @@ pub fn end_all<'a, R: Wait>(
     for ends in workers {
         taker = Some(end_worker(rt, ends, &mut desk));
     }
-    end_feeders(rt, feeders, &mut taker);
+    end_racks(rt, racks, &mut taker);
     let _ended = stops.end(rt);
     take_mark(rt, &mut taker);
 }

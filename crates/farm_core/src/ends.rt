@@ -1,6 +1,7 @@
 //! What the threads are given.
-ghost use Rattle.std.specs.Prelude.{◌≡◌, ◌+◌, ◌≤◌, [], false};
+ghost use Rattle.std.specs.Prelude.{◌≡◌, ◌+◌, ◌<◌, ◌≤◌, [], false, length, vec_len, vec_capacity};
 ghost use Rattle.farm_lanes.specs.LaneEnds.{IsUnusedPut, IsUnusedTake};
+ghost use Rattle.farm_lanes.specs.Lists.{Each};
 
 use crate::jobs::Job;
 use crate::orders::RackList;
@@ -16,19 +17,19 @@ pub struct WorkerEnds<'a> {
     pub ghost unused_replies: { IsUnusedPut replies },
 }
 
-/// A rack's list, with the gate, the seat, the right and the end of its feeder. Nothing was done with them yet.
+/// A feed's list, with its rack's gate, and the seat, the right and the end of its feeder. Nothing was done with them yet.
 #[derive(Drop)]
 pub struct Feeder<'a> {
-    pub gate: Gate,
+    pub gate: &'a Gate,
     pub seat: Seat,
     pub right: Right,
     pub rack: usize,
+    pub feed: usize,
     pub list: &'a RackList,
     pub jobs: PutEnd<Job<'a>>,
-    pub ghost own: { (seat.gate ≡ gate.id) × (right ≡ gate.id) },
+    pub ghost own: { (seat.gate ≡ gate.now.id) × (right ≡ gate.now.id) },
     pub ghost fresh: { (seat.has.numbers ≡ []) × (seat.has.knows ≡ false) },
     pub ghost budget: { seat.has.draws + 4096 ≤ seat.has.share },
     pub ghost unused: { IsUnusedPut jobs },
-    pub ghost lone: { (seat.has.share ≡ gate.size.total) × (gate.size.rights ≡ 1) },
     pub ghost unclosed: { (seat.has.used ≡ 0) × (seat.has.made ≡ []) },
 }

@@ -1,19 +1,28 @@
 //! The farm: feeders, workers and a collector over two lanes.
 ghost use Rattle.std.specs.Prelude.{◌≡◌, IfOk, map};
 ghost use Rattle.farm_core.specs.Expected.{AreExpected};
+ghost use Rattle.farm_core.specs.Merge.{AreAllMergedAnswers};
+ghost use Rattle.farm_core.specs.Boards.{AreMergedRows};
+ghost use Rattle.farm_core.specs.FedLists.{one_each};
+ghost use Rattle.farm_core.specs.RunLists.{lists_of};
+ghost use Rattle.farm_core.specs.Gates.{AreGates};
 ghost use Rattle.farm_core.specs.Ready.{IsReady};
 
+use crate::board::Board;
 use crate::ending::{Refusals, end_all};
+use crate::feeds::Feeds;
+use crate::lists::Lists;
 use crate::orders::Racks;
 use crate::pause::Pause;
-use crate::room::{Room, room_for};
+use crate::reply::FinishFault;
+use crate::room::{RackSeats, Room, gates_for, room_for};
 use crate::settings::Settings;
 use crate::settling::{Cleared, settle_all};
 use crate::shared::Shared;
 use crate::space::Space;
-use crate::started::{Started, join_all, start_all};
+use crate::started::{Started, Starts, join_all, start_all};
 use crate::threads::start_collector;
-use farm_lanes::{GateError, LaneError};
+use farm_lanes::{Gate, GateError, LaneError};
 use lrc_code::Outcome;
 use std::alloc::{AllocError, Global};
 use std::sync::Wait;
@@ -51,19 +60,26 @@ impl From<GateError> for FarmError {
     }
 }
 
-// Starts the threads, stops and joins them, and gives the answers.
+impl From<FinishFault> for FarmError {
+    // A run of which all was joined misses no reply, so memory alone can be wanting.
+    fn from(_fault: FinishFault) -> FarmError {
+        FarmError::OutOfMemory
+    }
+}
+
+// Starts the threads, stops and joins them, and gives the board.
 fn run_in<'s, 'a: 's, E, R: Threads + Wait + Sync, P: Pause>(
     shared: &'s Shared<'s, R, P>,
     scope: &Scope<'s, E>,
     room: Room<'a>,
-) -> Result<Vec<Vec<Outcome>>, FarmError>
+) -> Result<Board<'a>, FarmError>
     requires { IsReady room }
-    ensures { IfOk result (λ v. AreExpected room.entry.desk.collector.racks (map (λ answers. answers.items) v.items)) }
+    ensures { IfOk result (λ b. (b.racks ≡ room.entry.desk.board.racks) × AreMergedRows b.racks b.table) }
 {
     let Room {
         desk,
         workers,
-        feeders,
+        racks,
         stops,
         space,
     } = room;
@@ -75,23 +91,84 @@ fn run_in<'s, 'a: 's, E, R: Threads + Wait + Sync, P: Pause>(
     let collecting = match start_collector(shared, scope, desk) {
         Ok(collecting) => collecting,
         Err(Cleared { replies, .. }) => {
-            end_all(shared.rt, replies, workers, feeders, stops);
+            end_all(shared.rt, replies, workers, racks, stops);
             return Err(FarmError::NoThread);
         }
     };
-    let (all, taker) = start_all(shared, scope, workers, feeders, &mut working, &mut feeding);
+    let Starts { all, left, taker } = start_all(
+        shared,
+        scope,
+        workers,
+        racks,
+        &mut working,
+        &mut feeding,
+    );
     let started = Started {
         all,
         collecting,
         working,
         feeding,
+        left,
         stops,
         taker,
     };
     match join_all(shared.rt, started, ends) {
-        Some(joined) => settle_all(shared.rt, shared.alloc, joined, shared.pause),
+        Some(joined) => Ok(settle_all(shared.rt, shared.alloc, joined, shared.pause)),
         None => Err(FarmError::NoThread),
     }
+}
+
+// What `run` and `run_feeds` share: the board of all racks, on which the replies to a lawful merge of each rack's feeds stand.
+fn run_lists<'a, R: Threads + Wait + Sync, P: Pause>(
+    rt: &R,
+    alloc: Global,
+    lists: Lists<'a>,
+    gates: &'a [Gate],
+    seats: Vec<RackSeats>,
+    settings: Settings,
+    pause: &P,
+) -> Result<Board<'a>, FarmError>
+    requires { AreGates (lists_of lists) gates.now seats.items }
+    ensures { IfOk result (λ b. (b.racks ≡ lists_of lists.entry) × AreMergedRows b.racks b.table) }
+{
+    let room = room_for(alloc, lists, gates, seats, settings)?;
+    let lent = Shared {
+        rt,
+        alloc,
+        pause,
+        refused: Refusals::none(),
+    };
+    let shared = &lent;
+    thread::scope(
+        thread::scope_env(),
+        rt,
+        |scope| -> Result<Board, FarmError>
+            requires { IsReady room }
+            ensures { IfOk result (λ b. (b.racks ≡ room.entry.desk.board.racks) × AreMergedRows b.racks b.table) }
+        { run_in(shared, scope, room) },
+    )
+}
+
+// The answers of racks with one list each.
+fn answer_racks(alloc: Global, racks: &Racks, board: Board) -> Result<Vec<Vec<Outcome>>, FarmError>
+    requires { (board.racks ≡ one_each racks.now) × AreMergedRows board.racks board.table }
+    ensures { IfOk result (λ v. AreExpected racks.now (map (λ answers. answers.items) v.items)) }
+{
+    let _racks = racks;
+    Ok(board.answers(alloc)?)
+}
+
+// The answers of racks with several feeds.
+fn answer_feeds(
+    alloc: Global,
+    feeds: &Feeds,
+    board: Board,
+) -> Result<Vec<Vec<(usize, Outcome)>>, FarmError>
+    requires { (board.racks ≡ feeds.now) × AreMergedRows board.racks board.table }
+    ensures { IfOk result (λ v. AreAllMergedAnswers feeds.now (map (λ answers. answers.items) v.items)) }
+{
+    let _feeds = feeds;
+    Ok(board.by_feed(alloc)?)
 }
 
 /// Each rack's answers, in the order of its requests: for each request before the close of its rack's list, the
@@ -105,20 +182,25 @@ pub fn run<R: Threads + Wait + Sync, P: Pause>(
 ) -> Result<Vec<Vec<Outcome>>, FarmError>
     ensures { IfOk result (λ v. AreExpected racks.now (map (λ answers. answers.items) v.items)) }
 {
-    let room = room_for(alloc, racks, settings)?;
-    let lent = Shared {
-        rt,
-        alloc,
-        pause,
-        refused: Refusals::none(),
-    };
-    let shared = &lent;
-    thread::scope(
-        thread::scope_env(),
-        rt,
-        |scope| -> Result<Vec<Vec<Outcome>>, FarmError>
-            requires { IsReady room }
-            ensures { IfOk result (λ v. AreExpected room.entry.desk.collector.racks (map (λ answers. answers.items) v.items)) }
-        { run_in(shared, scope, room) },
-    )
+    let lists = Lists::One(racks);
+    let (gates, seats) = gates_for(alloc, lists)?;
+    let board = run_lists(rt, alloc, lists, gates.as_slice(), seats, settings, pause)?;
+    answer_racks(alloc, racks, board)
+}
+
+/// Each rack's answers, in the order of the numbers that its feeds drew, each with its feed's number: the answers to a lawful merge of
+/// its feeds. Fails for want of memory or of a thread alone.
+pub fn run_feeds<R: Threads + Wait + Sync, P: Pause>(
+    rt: &R,
+    alloc: Global,
+    feeds: &Feeds,
+    settings: Settings,
+    pause: &P,
+) -> Result<Vec<Vec<(usize, Outcome)>>, FarmError>
+    ensures { IfOk result (λ v. AreAllMergedAnswers feeds.now (map (λ answers. answers.items) v.items)) }
+{
+    let lists = Lists::Several(feeds);
+    let (gates, seats) = gates_for(alloc, lists)?;
+    let board = run_lists(rt, alloc, lists, gates.as_slice(), seats, settings, pause)?;
+    answer_feeds(alloc, feeds, board)
 }

@@ -1,14 +1,20 @@
 //! The farm: rack lists, the collector of replies, and `run`, which answers the requests of several racks.
 #![tactic(auto)]
 
+mod board;
+mod closing;
 mod collector;
 mod ending;
 mod ends;
 mod farm;
 mod feeding;
+mod feeds;
 mod jobs;
+mod lists;
+pub mod merge_laws;
 mod orders;
 mod pause;
+mod rack_feeders;
 mod reply;
 mod room;
 mod row;
@@ -23,8 +29,9 @@ mod tests;
 mod threads;
 
 pub use collector::Collector;
-pub use farm::{FarmError, run};
+pub use farm::{FarmError, run, run_feeds};
 pub use feeding::{Fed, feed};
+pub use feeds::{Feeds, FeedsFault};
 pub use jobs::{Job, Worked, work};
 pub use orders::{Order, RackList, Racks, TooManyOrders, TooManyRacks};
 pub use pause::{NoPause, Pause};

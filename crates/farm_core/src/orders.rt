@@ -65,7 +65,8 @@ impl RackList {
 
     /// The number of requests before the first close, or of all where there is no close. These are served.
     pub fn served(&self) -> usize
-        ensures { result ≡ length (before_close self.now) }
+        ensures count { result ≡ length (before_close self.now) }
+        ensures limit { result ≤ 4096 }
     {
         let mut number = 0;
         for order in self.orders() {

@@ -1,12 +1,18 @@
 //! Calls around each request, by which tests hold workers.
 
-/// What a worker calls around each request. Racks and numbers count from 0.
+/// What a worker calls around each request, and a feeder around each draw and close. Racks, feeds, positions and numbers count from 0.
 pub trait Pause: Sync {
     /// Ahead of solving a request.
     fn before(&self, rack: usize, number: u64);
 
     /// When the reply to a request is ready.
     fn after(&self, rack: usize, number: u64);
+
+    /// Ahead of a feeder's draw or close, for the order at this position of its list.
+    fn ahead(&self, _rack: usize, _feed: usize, _position: usize) {}
+
+    /// After that draw or close.
+    fn behind(&self, _rack: usize, _feed: usize, _position: usize) {}
 }
 
 /// Does nothing.

@@ -1,29 +1,38 @@
 //! What a run takes before its first thread starts.
-ghost use Rattle.std.specs.Prelude.{◌≡◌, ◌+◌, ◌≤◌, ◌<◌, [], ◌∷◌, ◌++◌, IfOk, length, map, slice_index_or, vec_len, vec_capacity};
+ghost use Rattle.std.specs.Prelude.{◌≡◌, ◌+◌, ◌≤◌, ◌<◌, List, [], ◌∷◌, ◌++◌, IfOk, length, map, slice_index_or, vec_len, vec_capacity};
+ghost use Rattle.std.specs.List.{sum_by};
+ghost use Rattle.std.specs.Vec.Iter.{into_iter_items, into_iter_len};
 ghost use Rattle.farm_lanes.specs.Lists.{Each, EachAt};
 ghost use Rattle.farm_lanes.specs.LaneEnds.{LaneName, AreNewEnds, IsUnusedPut, IsUnusedTake, new_take};
 ghost use Rattle.farm_core.specs.declared.jobs.Job.{Job};
-ghost use Rattle.farm_core.specs.Threads.{AreListed};
+ghost use Rattle.farm_core.specs.FedLists.{all_feeds_of};
+ghost use Rattle.farm_core.specs.RunLists.{lists_of};
+ghost use Rattle.farm_core.specs.Gates.{IsNewGate, AreGates};
+ghost use Rattle.farm_core.specs.RacksJoined.{AreAllGiven, ends_given, rooms_of};
 ghost use Rattle.farm_core.specs.Ready.{IsReady};
+ghost use Rattle.farm_core.specs.Threads.{AreRackFeeders};
 
-use crate::collector::Collector;
+use crate::board::Board;
 use crate::ends::{Feeder, WorkerEnds};
 use crate::farm::FarmError;
 use crate::jobs::Job;
-use crate::orders::{RackList, Racks};
+use crate::lists::Lists;
+use crate::orders::RackList;
+use crate::rack_feeders::RackRoom;
 use crate::reply::Reply;
 use crate::settings::Settings;
 use crate::settling::Desk;
 use crate::space::{Space, space_for};
-use farm_lanes::{Gate, Lane, LaneError, PutEnd, TakeEnd};
+use farm_lanes::{Gate, Lane, LaneError, PutEnd, Right, Seat, TakeEnd};
 use std::alloc::{AllocError, Global};
+use std::vec::IntoIter;
 
 /// What the threads are given, and room for what they give back.
 #[derive(Drop)]
 pub struct Room<'a> {
     pub desk: Desk<'a>,
     pub workers: Vec<WorkerEnds<'a>>,
-    pub feeders: Vec<Feeder<'a>>,
+    pub racks: Vec<RackRoom<'a>>,
     pub stops: PutEnd<Job<'a>>,
     pub space: Space<'a>,
 }
@@ -35,7 +44,7 @@ fn request_lane<'a>(
     feeders: usize,
     workers: usize,
 ) -> Result<(Vec<PutEnd<Job<'a>>>, PutEnd<Job<'a>>, Vec<TakeEnd<Job<'a>>>), LaneError>
-    requires { feeders ≤ 16 }
+    requires { feeders ≤ 64 }
     ensures { IfOk result (λ r. AreNewEnds (feeders + 1) workers (r.0.items ++ r.1 ∷ []) r.2.items) }
 {
     let (mut puts, takes) = Lane::open(alloc, capacity, feeders + 1, workers)?;
@@ -83,78 +92,156 @@ fn worker_ends<'a>(
     Ok(ends)
 }
 
-// A rack's feeder, with a gate of its own.
-fn feeder<'a>(
-    alloc: Global,
-    rack: usize,
-    list: &'a RackList,
-    jobs: PutEnd<Job<'a>>,
-) -> Result<Feeder<'a>, FarmError>
-    requires unused { IsUnusedPut jobs }
-    ensures { IfOk result (λ f. (f.rack ≡ rack) × (f.list.now ≡ list.now) × (f.jobs ≡ jobs.entry)) }
+/// The seats and the rights of a rack's gate.
+#[derive(Drop)]
+pub struct RackSeats {
+    pub seats: Vec<Seat>,
+    pub rights: Vec<Right>,
+}
+
+/// A gate for each rack, with one seat and one right for each of its feeds.
+pub fn gates_for(alloc: Global, lists: Lists) -> Result<(Vec<Gate>, Vec<RackSeats>), FarmError>
+    ensures { IfOk result (λ r. AreGates (lists_of lists.entry) r.0.items r.1.items) }
 {
-    let (gate, mut seats, mut rights) = Gate::open(alloc, 1, 1)?;
-    let Some(seat) = seats.pop() else {
-        unreachable!();
-    };
-    let Some(right) = rights.pop() else {
-        unreachable!();
-    };
-    Ok(Feeder {
+    let racks = lists.racks();
+    let mut gates = Vec::with_capacity(alloc, racks)?;
+    let mut all = Vec::with_capacity(alloc, racks)?;
+    for rack in 0..racks {
+        let feeds = lists.feeds(rack).len();
+        let (gate, seats, rights) = Gate::open(alloc, feeds, feeds)?;
+        gates.push_reserved(gate);
+        all.push_reserved(RackSeats { seats, rights });
+    }
+    Ok((gates, all))
+}
+
+// The feeders of a rack, which share its gate.
+fn rack_room<'a>(
+    alloc: Global,
+    gate: &'a Gate,
+    rack: usize,
+    lists: &'a [RackList],
+    own: RackSeats,
+    puts: &mut IntoIter<PutEnd<Job<'a>>>,
+) -> Result<RackRoom<'a>, FarmError>
+    requires few { (0 < length lists.now) × (length lists.now ≤ 4) }
+    requires new { IsNewGate (length lists.now) gate.now own }
+    requires enough { length lists.now ≤ into_iter_len puts.old }
+    requires unused { Each IsUnusedPut (into_iter_items puts.old) }
+    ensures gate { IfOk result (λ r. r.gate.now ≡ gate.now) }
+    ensures feeders { IfOk result (λ r. AreRackFeeders gate.now rack lists.now r.feeders.items) }
+    ensures ends { IfOk result (λ r. into_iter_items puts.old ≡ map (λ f. f.jobs) r.feeders.items ++ into_iter_items puts.new) }
+    ensures left { IfOk result (λ r. into_iter_len puts.new + length lists.now ≡ into_iter_len puts.old) }
+{
+    let RackSeats {
+        mut seats,
+        mut rights,
+    } = own;
+    let count = lists.len();
+    let mut feeders = Vec::with_capacity(alloc, count)?;
+    for feed in 0..count {
+        let Some(seat) = seats.pop() else {
+            unreachable!();
+        };
+        let Some(right) = rights.pop() else {
+            unreachable!();
+        };
+        let Some(jobs) = puts.next() else {
+            unreachable!();
+        };
+        feeders.push_reserved(Feeder {
+            gate,
+            seat,
+            right,
+            rack,
+            feed,
+            list: &lists[feed],
+            jobs,
+        });
+    }
+    Ok(RackRoom {
         gate,
-        seat,
-        right,
-        rack,
-        list,
-        jobs,
+        feeders,
+        handles: Vec::with_capacity(alloc, count)?,
+        feds: Vec::with_capacity(alloc, count)?,
+        rights: Vec::with_capacity(alloc, count)?,
     })
 }
 
-// A feeder for each rack.
-fn feeders_for<'a>(
+// The feeders of all racks.
+fn racks_for<'a>(
     alloc: Global,
-    racks: &'a Racks,
+    lists: Lists<'a>,
+    gates: &'a [Gate],
+    seats: Vec<RackSeats>,
     puts: Vec<PutEnd<Job<'a>>>,
-) -> Result<Vec<Feeder<'a>>, FarmError>
-    requires count { vec_len puts ≡ length racks.now }
+) -> Result<Vec<RackRoom<'a>>, FarmError>
+    requires gates { AreGates (lists_of lists) gates.now seats.items }
+    requires count { vec_len puts ≡ all_feeds_of (lists_of lists) }
     requires unused { Each IsUnusedPut puts.items }
-    ensures ends { IfOk result (λ v. map (λ f. f.jobs) v.items ≡ puts.entry.items) }
-    ensures lists { IfOk result (λ v. AreListed racks.now v.items) }
+    ensures racks { IfOk result (λ v. AreAllGiven (lists_of lists.entry) (rooms_of v.items)) }
+    ensures ends { IfOk result (λ v. ends_given (rooms_of v.items) ≡ puts.entry.items) }
 {
-    let lists = racks.lists();
-    let mut feeders = Vec::with_capacity(alloc, lists.len())?;
-    for jobs in puts {
-        let rack = feeders.len();
-        feeders.push_reserved(feeder(alloc, rack, &lists[rack], jobs)?);
+    let mut racks = Vec::with_capacity(alloc, lists.racks())?;
+    let mut puts = puts.into_iter();
+    for own in seats {
+        let rack = racks.len();
+        racks.push_reserved(rack_room(
+            alloc,
+            &gates[rack],
+            rack,
+            lists.feeds(rack),
+            own,
+            &mut puts,
+        )?);
     }
-    Ok(feeders)
+    Ok(racks)
 }
 
-/// All that a run needs but the threads: the collector, both lanes, and each feeder's gate.
+// How many feeds all racks have.
+fn all_feeds(lists: Lists) -> usize
+    ensures all { result ≡ all_feeds_of (lists_of lists.entry) }
+    ensures few { result ≤ 64 }
+{
+    let mut count = 0;
+    for rack in 0..lists.racks() {
+        count += lists.feeds(rack).len();
+    }
+    count
+}
+
+/// All that a run needs but the threads: the board, both lanes, and the feeders.
 pub fn room_for<'a>(
     alloc: Global,
-    racks: &'a Racks,
+    lists: Lists<'a>,
+    gates: &'a [Gate],
+    seats: Vec<RackSeats>,
     settings: Settings,
 ) -> Result<Room<'a>, FarmError>
-    ensures racks { IfOk result (λ r. r.desk.collector.racks ≡ racks.now) }
+    requires { AreGates (lists_of lists) gates.now seats.items }
+    ensures racks { IfOk result (λ r. r.desk.board.racks ≡ lists_of lists.entry) }
     ensures ready { IfOk result IsReady }
 {
-    let count = racks.lists().len();
     let workers = settings.workers();
-    let collector = Collector::new(alloc, racks)?;
-    let (job_puts, stops, job_takes) = request_lane(alloc, settings.queue(), count, workers)?;
+    let board = Board::new(alloc, lists)?;
+    let (job_puts, stops, job_takes) = request_lane(
+        alloc,
+        settings.queue(),
+        all_feeds(lists),
+        workers,
+    )?;
     let (reply_puts, replies) = reply_lane(alloc, settings.queue(), workers)?;
     let ends = worker_ends(alloc, job_takes, reply_puts)?;
-    let feeders = feeders_for(alloc, racks, job_puts)?;
-    let space = space_for(alloc, count, workers)?;
+    let racks = racks_for(alloc, lists, gates, seats, job_puts)?;
+    let space = space_for(alloc, lists.racks(), workers)?;
     Ok(Room {
         desk: Desk {
-            collector,
+            board,
             replies,
             workers,
         },
         workers: ends,
-        feeders,
+        racks,
         stops,
         space,
     })

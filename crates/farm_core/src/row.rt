@@ -3,6 +3,7 @@ ghost use Rattle.std.specs.Prelude.{◌≡◌, ℕ, ◌<◌, replicate, IfOk, Ma
 ghost use Rattle.std.specs.List.{AllZip};
 ghost use Rattle.farm_core.specs.Rows.{Answers, IsFirstGap, HasNoGap};
 ghost use Rattle.farm_core.specs.Faults.{entry_of};
+ghost use Rattle.farm_core.specs.Boards.{filled, IsOutcomeOf};
 ghost use Rattle.farm_core.specs.declared.reply.FinishFault.TheVariants.{OutOfMemory};
 
 use crate::reply::{FinishFault, Reply};
@@ -88,6 +89,43 @@ impl<'a> Row<'a> {
                 return Err(FinishFault::OutOfMemory);
             };
             all.push_reserved(outcome);
+        }
+        Ok(all)
+    }
+
+    /// The answers in front of the first gap, where none of the replies says that memory was missing.
+    pub fn filled(self, alloc: Global) -> Result<Vec<Outcome>, FinishFault>
+        ensures { MatchResult result (λ v. AllZip (λ e o. IsOutcomeOf e (e.feed, o)) (filled self.entry) v.items) (λ e. e ≡ OutOfMemory) }
+    {
+        let Row { cells } = self;
+        let mut all = Vec::with_capacity(alloc, cells.len())?;
+        for cell in cells {
+            let Some(reply) = cell else {
+                return Ok(all);
+            };
+            let Some(outcome) = reply.into_outcome() else {
+                return Err(FinishFault::OutOfMemory);
+            };
+            all.push_reserved(outcome);
+        }
+        Ok(all)
+    }
+
+    /// The same, each with its feed's number.
+    pub fn filled_by_feed(self, alloc: Global) -> Result<Vec<(usize, Outcome)>, FinishFault>
+        ensures { MatchResult result (λ v. AllZip IsOutcomeOf (filled self.entry) v.items) (λ e. e ≡ OutOfMemory) }
+    {
+        let Row { cells } = self;
+        let mut all = Vec::with_capacity(alloc, cells.len())?;
+        for cell in cells {
+            let Some(reply) = cell else {
+                return Ok(all);
+            };
+            let feed = reply.feed();
+            let Some(outcome) = reply.into_outcome() else {
+                return Err(FinishFault::OutOfMemory);
+            };
+            all.push_reserved((feed, outcome));
         }
         Ok(all)
     }

@@ -1,26 +1,24 @@
 //! The collector's thread, and what is done once all threads were joined.
-ghost use Rattle.std.specs.Prelude.{◌≡◌, ◌≤◌, ◌<◌, ℕ, List, [], ◌∷◌, IfOk, map, length, vec_len, vec_capacity};
+ghost use Rattle.std.specs.Prelude.{◌≡◌, ◌≤◌, ◌<◌, ℕ, List, [], ◌∷◌, length, vec_len, vec_capacity};
 ghost use Rattle.std.specs.List.{sum_by};
 ghost use Rattle.farm_lanes.specs.LaneEnds.{IsUnusedTake};
-ghost use Rattle.farm_core.specs.Expected.{AreExpected};
-ghost use Rattle.farm_core.specs.Replies.{IsNothingYet};
+ghost use Rattle.farm_core.specs.Boards.{HoldsNothing, AreMergedRows};
+ghost use Rattle.farm_core.specs.declared.orders.Order.{Order};
 ghost use Rattle.farm_core.specs.Cleared.{HasCleared, TookLeft, TookReplies, HasOneEach, HasJoined};
 
-use crate::collector::Collector;
-use crate::farm::FarmError;
+use crate::board::Board;
 use crate::jobs::{Job, reply_to};
 use crate::pause::Pause;
-use crate::reply::{FinishFault, Reply};
+use crate::reply::Reply;
 use crate::taking::{HandedIn, hand_in};
 use farm_lanes::{EndedPut, Item, TakeEnd, settle};
-use lrc_code::Outcome;
 use std::alloc::Global;
 use std::sync::Wait;
 
-/// A collector, the end that its replies come from, and how many workers will end.
+/// A board, the end that its replies come from, and how many workers will end.
 #[derive(Drop)]
 pub struct Desk<'a> {
-    pub collector: Collector<'a>,
+    pub board: Board<'a>,
     pub replies: TakeEnd<Reply<'a>>,
     pub workers: usize,
 }
@@ -32,18 +30,18 @@ pub struct Cleared<'a> {
     pub replies: TakeEnd<Reply<'a>>,
 }
 
-/// Hands the replies to the collector until every worker's end has come.
+/// Puts the replies on the board until every worker's end has come.
 pub fn clear<'a, R: Wait>(rt: &R, desk: Desk<'a>) -> Cleared<'a>
-    requires empty { IsNothingYet desk.collector.racks desk.collector }
+    requires empty { HoldsNothing desk.board.racks desk.board }
     requires unused { IsUnusedTake desk.replies }
-    ensures { HasCleared desk.entry.collector.racks desk.entry.replies result.all.collector result.all.fault result.replies }
+    ensures { HasCleared desk.entry.board.racks desk.entry.replies result.all.board result.all.fault result.replies }
 {
     let Desk {
-        collector,
+        board,
         replies,
         workers,
     } = desk;
-    let mut collector = collector;
+    let mut board = board;
     let mut replies = replies;
     let mut fault = None;
     let mut ended = 0;
@@ -52,12 +50,12 @@ pub fn clear<'a, R: Wait>(rt: &R, desk: Desk<'a>) -> Cleared<'a>
             break;
         }
         match replies.take(rt) {
-            Item::Value { value, .. } => fault = hand_in(&mut collector, fault, value),
+            Item::Value { value, .. } => fault = hand_in(&mut board, fault, value),
             Item::End { .. } => ended += 1,
         }
     }
     Cleared {
-        all: HandedIn { collector, fault },
+        all: HandedIn { board, fault },
         replies,
     }
 }
@@ -71,23 +69,24 @@ fn take_left<'a, R: Wait, P: Pause>(
     all: HandedIn<'a>,
     pause: &P,
 ) -> HandedIn<'a>
-    ensures { TookLeft jobs.old count all.entry.collector all.entry.fault jobs.new result.collector result.fault }
+    ensures { TookLeft jobs.old count all.entry.board all.entry.fault jobs.new result.board result.fault }
 {
-    let HandedIn { collector, fault } = all;
-    let mut collector = collector;
+    let HandedIn { board, fault } = all;
+    let mut board = board;
     let mut fault = fault;
     for _ in 0..count {
         match jobs.take(rt) {
             Item::Value {
                 value: Job::Solve {
                     rack,
+                    feed,
                     number,
                     request,
                 },
                 ..
             } => {
-                let reply = reply_to(alloc, rack, number, request, pause);
-                fault = hand_in(&mut collector, fault, reply);
+                let reply = reply_to(alloc, rack, feed, number, request, pause);
+                fault = hand_in(&mut board, fault, reply);
             }
             Item::Value {
                 value: Job::Stop,
@@ -96,7 +95,7 @@ fn take_left<'a, R: Wait, P: Pause>(
             Item::End { .. } => {}
         }
     }
-    HandedIn { collector, fault }
+    HandedIn { board, fault }
 }
 
 // Takes so many items of the reply lane, and hands in the replies among them.
@@ -106,23 +105,23 @@ fn take_replies<'a, R: Wait>(
     count: u64,
     all: HandedIn<'a>,
 ) -> HandedIn<'a>
-    ensures { TookReplies replies.old count all.entry.collector all.entry.fault replies.new result.collector result.fault }
+    ensures { TookReplies replies.old count all.entry.board all.entry.fault replies.new result.board result.fault }
 {
-    let HandedIn { collector, fault } = all;
-    let mut collector = collector;
+    let HandedIn { board, fault } = all;
+    let mut board = board;
     let mut fault = fault;
     for _ in 0..count {
         match replies.take(rt) {
-            Item::Value { value, .. } => fault = hand_in(&mut collector, fault, value),
+            Item::Value { value, .. } => fault = hand_in(&mut board, fault, value),
             Item::End { .. } => {}
         }
     }
-    HandedIn { collector, fault }
+    HandedIn { board, fault }
 }
 
 // How many items were put in all.
 fn put_total<T: Drop>(ended: &[EndedPut<T>]) -> u64
-    requires { length ended.now ≤ 32 }
+    requires { length ended.now ≤ 128 }
     ensures { result ≡ sum_by (λ e. length e.put) ended.now }
 {
     let mut total = 0;
@@ -143,20 +142,17 @@ fn taken_total<T: Drop>(takers: &[TakeEnd<T>]) -> u64
     total
 }
 
-// The answers, where one reply to each request was handed in.
-fn conclude<'a>(all: HandedIn<'a>) -> Result<Vec<Vec<Outcome>>, FarmError>
-    requires { HasOneEach all.collector.racks all.collector all.fault }
-    ensures { IfOk result (λ v. AreExpected all.entry.collector.racks (map (λ answers. answers.items) v.items)) }
+// The board, where one reply to each number that was drawn was handed in.
+fn conclude<'a>(all: HandedIn<'a>) -> Board<'a>
+    requires { HasOneEach all.board.racks all.board all.fault }
+    ensures { (result ≡ all.entry.board) × AreMergedRows result.racks result.table }
 {
-    let HandedIn { collector, fault } = all;
+    let HandedIn { board, fault } = all;
     if fault.is_some() {
         unreachable!();
     }
-    match collector.finish() {
-        Ok(answers) => Ok(answers),
-        Err(FinishFault::OutOfMemory) => Err(FarmError::OutOfMemory),
-        Err(FinishFault::Missing { .. }) => unreachable!(),
-    }
+    board.has_rooms();
+    board
 }
 
 /// What stands when all threads were joined.
@@ -170,17 +166,17 @@ pub struct Joined<'a> {
     pub reply_ends: Vec<EndedPut<Reply<'a>>>,
 }
 
-/// Takes what is left in the lanes, settles them, and gives the answers.
+/// Takes what is left in the lanes, settles them, and gives the board.
 pub fn settle_all<'a, R: Wait, P: Pause>(
     rt: &R,
     alloc: Global,
     joined: Joined<'a>,
     pause: &P,
-) -> Result<Vec<Vec<Outcome>>, FarmError>
-    requires joined { HasJoined joined.all.collector.racks joined.put_ends.items joined.job_ends.items joined.reply_ends.items joined.desk joined.all.collector joined.all.fault }
+) -> Board<'a>
+    requires joined { HasJoined joined.all.board.racks joined.put_ends.items joined.job_ends.items joined.reply_ends.items joined.desk joined.all.board joined.all.fault }
     requires workers { 0 < length joined.job_ends.items }
     requires room { (joined.desk_room.items ≡ []) × (0 < vec_capacity joined.desk_room) }
-    ensures { IfOk result (λ v. AreExpected joined.entry.all.collector.racks (map (λ answers. answers.items) v.items)) }
+    ensures { (result.racks ≡ joined.entry.all.board.racks) × AreMergedRows result.racks result.table }
 {
     let Joined {
         all,

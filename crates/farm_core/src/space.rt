@@ -1,9 +1,10 @@
 //! Room for what the threads give back.
-ghost use Rattle.std.specs.Prelude.{◌≡◌, ◌+◌, ◌≤◌, ◌<◌, [], IfOk, vec_capacity};
+ghost use Rattle.std.specs.Prelude.{◌≡◌, ◌+◌, ◌*◌, ◌≤◌, ◌<◌, [], IfOk, vec_capacity};
 
 use crate::jobs::Job;
+use crate::rack_feeders::RackFeeders;
 use crate::reply::Reply;
-use crate::threads::{FeederHandle, Worker};
+use crate::threads::Worker;
 use farm_lanes::{EndedPut, TakeEnd};
 use std::alloc::{AllocError, Global};
 
@@ -16,7 +17,7 @@ pub struct EndSpace<'a> {
     pub job_ends: Vec<TakeEnd<Job<'a>>>,
     pub reply_ends: Vec<EndedPut<Reply<'a>>>,
     pub desk: Vec<TakeEnd<Reply<'a>>>,
-    pub ghost puts: { (put_ends.items ≡ []) × (racks + 1 ≤ vec_capacity put_ends) },
+    pub ghost puts: { (put_ends.items ≡ []) × (racks * 4 + 1 ≤ vec_capacity put_ends) },
     pub ghost worked: { (job_ends.items ≡ []) × (workers ≤ vec_capacity job_ends) × (reply_ends.items ≡ []) × (workers ≤ vec_capacity reply_ends) },
     pub ghost last: { (desk.items ≡ []) × (0 < vec_capacity desk) },
 }
@@ -25,7 +26,7 @@ pub struct EndSpace<'a> {
 #[derive(Drop)]
 pub struct Space<'a> {
     pub working: Vec<Worker<'a>>,
-    pub feeding: Vec<FeederHandle<'a>>,
+    pub feeding: Vec<RackFeeders<'a>>,
     pub ends: EndSpace<'a>,
     pub ghost threads: { (working.items ≡ []) × (ends.workers ≤ vec_capacity working) × (feeding.items ≡ []) × (ends.racks ≤ vec_capacity feeding) },
 }
@@ -42,7 +43,7 @@ fn end_space_for<'a>(
     Ok(EndSpace {
         racks,
         workers,
-        put_ends: Vec::with_capacity(alloc, racks + 1)?,
+        put_ends: Vec::with_capacity(alloc, racks * 4 + 1)?,
         job_ends: Vec::with_capacity(alloc, workers)?,
         reply_ends: Vec::with_capacity(alloc, workers)?,
         desk: Vec::with_capacity(alloc, 1)?,

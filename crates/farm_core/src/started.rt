@@ -1,21 +1,22 @@
 //! The threads of a run: they are started in the order collector, workers, feeders, and all that were started are joined.
-ghost use Rattle.std.specs.Prelude.{◌≡◌, ◌≤◌, ◌<◌, [], true, IfSome, length, vec_len, vec_capacity};
+ghost use Rattle.std.specs.Prelude.{◌≡◌, ◌<◌, ◌≤◌, [], true, IfSome, length, vec_len, vec_capacity};
 ghost use Rattle.farm_lanes.specs.LaneEnds.{IsUnusedPut};
 ghost use Rattle.farm_core.specs.declared.room.Room.{Room};
-ghost use Rattle.farm_core.specs.Threads.{ends_of, feeders_of};
 ghost use Rattle.farm_core.specs.Cleared.{HasJoined};
+ghost use Rattle.farm_core.specs.RacksJoined.{rooms_of, started_of};
 ghost use Rattle.farm_core.specs.Ready.{IsReady, AreStarted};
+ghost use Rattle.farm_core.specs.Threads.{ends_of};
 
-use crate::ending::{end_feeders, take_mark};
-use crate::ends::{Feeder, WorkerEnds};
+use crate::ending::{end_racks, take_mark};
+use crate::ends::WorkerEnds;
 use crate::jobs::Job;
 use crate::pause::Pause;
+use crate::rack_feeders::{RackFeeders, RackRoom};
 use crate::settling::{Cleared, Joined};
 use crate::shared::Shared;
 use crate::space::EndSpace;
 use crate::threads::{
-    ClearOf, FeederHandle, Worker, join_feeders, join_workers, put_stops, start_feeders,
-    start_workers,
+    ClearOf, FeederHandle, Worker, join_racks, join_workers, put_stops, start_racks, start_workers,
 };
 use farm_lanes::{PutEnd, TakeEnd};
 use std::sync::Wait;
@@ -27,35 +28,61 @@ pub struct Started<'a> {
     pub all: bool,
     pub collecting: PromisedHandle<Cleared<'a>, ClearOf<'a>>,
     pub working: Vec<Worker<'a>>,
-    pub feeding: Vec<FeederHandle<'a>>,
+    pub feeding: Vec<RackFeeders<'a>>,
+    /// The feeders of the rack in which a thread was refused.
+    pub left: Option<Vec<FeederHandle<'a>>>,
     pub stops: PutEnd<Job<'a>>,
     pub taker: Option<TakeEnd<Job<'a>>>,
 }
 
-/// Starts the workers, and where none is refused the feeders; the put ends of the threads that weren't started are ended. Says
-/// whether no thread was refused, and gives an end of the request lane where no worker takes from it.
+/// What became of starting the workers and the feeders.
+#[derive(Drop)]
+pub struct Starts<'a> {
+    pub all: bool,
+    pub left: Option<Vec<FeederHandle<'a>>>,
+    pub taker: Option<TakeEnd<Job<'a>>>,
+}
+
+/// Starts the workers, and where none is refused the feeders; the put ends of the threads that weren't started are ended.
 pub fn start_all<'s, 'a: 's, E, R: Threads + Wait + Sync, P: Pause>(
     shared: &'s Shared<'s, R, P>,
     scope: &Scope<'s, E>,
     ends: Vec<WorkerEnds<'a>>,
-    feeders: Vec<Feeder<'a>>,
+    racks: Vec<RackRoom<'a>>,
     workers: &mut Vec<Worker<'a>>,
-    feeding: &mut Vec<FeederHandle<'a>>,
-) -> (bool, Option<TakeEnd<Job<'a>>>)
+    feeding: &mut Vec<RackFeeders<'a>>,
+) -> Starts<'a>
     requires empty { (workers.old.items ≡ []) × (feeding.old.items ≡ []) }
-    requires room { (vec_len ends ≤ vec_capacity workers.old) × (vec_len feeders ≤ vec_capacity feeding.old) }
-    ensures workers { result.0 ≡ true → ends_of workers.new.items ≡ ends.entry.items }
-    ensures feeders { result.0 ≡ true → feeders_of feeding.new.items ≡ feeders.entry.items }
+    requires room { (vec_len ends ≤ vec_capacity workers.old) × (vec_len racks ≤ vec_capacity feeding.old) }
+    ensures workers { result.all ≡ true → ends_of workers.new.items ≡ ends.entry.items }
+    ensures racks { result.all ≡ true → started_of feeding.new.items ≡ rooms_of racks.entry.items }
     ensures workers_len { vec_len workers.new ≤ vec_len ends.entry }
-    ensures feeders_len { vec_len feeding.new ≤ vec_len feeders.entry }
+    ensures racks_len { vec_len feeding.new ≤ vec_len racks.entry }
 {
-    let Some(left) = start_workers(shared, scope, ends, workers) else {
-        let all = start_feeders(shared, scope, feeders, feeding);
-        return (all, None);
+    let Some(end) = start_workers(shared, scope, ends, workers) else {
+        let left = start_racks(shared, scope, racks, feeding);
+        return Starts {
+            all: left.is_none(),
+            left,
+            taker: None,
+        };
     };
-    let mut taker = if workers.is_empty() { Some(left) } else { None };
-    end_feeders(shared.rt, feeders, &mut taker);
-    (false, taker)
+    let mut taker = if workers.is_empty() { Some(end) } else { None };
+    end_racks(shared.rt, racks, &mut taker);
+    Starts {
+        all: false,
+        left: None,
+        taker,
+    }
+}
+
+// Joins the feeders of the rack in which a thread was refused.
+fn join_left<'a, R: Threads>(rt: &R, left: Option<Vec<FeederHandle<'a>>>) {
+    if let Some(handles) = left {
+        for handle in handles {
+            let _left = handle.join(rt);
+        }
+    }
 }
 
 /// Joins the feeders, lets the workers stop, and joins them and the collector. Gives nothing where a thread was refused.
@@ -66,7 +93,7 @@ pub fn join_all<'a, R: Threads + Wait>(
 ) -> Option<Joined<'a>>
     requires few { (vec_len started.working ≤ 16) × (vec_len started.working ≤ space.workers) × (vec_len started.feeding ≤ space.racks) }
     requires unused { IsUnusedPut started.stops }
-    ensures joined { IfSome result (λ j. (room : Room) → IsReady room → AreStarted room started.entry → HasJoined j.all.collector.racks j.put_ends.items j.job_ends.items j.reply_ends.items j.desk j.all.collector j.all.fault × (j.all.collector.racks ≡ room.desk.collector.racks) × (0 < length j.job_ends.items)) }
+    ensures joined { IfSome result (λ j. (room : Room) → IsReady room → AreStarted room started.entry → HasJoined j.all.board.racks j.put_ends.items j.job_ends.items j.reply_ends.items j.desk j.all.board j.all.fault × (j.all.board.racks ≡ room.desk.board.racks) × (0 < length j.job_ends.items)) }
     ensures desk_room { IfSome result (λ j. (j.desk_room.items ≡ []) × (0 < vec_capacity j.desk_room)) }
 {
     let Started {
@@ -74,6 +101,7 @@ pub fn join_all<'a, R: Threads + Wait>(
         collecting,
         working,
         feeding,
+        left,
         stops,
         mut taker,
     } = started;
@@ -84,7 +112,8 @@ pub fn join_all<'a, R: Threads + Wait>(
         desk: desk_room,
         ..
     } = space;
-    let fed_all = join_feeders(rt, feeding, &mut put_ends);
+    let fed_all = join_racks(rt, feeding, &mut put_ends);
+    join_left(rt, left);
     put_ends.push_reserved(put_stops(rt, stops, working.len()));
     take_mark(rt, &mut taker);
     join_workers(rt, working, &mut job_ends, &mut reply_ends);

@@ -1,5 +1,6 @@
 //! The limits of racks and settings, the collector, and runs, with answers from outside.
 mod collecting;
+mod feeding;
 mod held;
 mod jobs;
 mod limits;

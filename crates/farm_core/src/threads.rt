@@ -1,21 +1,26 @@
 //! Starting the threads, and joining them.
-ghost use Rattle.std.specs.Prelude.{◌≡◌, ◌+◌, ◌≤◌, [], true, false, IfOk, IfErr, IfSome, IfNone, length, vec_len, vec_capacity};
+ghost use Rattle.std.specs.Prelude.{◌≡◌, ◌+◌, ◌*◌, ◌<◌, ◌≤◌, [], true, false, IfOk, IfErr, IfSome, IfNone, length, vec_len, vec_capacity};
 ghost use Rattle.farm_lanes.specs.LaneEnds.{IsUnusedPut, IsUnusedTake};
+ghost use Rattle.farm_lanes.specs.Lists.{Each};
+ghost use Rattle.farm_core.specs.Left.{LeftBy};
 ghost use Rattle.farm_core.specs.Threads.{WorkersJoined, FeedersJoined, ends_of, feeders_of};
-ghost use Rattle.farm_core.specs.Put.{HasPutAll, HasPutStops};
+ghost use Rattle.farm_core.specs.RacksJoined.{HavePutRacks, AreEndsOf, all_given, rooms_of, started_of};
+ghost use Rattle.farm_core.specs.Put.{HasPutStops};
 ghost use Rattle.farm_core.specs.Work.{HasWorked};
-ghost use Rattle.farm_core.specs.Replies.{IsNothingYet};
+ghost use Rattle.farm_core.specs.Boards.{HoldsNothing};
 ghost use Rattle.farm_core.specs.Cleared.{HasCleared};
 
+use crate::closing::close_rack;
+use crate::ending::end_feeders;
 use crate::ends::{Feeder, WorkerEnds};
 use crate::feeding::{Fed, feed};
 use crate::jobs::{Job, Worked, idle, work};
 use crate::pause::Pause;
+use crate::rack_feeders::{RackFeeders, RackRoom};
 use crate::reply::Reply;
 use crate::settling::{Cleared, Desk, clear};
 use crate::shared::Shared;
-use farm_lanes::{EndedPut, Gate, PutEnd, Right, Seat, TakeEnd};
-use std::alloc::Global;
+use farm_lanes::{EndedPut, PutEnd, TakeEnd};
 use std::snapshot::Snapshot;
 use std::sync::Wait;
 use std::sync::atomic::Ordering;
@@ -79,17 +84,17 @@ pub struct ClearOf<'a>(pub Snapshot<Desk<'a>>);
 impl<'a> Promise<Cleared<'a>> for ClearOf<'a> {
     ghost use Rattle.farm_core.specs.Cleared.{HasCleared};
 
-    ghost kept_by = { λ p c. HasCleared p.0.value.collector.racks p.0.value.replies c.all.collector c.all.fault c.replies };
+    ghost kept_by = { λ p c. HasCleared p.0.value.board.racks p.0.value.replies c.all.board c.all.fault c.replies };
 }
 
 // What the collector's thread does. Where no thread was made for it, it waits for no worker and takes nothing.
 fn clear_with<'a, R: Wait, P: Pause>(shared: &Shared<R, P>, desk: Desk<'a>) -> Cleared<'a>
-    requires empty { IsNothingYet desk.collector.racks desk.collector }
+    requires empty { HoldsNothing desk.board.racks desk.board }
     requires unused { IsUnusedTake desk.replies }
-    ensures { HasCleared desk.entry.collector.racks desk.entry.replies result.all.collector result.all.fault result.replies }
+    ensures { HasCleared desk.entry.board.racks desk.entry.replies result.all.board result.all.fault result.replies }
 {
     let Desk {
-        collector,
+        board,
         replies,
         workers,
     } = desk;
@@ -101,7 +106,7 @@ fn clear_with<'a, R: Wait, P: Pause>(shared: &Shared<R, P>, desk: Desk<'a>) -> C
     clear(
         shared.rt,
         Desk {
-            collector,
+            board,
             replies,
             workers,
         },
@@ -114,14 +119,14 @@ pub fn start_collector<'s, 'a: 's, E, R: Wait + Sync, P: Pause>(
     scope: &Scope<'s, E>,
     desk: Desk<'a>,
 ) -> Result<PromisedHandle<Cleared<'a>, ClearOf<'a>>, Cleared<'a>>
-    requires empty { IsNothingYet desk.collector.racks desk.collector }
+    requires empty { HoldsNothing desk.board.racks desk.board }
     requires unused { IsUnusedTake desk.replies }
     ensures { IfOk result (λ h. h.promise.0.value ≡ desk.entry) }
 {
     let promise = ClearOf(Snapshot::of(&desk));
     let body = move || -> Cleared
-        requires { IsNothingYet desk.collector.racks desk.collector × IsUnusedTake desk.replies }
-        ensures { HasCleared desk.entry.collector.racks desk.entry.replies result.all.collector result.all.fault result.replies }
+        requires { HoldsNothing desk.board.racks desk.board × IsUnusedTake desk.replies }
+        ensures { HasCleared desk.entry.board.racks desk.entry.replies result.all.board result.all.fault result.replies }
     { clear_with(shared, desk) };
     match scope.spawn_with(promise, body) {
         Ok(handle) => Ok(handle),
@@ -183,55 +188,44 @@ pub fn start_workers<'s, 'a: 's, E, R: Threads + Wait + Sync, P: Pause>(
 #[derive(Drop)]
 pub struct FeedOf<'a>(pub Snapshot<Feeder<'a>>);
 
-impl<'a> Promise<Option<EndedPut<Job<'a>>>> for FeedOf<'a> {
+impl<'a> Promise<Option<Fed<'a>>> for FeedOf<'a> {
     ghost use Rattle.std.specs.Prelude.{IfSome};
-    ghost use Rattle.farm_core.specs.Put.{HasPutAll};
+    ghost use Rattle.farm_core.specs.Left.{LeftBy};
 
-    ghost kept_by = { λ p o. IfSome o (λ e. HasPutAll p.0.value.rack p.0.value.list.now p.0.value.jobs e) };
+    ghost kept_by = { λ p o. IfSome o (LeftBy p.0.value) };
 }
 
 /// A feeder's thread. It gives nothing where a feeder was refused before it began; its end is ended all the same.
-pub type FeederHandle<'a> = PromisedHandle<Option<EndedPut<Job<'a>>>, FeedOf<'a>>;
+pub type FeederHandle<'a> = PromisedHandle<Option<Fed<'a>>, FeedOf<'a>>;
 
-// Feeds a list. Its seat has the whole gate, so everything was put.
-fn feed_all<'a, R: Wait>(rt: &R, feeder: Feeder<'a>) -> EndedPut<Job<'a>>
-    ensures { HasPutAll feeder.entry.rack feeder.entry.list.now feeder.entry.jobs result }
+// What a feeder does: it feeds its list, unless a feeder was refused before it began.
+fn feed_with<'a, R: Wait, P: Pause>(shared: &Shared<R, P>, feeder: Feeder<'a>) -> Option<Fed<'a>>
+    ensures { IfSome result (LeftBy feeder.entry) }
 {
     let Feeder {
         gate,
         seat,
         right,
         rack,
+        feed: number,
         list,
         jobs,
     } = feeder;
-    let Fed {
-        rack: _,
-        list: _,
-        seat,
-        right,
-        close: _,
-        jobs,
-    } = feed(rt, &gate, seat, right, rack, list, jobs);
-    if let Some(right) = right {
-        spend(&gate, seat, right);
-    }
-    jobs
-}
-
-// What a feeder does: it feeds its list, unless a feeder was refused before it began.
-fn feed_with<'a, R: Wait, P: Pause>(
-    shared: &Shared<R, P>,
-    feeder: Feeder<'a>,
-) -> Option<EndedPut<Job<'a>>>
-    ensures { IfSome result (λ e. HasPutAll feeder.entry.rack feeder.entry.list.now feeder.entry.jobs e) }
-{
     if shared.refused.feeder.load(Ordering::SeqCst) {
-        let Feeder { jobs, .. } = feeder;
         let _ended = jobs.end(shared.rt);
         None
     } else {
-        Some(feed_all(shared.rt, feeder))
+        Some(feed(
+            shared.rt,
+            gate,
+            seat,
+            right,
+            rack,
+            number,
+            list,
+            jobs,
+            shared.pause,
+        ))
     }
 }
 
@@ -244,8 +238,8 @@ fn start_feeder<'s, 'a: 's, E, R: Threads + Wait + Sync, P: Pause>(
     ensures { IfSome result (λ h. h.promise.0.value ≡ feeder.entry) }
 {
     let promise = FeedOf(Snapshot::of(&feeder));
-    let body = move || -> Option<EndedPut<Job>>
-        ensures { IfSome result (λ e. HasPutAll feeder.entry.rack feeder.entry.list.now feeder.entry.jobs e) }
+    let body = move || -> Option<Fed>
+        ensures { IfSome result (LeftBy feeder.entry) }
     { feed_with(shared, feeder) };
     match scope.spawn_with(promise, body) {
         Ok(handle) => Some(handle),
@@ -257,17 +251,7 @@ fn start_feeder<'s, 'a: 's, E, R: Threads + Wait + Sync, P: Pause>(
     }
 }
 
-// A seat of a gate of one right, which is not yet spent, was told of no closing: spending the right shows it.
-fn spend(gate: &Gate, seat: Seat, right: Right)
-    requires own { (seat.gate ≡ gate.now.id) × (right ≡ gate.now.id) }
-    requires only { (gate.now.size.rights ≡ 1) × (seat.has.used ≡ 0) × (seat.has.made ≡ []) }
-    ensures { seat.has.knows ≡ false }
-{
-    let mut seat = seat;
-    let _closed = gate.close(&mut seat, right);
-}
-
-// Starts a feeder for each rack, in order. After a refusal no further one is started, and the ends of the others are ended here:
+// Starts the feeders of a rack, in order. After a refusal no further one is started, and the ends of the others are ended here:
 // the workers take their marks. Says whether none was refused.
 pub fn start_feeders<'s, 'a: 's, E, R: Threads + Wait + Sync, P: Pause>(
     shared: &'s Shared<'s, R, P>,
@@ -296,23 +280,93 @@ pub fn start_feeders<'s, 'a: 's, E, R: Threads + Wait + Sync, P: Pause>(
     all
 }
 
-// Joins the feeders, and puts their ends in order. Says whether each has put all.
-pub fn join_feeders<'a, R: Threads>(
+// Joins the feeders of a rack, and puts what they left in order. Says whether each has fed.
+fn join_feeders<'a, R: Threads>(
     rt: &R,
     handles: Vec<FeederHandle<'a>>,
-    put_ends: &mut Vec<EndedPut<Job<'a>>>,
+    feds: &mut Vec<Fed<'a>>,
 ) -> bool
-    requires empty { put_ends.old.items ≡ [] }
-    requires room { vec_len handles ≤ vec_capacity put_ends.old }
-    ensures joined { result ≡ true → FeedersJoined handles.entry.items put_ends.new.items }
-    ensures capacity { vec_capacity put_ends.new ≡ vec_capacity put_ends.old }
-    ensures len { vec_len put_ends.new ≤ vec_len handles.entry }
+    requires empty { feds.old.items ≡ [] }
+    requires room { vec_len handles ≤ vec_capacity feds.old }
+    ensures joined { result ≡ true → FeedersJoined handles.entry.items feds.new.items }
+    ensures count { result ≡ true → vec_len feds.new ≡ vec_len handles.entry }
 {
     let mut all = true;
     for handle in handles {
         match handle.join(rt) {
-            Some(end) => put_ends.push_reserved(end),
+            Some(fed) => feds.push_reserved(fed),
             None => all = false,
+        }
+    }
+    all
+}
+
+/// Starts the feeders rack by rack. After a refusal no further one is started, and the ends of the others are ended here: the workers
+/// take their marks. Gives nothing where none was refused, else the threads of the rack in which one was.
+pub fn start_racks<'s, 'a: 's, E, R: Threads + Wait + Sync, P: Pause>(
+    shared: &'s Shared<'s, R, P>,
+    scope: &Scope<'s, E>,
+    racks: Vec<RackRoom<'a>>,
+    started: &mut Vec<RackFeeders<'a>>,
+) -> Option<Vec<FeederHandle<'a>>>
+    requires empty { started.old.items ≡ [] }
+    requires room { vec_len racks ≤ vec_capacity started.old }
+    ensures all { IfNone result (started_of started.new.items ≡ rooms_of racks.entry.items) }
+    ensures len { vec_len started.new ≤ vec_len racks.entry }
+{
+    let mut left = None;
+    for rack in racks {
+        let RackRoom {
+            gate,
+            feeders,
+            handles,
+            feds,
+            rights,
+        } = rack;
+        let mut handles = handles;
+        if left.is_some() {
+            let mut none = None;
+            end_feeders(shared.rt, feeders, &mut none);
+        } else if start_feeders(shared, scope, feeders, &mut handles) {
+            started.push_reserved(RackFeeders {
+                gate,
+                handles,
+                feds,
+                rights,
+            });
+        } else {
+            left = Some(handles);
+        }
+    }
+    left
+}
+
+/// Joins the feeders rack by rack, and puts their ends in order. Says whether each has fed.
+pub fn join_racks<'a, R: Threads>(
+    rt: &R,
+    racks: Vec<RackFeeders<'a>>,
+    put_ends: &mut Vec<EndedPut<Job<'a>>>,
+) -> bool
+    requires empty { put_ends.old.items ≡ [] }
+    requires room { vec_len racks * 4 ≤ vec_capacity put_ends.old }
+    ensures joined { result ≡ true → HavePutRacks racks.entry.items put_ends.new.items }
+    ensures ends { result ≡ true → AreEndsOf (all_given (started_of racks.entry.items)) put_ends.new.items }
+    ensures capacity { vec_capacity put_ends.new ≡ vec_capacity put_ends.old }
+    ensures len { vec_len put_ends.new ≤ vec_len racks.entry * 4 }
+{
+    let mut all = true;
+    for rack in racks {
+        let RackFeeders {
+            gate,
+            handles,
+            feds,
+            rights,
+        } = rack;
+        let mut feds = feds;
+        if join_feeders(rt, handles, &mut feds) {
+            close_rack(gate, feds, rights, put_ends);
+        } else {
+            all = false;
         }
     }
     all

@@ -1,6 +1,8 @@
 //! A feeder and two workers in one thread, over lanes that hold all that they put.
 use crate::ends::{Feeder, WorkerEnds};
-use crate::room::{Room, room_for};
+use crate::lists::Lists;
+use crate::rack_feeders::RackRoom;
+use crate::room::{Room, gates_for, room_for};
 use crate::settling::Desk;
 use crate::tests::requests::{Entry, GLOBAL, LOCAL, SEVERAL, is_byte, is_several, racks_of};
 use crate::threads::put_stops;
@@ -21,10 +23,11 @@ fn feeds<R: Abort + Wait>(rt: &R, feeder: Option<Feeder<'_>>) {
         seat,
         right,
         rack,
+        feed: number,
         list,
         jobs,
     } = feeder;
-    let fed = feed(rt, &gate, seat, right, rack, list, jobs);
+    let fed = feed(rt, gate, seat, right, rack, number, list, jobs, &NoPause);
     assert!(rt; fed.close == Some(2) && fed.right.is_none() && fed.jobs.count() == 3);
 }
 
@@ -62,20 +65,27 @@ fn next_outcome<'a, R: Abort + Wait>(
 #[test]
 fn a_feeder_and_two_workers(rt: HostRuntime) -> Result<(), AllocError> {
     let alloc = rt.alloc();
-    let racks = racks_of(&rt, alloc, &[&[SEVERAL, LOCAL, Entry::Close, GLOBAL]])?;
+    let asked = racks_of(&rt, alloc, &[&[SEVERAL, LOCAL, Entry::Close, GLOBAL]])?;
     let Ok(settings) = Settings::new(2, 8) else {
         panic!(rt; "settings out of their limits");
     };
-    let Ok(room) = room_for(alloc, &racks, settings) else {
+    let lists = Lists::One(&asked);
+    let Ok((gates, seats)) = gates_for(alloc, lists) else {
+        panic!(rt; "no gates");
+    };
+    let Ok(room) = room_for(alloc, lists, gates.as_slice(), seats, settings) else {
         panic!(rt; "no room");
     };
     let Room {
         desk,
         mut workers,
-        mut feeders,
+        mut racks,
         stops,
         space: _,
     } = room;
+    let Some(RackRoom { mut feeders, .. }) = racks.pop() else {
+        panic!(rt; "no rack");
+    };
     feeds(&rt, feeders.pop());
     let _stopped = put_stops(&rt, stops, 2);
     works(&rt, alloc, workers.pop(), 4, 3);

@@ -1,8 +1,9 @@
 //! Calls that a script also makes with each of their allocations refused in turn: they end with an `AllocError` where they meet a
 //! refusal, and else with the answers.
 use crate::tests::collecting::{are_answers_of_three, gathered};
-use crate::tests::requests::{GLOBAL, LOCAL, SEVERAL, is_byte, is_several, racks_of};
-use crate::{FinishFault, NoPause, Settings, run};
+use crate::tests::feeding::{feeds_of, rack_of};
+use crate::tests::requests::{Entry, GLOBAL, LOCAL, SEVERAL, is_byte, is_several, racks_of};
+use crate::{FinishFault, NoPause, Settings, run, run_feeds};
 use lrc_code::Outcome;
 use std::alloc::{AllocError, Global};
 use std::process::Abort;
@@ -51,6 +52,64 @@ fn sixteen_workers_and_a_queue_of_1024(rt: HostRuntime) -> Result<(), AllocError
 #[test]
 fn two_workers_and_a_queue_of_one(rt: HostRuntime) -> Result<(), AllocError> {
     runs_two_racks(&rt, rt.alloc(), 2, 1)
+}
+
+// A rack of four feeds without a close, and one of two feeds that both have one.
+fn runs_six_feeds<R: Abort + Threads + Wait + Sync>(
+    rt: &R,
+    alloc: Global,
+    workers: usize,
+    queue: usize,
+) -> Result<(), AllocError> {
+    let open: [&[Entry]; 4] = [&[LOCAL, SEVERAL], &[GLOBAL], &[], &[LOCAL]];
+    let closing: [&[Entry]; 2] = [&[LOCAL, Entry::Close], &[Entry::Close]];
+    let mut racks = Vec::new(alloc);
+    racks.push(rack_of(rt, alloc, open.as_slice())?)?;
+    racks.push(rack_of(rt, alloc, closing.as_slice())?)?;
+    let feeds = feeds_of(rt, racks);
+    let Ok(settings) = Settings::new(workers, queue) else {
+        panic!(rt; "settings out of their limits");
+    };
+    let Ok(answers) = run_feeds(rt, alloc, &feeds, settings, &NoPause) else {
+        return Err(AllocError);
+    };
+    assert!(rt; answers.len() == 2);
+    let open = answers[0].as_slice();
+    assert!(rt; open.len() == 4);
+    let mut first = 0usize;
+    for (feed, outcome) in open {
+        if *feed == 0 {
+            assert!(rt;
+                if first == 0 {
+                    is_byte(outcome, 0x01)
+                } else {
+                    is_several(outcome)
+                }
+            );
+            first = first.saturating_add(1);
+        } else if *feed == 1 {
+            assert!(rt; is_byte(outcome, 0x6e));
+        } else {
+            assert!(rt; *feed == 3 && is_byte(outcome, 0x01));
+        }
+    }
+    assert!(rt; first == 2);
+    let closed = answers[1].as_slice();
+    assert!(rt; closed.len() <= 1);
+    for (feed, outcome) in closed {
+        assert!(rt; *feed == 0 && is_byte(outcome, 0x01));
+    }
+    Ok(())
+}
+
+#[test]
+fn six_feeds_with_two_workers(rt: HostRuntime) -> Result<(), AllocError> {
+    runs_six_feeds(&rt, rt.alloc(), 2, 1)
+}
+
+#[test]
+fn six_feeds_with_sixteen_workers(rt: HostRuntime) -> Result<(), AllocError> {
+    runs_six_feeds(&rt, rt.alloc(), 16, 1024)
 }
 
 #[test]

@@ -1,6 +1,4 @@
-use Rattle.std.proofs.Common.{IfOk, List, map, refl, subst}
-use Rattle.farm_core.specs.declared.orders.Order.{Order}
-use Rattle.farm_core.specs.Expected.{AreExpected}
+use Rattle.std.proofs.Common.{◌≡◌, ◌∙◌, List, refl, subst}
 use Rattle.farm_core.proofs.farm.run_in.Goals as goal
 
 pub settle_all-requires-clause-joined : goal.settle_all-requires-clause-joined
@@ -8,7 +6,7 @@ settle_all-requires-clause-joined g c κs within =
     (c.in-Some.ensures.joined c.args.room c.requires (record {
       collecting_is = c.in-Ok.ensures;
       working_are = c.start_all-all.ensures.workers;
-      feeding_are = c.start_all-all.ensures.feeders;
+      feeding_are = c.start_all-all.ensures.racks;
       stops_is = refl;
     })).0
 
@@ -17,16 +15,16 @@ settle_all-requires-clause-workers g c κs within =
     (c.in-Some.ensures.joined c.args.room c.requires (record {
       collecting_is = c.in-Ok.ensures;
       working_are = c.start_all-all.ensures.workers;
-      feeding_are = c.start_all-all.ensures.feeders;
+      feeding_are = c.start_all-all.ensures.racks;
       stops_is = refl;
     })).2
 
 pub returns-in-Some : goal.returns-in-Some
 returns-in-Some g c =
-    let all = c.in-Some.ensures.joined c.args.room c.requires (record {
+    let all = (c.in-Some.ensures.joined c.args.room c.requires (record {
       collecting_is = c.in-Ok.ensures;
       working_are = c.start_all-all.ensures.workers;
-      feeding_are = c.start_all-all.ensures.feeders;
+      feeding_are = c.start_all-all.ensures.racks;
       stops_is = refl;
-    }) in
-    subst (λ (racks : List (List Order)). IfOk c.settle_all.result (λ v. AreExpected racks (map (λ answers. answers.items) v.items))) all.1 c.settle_all.ensures
+    })) in
+    (c.settle_all.ensures.0 ∙ all.1, c.settle_all.ensures.1)

@@ -26,8 +26,8 @@ conclude-requires g c =
     let j = c.args.joined in
     let jobs_are = c.push_reserved-2.ensures.items in
     let desk_are = c.push_reserved.ensures.items ∙ ap (λ (l : List (TakeView Replied)). l ++ c.take_replies-all.new.replies ∷ []) c.requires.room.0 in
-    (finishes j.all.collector.racks j.put_ends.items j.job_ends.items c.pop.new.self.items j.reply_ends.items j.desk c.take_replies-all.new.replies c.in-Some.last c.take_left-all.new.jobs
-    j.all.collector c.take_replies-all.result.collector c.take_left-all.result.collector j.all.fault c.take_replies-all.result.fault c.take_left-all.result.fault
+    (finishes j.all.board.racks j.put_ends.items j.job_ends.items c.pop.new.self.items j.reply_ends.items j.desk c.take_replies-all.new.replies c.in-Some.last c.take_left-all.new.jobs
+    j.all.board c.take_replies-all.result.board c.take_left-all.result.board j.all.fault c.take_replies-all.result.fault c.take_left-all.result.fault
     c.saturating_sub-missing.result c.saturating_sub-left.result c.put_total-replied.result c.count.result c.put_total-put.result c.taken_total-taken.result c.settle.result.put c.settle.result.taken c.settle-2.result.put c.settle-2.result.taken
     c.requires.joined c.in-Some.ensures.items c.take_replies-all.ensures c.take_left-all.ensures
     (c.put_total-replied.ensures ∙ ap (λ (l : List (PutView Replied)). sum_by (λ (e : PutView Replied). length e.put) l) c.as_slice.ensures.value)
