@@ -7,3 +7,4 @@ pub mod TableLemmas
 pub mod LaneLemmas
 pub mod TablesMade
 pub mod Scaled
+pub mod TermSums

@@ -2,6 +2,7 @@
 use Rattle.std.specs.Prelude.{◌≡◌, ℕ, ◌+◌, ◌*◌, ◌%◌, ◌<◌, ◌≤◌, List, length, slice_index}
 use Rattle.std.specs.Int.Bits.{bit_xor}
 use Rattle.lrc_field.specs.Field.{times}
+use Rattle.lrc_field.specs.declared.blocks.Quad.{Quad}
 
 -- v has 32 lanes, and lane k holds f k
 pub record HasLanes (v : List ℕ) (f : ℕ → ℕ) : Type 0 where
@@ -21,3 +22,14 @@ pub record IsBlockAdded (f : ℕ → ℕ) (before after : List ℕ) (i : ℕ) : 
   pub inside : (k : ℕ) → k < 32 → slice_index after (i + k) ≡ bit_xor (slice_index before (i + k)) (f (i + k))
   pub below : (k : ℕ) → k < i → slice_index after k ≡ slice_index before k
   pub above : (k : ℕ) → i + 32 ≤ k → slice_index after k ≡ slice_index before k
+
+-- 128 lanes in four vectors, and lane k holds f k
+pub record HasQuad (q : Quad) (f : ℕ → ℕ) : Type 0 where
+  pub in_first : HasLanes q.first f
+  pub in_second : HasLanes q.second (λ k. f (32 + k))
+  pub in_third : HasLanes q.third (λ k. f (64 + k))
+  pub in_fourth : HasLanes q.fourth (λ k. f (96 + k))
+
+-- the bytes in front of place i are f of their places
+abbrev pub AreSet : (ℕ → ℕ) → List ℕ → ℕ → Type 0
+AreSet f bytes i = (k : ℕ) → k < i → slice_index bytes k ≡ f k

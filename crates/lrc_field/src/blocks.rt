@@ -1,7 +1,7 @@
 //! Blocks of 32 bytes, one lane a byte.
 ghost use Rattle.std.specs.Prelude.{◌≡◌, ◌<◌, ◌≤◌, ◌+◌, ◌*◌, ◌/◌, ◌%◌, ◌^◌, ℕ, bit_xor, length, slice_index};
 ghost use Rattle.lrc_field.specs.Field.{times};
-ghost use Rattle.lrc_field.specs.Blocks.{HasLanes, AreTables, IsBlockAdded};
+ghost use Rattle.lrc_field.specs.Blocks.{HasLanes, HasQuad, AreTables, AreSet, IsBlockAdded};
 
 use crate::element::Gf;
 use std::marker::Model;
@@ -27,9 +27,18 @@ impl Model for Tables {
     ghost invariant = { λ t. AreTables t.scalar t.low t.high };
 }
 
+/// 128 bytes, in registers.
+#[derive(Clone, Copy)]
+pub(crate) struct Quad {
+    first: u8x32,
+    second: u8x32,
+    third: u8x32,
+    fourth: u8x32,
+}
+
 /// The 32 bytes from place `i` on.
 #[inline(always)]
-fn load(bytes: &[u8], i: usize) -> u8x32
+pub(crate) fn load(bytes: &[u8], i: usize) -> u8x32
     requires { i + 32 ≤ length bytes.now }
     ensures { HasLanes result (λ k. slice_index bytes.now (i + k)) }
 {
@@ -38,7 +47,7 @@ fn load(bytes: &[u8], i: usize) -> u8x32
 
 /// Writes the vector over the 32 bytes from place `i` on.
 #[inline(always)]
-fn store(bytes: &mut [u8], i: usize, v: u8x32)
+pub(crate) fn store(bytes: &mut [u8], i: usize, v: u8x32)
     requires room { i + 32 ≤ length bytes.old }
     requires whole { length v ≡ 32 }
     ensures len { length bytes.new ≡ length bytes.old }
@@ -50,7 +59,7 @@ fn store(bytes: &mut [u8], i: usize, v: u8x32)
 }
 
 #[inline(always)]
-fn added(a: u8x32, b: u8x32) -> u8x32
+pub(crate) fn added(a: u8x32, b: u8x32) -> u8x32
     ensures { HasLanes result (λ k. bit_xor (slice_index a k) (slice_index b k)) }
 {
     a ^ b
@@ -98,13 +107,96 @@ impl Tables {
 
     /// The scalar times each lane.
     #[inline(always)]
-    fn scaled(&self, bytes: u8x32) -> u8x32
+    pub(crate) fn scaled(&self, bytes: u8x32) -> u8x32
         ensures { HasLanes result (λ k. times self.now (slice_index bytes k)) }
     {
         let low = looked_up(&self.low, low_halves(bytes));
         let high = looked_up(&self.high, high_halves(bytes));
         added(low, high)
     }
+
+    /// The scalar times each of 128 bytes.
+    #[inline(always)]
+    pub(crate) fn scaled_quad(&self, bytes: Quad) -> Quad
+        ensures { (f : ℕ → ℕ) → HasQuad bytes f → HasQuad result (λ k. times self.now (f k)) }
+    {
+        Quad {
+            first: self.scaled(bytes.first),
+            second: self.scaled(bytes.second),
+            third: self.scaled(bytes.third),
+            fourth: self.scaled(bytes.fourth),
+        }
+    }
+}
+
+#[inline(always)]
+pub(crate) fn zeros() -> u8x32
+    ensures { HasLanes result (λ k. 0) }
+{
+    u8x32::splat(0)
+}
+
+#[inline(always)]
+pub(crate) fn zero_quad() -> Quad
+    ensures { HasQuad result (λ k. 0) }
+{
+    Quad {
+        first: zeros(),
+        second: zeros(),
+        third: zeros(),
+        fourth: zeros(),
+    }
+}
+
+/// The 128 bytes from place `i` on.
+#[inline(always)]
+pub(crate) fn load_quad(bytes: &[u8], i: usize) -> Quad
+    requires { i + 128 ≤ length bytes.now }
+    ensures { HasQuad result (λ k. slice_index bytes.now (i + k)) }
+{
+    Quad {
+        first: load(bytes, i),
+        second: load(bytes, i + 32),
+        third: load(bytes, i + 64),
+        fourth: load(bytes, i + 96),
+    }
+}
+
+#[inline(always)]
+pub(crate) fn added_quad(p: Quad, q: Quad) -> Quad
+    ensures { (f g : ℕ → ℕ) → HasQuad p f → HasQuad q g → HasQuad result (λ k. bit_xor (f k) (g k)) }
+{
+    Quad {
+        first: added(p.first, q.first),
+        second: added(p.second, q.second),
+        third: added(p.third, q.third),
+        fourth: added(p.fourth, q.fourth),
+    }
+}
+
+/// Writes 32 bytes from place `i` on. Where all before it were set to what they should be, all to its end are.
+#[inline(always)]
+pub(crate) fn put(bytes: &mut [u8], i: usize, v: u8x32)
+    requires room { i + 32 ≤ length bytes.old }
+    requires whole { length v ≡ 32 }
+    ensures len { length bytes.new ≡ length bytes.old }
+    ensures set { (f : ℕ → ℕ) → AreSet f bytes.old i → HasLanes v (λ k. f (i + k)) → AreSet f bytes.new (i + 32) }
+{
+    store(bytes, i, v);
+}
+
+/// Writes 128 bytes from place `i` on. Where all before it were set to what they should be, all to its end are.
+#[inline(always)]
+pub(crate) fn put_quad(bytes: &mut [u8], i: usize, q: Quad)
+    requires room { i + 128 ≤ length bytes.old }
+    requires whole { (length q.first ≡ 32) × (length q.second ≡ 32) × (length q.third ≡ 32) × (length q.fourth ≡ 32) }
+    ensures len { length bytes.new ≡ length bytes.old }
+    ensures set { (f : ℕ → ℕ) → AreSet f bytes.old i → HasQuad q (λ k. f (i + k)) → AreSet f bytes.new (i + 128) }
+{
+    put(bytes, i, q.first);
+    put(bytes, i + 32, q.second);
+    put(bytes, i + 64, q.third);
+    put(bytes, i + 96, q.fourth);
 }
 
 /// Adds 32 bytes of `src`, from place `i` on.

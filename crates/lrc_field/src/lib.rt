@@ -1,8 +1,9 @@
 //! The field of 256 elements, GF(2^8) with the polynomial x^8 + x^4 + x^3 + x^2 + 1 (11D): arithmetic on one
-//! element, kernels on slices of bytes, and the field's laws. Nothing here takes memory or refuses.
+//! element, kernels on slices of bytes, and the field's laws. Only `combined` takes memory.
 #![tactic(auto)]
 
 mod blocks;
+mod combining;
 mod element;
 mod kernels;
 pub mod laws;
@@ -10,5 +11,6 @@ mod tables;
 #[cfg(test)]
 mod tests;
 
+pub use combining::Term;
 pub use element::Gf;
 pub use kernels::{add_into, scale_add_into};

@@ -1,0 +1,58 @@
+-- Sums of terms, one term after another, and the vectors that hold them.
+use Rattle.std.proofs.Common.{◌≡◌, ℕ, ◌+◌, ◌<◌, ◌≤◌, ◌^◌, List, [], ◌∷◌, ◌++◌, length, get_or, take, refl, ap, ap₂, sym, ◌∙◌, subst, arith}
+use Rattle.std.specs.Int.Bits.{bit_xor, xor_assoc, xor_zero_l, xor_zero_r}
+use Rattle.std.proofs.lemmas.Grind.{take_at_read}
+use Rattle.std.proofs.lemmas.List.{take_all}
+use Rattle.lrc_field.specs.Field.{times}
+use Rattle.lrc_field.specs.declared.combining.Term.{Term}
+use Rattle.lrc_field.specs.declared.blocks.Quad.{Quad}
+use Rattle.lrc_field.specs.Blocks.{HasLanes, HasQuad}
+use Rattle.lrc_field.specs.Combined.{product_at, sum_at}
+use Rattle.lrc_field.proofs.FieldLaws.{times-one, times-zero}
+
+sum_at-append : (xs ys : List Term) (i : ℕ) → sum_at (xs ++ ys) i ≡ bit_xor (sum_at xs i) (sum_at ys i)
+sum_at-append [] ys i = sym (xor_zero_l (sum_at ys i))
+sum_at-append (x ∷ xs) ys i = ap (bit_xor (product_at x i)) (sum_at-append xs ys i) ∙ sym (xor_assoc (product_at x i) (sum_at xs i) (sum_at ys i))
+
+-- one term more
+pub sum_at-more : (ts : List Term) (j i : ℕ) (d : Term) → j < length ts
+    → sum_at (take (j + 1) ts) i ≡ bit_xor (sum_at (take j ts) i) (product_at (get_or ts j d) i)
+sum_at-more ts j i d h =
+    ap (λ us. sum_at us i) (take_at_read ts j d h).1 ∙ sum_at-append (take j ts) (get_or ts j d ∷ []) i
+    ∙ ap (bit_xor (sum_at (take j ts) i)) (xor_zero_r (product_at (get_or ts j d) i))
+
+pub sum_at-with : (ts : List Term) (j i : ℕ) (t : Term) → j < length ts → t ≡ get_or ts j t
+    → bit_xor (sum_at (take j ts) i) (product_at t i) ≡ sum_at (take (j + 1) ts) i
+sum_at-with ts j i t h e = ap (λ (u : Term). bit_xor (sum_at (take j ts) i) (product_at u i)) e ∙ sym (sum_at-more ts j i t h)
+
+-- all terms
+pub sum_at-all : (ts : List Term) (n i : ℕ) → length ts ≤ n → sum_at (take n ts) i ≡ sum_at ts i
+sum_at-all ts n i h = ap (λ us. sum_at us i) (take_all n ts h)
+
+-- ---- vectors
+
+pub lanes_same : (v : List ℕ) (f g : ℕ → ℕ) → ((k : ℕ) → k < 32 → f k ≡ g k) → HasLanes v f → HasLanes v g
+lanes_same v f g e h = record { long = h.long; each = λ k lt. h.each k lt ∙ e k lt }
+
+pub quad_same : (q : Quad) (f g : ℕ → ℕ) → ((k : ℕ) → k < 128 → f k ≡ g k) → HasQuad q f → HasQuad q g
+quad_same q f g e h = record {
+  in_first = lanes_same q.first f g (λ k lt. e k (omega arith)) h.in_first;
+  in_second = lanes_same q.second (λ k. f (32 + k)) (λ k. g (32 + k)) (λ k lt. e (32 + k) (omega arith)) h.in_second;
+  in_third = lanes_same q.third (λ k. f (64 + k)) (λ k. g (64 + k)) (λ k lt. e (64 + k) (omega arith)) h.in_third;
+  in_fourth = lanes_same q.fourth (λ k. f (96 + k)) (λ k. g (96 + k)) (λ k lt. e (96 + k) (omega arith)) h.in_fourth;
+}
+
+-- the lanes of a sum
+pub lanes_added : (s v r : List ℕ) (f g : ℕ → ℕ) → HasLanes r (λ k. bit_xor (get_or s k 0) (get_or v k 0)) → HasLanes s f → HasLanes v g
+    → HasLanes r (λ k. bit_xor (f k) (g k))
+lanes_added s v r f g a hf hg = record { long = a.long; each = λ k lt. a.each k lt ∙ ap₂ bit_xor (hf.each k lt) (hg.each k lt) }
+
+-- a product with 1, and with 0
+pub one_product : (c x : ℕ) → c ≡ 1 → x < 2 ^ 8 → x ≡ times c x
+one_product c x e h = sym (ap (λ s. times s x) e ∙ times-one x h)
+
+pub no_product : (c x o : ℕ) → c ≡ 0 → o ≡ bit_xor o (times c x)
+no_product c x o e = sym (ap (λ s. bit_xor o (times s x)) e ∙ ap (bit_xor o) (times-zero x) ∙ xor_zero_r o)
+
+pub is_zero : (c b : ℕ) → c < 2 → b ≡ c → (b ≡ 1 → ⊥) → c ≡ 0
+is_zero c b small same apart = omega (arith, small, same, apart)

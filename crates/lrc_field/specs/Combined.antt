@@ -1,0 +1,35 @@
+-- Sums of scaled slices.
+use Rattle.std.specs.Prelude.{◌≡◌, ℕ, ◌<◌, ◌≤◌, List, [], ◌∷◌, All, Option, None, MatchOption, length, slice_index, slice_index_or}
+use Rattle.std.specs.Int.Bits.{bit_xor}
+use Rattle.lrc_field.specs.Field.{times}
+use Rattle.lrc_field.specs.declared.combining.Term.{Term}
+
+-- a term's scalar times its byte at a place
+abbrev pub product_at : Term → ℕ → ℕ
+product_at t i = times t.scalar (slice_index t.bytes.now i)
+
+-- the sum of the terms at a place: exclusive or of each one's product there
+abbrev pub sum_at : List Term → ℕ → ℕ
+sum_at [] i = 0
+sum_at (t ∷ ts) i = bit_xor (product_at t i) (sum_at ts i)
+
+-- each term has so many bytes
+abbrev pub HaveLength : ℕ → List Term → Type 0
+HaveLength n ts = All (λ t. length t.bytes.now ≡ n) ts
+
+-- each term has at least so many bytes
+abbrev pub Reach : ℕ → List Term → Type 0
+Reach n ts = All (λ t. n ≤ length t.bytes.now) ts
+
+-- at every place the sum of the terms
+pub record IsCombined (n : ℕ) (ts : List Term) (bytes : List ℕ) : Type 0 where
+  pub len : length bytes ≡ n
+  pub at : (i : ℕ) → i < n → slice_index bytes i ≡ sum_at ts i
+
+-- a scalar's tables; 0 and 1 may have none
+abbrev pub IsTableOf : ℕ → Option ℕ → Type 0
+IsTableOf c o = MatchOption o (c < 2) (λ t. t ≡ c)
+
+-- each term's scalar has its tables
+abbrev pub HaveTables : List Term → List (Option ℕ) → Type 0
+HaveTables ts os = (k : ℕ) (d : Term) → k < length ts → IsTableOf (slice_index_or ts k d).scalar (slice_index_or os k None)

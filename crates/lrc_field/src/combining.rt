@@ -1,0 +1,198 @@
+//! Sums of several scaled slices in one pass: each source is read once, and the sums stay in registers until they
+//! are written.
+ghost use Rattle.std.specs.Prelude.{◌≡◌, ◌<◌, ◌≤◌, ◌+◌, ◌^◌, ℕ, Bool, true, false, ◌↔◌, IfOk, OnOk, bit_xor, length, slice_index};
+ghost use Rattle.lrc_field.specs.Blocks.{HasLanes, HasQuad, AreSet};
+ghost use Rattle.lrc_field.specs.Combined.{HaveLength, HaveTables, IsCombined, IsTableOf, Reach, product_at, sum_at};
+ghost use Rattle.lrc_field.specs.Field.{times};
+
+use crate::blocks::{self, Quad, Tables};
+use crate::element::Gf;
+use std::alloc::{AllocError, Allocator};
+use std::simd::prelude::*;
+
+/// A scalar, and the bytes that it scales.
+#[derive(Clone, Copy)]
+pub struct Term<'a> {
+    pub scalar: Gf,
+    pub bytes: &'a [u8],
+}
+
+// Adds 32 products of a scalar, from place `i` on. The scalar 01 needs no tables, and 00 is left out.
+#[inline(always)]
+fn with_products(
+    sums: u8x32,
+    c: Gf,
+    tables: &Option<Tables>,
+    bytes: &[u8],
+    i: usize,
+) -> u8x32
+    requires tables { IsTableOf c tables.now }
+    requires room { i + 32 ≤ length bytes.now }
+    ensures { (f : ℕ → ℕ) → HasLanes sums f → HasLanes result (λ k. bit_xor (f k) (times c (slice_index bytes.now (i + k)))) }
+{
+    match tables {
+        Some(tables) => blocks::added(sums, tables.scaled(blocks::load(bytes, i))),
+        None => {
+            if c.byte() == 1 {
+                blocks::added(sums, blocks::load(bytes, i))
+            } else {
+                sums
+            }
+        }
+    }
+}
+
+// Adds 128 products of a scalar, from place `i` on.
+#[inline(always)]
+fn quad_with_products(
+    sums: Quad,
+    c: Gf,
+    tables: &Option<Tables>,
+    bytes: &[u8],
+    i: usize,
+) -> Quad
+    requires tables { IsTableOf c tables.now }
+    requires room { i + 128 ≤ length bytes.now }
+    ensures { (f : ℕ → ℕ) → HasQuad sums f → HasQuad result (λ k. bit_xor (f k) (times c (slice_index bytes.now (i + k)))) }
+{
+    match tables {
+        Some(tables) => {
+            blocks::added_quad(sums, tables.scaled_quad(blocks::load_quad(bytes, i)))
+        }
+        None => {
+            if c.byte() == 1 {
+                blocks::added_quad(sums, blocks::load_quad(bytes, i))
+            } else {
+                sums
+            }
+        }
+    }
+}
+
+// The sums at 32 places, from place `i` on.
+#[inline(always)]
+fn sums_at(terms: &[Term], tables: &[Option<Tables>; 16], i: usize) -> u8x32
+    requires few { length terms.now ≤ 16 }
+    requires room { Reach (i + 32) terms.now }
+    requires tables { HaveTables terms.now tables.now }
+    ensures { HasLanes result (λ k. sum_at terms.now (i + k)) }
+{
+    let mut sums = blocks::zeros();
+    for j in 0..terms.len() {
+        let term = &terms[j];
+        sums = with_products(sums, term.scalar, &tables[j], term.bytes, i);
+    }
+    sums
+}
+
+// The sums at 128 places, from place `i` on.
+#[inline(always)]
+fn quad_sums_at(terms: &[Term], tables: &[Option<Tables>; 16], i: usize) -> Quad
+    requires few { length terms.now ≤ 16 }
+    requires room { Reach (i + 128) terms.now }
+    requires tables { HaveTables terms.now tables.now }
+    ensures { HasQuad result (λ k. sum_at terms.now (i + k)) }
+{
+    let mut sums = blocks::zero_quad();
+    for j in 0..terms.len() {
+        let term = &terms[j];
+        sums = quad_with_products(sums, term.scalar, &tables[j], term.bytes, i);
+    }
+    sums
+}
+
+// The sum at one place.
+fn byte_sum_at(terms: &[Term], i: usize) -> u8
+    requires { Reach (i + 1) terms.now }
+    ensures { result ≡ sum_at terms.now i }
+{
+    let mut sum = 0;
+    for term in terms {
+        sum ^= term.scalar.mul(Gf::new(term.bytes[i])).byte();
+    }
+    sum
+}
+
+// Tables of the scalars that need them.
+fn tables_of(terms: &[Term]) -> [Option<Tables>; 16]
+    requires { length terms.now ≤ 16 }
+    ensures { HaveTables terms.now result }
+{
+    let mut tables = [
+        None, None, None, None, None, None, None, None, None, None, None, None, None, None, None,
+        None,
+    ];
+    for j in 0..terms.len() {
+        let term = &terms[j];
+        if term.scalar.byte() > 1 {
+            tables[j] = Some(Tables::new(term.scalar));
+        }
+    }
+    tables
+}
+
+// Writes over each byte the sum at its place, counted from place `from` on.
+fn write_sums(dst: &mut [u8], from: usize, terms: &[Term], tables: &[Option<Tables>; 16])
+    requires few { length terms.now ≤ 16 }
+    requires fits { from + length dst.old < 2 ^ 64 }
+    requires room { Reach (from + length dst.old) terms.now }
+    requires tables { HaveTables terms.now tables.now }
+    ensures len { length dst.new ≡ length dst.old }
+    ensures sums { AreSet (λ k. sum_at terms.now (from + k)) dst.new (length dst.old) }
+{
+    let mut i = 0;
+    'quads: while dst.len() - i >= 128 {
+        let sums = quad_sums_at(terms, tables, from + i);
+        blocks::put_quad(dst, i, sums);
+        i += 128;
+    }
+    'blocks: while dst.len() - i >= 32 {
+        let sums = sums_at(terms, tables, from + i);
+        blocks::put(dst, i, sums);
+        i += 32;
+    }
+    for k in i..dst.len() {
+        dst[k] = byte_sum_at(terms, from + k);
+    }
+}
+
+/// The sum of the terms at each of `len` places, in a vector that `alloc` gives. The vector is written once: nothing
+/// is filled with zeros but the part that is about to be written.
+pub fn combined<A: Allocator>(
+    alloc: A,
+    len: usize,
+    terms: &[Term],
+) -> Result<Vec<u8, A>, AllocError>
+    requires few { length terms.now ≤ 16 }
+    requires lengths { HaveLength len terms.now }
+    ensures { IfOk result (λ v. IsCombined len terms.now v.items) }
+{
+    let tables = tables_of(terms);
+    let mut bytes = Vec::with_capacity(alloc, len)?;
+    'parts: while bytes.len() < len {
+        append_part(&mut bytes, len, terms, &tables)?;
+    }
+    Ok(bytes)
+}
+
+// Appends the sums at up to 4,096 further places.
+fn append_part<A: Allocator>(
+    bytes: &mut Vec<u8, A>,
+    len: usize,
+    terms: &[Term],
+    tables: &[Option<Tables>; 16],
+) -> Result<(), AllocError>
+    requires few { length terms.now ≤ 16 }
+    requires lengths { HaveLength len terms.now }
+    requires tables { HaveTables terms.now tables.now }
+    requires more { length bytes.old.items < len }
+    ensures longer { OnOk result (length bytes.old.items < length bytes.new.items) }
+    ensures within { OnOk result (length bytes.new.items ≤ len) }
+    ensures set { AreSet (sum_at terms.now) bytes.old.items (length bytes.old.items) → OnOk result (AreSet (sum_at terms.now) bytes.new.items (length bytes.new.items)) }
+{
+    let from = bytes.len();
+    let part = (len - from).min(4096);
+    bytes.resize(from + part, 0)?;
+    write_sums(bytes.slice_mut(from..), from, terms, tables);
+    Ok(())
+}
