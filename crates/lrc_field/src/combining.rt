@@ -146,7 +146,7 @@ fn write_sums(dst: &mut [u8], from: usize, terms: &[Term], tables: &[Option<Tabl
         blocks::put_quad(dst, i, sums);
         i += 128;
     }
-    'blocks: while dst.len() - i >= 32 {
+    'singles: while dst.len() - i >= 32 {
         let sums = sums_at(terms, tables, from + i);
         blocks::put(dst, i, sums);
         i += 32;
