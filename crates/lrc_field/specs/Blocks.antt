@@ -1,6 +1,6 @@
 -- What a vector of 32 bytes holds.
-use Rattle.std.specs.Prelude.{◌≡◌, ℕ, ◌+◌, ◌*◌, ◌%◌, ◌<◌, ◌≤◌, List, length, slice_index}
-use Rattle.std.specs.Int.Bits.{bit_xor}
+use Rattle.std.specs.Prelude.{◌≡◌, ℕ, ◌+◌, ◌*◌, ◌/◌, ◌%◌, ◌<◌, ◌≤◌, List, length, slice_index}
+use Rattle.std.specs.Int.Bits.{bit_and, bit_xor}
 use Rattle.lrc_field.specs.Field.{times}
 use Rattle.lrc_field.specs.declared.blocks.Quad.{Quad}
 
@@ -33,3 +33,8 @@ pub record HasQuad (q : Quad) (f : ℕ → ℕ) : Type 0 where
 -- the bytes in front of place i are f of their places
 abbrev pub AreSet : (ℕ → ℕ) → List ℕ → ℕ → Type 0
 AreSet f bytes i = (k : ℕ) → k < i → slice_index bytes k ≡ f k
+
+-- the sum of those of four bytes that the bits of k choose
+abbrev pub chosen_sum : ℕ → ℕ → ℕ → ℕ → ℕ → ℕ
+chosen_sum a b c d k =
+    bit_xor (bit_xor (bit_and a (255 * (k % 2))) (bit_and b (255 * (k / 2 % 2)))) (bit_xor (bit_and c (255 * (k / 4 % 2))) (bit_and d (255 * (k / 8 % 2))))

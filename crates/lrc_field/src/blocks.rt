@@ -1,7 +1,7 @@
 //! Blocks of 32 bytes, one lane a byte.
-ghost use Rattle.std.specs.Prelude.{◌≡◌, ◌<◌, ◌≤◌, ◌+◌, ◌*◌, ◌/◌, ◌%◌, ◌^◌, ℕ, bit_xor, length, slice_index};
+ghost use Rattle.std.specs.Prelude.{◌≡◌, ◌<◌, ◌≤◌, ◌+◌, ◌*◌, ◌/◌, ◌%◌, ◌^◌, ℕ, bit_and, bit_xor, length, slice_index};
 ghost use Rattle.lrc_field.specs.Field.{times};
-ghost use Rattle.lrc_field.specs.Blocks.{HasLanes, HasQuad, AreTables, AreSet, IsBlockAdded};
+ghost use Rattle.lrc_field.specs.Blocks.{HasLanes, HasQuad, AreTables, AreSet, IsBlockAdded, chosen_sum};
 
 use crate::element::Gf;
 use std::marker::Model;
@@ -88,20 +88,52 @@ fn looked_up(table: &[u8; 32], halves: u8x32) -> u8x32
     u8x32::from_array(*table).swizzle_dyn_within::<16>(halves)
 }
 
+fn product(scalar: Gf, byte: u8) -> u8
+    ensures { result ≡ times scalar byte }
+{
+    scalar.mul(Gf::new(byte)).byte()
+}
+
+/// A byte in the lanes where the mask is 255, and 0 where it is 0.
+#[inline(always)]
+fn masked(byte: u8, mask: u8x32) -> u8x32
+    ensures { HasLanes result (λ k. bit_and byte (slice_index mask k)) }
+{
+    u8x32::splat(byte) & mask
+}
+
+/// In each lane the sum of those of four bytes that the low four bits of the lane's number choose.
+#[inline(always)]
+fn spread(first: u8, second: u8, third: u8, fourth: u8) -> u8x32
+    ensures { HasLanes result (chosen_sum first second third fourth) }
+{
+    let ones = masked(first, u8x32::from_array([0, 255, 0, 255, 0, 255, 0, 255, 0, 255, 0, 255, 0, 255, 0, 255, 0, 255, 0, 255, 0, 255, 0, 255, 0, 255, 0, 255, 0, 255, 0, 255]));
+    let twos = masked(second, u8x32::from_array([0, 0, 255, 255, 0, 0, 255, 255, 0, 0, 255, 255, 0, 0, 255, 255, 0, 0, 255, 255, 0, 0, 255, 255, 0, 0, 255, 255, 0, 0, 255, 255]));
+    let fours = masked(third, u8x32::from_array([0, 0, 0, 0, 255, 255, 255, 255, 0, 0, 0, 0, 255, 255, 255, 255, 0, 0, 0, 0, 255, 255, 255, 255, 0, 0, 0, 0, 255, 255, 255, 255]));
+    let eights = masked(fourth, u8x32::from_array([0, 0, 0, 0, 0, 0, 0, 0, 255, 255, 255, 255, 255, 255, 255, 255, 0, 0, 0, 0, 0, 0, 0, 0, 255, 255, 255, 255, 255, 255, 255, 255]));
+    let low = added(ones, twos);
+    let high = added(fours, eights);
+    added(low, high)
+}
+
 impl Tables {
     pub(crate) fn new(scalar: Gf) -> Tables
         ensures { result ≡ scalar }
     {
-        let mut low = [0; 32];
-        let mut high = [0; 32];
-        for k in 0..16u8 {
-            let low_product = scalar.mul(Gf::new(k)).byte();
-            let high_product = scalar.mul(Gf::new(16 * k)).byte();
-            low[k as usize] = low_product;
-            low[k as usize + 16] = low_product;
-            high[k as usize] = high_product;
-            high[k as usize + 16] = high_product;
-        }
+        let low = spread(
+            product(scalar, 0x01),
+            product(scalar, 0x02),
+            product(scalar, 0x04),
+            product(scalar, 0x08),
+        );
+        let high = spread(
+            product(scalar, 0x10),
+            product(scalar, 0x20),
+            product(scalar, 0x40),
+            product(scalar, 0x80),
+        );
+        let low = low.to_array();
+        let high = high.to_array();
         Tables { scalar, low, high }
     }
 
