@@ -1,5 +1,5 @@
 -- A table of 16 products that stands twice, from four of them.
-use Rattle.std.proofs.Common.{◌≡◌, ℕ, suc, zero, ◌+◌, ◌*◌, ◌/◌, ◌%◌, ◌<◌, ◌^◌, Bool, List, [], ◌∷◌, get_or, true, refl, ap, ap₂, sym, ◌∙◌, arith, eqb, lit<}
+use Rattle.std.proofs.Common.{◌≡◌, ℕ, suc, zero, ◌*◌, ◌/◌, ◌%◌, ◌<◌, ◌^◌, Bool, List, [], ◌∷◌, get_or, true, refl, ap, ap₂, sym, ◌∙◌, arith, eqb}
 use Rattle.std.specs.Int.Bits.{bit_and, bit_xor}
 use Rattle.std.proofs.lemmas.Bool.{eqb-true}
 use Rattle.std.proofs.lemmas.Nat.{and_mask}

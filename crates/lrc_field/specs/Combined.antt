@@ -26,6 +26,10 @@ pub record IsCombined (n : ℕ) (ts : List Term) (bytes : List ℕ) : Type 0 whe
   pub len : length bytes ≡ n
   pub at : (i : ℕ) → i < n → slice_index bytes i ≡ sum_at ts i
 
+-- the sum of the terms is 0 at so many places
+abbrev pub AreZeroBelow : ℕ → List Term → Type 0
+AreZeroBelow n ts = (i : ℕ) → i < n → sum_at ts i ≡ 0
+
 -- a scalar's tables; 0 and 1 may have none
 abbrev pub IsTableOf : ℕ → Option ℕ → Type 0
 IsTableOf c o = MatchOption o (c < 2) (λ t. t ≡ c)

@@ -2,7 +2,7 @@
 //! are written.
 ghost use Rattle.std.specs.Prelude.{◌≡◌, ◌<◌, ◌≤◌, ◌+◌, ◌^◌, ℕ, Bool, true, false, ◌↔◌, IfOk, OnOk, bit_xor, length, slice_index};
 ghost use Rattle.lrc_field.specs.Blocks.{HasLanes, HasQuad, AreSet};
-ghost use Rattle.lrc_field.specs.Combined.{HaveLength, HaveTables, IsCombined, IsTableOf, Reach, product_at, sum_at};
+ghost use Rattle.lrc_field.specs.Combined.{AreZeroBelow, HaveLength, HaveTables, IsCombined, IsTableOf, Reach, product_at, sum_at};
 ghost use Rattle.lrc_field.specs.Field.{times};
 
 use crate::blocks::{self, Quad, Tables};
@@ -19,13 +19,7 @@ pub struct Term<'a> {
 
 // Adds 32 products of a scalar, from place `i` on. The scalar 01 needs no tables, and 00 is left out.
 #[inline(always)]
-fn with_products(
-    sums: u8x32,
-    c: Gf,
-    tables: &Option<Tables>,
-    bytes: &[u8],
-    i: usize,
-) -> u8x32
+fn with_products(sums: u8x32, c: Gf, tables: &Option<Tables>, bytes: &[u8], i: usize) -> u8x32
     requires tables { IsTableOf c tables.now }
     requires room { i + 32 ≤ length bytes.now }
     ensures { (f : ℕ → ℕ) → HasLanes sums f → HasLanes result (λ k. bit_xor (f k) (times c (slice_index bytes.now (i + k)))) }
@@ -44,13 +38,7 @@ fn with_products(
 
 // Adds 128 products of a scalar, from place `i` on.
 #[inline(always)]
-fn quad_with_products(
-    sums: Quad,
-    c: Gf,
-    tables: &Option<Tables>,
-    bytes: &[u8],
-    i: usize,
-) -> Quad
+fn quad_with_products(sums: Quad, c: Gf, tables: &Option<Tables>, bytes: &[u8], i: usize) -> Quad
     requires tables { IsTableOf c tables.now }
     requires room { i + 128 ≤ length bytes.now }
     ensures { (f : ℕ → ℕ) → HasQuad sums f → HasQuad result (λ k. bit_xor (f k) (times c (slice_index bytes.now (i + k)))) }
@@ -195,4 +183,48 @@ fn append_part<A: Allocator>(
     bytes.resize(from + part, 0)?;
     write_sums(bytes.slice_mut(from..), from, terms, tables);
     Ok(())
+}
+
+/// Whether the sum of the terms is 00 at each of `len` places.
+pub fn sums_are_zero(len: usize, terms: &[Term]) -> bool
+    requires few { length terms.now ≤ 16 }
+    requires lengths { HaveLength len terms.now }
+    ensures yes { result ≡ true → AreZeroBelow len terms.now }
+    ensures no { result ≡ false → ¬ AreZeroBelow len terms.now }
+{
+    let tables = tables_of(terms);
+    let mut part = [0u8; 1024];
+    let mut from = 0;
+    'parts: while from < len {
+        let size = (len - from).min(1024);
+        if !part_is_zero(&mut part[..size], from, terms, &tables) {
+            return false;
+        }
+        from += size;
+    }
+    true
+}
+
+// Whether the sums at as many places as `part` has are 00, from place `from` on. They are written there.
+fn part_is_zero(part: &mut [u8], from: usize, terms: &[Term], tables: &[Option<Tables>; 16]) -> bool
+    requires few { length terms.now ≤ 16 }
+    requires fits { from + length part.old < 2 ^ 64 }
+    requires room { Reach (from + length part.old) terms.now }
+    requires tables { HaveTables terms.now tables.now }
+    ensures yes { result ≡ true → (k : ℕ) → k < length part.old → sum_at terms.now (from + k) ≡ 0 }
+    ensures no { result ≡ false → ¬ ((k : ℕ) → k < length part.old → sum_at terms.now (from + k) ≡ 0) }
+{
+    write_sums(part, from, terms, tables);
+    are_zeros(part)
+}
+
+fn are_zeros(bytes: &[u8]) -> bool
+    ensures yes { result ≡ true → AreSet (λ k. 0) bytes.now (length bytes.now) }
+    ensures no { result ≡ false → ¬ AreSet (λ k. 0) bytes.now (length bytes.now) }
+{
+    let mut bits = 0u8;
+    for byte in bytes {
+        bits |= *byte;
+    }
+    bits == 0
 }

@@ -11,6 +11,6 @@ mod tables;
 #[cfg(test)]
 mod tests;
 
-pub use combining::Term;
+pub use combining::{Term, combined, sums_are_zero};
 pub use element::Gf;
 pub use kernels::{add_into, scale_add_into};

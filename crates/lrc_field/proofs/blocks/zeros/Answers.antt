@@ -1,4 +1,4 @@
-use Rattle.std.proofs.Common.{refl, get_or, replicate}
+use Rattle.std.proofs.Common.{refl}
 use Rattle.std.proofs.lemmas.List.{get_or-replicate}
 use Rattle.lrc_field.proofs.blocks.zeros.Goals as goal
 

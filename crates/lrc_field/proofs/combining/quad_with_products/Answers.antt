@@ -1,4 +1,4 @@
-use Rattle.std.proofs.Common.{◌+◌, ℕ, bit_xor, ap, ◌∙◌, arith, sym}
+use Rattle.std.proofs.Common.{◌+◌, bit_xor, ap, ◌∙◌, sym}
 use Rattle.std.specs.Prelude.{slice_index}
 use Rattle.lrc_field.specs.Field.{times}
 use Rattle.lrc_field.proofs.TermSums.{quad_same, one_product, no_product, is_zero}

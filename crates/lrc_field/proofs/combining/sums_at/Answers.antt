@@ -1,6 +1,6 @@
-use Rattle.std.proofs.Common.{◌+◌, bit_xor, take, arith}
+use Rattle.std.proofs.Common.{◌+◌, bit_xor, take}
 use Rattle.lrc_field.specs.Combined.{product_at, sum_at}
-use Rattle.lrc_field.proofs.TermSums.{lanes_same, sum_at-with, sum_at-all}
+use Rattle.lrc_field.proofs.TermSums.{lanes_same, sum_at-with}
 use Rattle.lrc_field.proofs.combining.sums_at.Goals as goal
 
 pub loop-j-preserved : goal.loop-j-preserved

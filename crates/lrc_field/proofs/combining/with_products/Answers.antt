@@ -1,4 +1,4 @@
-use Rattle.std.proofs.Common.{◌+◌, ℕ, bit_xor, ap, ap₂, ◌∙◌, arith, sym}
+use Rattle.std.proofs.Common.{◌+◌, ℕ, bit_xor, ap₂, ◌∙◌, sym}
 use Rattle.std.specs.Prelude.{slice_index}
 use Rattle.lrc_field.specs.Field.{times}
 use Rattle.lrc_field.proofs.TermSums.{lanes_same, lanes_added, one_product, no_product, is_zero}
