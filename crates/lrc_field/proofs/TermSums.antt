@@ -14,12 +14,14 @@ sum_at-append : (xs ys : List Term) (i : ℕ) → sum_at (xs ++ ys) i ≡ bit_xo
 sum_at-append [] ys i = sym (xor_zero_l (sum_at ys i))
 sum_at-append (x ∷ xs) ys i = ap (bit_xor (product_at x i)) (sum_at-append xs ys i) ∙ sym (xor_assoc (product_at x i) (sum_at xs i) (sum_at ys i))
 
+pub sum_at-snoc : (xs : List Term) (t : Term) (i : ℕ) → sum_at (xs ++ t ∷ []) i ≡ bit_xor (sum_at xs i) (product_at t i)
+sum_at-snoc xs t i = sum_at-append xs (t ∷ []) i ∙ ap (bit_xor (sum_at xs i)) (xor_zero_r (product_at t i))
+
 -- one term more
 pub sum_at-more : (ts : List Term) (j i : ℕ) (d : Term) → j < length ts
     → sum_at (take (j + 1) ts) i ≡ bit_xor (sum_at (take j ts) i) (product_at (get_or ts j d) i)
 sum_at-more ts j i d h =
-    ap (λ us. sum_at us i) (take_at_read ts j d h).1 ∙ sum_at-append (take j ts) (get_or ts j d ∷ []) i
-    ∙ ap (bit_xor (sum_at (take j ts) i)) (xor_zero_r (product_at (get_or ts j d) i))
+    ap (λ us. sum_at us i) (take_at_read ts j d h).1 ∙ sum_at-snoc (take j ts) (get_or ts j d) i
 
 pub sum_at-with : (ts : List Term) (j i : ℕ) (t : Term) → j < length ts → t ≡ get_or ts j t
     → bit_xor (sum_at (take j ts) i) (product_at t i) ≡ sum_at (take (j + 1) ts) i

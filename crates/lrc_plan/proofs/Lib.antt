@@ -10,3 +10,4 @@ pub mod Grafts
 pub mod ScaledValues
 pub mod Dependences
 pub mod Ranks
+pub mod FlatTrees

@@ -12,3 +12,4 @@ pub mod Sums
 pub mod ValueRows
 pub mod ChecksBelow
 pub mod Solved
+pub mod Terms

@@ -53,31 +53,15 @@ pub(crate) fn evaluate_scaled<A: Allocator, B: Allocator>(
     Ok(bytes)
 }
 
-pub(crate) fn zeros<B: Allocator>(alloc: B, len: usize) -> Result<Vec<u8, B>, AllocError>
+fn zeros<B: Allocator>(alloc: B, len: usize) -> Result<Vec<u8, B>, AllocError>
     ensures len { IfOk result (λ v. length v.items ≡ len) }
     ensures zero { IfOk result (λ v. AreZeros v.items) }
 {
     Vec::from_elem(alloc, 0u8, len)
 }
 
-// Writes the tree's value at each position over zeros.
-pub(crate) fn add_value<A: Allocator>(tree: &Tree<A>, request: &Request, dst: &mut [u8])
-    requires can { CanEvaluate request.now (form_of tree.now) }
-    requires length { length dst.old ≡ request.now.len }
-    requires zero { AreZeros dst.old }
-    ensures { IsValue request.now (form_of tree.now) dst.new }
-{
-    let _ = request.length();
-    add_scaled(tree, Gf::new(1), request, dst);
-}
-
 // Adds the tree's value, times a factor, at each position.
-pub(crate) fn add_scaled<A: Allocator>(
-    tree: &Tree<A>,
-    factor: Gf,
-    request: &Request,
-    dst: &mut [u8],
-)
+fn add_scaled<A: Allocator>(tree: &Tree<A>, factor: Gf, request: &Request, dst: &mut [u8])
     requires can { CanEvaluate request.now (form_of tree.now) }
     requires whole { AreWhole request.now }
     requires length { length dst.old ≡ request.now.len }
@@ -108,16 +92,4 @@ fn add_product(dst: &mut [u8], factor: Gf, src: &[u8])
     } else {
         scale_add_into(dst, factor, src);
     }
-}
-
-// Whether all bytes are 00.
-pub(crate) fn are_zeros(bytes: &[u8]) -> bool
-    ensures yes { result ≡ true → AreZeros bytes.now }
-    ensures no { result ≡ false → ¬ AreZeros bytes.now }
-{
-    let mut bits = 0u8;
-    for byte in bytes {
-        bits |= *byte;
-    }
-    bits == 0
 }

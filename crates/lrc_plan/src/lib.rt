@@ -14,6 +14,7 @@ mod products;
 mod rows;
 mod solved;
 mod solving;
+mod terms;
 #[cfg(test)]
 mod tests;
 mod tree;

@@ -302,7 +302,7 @@ fn is_answer<A: Allocator>(solved: &Solved<A>, answer: Answer) -> bool {
 }
 
 // Whether the answer is refused at each allocation of the plan and at the one of its bytes in turn, and is then
-// the right one. A plan without checks and value needs no bytes.
+// the right one. Only a rebuilt fragment needs bytes.
 fn answers_in_turn(alloc: Global, request: &Request, answer: Answer) -> Result<bool, AllocError> {
     let survivors = request.survivors();
     let target = request.target();
@@ -311,10 +311,9 @@ fn answers_in_turn(alloc: Global, request: &Request, answer: Answer) -> Result<b
     }
     let plan = plan(alloc, survivors, target)?;
     let planned = allocations(&plan);
-    let bytes = if plan.checks.is_empty() && plan.value.is_none() {
-        0usize
-    } else {
-        1
+    let bytes = match answer {
+        Answer::Rebuilt(_) => 1usize,
+        _ => 0,
     };
     let mut refused = Refused { next: 0 };
     for size in (0..2 * LARGEST).step_by(8) {

@@ -1,11 +1,8 @@
 use Rattle.std.proofs.Common.{◌<◌, ℕ, get_or}
 use Rattle.lrc_plan.specs.declared.tree.Tree.{Tree}
 use Rattle.lrc_plan.specs.Tree.{form_of}
-use Rattle.lrc_plan.specs.EvaluationParts.{AreZeros, IsZero}
+use Rattle.lrc_plan.specs.EvaluationParts.{IsZero}
 use Rattle.lrc_plan.proofs.solving.are_zero.Given as goal
 
 abbrev pub invariant-loop-tree : goal.invariant-loop-tree
-invariant-loop-tree g l = record {
-  zero : (k : ℕ) (d : Tree _) → k < l.tree-index → IsZero l.request (form_of (get_or l.trees k d));
-  cleared : AreZeros l.bytes;
-}
+invariant-loop-tree g l = (k : ℕ) (d : Tree _) → k < l.tree-index → IsZero l.request (form_of (get_or l.trees k d))
