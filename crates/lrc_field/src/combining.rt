@@ -96,9 +96,19 @@ fn byte_sum_at(terms: &[Term], i: usize) -> u8
 {
     let mut sum = 0;
     for term in terms {
-        sum ^= term.scalar.mul(Gf::new(term.bytes[i])).byte();
+        sum ^= product(term.scalar, term.bytes[i]);
     }
     sum
+}
+
+fn product(c: Gf, byte: u8) -> u8
+    ensures { result ≡ times c byte }
+{
+    if c.byte() == 1 {
+        byte
+    } else {
+        c.mul(Gf::new(byte)).byte()
+    }
 }
 
 // Tables of the scalars that need them.
@@ -128,6 +138,10 @@ fn write_sums(dst: &mut [u8], from: usize, terms: &[Term], tables: &[Option<Tabl
     ensures len { length dst.new ≡ length dst.old }
     ensures sums { AreSet (λ k. sum_at terms.now (from + k)) dst.new (length dst.old) }
 {
+    if dst.len() < 32 {
+        write_few(dst, from, terms);
+        return;
+    }
     let mut i = 0;
     'quads: while dst.len() - i >= 128 {
         let sums = quad_sums_at(terms, tables, from + i);
@@ -139,7 +153,23 @@ fn write_sums(dst: &mut [u8], from: usize, terms: &[Term], tables: &[Option<Tabl
         blocks::put(dst, i, sums);
         i += 32;
     }
-    for k in i..dst.len() {
+    if i == dst.len() {
+        return;
+    }
+    // The last 32, of which some are written already.
+    let last = dst.len() - 32;
+    let sums = sums_at(terms, tables, from + last);
+    blocks::put(dst, last, sums);
+}
+
+// The same, byte by byte.
+fn write_few(dst: &mut [u8], from: usize, terms: &[Term])
+    requires fits { from + length dst.old < 2 ^ 64 }
+    requires room { Reach (from + length dst.old) terms.now }
+    ensures len { length dst.new ≡ length dst.old }
+    ensures sums { AreSet (λ k. sum_at terms.now (from + k)) dst.new (length dst.old) }
+{
+    for k in 0..dst.len() {
         dst[k] = byte_sum_at(terms, from + k);
     }
 }

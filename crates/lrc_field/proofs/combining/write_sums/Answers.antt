@@ -1,4 +1,4 @@
-use Rattle.std.proofs.Common.{◌+◌, ap, arith}
+use Rattle.std.proofs.Common.{◌+◌, ◌-◌, length, ap, arith}
 use Rattle.lrc_field.specs.Combined.{sum_at}
 use Rattle.lrc_field.proofs.TermSums.{lanes_same, quad_same}
 use Rattle.lrc_field.proofs.combining.write_sums.Goals as goal
@@ -24,3 +24,11 @@ singles-preserved c =
       set = c.put.ensures.set (λ k. sum (from + k)) c.singles.invariant.set
           (lanes_same c.sums_at-sums.result (λ k. sum (from + i + k)) (λ k. sum (from + (i + k))) (λ k lt. ap sum (omega arith)) c.sums_at-sums.ensures);
     }
+
+pub returns-clause-sums : goal.returns-clause-sums
+returns-clause-sums c = λ k lt.
+    let sum = sum_at c.args.terms.now in
+    let from = c.args.from in
+    let last = length c.singles.dst - 32 in
+    c.put-2.ensures.set (λ n. sum (from + n)) (λ n h. c.singles.invariant.set n (omega arith))
+    (lanes_same c.sums_at-sums-2.result (λ n. sum (from + last + n)) (λ n. sum (from + (last + n))) (λ n h. ap sum (omega arith)) c.sums_at-sums-2.ensures) k (omega arith)

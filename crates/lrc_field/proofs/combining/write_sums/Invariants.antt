@@ -14,6 +14,3 @@ invariant-singles l = record { within : l.i ≤ length l.dst; set : AreSet (λ k
 
 abbrev pub decreases-singles : goal.decreases-singles
 decreases-singles l = length l.dst - l.i
-
-abbrev pub invariant-loop-k : goal.invariant-loop-k
-invariant-loop-k l = AreSet (λ k. sum_at l.terms (l.from + k)) l.dst l.k
