@@ -1,6 +1,6 @@
 //! Sums of several scaled slices in one pass: each source is read once, and the sums stay in registers until they
 //! are written.
-ghost use Rattle.std.specs.Prelude.{◌≡◌, ◌<◌, ◌≤◌, ◌+◌, ◌^◌, ℕ, Bool, true, false, ◌↔◌, IfOk, OnOk, bit_xor, length, slice_index};
+ghost use Rattle.std.specs.Prelude.{◌≡◌, ◌<◌, ◌≤◌, ◌+◌, ◌^◌, ℕ, Bool, true, false, ◌↔◌, IfOk, OnOk, bit_xor, length, slice_index, slice_index_or, None};
 ghost use Rattle.lrc_field.specs.Blocks.{HasLanes, HasQuad, AreSet};
 ghost use Rattle.lrc_field.specs.Combined.{AreZeroBelow, HaveLength, HaveTables, IsCombined, IsTableOf, Reach, product_at, sum_at};
 ghost use Rattle.lrc_field.specs.Field.{times};
@@ -111,15 +111,32 @@ fn product(c: Gf, byte: u8) -> u8
     }
 }
 
+// The tables that so many places need: none below 32.
+fn tables_for(len: usize, terms: &[Term]) -> [Option<Tables>; 16]
+    requires { length terms.now ≤ 16 }
+    ensures { 32 ≤ len → HaveTables terms.now result }
+{
+    if len < 32 {
+        return no_tables();
+    }
+    tables_of(terms)
+}
+
+fn no_tables() -> [Option<Tables>; 16]
+    ensures { (k : ℕ) → slice_index_or result k None ≡ None }
+{
+    [
+        None, None, None, None, None, None, None, None, None, None, None, None, None, None, None,
+        None,
+    ]
+}
+
 // Tables of the scalars that need them.
 fn tables_of(terms: &[Term]) -> [Option<Tables>; 16]
     requires { length terms.now ≤ 16 }
     ensures { HaveTables terms.now result }
 {
-    let mut tables = [
-        None, None, None, None, None, None, None, None, None, None, None, None, None, None, None,
-        None,
-    ];
+    let mut tables = no_tables();
     for j in 0..terms.len() {
         let term = &terms[j];
         if term.scalar.byte() > 1 {
@@ -134,7 +151,7 @@ fn write_sums(dst: &mut [u8], from: usize, terms: &[Term], tables: &[Option<Tabl
     requires few { length terms.now ≤ 16 }
     requires fits { from + length dst.old < 2 ^ 64 }
     requires room { Reach (from + length dst.old) terms.now }
-    requires tables { HaveTables terms.now tables.now }
+    requires tables { 32 ≤ length dst.old → HaveTables terms.now tables.now }
     ensures len { length dst.new ≡ length dst.old }
     ensures sums { AreSet (λ k. sum_at terms.now (from + k)) dst.new (length dst.old) }
 {
@@ -185,7 +202,7 @@ pub fn combined<A: Allocator>(
     requires lengths { HaveLength len terms.now }
     ensures { IfOk result (λ v. IsCombined len terms.now v.items) }
 {
-    let tables = tables_of(terms);
+    let tables = tables_for(len, terms);
     let mut bytes = Vec::with_capacity(alloc, len)?;
     'parts: while bytes.len() < len {
         append_part(&mut bytes, len, terms, &tables)?;
@@ -202,7 +219,7 @@ fn append_part<A: Allocator>(
 ) -> Result<(), AllocError>
     requires few { length terms.now ≤ 16 }
     requires lengths { HaveLength len terms.now }
-    requires tables { HaveTables terms.now tables.now }
+    requires tables { 32 ≤ len → HaveTables terms.now tables.now }
     requires more { length bytes.old.items < len }
     ensures longer { OnOk result (length bytes.old.items < length bytes.new.items) }
     ensures within { OnOk result (length bytes.new.items ≤ len) }
@@ -222,6 +239,9 @@ pub fn sums_are_zero(len: usize, terms: &[Term]) -> bool
     ensures yes { result ≡ true → AreZeroBelow len terms.now }
     ensures no { result ≡ false → ¬ AreZeroBelow len terms.now }
 {
+    if len < 32 {
+        return few_are_zero(len, terms);
+    }
     let tables = tables_of(terms);
     let mut part = [0u8; 1024];
     let mut from = 0;
@@ -231,6 +251,20 @@ pub fn sums_are_zero(len: usize, terms: &[Term]) -> bool
             return false;
         }
         from += size;
+    }
+    true
+}
+
+// The same, byte by byte.
+fn few_are_zero(len: usize, terms: &[Term]) -> bool
+    requires { HaveLength len terms.now }
+    ensures yes { result ≡ true → AreZeroBelow len terms.now }
+    ensures no { result ≡ false → ¬ AreZeroBelow len terms.now }
+{
+    for i in 0..len {
+        if byte_sum_at(terms, i) != 0 {
+            return false;
+        }
     }
     true
 }
