@@ -1,5 +1,7 @@
 //! Products, inverses and kernels against values from outside: known vectors, and a product by shifts.
-use crate::{Gf, add_into, scale_add_into};
+ghost use Rattle.std.specs.Prelude.{◌≡◌};
+
+use crate::{Gf, Term, add_into, combined, scale_add_into, sums_are_zero};
 use std::alloc::{AllocError, Global};
 
 // The product by shifts: for each bit of b the shifted a, reduced at each shift.
@@ -117,6 +119,43 @@ fn scaled_sums_of_slices(rt: HostRuntime) -> Result<(), AllocError> {
                 );
             }
         }
+    }
+    Ok(())
+}
+
+fn term_of<'a>(scalar: u8, bytes: &'a [u8]) -> Term<'a>
+    ensures scalar { result.scalar ≡ scalar }
+    ensures bytes { result.bytes.now ≡ bytes.entry.now }
+{
+    Term {
+        scalar: Gf::new(scalar),
+        bytes,
+    }
+}
+
+#[test]
+fn sums_of_terms(rt: HostRuntime) -> Result<(), AllocError> {
+    for len in LENGTHS {
+        let first = some_bytes(rt.alloc(), len, 5)?;
+        let second = some_bytes(rt.alloc(), len, 11)?;
+        assert!(&rt; first.len() == len && second.len() == len);
+        let terms = [
+            term_of(0x01, &first),
+            term_of(0x53, &second),
+            term_of(0x00, &second),
+        ];
+        let sums = combined(rt.alloc(), len, &terms)?;
+        assert!(&rt; sums.len() == len);
+        for i in 0..len {
+            assert_eq!(&rt;
+                sums[i],
+                first[i] ^ product_by_shifts(0x53, second[i]),
+                "byte {i} of {len}"
+            );
+        }
+        assert_eq!(&rt; sums_are_zero(len, &terms), len == 0, "{len} sums");
+        let twice = [term_of(0x07, &first), term_of(0x07, &first)];
+        assert!(&rt; sums_are_zero(len, &twice), "{len} sums of equals");
     }
     Ok(())
 }
