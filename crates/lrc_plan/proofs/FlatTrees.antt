@@ -1,9 +1,10 @@
 -- A tree's coefficients and the survivors' bytes, one place after another.
-use Rattle.std.proofs.Common.{◌≡◌, ℕ, suc, zero, ◌+◌, ◌<◌, List, [], ◌∷◌, length, get_or, set, take, map, false, cond, refl, ap, sym, ◌∙◌, subst, arith, inl, inr}
+use Rattle.std.specs.Borrow.{Bor}
+use Rattle.std.proofs.Common.{◌≡◌, ℕ, suc, zero, ◌+◌, ◌<◌, List, [], ◌∷◌, length, get_or, set, take, map, false, cond, refl, ap, sym, ◌∙◌, subst, arith, inl, inr, All, None}
 use Rattle.std.specs.Prelude.{◌||◌}
 use Rattle.std.specs.Int.Bits.{bit_xor, xor_assoc, xor_zero_l, xor_zero_r}
 use Rattle.std.proofs.lemmas.Bool.{cases_Bool}
-use Rattle.std.proofs.lemmas.List.{take_all, take_more_set}
+use Rattle.std.proofs.lemmas.List.{get_or-map, take_all, take_more_set}
 use Rattle.std.proofs.lemmas.List.Elements.{All-append}
 use Rattle.lrc_field.specs.Field.{times}
 use Rattle.lrc_field.specs.declared.combining.Term.{Term}
@@ -12,11 +13,12 @@ use Rattle.lrc_field.proofs.TermSums.{sum_at-snoc}
 use Rattle.lrc_code.specs.declared.places.Place.{Place}
 use Rattle.lrc_code.specs.declared.places.Place.TheVariants.{X0}
 use Rattle.lrc_code.specs.Places.{same_place, index_of, all_places}
-use Rattle.lrc_code.specs.Code.{combination}
-use Rattle.lrc_code.specs.Requests.{Asked, Survivor, is_among, bytes_of}
+use Rattle.lrc_code.specs.Code.{AreBytes, combination}
+use Rattle.lrc_code.specs.Requests.{Asked, Survivor, is_among, bytes_of, refusal}
 use Rattle.lrc_code.proofs.PlaceSums.{index_of-eq, index_at}
 use Rattle.lrc_plan.specs.Evaluation.{byte_at}
-use Rattle.lrc_plan.specs.Terms.{survivor_product}
+use Rattle.lrc_plan.specs.Terms.{AreSources, survivor_product}
+use Rattle.lrc_plan.proofs.FittingStripes.{whole}
 
 -- one coefficient more
 combination-suc : (cs : List ℕ) (ps : List Place) (b : Place → ℕ) (k : ℕ) (p : Place) → k < length cs → k < length ps
@@ -56,13 +58,24 @@ lengths-more len ts n t h all l = subst (HaveLength len) (sym (take_more_set ts 
 
 -- ---- the survivor at an index
 
-pub place_of : (k : ℕ) (p : Place) → k < 16 → index_of p ≡ k → get_or all_places k X0 ≡ p
-place_of k p h e = index_of-eq (get_or all_places k X0) p (index_at k h ∙ sym e)
-
 -- nothing survives at a place that isn't among the survivors
 pub no_bytes : (ss : List Survivor) (p : Place) → is_among p ss ≡ false → bytes_of ss p ≡ []
 no_bytes [] p h = refl
 no_bytes (s ∷ ss) p h = elim (cases_Bool (same_place p s.place)) as (λ _. bytes_of (s ∷ ss) p ≡ []) [
   | inl t ↦ absurd (cc h)
   | inr f ↦ ap (λ b. cond b s.bytes (bytes_of ss p)) f ∙ no_bytes ss p (sym (ap (λ b. b || is_among p ss) f) ∙ h)
+]
+
+-- the source at an index has the bytes that survive at its place
+pub source_is : (r : Asked) (sources : List (Bor (List ℕ))) (k : ℕ) (d : Bor (List ℕ)) → k < 16 → k < length sources → AreSources r sources
+    → (get_or sources k d).now ≡ bytes_of r.survivors (get_or all_places k X0)
+source_is r sources k d h l e =
+    sym (get_or-map (λ (s : Bor (List ℕ)). s.now) sources k d [] l) ∙ ap (λ xs. get_or xs k []) e ∙ get_or-map (bytes_of r.survivors) all_places k X0 [] h
+
+-- where bytes survive they are as many as the request's length
+pub source_length : (r : Asked) → refusal r ≡ None → All (λ s. AreBytes s.bytes) r.survivors → (p : Place) → (length (bytes_of r.survivors p) ≡ 0 → ⊥)
+    → length (bytes_of r.survivors p) ≡ r.len
+source_length r accepted bytes p some = elim (cases_Bool (is_among p r.survivors)) as (λ _. length (bytes_of r.survivors p) ≡ r.len) [
+  | inl t ↦ (whole r accepted bytes p t).0
+  | inr f ↦ absurd (some (ap length (no_bytes r.survivors p f)))
 ]

@@ -1,11 +1,12 @@
 -- Trees as sums of scaled fragments.
-use Rattle.std.specs.Prelude.{◌≡◌, ℕ, List, Option, MatchOption, length, slice_index_or}
+use Rattle.std.specs.Prelude.{◌≡◌, ℕ, List, Option, MatchOption, length, map, slice_index_or}
+use Rattle.std.specs.Borrow.{Bor}
 use Rattle.lrc_field.specs.Field.{times}
 use Rattle.lrc_field.specs.declared.combining.Term.{Term}
 use Rattle.lrc_field.specs.Combined.{product_at, sum_at, HaveLength}
 use Rattle.lrc_code.specs.declared.places.Place.TheVariants.{X0}
 use Rattle.lrc_code.specs.Places.{all_places}
-use Rattle.lrc_code.specs.Requests.{Asked}
+use Rattle.lrc_code.specs.Requests.{Asked, bytes_of}
 use Rattle.lrc_plan.specs.Form.{Form, meaning}
 use Rattle.lrc_plan.specs.Evaluation.{byte_at}
 
@@ -13,6 +14,10 @@ use Rattle.lrc_plan.specs.Evaluation.{byte_at}
 pub record AreTerms (r : Asked) (t : Form) (ts : List Term) : Type 0 where
   pub lengths : HaveLength r.len ts
   pub sums : (i : ℕ) → sum_at ts i ≡ meaning (byte_at r i) t
+
+-- the bytes that survive at each place, in the order of the places' indexes; none at a lost place
+abbrev pub AreSources : Asked → List (Bor (List ℕ)) → Type 0
+AreSources r sources = map (λ s. s.now) sources ≡ map (bytes_of r.survivors) all_places
 
 -- a scalar's product with the survivor's byte at the place of an index
 abbrev pub survivor_product : Asked → ℕ → ℕ → ℕ → ℕ

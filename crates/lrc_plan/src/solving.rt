@@ -10,11 +10,12 @@ ghost use Rattle.lrc_plan.specs.Planned.{IsPlan};
 ghost use Rattle.lrc_plan.specs.PlanForms.{value_form, check_forms};
 ghost use Rattle.lrc_plan.specs.EvaluationParts.{IsZero};
 ghost use Rattle.lrc_plan.specs.Solved.{outcome_of};
+ghost use Rattle.lrc_plan.specs.Terms.{AreSources};
 
 use crate::planning::plan_in;
 use crate::plans::Plan;
 use crate::solved::Solved;
-use crate::terms::{is_zero, value_in};
+use crate::terms::{Sources, is_zero, sources_of, value_in};
 use crate::tree::Tree;
 use lrc_code::{Bytes, Outcome, PlaceSet, Request};
 use std::alloc::{AllocError, Allocator, Global};
@@ -64,13 +65,14 @@ fn apply<A: Allocator, B: Allocator>(
     ensures { IfOk result (λ s. IsAnswer request.now (outcome_of s)) }
 {
     let _ = request.length();
-    let possible = are_zero(plan.checks.as_slice(), request);
+    let sources = sources_of(request);
+    let possible = are_zero(plan.checks.as_slice(), request, &sources);
     if !possible {
         return Ok(Solved::Contradiction);
     }
     match &plan.value {
         Some(tree) => {
-            let bytes = value_in(alloc, tree, request)?;
+            let bytes = value_in(alloc, tree, request, &sources)?;
             Ok(Solved::Rebuilt(bytes))
         }
         None => Ok(Solved::Several),
@@ -78,12 +80,13 @@ fn apply<A: Allocator, B: Allocator>(
 }
 
 // Whether all trees are 00 at every position.
-fn are_zero<A: Allocator>(trees: &[Tree<A>], request: &Request) -> bool
+fn are_zero<A: Allocator>(trees: &[Tree<A>], request: &Request, sources: &Sources<'_>) -> bool
+    requires { AreSources request.now sources.now }
     ensures yes { result ≡ true → All (λ t. IsZero request.now (form_of t)) trees.now }
     ensures no { result ≡ false → ¬ All (λ t. IsZero request.now (form_of t)) trees.now }
 {
     for tree in trees {
-        if !is_zero(tree, request) {
+        if !is_zero(tree, request, sources) {
             return false;
         }
     }
