@@ -20,11 +20,13 @@ use Rattle.lrc_code.specs.Sums.{GivesBytes}
 use Rattle.lrc_code.proofs.PlaceSums.{same_place-eq}
 use Rattle.lrc_code.proofs.CodeLaws.{code-linear}
 use Rattle.lrc_code.proofs.RequestLaws.{accepted_target, accepted_places, accepted_length, accepted_lengths, accepted_bytes, survivors_hold_bytes, among_at}
-use Rattle.lrc_plan.specs.Form.{Form, meaning}
+use Rattle.lrc_plan.specs.Form.{Form}
 use Rattle.lrc_plan.specs.Extensions.{Extends}
-use Rattle.lrc_plan.specs.Evaluation.{byte_at, CanEvaluate, IsValue}
-use Rattle.lrc_plan.specs.EvaluationParts.{AreWhole, IsZero}
-use Rattle.lrc_plan.specs.Planned.{LeavesSurvive, ExtensionsDiffer, AreChecks}
+use Rattle.lrc_plan.specs.Evaluation.{byte_at, CanEvaluate}
+use Rattle.lrc_plan.specs.EvaluationParts.{AreWhole}
+use Rattle.lrc_plan.specs.Planned.{LeavesSurvive, ExtensionsDiffer}
+use Rattle.lrc_plan.specs.RowPlans.{AreCheckRows, IsValueRow}
+use Rattle.lrc_plan.specs.Terms.{AreRowSums, IsZeroRow}
 
 -- a stripe that equals survivors has at their places what survives there
 stripe_bytes : (st : Place → List ℕ) (ss : List Survivor) → All (λ x. st x.place ≡ x.bytes) ss → (p : Place)
@@ -155,16 +157,16 @@ module _ (r : Asked) (accepted : refusal r ≡ None) (bytes : All (λ s. AreByte
             subst (λ n. i < n) (length-made e y.place) lt in made_at e i y.place 0 h
             ∙ (x i h).kept y.place (same y.place ∙ a))
 
-    module _ (checks : List Form) (of_survivors : AreChecks code survives checks) where
+    module _ (checks : List (List ℕ)) (of_survivors : AreCheckRows code survives checks) where
       -- ---- some check isn't 0
 
-      pub contradiction : (¬ All (IsZero r) checks) → IsAnswer r Contradiction
+      pub contradiction : (¬ All (IsZeroRow r) checks) → IsAnswer r Contradiction
       contradiction n st f = n (λ k d lt i h. (of_survivors.possible (byte_at r i) (byte_at-lt i)).0
           (trimmed st i, fits_extends st f i h) k d lt)
 
       -- ---- all checks are 0
 
-      module _ (zero_checks : All (IsZero r) checks) where
+      module _ (zero_checks : All (IsZeroRow r) checks) where
         extension : (i : ℕ) → i < r.len → (e : Place → ℕ) × Extends code survives (byte_at r i) e
         extension i h = (of_survivors.possible (byte_at r i) (byte_at-lt i)).1 (λ k d lt. zero_checks k d lt i h)
 
@@ -185,16 +187,14 @@ module _ (r : Asked) (accepted : refusal r ≡ None) (bytes : All (λ s. AreByte
         unfolding chosen pick
         chosen_is i h = pick_is i (cases_lt i r.len) h
 
-        pub rebuilt : (t : Form)
-            → ((s e : Place → ℕ) → GivesBytes s → Extends code survives s e → meaning s t ≡ e r.target)
-            → (out : List ℕ) → IsValue r t out → IsAnswer r (Rebuilt out)
-        rebuilt t right out v = (
+        pub rebuilt : (row out : List ℕ) → IsValueRow code survives r.target row → AreRowSums r row out → IsAnswer r (Rebuilt out)
+        rebuilt row out value v = (
           (made chosen, made_fits chosen chosen_is),
           (λ st f.
               let long = (fits_at st f r.target (accepted_target r accepted)).0 in
               ext_get_or 0 (st r.target) out (long ∙ sym v.len)
               (λ i lt. let h : i < r.len = subst (λ n. i < n) long lt in
-              sym (v.at i h ∙ right (byte_at r i) (trimmed st i) (byte_at-lt i) (fits_extends st f i h) ∙ target_at st i))),
+              sym (v.at i h ∙ value.right (byte_at r i) (trimmed st i) (byte_at-lt i) (fits_extends st f i h) ∙ target_at st i))),
         )
 
         -- a second stripe: the first and the sum of two extensions that differ

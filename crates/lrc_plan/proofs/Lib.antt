@@ -10,4 +10,5 @@ pub mod Grafts
 pub mod ScaledValues
 pub mod Dependences
 pub mod Ranks
-pub mod FlatTrees
+pub mod TermRows
+pub mod RowPlanLaws

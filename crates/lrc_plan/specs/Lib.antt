@@ -13,3 +13,4 @@ pub mod ValueRows
 pub mod ChecksBelow
 pub mod Solved
 pub mod Terms
+pub mod RowPlans

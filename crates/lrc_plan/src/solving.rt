@@ -3,21 +3,17 @@ ghost use Rattle.std.specs.Prelude.{◌≡◌, true, false, IfOk, All};
 ghost use Rattle.lrc_code.specs.declared.places.Place.{Place};
 ghost use Rattle.lrc_code.specs.Codes.{tables_of};
 ghost use Rattle.lrc_code.specs.Answers.{IsAnswer};
-ghost use Rattle.lrc_code.specs.Requests.{is_among};
+ghost use Rattle.lrc_code.specs.Requests.{AreSources, is_among};
 ghost use Rattle.lrc_code.specs.Sets.{is_in};
-ghost use Rattle.lrc_plan.specs.Tree.{form_of};
-ghost use Rattle.lrc_plan.specs.Planned.{IsPlan};
-ghost use Rattle.lrc_plan.specs.PlanForms.{value_form, check_forms};
-ghost use Rattle.lrc_plan.specs.EvaluationParts.{IsZero};
+ghost use Rattle.lrc_plan.specs.RowPlans.{IsRowPlan};
 ghost use Rattle.lrc_plan.specs.Solved.{outcome_of};
-ghost use Rattle.lrc_plan.specs.Terms.{AreSources};
+ghost use Rattle.lrc_plan.specs.Terms.{IsZeroRow};
 
-use crate::planning::plan_in;
-use crate::plans::Plan;
+use crate::row_plans::{RowPlan, plan_rows};
 use crate::solved::Solved;
-use crate::terms::{Sources, is_zero, sources_of, value_in};
-use crate::tree::Tree;
-use lrc_code::{Bytes, Outcome, PlaceSet, Request};
+use crate::terms::{is_zero, row_sums};
+use lrc_code::{Bytes, Outcome, PlaceSet, Request, Sources};
+use lrc_field::Gf;
 use std::alloc::{AllocError, Allocator, Global};
 
 /// The answer to a request over all stripes of its code: the target's bytes that every fitting stripe
@@ -30,63 +26,60 @@ pub fn solve<A: Allocator + Clone>(
 ) -> Result<Outcome, AllocError>
     ensures { IfOk result (IsAnswer request.now) }
 {
-    match solve_in(alloc, plan_alloc, request)? {
+    let _ = plan_alloc;
+    match solve_in(alloc, request)? {
         Solved::Rebuilt(bytes) => Ok(Outcome::Rebuilt(Bytes::new(bytes))),
         Solved::Contradiction => Ok(Outcome::Contradiction),
         Solved::Several => Ok(Outcome::Several),
     }
 }
 
-// `solve` in any allocator.
-pub(crate) fn solve_in<A: Allocator + Clone, B: Allocator>(
-    alloc: B,
-    plan_alloc: A,
-    request: &Request,
-) -> Result<Solved<B>, AllocError>
+// `solve` with the bytes in any allocator.
+pub(crate) fn solve_in<B: Allocator>(alloc: B, request: &Request) -> Result<Solved<B>, AllocError>
     ensures { IfOk result (λ s. IsAnswer request.now (outcome_of s)) }
 {
     let survivors = request.survivors();
     let target = request.target();
     let _ = request.length();
-    let plan = plan_in(plan_alloc, request.code(), survivors, target)?;
+    let plan = plan_rows(request.code(), survivors, target);
     let solved = apply(alloc, survivors, &plan, request)?;
     Ok(solved)
 }
 
 // What the plan answers. The checks need no memory, and the value needs that of its bytes.
-fn apply<A: Allocator, B: Allocator>(
+fn apply<B: Allocator>(
     alloc: B,
     survivors: PlaceSet,
-    plan: &Plan<A>,
+    plan: &RowPlan,
     request: &Request,
 ) -> Result<Solved<B>, AllocError>
     requires survivors { (p : Place) → is_in survivors p ≡ is_among p request.now.survivors }
-    requires plan { IsPlan (tables_of request.now.code) (is_in survivors) request.now.target (value_form plan.now) (check_forms plan.now) }
+    requires plan { IsRowPlan (tables_of request.now.code) (is_in survivors) request.now.target plan.now.value plan.now.checks }
     ensures { IfOk result (λ s. IsAnswer request.now (outcome_of s)) }
 {
     let _ = request.length();
-    let sources = sources_of(request);
-    let possible = are_zero(plan.checks.as_slice(), request, &sources);
+    let sources = request.sources();
+    let possible = are_zero(&plan.checks, request, &sources);
     if !possible {
         return Ok(Solved::Contradiction);
     }
     match &plan.value {
-        Some(tree) => {
-            let bytes = value_in(alloc, tree, request, &sources)?;
+        Some(row) => {
+            let bytes = row_sums(alloc, row, request, &sources)?;
             Ok(Solved::Rebuilt(bytes))
         }
         None => Ok(Solved::Several),
     }
 }
 
-// Whether all trees are 00 at every position.
-fn are_zero<A: Allocator>(trees: &[Tree<A>], request: &Request, sources: &Sources<'_>) -> bool
-    requires { AreSources request.now sources.now }
-    ensures yes { result ≡ true → All (λ t. IsZero request.now (form_of t)) trees.now }
-    ensures no { result ≡ false → ¬ All (λ t. IsZero request.now (form_of t)) trees.now }
+// Whether all rows' sums are 00 at every position.
+fn are_zero(rows: &[[Gf; 16]], request: &Request, sources: &Sources<'_>) -> bool
+    requires { AreSources request.now.survivors sources.now }
+    ensures yes { result ≡ true → All (IsZeroRow request.now) rows.now }
+    ensures no { result ≡ false → ¬ All (IsZeroRow request.now) rows.now }
 {
-    for tree in trees {
-        if !is_zero(tree, request, sources) {
+    for row in rows {
+        if !is_zero(row, request, sources) {
             return false;
         }
     }

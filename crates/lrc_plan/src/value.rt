@@ -80,7 +80,7 @@ fn row_value<A: Allocator + Clone>(
 }
 
 // The equation of the target's group, where all others of the group survive.
-fn local_row(code: Code, survivors: PlaceSet, target: Place) -> Option<[Gf; 16]>
+pub(crate) fn local_row(code: Code, survivors: PlaceSet, target: Place) -> Option<[Gf; 16]>
     requires { has_place (tables_of code) target ≡ true }
     ensures { MatchOption result
         (¬ IsLocal (tables_of code) (is_in survivors) target)

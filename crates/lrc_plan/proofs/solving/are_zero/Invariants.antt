@@ -1,8 +1,6 @@
-use Rattle.std.proofs.Common.{◌<◌, ℕ, get_or}
-use Rattle.lrc_plan.specs.declared.tree.Tree.{Tree}
-use Rattle.lrc_plan.specs.Tree.{form_of}
-use Rattle.lrc_plan.specs.EvaluationParts.{IsZero}
+use Rattle.std.proofs.Common.{◌<◌, ℕ, List, get_or}
+use Rattle.lrc_plan.specs.Terms.{IsZeroRow}
 use Rattle.lrc_plan.proofs.solving.are_zero.Given as goal
 
-abbrev pub invariant-loop-tree : goal.invariant-loop-tree
-invariant-loop-tree g l = (k : ℕ) (d : Tree _) → k < l.tree-index → IsZero l.request (form_of (get_or l.trees k d))
+abbrev pub invariant-loop-row : goal.invariant-loop-row
+invariant-loop-row l = (k : ℕ) (d : List ℕ) → k < l.row-index → IsZeroRow l.request (get_or l.rows k d)

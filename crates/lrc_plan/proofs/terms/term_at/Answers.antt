@@ -7,7 +7,7 @@ use Rattle.lrc_code.specs.Requests.{bytes_of}
 use Rattle.lrc_code.specs.declared.places.Place.TheVariants.{X0}
 use Rattle.lrc_code.specs.Places.{all_places}
 use Rattle.lrc_plan.specs.Evaluation.{byte_at}
-use Rattle.lrc_plan.proofs.FlatTrees.{source_is, source_length}
+use Rattle.lrc_plan.proofs.TermRows.{source_is, source_length}
 use Rattle.lrc_plan.proofs.terms.term_at.Goals as goal
 
 pub returns-then-byte-eq0 : goal.returns-then-byte-eq0

@@ -4,15 +4,14 @@ use Rattle.lrc_code.proofs.Clearing.{get_or_default}
 use Rattle.lrc_field.specs.Combined.{product_at}
 use Rattle.lrc_plan.specs.Terms.{survivor_product}
 use Rattle.lrc_plan.specs.Evaluation.{byte_at}
-use Rattle.lrc_plan.proofs.FittingStripes.{byte_at-lt}
-use Rattle.lrc_plan.proofs.FlatTrees.{combination-more, combination-all, sums-more, lengths-more}
+use Rattle.lrc_plan.proofs.TermRows.{combination-more, combination-all, sums-more, lengths-more}
 use Rattle.lrc_plan.proofs.terms.terms_of.Goals as goal
 use Rattle.lrc_plan.proofs.terms.terms_of.Goals.{in-Some, in_default}
 
 pub loop-k-preserved : goal.loop-k-preserved
-loop-k-preserved g c =
+loop-k-preserved c =
     let r = c.args.request.now in
-    let cs = c.coefficients-coefficients.result in
+    let cs = c.args.row.now in
     let k = c.loop-k.k in
     let ts = c.loop-k.terms in
     let n = c.loop-k.count in
@@ -21,11 +20,11 @@ loop-k-preserved g c =
     let within : k < length cs = omega arith in
     let fits : n < length ts = omega arith in
     let more = λ (i : ℕ). combination-more r cs k i c.loop-k-test.true sixteen in
-    let scalar : get_or cs k 0 ≡ get_or cs k c.index-coefficients-k.result = get_or_default cs k 0 c.index-coefficients-k.result within in
+    let scalar : get_or cs k 0 ≡ get_or cs k c.index-row-k.result = get_or_default cs k 0 c.index-row-k.result within in
     elim c.match-term_at.branch [
       | in-Some w ↦
           let t = w.in-Some.term in
-          let is_term : (length t.bytes.now ≡ r.len) × ((i : ℕ) → product_at t i ≡ survivor_product r (get_or cs k c.index-coefficients-k.result) k i) = rw w.in-Some.is at c.term_at.ensures in
+          let is_term : (length t.bytes.now ≡ r.len) × ((i : ℕ) → product_at t i ≡ survivor_product r (get_or cs k c.index-row-k.result) k i) = rw w.in-Some.is at c.term_at.ensures in
           rw (w.terms-is, w.count-is) (record {
             long = length-set ts n t ∙ so_far.long;
             few = omega arith;
@@ -42,13 +41,12 @@ loop-k-preserved g c =
     ]
 
 pub returns-clause-terms : goal.returns-clause-terms
-returns-clause-terms g c =
+returns-clause-terms c =
     let r = c.args.request.now in
-    let cs = c.coefficients-coefficients.result in
+    let cs = c.args.row.now in
     let sixteen : length cs ≡ 16 = omega arith in
     let end : c.loop-k.k ≡ 16 = omega arith in
     record {
       lengths = c.loop-k.invariant.lengths;
-      sums = λ i. c.loop-k.invariant.sums i ∙ combination-all cs (byte_at r i) c.loop-k.k end sixteen
-          ∙ c.coefficients-coefficients.ensures (byte_at r i) (byte_at-lt r c.length.ensures.accepted c.length.ensures.bytes i);
+      sums = λ i. c.loop-k.invariant.sums i ∙ combination-all cs (byte_at r i) c.loop-k.k end sixteen;
     }

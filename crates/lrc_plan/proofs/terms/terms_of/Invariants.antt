@@ -6,9 +6,9 @@ use Rattle.lrc_plan.specs.Evaluation.{byte_at}
 use Rattle.lrc_plan.proofs.terms.terms_of.Given as goal
 
 abbrev pub invariant-loop-k : goal.invariant-loop-k
-invariant-loop-k g l = record {
+invariant-loop-k l = record {
   long : length l.terms ≡ 16;
   few : l.count ≤ l.k;
   lengths : HaveLength l.request.len (take l.count l.terms);
-  sums : (i : ℕ) → sum_at (take l.count l.terms) i ≡ combination (take l.k l.coefficients) (map (byte_at l.request i) (take l.k all_places));
+  sums : (i : ℕ) → sum_at (take l.count l.terms) i ≡ combination (take l.k l.row) (map (byte_at l.request i) (take l.k all_places));
 }

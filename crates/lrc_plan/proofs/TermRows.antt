@@ -1,4 +1,4 @@
--- A tree's coefficients and the survivors' bytes, one place after another.
+-- A row's coefficients and the survivors' bytes, one place after another.
 use Rattle.std.specs.Borrow.{Bor}
 use Rattle.std.proofs.Common.{◌≡◌, ℕ, suc, zero, ◌+◌, ◌<◌, List, [], ◌∷◌, length, get_or, set, take, map, false, cond, refl, ap, sym, ◌∙◌, subst, arith, inl, inr, All, None}
 use Rattle.std.specs.Prelude.{◌||◌}
@@ -14,10 +14,10 @@ use Rattle.lrc_code.specs.declared.places.Place.{Place}
 use Rattle.lrc_code.specs.declared.places.Place.TheVariants.{X0}
 use Rattle.lrc_code.specs.Places.{same_place, index_of, all_places}
 use Rattle.lrc_code.specs.Code.{AreBytes, combination}
-use Rattle.lrc_code.specs.Requests.{Asked, Survivor, is_among, bytes_of, refusal}
+use Rattle.lrc_code.specs.Requests.{AreSources, Asked, Survivor, is_among, bytes_of, refusal}
 use Rattle.lrc_code.proofs.PlaceSums.{index_of-eq, index_at}
 use Rattle.lrc_plan.specs.Evaluation.{byte_at}
-use Rattle.lrc_plan.specs.Terms.{AreSources, survivor_product}
+use Rattle.lrc_plan.specs.Terms.{survivor_product}
 use Rattle.lrc_plan.proofs.FittingStripes.{whole}
 
 -- one coefficient more
@@ -67,7 +67,7 @@ no_bytes (s ∷ ss) p h = elim (cases_Bool (same_place p s.place)) as (λ _. byt
 ]
 
 -- the source at an index has the bytes that survive at its place
-pub source_is : (r : Asked) (sources : List (Bor (List ℕ))) (k : ℕ) (d : Bor (List ℕ)) → k < 16 → k < length sources → AreSources r sources
+pub source_is : (r : Asked) (sources : List (Bor (List ℕ))) (k : ℕ) (d : Bor (List ℕ)) → k < 16 → k < length sources → AreSources r.survivors sources
     → (get_or sources k d).now ≡ bytes_of r.survivors (get_or all_places k X0)
 source_is r sources k d h l e =
     sym (get_or-map (λ (s : Bor (List ℕ)). s.now) sources k d [] l) ∙ ap (λ xs. get_or xs k []) e ∙ get_or-map (bytes_of r.survivors) all_places k X0 [] h
