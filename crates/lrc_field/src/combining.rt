@@ -239,6 +239,9 @@ pub fn sums_are_zero(len: usize, terms: &[Term]) -> bool
     ensures yes { result ≡ true → AreZeroBelow len terms.now }
     ensures no { result ≡ false → ¬ AreZeroBelow len terms.now }
 {
+    if terms.is_empty() {
+        return true;
+    }
     if len < 32 {
         return few_are_zero(len, terms);
     }
