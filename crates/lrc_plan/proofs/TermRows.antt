@@ -1,12 +1,14 @@
 -- A row's coefficients and the survivors' bytes, one place after another.
 use Rattle.std.specs.Borrow.{Bor}
-use Rattle.std.proofs.Common.{◌≡◌, ℕ, suc, zero, ◌+◌, ◌<◌, List, [], ◌∷◌, length, get_or, set, take, map, false, cond, refl, ap, sym, ◌∙◌, subst, arith, inl, inr, All, None}
-use Rattle.std.specs.Prelude.{◌||◌}
+use Rattle.std.proofs.Common.{◌≡◌, ℕ, suc, zero, ◌+◌, ◌<◌, List, [], ◌∷◌, length, get_or, set, take, map, false, cond, true, refl, ap, ap₂, sym, ◌∙◌, subst, arith, inl, inr, All, None}
+use Rattle.std.specs.Prelude.{◌||◌, ◌&&◌, ◌==◌}
+use Rattle.std.specs.List.{list_all}
 use Rattle.std.specs.Int.Bits.{bit_xor, xor_assoc, xor_zero_l, xor_zero_r}
-use Rattle.std.proofs.lemmas.Bool.{cases_Bool}
+use Rattle.std.proofs.lemmas.Bool.{cases_Bool, eqb-true}
 use Rattle.std.proofs.lemmas.List.{get_or-map, take_all, take_more_set}
 use Rattle.std.proofs.lemmas.List.Elements.{All-append}
 use Rattle.lrc_field.specs.Field.{times}
+use Rattle.lrc_field.proofs.FieldLaws.{times-zero}
 use Rattle.lrc_field.specs.declared.combining.Term.{Term}
 use Rattle.lrc_field.specs.Combined.{product_at, sum_at, HaveLength}
 use Rattle.lrc_field.proofs.TermSums.{sum_at-snoc}
@@ -78,4 +80,13 @@ pub source_length : (r : Asked) → refusal r ≡ None → All (λ s. AreBytes s
 source_length r accepted bytes p some = elim (cases_Bool (is_among p r.survivors)) as (λ _. length (bytes_of r.survivors p) ≡ r.len) [
   | inl t ↦ (whole r accepted bytes p t).0
   | inr f ↦ absurd (some (ap length (no_bytes r.survivors p f)))
+]
+
+-- a row of 0 sums to 0
+pub blank_sum : (cs xs : List ℕ) → list_all (λ c. c == 0) cs ≡ true → combination cs xs ≡ 0
+blank_sum [] xs h = refl
+blank_sum (c ∷ cs) [] h = refl
+blank_sum (c ∷ cs) (x ∷ xs) h = elim (cases_Bool (c == 0)) as (λ _. combination (c ∷ cs) (x ∷ xs) ≡ 0) [
+  | inl t ↦ ap₂ bit_xor (ap (λ d. times d x) (eqb-true c 0 t) ∙ times-zero x) (blank_sum cs xs (sym (ap (λ b. b && list_all (λ d. d == 0) cs) t) ∙ h))
+  | inr f ↦ absurd (cc h)
 ]

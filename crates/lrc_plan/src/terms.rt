@@ -1,5 +1,6 @@
 //! Rows of coefficients as sums of scaled fragments, which are made in one pass.
-ghost use Rattle.std.specs.Prelude.{◌≡◌, ◌<◌, ◌≤◌, true, false, length, map, take, IfOk};
+ghost use Rattle.std.specs.Prelude.{◌≡◌, ◌==◌, ◌<◌, ◌≤◌, true, false, take, IfOk};
+ghost use Rattle.std.specs.List.{list_all};
 ghost use Rattle.lrc_code.specs.Requests.{AreSources};
 ghost use Rattle.lrc_plan.specs.Terms.{AreRowSums, AreTerms, IsTermAt, IsZeroRow};
 
@@ -30,8 +31,18 @@ pub(crate) fn is_zero(row: &[Gf; 16], request: &Request, sources: &Sources<'_>) 
     ensures no { result ≡ false → ¬ IsZeroRow request.now row.now }
 {
     let length = request.length() as usize;
+    if is_blank(row) {
+        return true;
+    }
     let (terms, count) = terms_of(row, request, sources);
     sums_are_zero(length, &terms[..count])
+}
+
+// Whether all coefficients are 00, as where a row of a reduction has a pivot.
+fn is_blank(row: &[Gf; 16]) -> bool
+    ensures { result ≡ list_all (λ c. c == 0) row.now }
+{
+    row.iter().all(|c| c.byte() == 0)
 }
 
 // The survivors' bytes with the row's coefficients that aren't 00, and how many there are.
