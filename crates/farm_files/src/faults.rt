@@ -41,6 +41,7 @@ pub enum ServeFault {
 }
 
 // Shown as the name of the file that lists a rack's feed.
+#[derive(Drop)]
 struct ListName {
     rack: usize,
     feed: usize,
