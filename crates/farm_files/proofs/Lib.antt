@@ -10,9 +10,10 @@ pub mod Put
 pub mod PutAll
 pub mod ReadFiles
 pub mod ReadSurvivors
+pub mod Pairs
 pub mod ReadRequests
+pub mod FewFeeds
 pub mod ReadRacks
 pub mod Making
-pub mod ReadAllRacks
 pub mod MakingAll
 pub mod Answered

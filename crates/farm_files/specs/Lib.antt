@@ -7,6 +7,7 @@ pub mod Folder
 pub mod Memory
 pub mod Names
 pub mod Named
+pub mod Pairs
 pub mod Serving
 pub mod Faults
 pub mod Parts
