@@ -7,34 +7,23 @@ use Rattle.lrc_code.specs.declared.places.Place.{Place}
 use Rattle.lrc_code.specs.declared.outcomes.Outcome.{Outcome}
 use Rattle.lrc_code.specs.Places.{name_of}
 use Rattle.farm_files.specs.Listed.{ListedRequest}
-use Rattle.farm_files.specs.Report.{report, report_header, report_line, report_row, report_rows}
+use Rattle.farm_files.specs.declared.report.ReportShape.{ReportShape}
+use Rattle.farm_files.specs.declared.report.ReportRow.{ReportRow}
+use Rattle.farm_files.specs.Report.{Row, merged_report, report_fields, report_header, report_line, report_rows, row_of, rows_of_list}
 
-rows_push : (n : ℕ) (rs : List ListedRequest) (os : List Outcome) (us : List (List Place)) (r : ListedRequest) (o : Outcome) (u : List Place) → length os ≡ length rs → length us ≡ length rs
-    → report_rows n (rs ++ r ∷ []) (os ++ o ∷ []) (us ++ u ∷ []) ≡ report_rows n rs os us ++ report_row (n + length rs) r o u ∷ []
-rows_push n [] [] [] r o u h k = let same : n + 0 ≡ n = omega arith in rw same refl
-rows_push n [] [] (x ∷ us) r o u h k = absurd (omega arith)
-rows_push n [] (x ∷ os) us r o u h k = absurd (omega arith)
-rows_push n (x ∷ rs) [] us r o u h k = absurd (omega arith)
-rows_push n (x ∷ rs) (y ∷ os) [] r o u h k = absurd (omega arith)
-rows_push n (x ∷ rs) (y ∷ os) (z ∷ us) r o u h k =
-    let same : n + length (x ∷ rs) ≡ (n + 1) + length rs = omega arith in
-    rw same (ap (λ t. report_row n x y z ∷ t) (rows_push (n + 1) rs os us r o u (omega arith) (omega arith)))
+rows_push : (shape : ReportShape) (n : ℕ) (rows : List Row) (row : Row) → report_rows shape n (rows ++ row ∷ []) ≡ report_rows shape n rows ++ report_fields shape (n + length rows) row ∷ []
+rows_push shape n [] row = let same : n + 0 ≡ n = omega arith in rw same refl
+rows_push shape n (x ∷ rows) row =
+    let same : n + length (x ∷ rows) ≡ (n + 1) + length rows = omega arith in
+    rw same (ap (λ t. report_fields shape n x ∷ t) (rows_push shape (n + 1) rows row))
 
-pub report_more : (rs : List ListedRequest) (os : List Outcome) (us : List (List Place)) (i : ℕ) (r : ListedRequest) (o : Outcome) (u : List Place)
-    → i < length rs → length os ≡ length rs → length us ≡ length rs
-    → report (take (i + 1) rs) (take (i + 1) os) (take (i + 1) us) ≡ report (take i rs) (take i os) (take i us) ++ report_line (report_row i (get_or rs i r) (get_or os i o) (get_or us i u))
-report_more rs os us i r o u within h k =
-    let a = take_more rs i r within in
-    let b = take_more os i o (omega arith) in
-    let c = take_more us i u (omega arith) in
-    let lr : length (take i rs) ≡ i = omega (arith, length-take i rs) in
-    let lo : length (take i os) ≡ length (take i rs) = omega (arith, length-take i rs, length-take i os) in
-    let lu : length (take i us) ≡ length (take i rs) = omega (arith, length-take i rs, length-take i us) in
-    let pushed = rows_push 0 (take i rs) (take i os) (take i us) (get_or rs i r) (get_or os i o) (get_or us i u) lo lu in
-    let place : 0 + length (take i rs) ≡ i = omega arith in
-    rw (a, b, c) (ap (λ rows. flat_map report_line (report_header ∷ rows)) (rw place at pushed)
-    ∙ flat_map-append report_line (report_header ∷ report_rows 0 (take i rs) (take i os) (take i us)) (report_row i (get_or rs i r) (get_or os i o) (get_or us i u) ∷ [])
-    ∙ ap (λ t. flat_map report_line (report_header ∷ report_rows 0 (take i rs) (take i os) (take i us)) ++ t) (append-nil (report_line (report_row i (get_or rs i r) (get_or os i o) (get_or us i u)))))
+pub report_push : (shape : ReportShape) (rows : List Row) (row : Row) → merged_report shape (rows ++ row ∷ []) ≡ merged_report shape rows ++ report_line (report_fields shape (length rows) row)
+report_push shape rows row =
+    let place : 0 + length rows ≡ length rows = omega arith in
+    ap (λ fields. flat_map report_line (report_header shape ∷ fields)) (rows_push shape 0 rows row)
+    ∙ flat_map-append report_line (report_header shape ∷ report_rows shape 0 rows) (report_fields shape (0 + length rows) row ∷ [])
+    ∙ ap (λ t. merged_report shape rows ++ t) (append-nil (report_line (report_fields shape (0 + length rows) row)))
+    ∙ ap (λ n. merged_report shape rows ++ report_line (report_fields shape n row)) place
 
 -- names with a space between two, one more
 joined_push : (xs : List (List ℕ)) (y : List ℕ) → 0 < length xs → join_with_byte 32 (xs ++ y ∷ []) ≡ join_with_byte 32 xs ++ 32 ∷ y
@@ -58,17 +47,49 @@ names_first (q ∷ ps) zero p text within first e = rw e refl
 names_first (q ∷ ps) (suc i) p text within first e = absurd (omega arith)
 
 -- one more line of a report
-pub report_step : (requests : List (Bor ListedRequest)) (os : List Outcome) (unread : List (Vec Place Global)) (i : ℕ) (r : Bor ListedRequest) (o : Outcome) (u : Vec Place Global) (text new : List ℕ) (w : List Place)
-    → i < length requests → length os ≡ length requests → length unread ≡ length requests → r ≡ get_or requests i r → o ≡ get_or os i o → u ≡ get_or unread i u → w ≡ u.items
-    → text ≡ report (take i (map (λ x. x.now) requests)) (take i os) (take i (map (λ x. x.items) unread))
-    → new ≡ text ++ report_line (report_row i r.now o w)
-    → new ≡ report (take (i + 1) (map (λ x. x.now) requests)) (take (i + 1) os) (take (i + 1) (map (λ x. x.items) unread))
-report_step requests os unread i r o u text new w within h k er eo eu ew so wrote =
+pub report_step : (shape : ReportShape) (rows : List ReportRow) (i : ℕ) (row : ReportRow) (text new : List ℕ) → i < length rows → row ≡ get_or rows i row
+    → text ≡ merged_report shape (map row_of (take i rows))
+    → new ≡ text ++ report_line (report_fields shape i (row_of row))
+    → new ≡ merged_report shape (map row_of (take (i + 1) rows))
+report_step shape rows i row text new within is so wrote =
+    let front = map row_of (take i rows) in
+    let size : length (map row_of (take i rows)) ≡ i = omega (arith, length-map (take i rows) row_of, length-take i rows) in
+    let more : map row_of (take (i + 1) rows) ≡ front ++ row_of row ∷ [] = map_more row_of rows i row within ∙ ap (λ r. front ++ row_of r ∷ []) (sym is) in
+    wrote ∙ ap (λ t. t ++ report_line (report_fields shape i (row_of row))) so
+    ∙ sym (ap (merged_report shape) more ∙ report_push shape front (row_of row) ∙ ap (λ n. merged_report shape front ++ report_line (report_fields shape n (row_of row))) size)
+
+-- ---- the rows of one list
+
+rows_of_list_push : (rs : List ListedRequest) (os : List Outcome) (us : List (List Place)) (r : ListedRequest) (o : Outcome) (u : List Place) → length os ≡ length rs → length us ≡ length rs
+    → rows_of_list (rs ++ r ∷ []) (os ++ o ∷ []) (us ++ u ∷ []) ≡ rows_of_list rs os us ++ record { feed = 0; listed = r; outcome = o; unread = u } ∷ []
+rows_of_list_push [] [] [] r o u h k = refl
+rows_of_list_push [] [] (x ∷ us) r o u h k = absurd (omega arith)
+rows_of_list_push [] (x ∷ os) us r o u h k = absurd (omega arith)
+rows_of_list_push (x ∷ rs) [] us r o u h k = absurd (omega arith)
+rows_of_list_push (x ∷ rs) (y ∷ os) [] r o u h k = absurd (omega arith)
+rows_of_list_push (x ∷ rs) (y ∷ os) (z ∷ us) r o u h k =
+    ap (λ t. record { feed = 0; listed = x; outcome = y; unread = z } ∷ t) (rows_of_list_push rs os us r o u (omega arith) (omega arith))
+
+pub list_rows_step : (requests : List (Bor ListedRequest)) (os : List Outcome) (unread : List (Vec Place Global)) (i : ℕ) (r : Bor ListedRequest) (o : Outcome) (u : Vec Place Global) (row : Row) (before after : List Row)
+    → i < length requests → length os ≡ length requests → length unread ≡ length requests → r ≡ get_or requests i r → o ≡ get_or os i o → u ≡ get_or unread i u
+    → row ≡ record { feed = 0; listed = r.now; outcome = o; unread = u.items }
+    → before ≡ rows_of_list (take i (map (λ x. x.now) requests)) (take i os) (take i (map (λ x. x.items) unread))
+    → after ≡ before ++ row ∷ []
+    → after ≡ rows_of_list (take (i + 1) (map (λ x. x.now) requests)) (take (i + 1) os) (take (i + 1) (map (λ x. x.items) unread))
+list_rows_step requests os unread i r o u row before after within h k er eo eu is so grew =
     let now = λ (x : Bor ListedRequest). x.now in
     let items = λ (x : Vec Place Global). x.items in
+    let rs : List ListedRequest = map now requests in
+    let us : List (List Place) = map items unread in
     let lr = length-map requests now in
     let lu = length-map unread items in
-    let more = report_more (map now requests) os (map items unread) i r.now o u.items (omega (arith, lr)) (omega (arith, lr, h)) (omega (arith, lr, lu, k)) in
-    let gr : get_or (map now requests) i r.now ≡ r.now = get_or-map now requests i r r.now within ∙ ap now (sym er) in
-    let gu : get_or (map items unread) i u.items ≡ u.items = get_or-map items unread i u u.items (omega arith) ∙ ap items (sym eu) in
-    wrote ∙ rw (so, ew) (sym (rw (gr, sym eo, gu) at more))
+    let gr : get_or rs i r.now ≡ r.now = get_or-map now requests i r r.now within ∙ ap now (sym er) in
+    let gu : get_or us i u.items ≡ u.items = get_or-map items unread i u u.items (omega arith) ∙ ap items (sym eu) in
+    let a : take (i + 1) rs ≡ take i rs ++ r.now ∷ [] = take_more rs i r.now (omega (arith, lr)) ∙ ap (λ x. take i rs ++ x ∷ []) gr in
+    let b : take (i + 1) os ≡ take i os ++ o ∷ [] = take_more os i o (omega (arith, h)) ∙ ap (λ x. take i os ++ x ∷ []) (sym eo) in
+    let c : take (i + 1) us ≡ take i us ++ u.items ∷ [] = take_more us i u.items (omega (arith, lu, k)) ∙ ap (λ x. take i us ++ x ∷ []) gu in
+    let lo : length (take i os) ≡ length (take i rs) = omega (arith, length-take i rs, length-take i os, lr) in
+    let lu : length (take i us) ≡ length (take i rs) = omega (arith, length-take i rs, length-take i us, lr, lu) in
+    grew ∙ ap (λ t. t ++ row ∷ []) so ∙ ap (λ x. rows_of_list (take i rs) (take i os) (take i us) ++ x ∷ []) is
+    ∙ sym (ap (λ x. rows_of_list x (take (i + 1) os) (take (i + 1) us)) a ∙ ap (λ x. rows_of_list (take i rs ++ r.now ∷ []) x (take (i + 1) us)) b
+    ∙ ap (λ x. rows_of_list (take i rs ++ r.now ∷ []) (take i os ++ o ∷ []) x) c ∙ rows_of_list_push (take i rs) (take i os) (take i us) r.now o u.items lo lu)

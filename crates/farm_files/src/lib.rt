@@ -23,6 +23,6 @@ pub use folder::FolderShelf;
 pub use listed::Listed;
 pub use listing::{ListFault, Record, read_list};
 pub use memory::MemoryShelf;
-pub use report::report_text;
+pub use report::{ReportRow, ReportShape, merged_report_text, report_text};
 pub use serving::{Served, serve};
 pub use shelf::{Shelf, ShelfFault};
