@@ -4,7 +4,8 @@ pub mod Fuel
 pub mod SpacedNames
 pub mod Orders
 pub mod Plain
-pub mod Rows
+pub mod ReportLines
+pub mod RackRows
 pub mod RackDigests
 pub mod Put
 pub mod PutAll

@@ -8,7 +8,7 @@ use Rattle.lrc_code.specs.declared.places.Place.{Place}
 use Rattle.lrc_code.specs.Requests.{Asked}
 use Rattle.farm_core.specs.Orders.{before_close}
 use Rattle.farm_core.specs.declared.orders.Order.{Order}
-use Rattle.farm_core.proofs.Rows.{all_zip_push}
+use Rattle.farm_core.proofs.ReportLines.{all_zip_push}
 use Rattle.farm_files.specs.Files.{Files}
 use Rattle.farm_files.specs.Report.{before_close as listed_before_close}
 use Rattle.farm_files.specs.declared.listing.Record.{Record}

@@ -11,6 +11,7 @@ mod memory;
 mod names;
 mod reading;
 mod report;
+mod rows;
 mod serving;
 mod shelf;
 #[cfg(test)]

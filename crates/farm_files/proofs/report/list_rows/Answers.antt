@@ -1,7 +1,7 @@
 use Rattle.std.proofs.Common.{◌∙◌, ap, map}
 use Rattle.std.proofs.lemmas.List.{map-append}
 use Rattle.farm_files.specs.Report.{Row, row_of}
-use Rattle.farm_files.proofs.Rows.{list_rows_step}
+use Rattle.farm_files.proofs.ReportLines.{list_rows_step}
 use Rattle.farm_files.proofs.report.list_rows.Goals as goal
 
 pub loop-index-preserved : goal.loop-index-preserved

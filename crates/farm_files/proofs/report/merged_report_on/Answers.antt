@@ -1,4 +1,4 @@
-use Rattle.farm_files.proofs.Rows.{report_step}
+use Rattle.farm_files.proofs.ReportLines.{report_step}
 use Rattle.farm_files.proofs.report.merged_report_on.Goals as goal
 
 pub loop-number-preserved : goal.loop-number-preserved
