@@ -4,15 +4,14 @@ use Rattle.std.specs.List.{AllZip, filter, filter_map}
 use Rattle.std.specs.Option.{is_none}
 use Rattle.lrc_code.specs.declared.places.Place.{Place}
 use Rattle.lrc_code.specs.declared.outcomes.Outcome.{Outcome}
-use Rattle.lrc_code.specs.declared.outcomes.Outcome.TheVariants as outcome
 use Rattle.lrc_code.specs.Requests.{Asked, Survivor}
 use Rattle.farm_files.specs.Listed.{ListedRequest}
 use Rattle.farm_files.specs.Listing.{list_of}
-use Rattle.farm_files.specs.Report.{before_close, report}
+use Rattle.farm_files.specs.Report.{before_close}
 use Rattle.farm_files.specs.declared.listing.Record.{Record}
 use Rattle.farm_files.specs.Files.{Files}
 use Rattle.farm_core.specs.Expected.{AreAllAnswers}
-use Rattle.farm_files.specs.Names.{fragment_name, list_name, rebuilt_name, report_name}
+use Rattle.farm_files.specs.Names.{fragment_name, list_name}
 
 -- ---- the lists
 
@@ -88,34 +87,6 @@ unread_all there (l ∷ ls) (q ∷ qs) = unread_rack there (before_close l) q �
 
 abbrev pub all_failures : List (List Reads) → ℕ
 all_failures reads = sum_by rack_failures reads
-
--- ---- the files that are written, in their order: a name and its bytes
-
-abbrev pub rebuilt_file : ℕ → ℕ → ListedRequest → Outcome → List (List ℕ × List ℕ)
-rebuilt_file k n r (outcome.Rebuilt f) = (rebuilt_name k n r.stripe r.target, f) ∷ []
-rebuilt_file k n r outcome.Contradiction = []
-rebuilt_file k n r outcome.Several = []
-
--- the rebuilt fragments of the requests from the n-th on
-abbrev pub rebuilt_files : ℕ → ℕ → List ListedRequest → List Outcome → List (List ℕ × List ℕ)
-rebuilt_files k n [] outcomes = []
-rebuilt_files k n (r ∷ rs) [] = []
-rebuilt_files k n (r ∷ rs) (o ∷ os) = rebuilt_file k n r o ++ rebuilt_files k (n + 1) rs os
-
--- a rack's rebuilt fragments, then its report
-abbrev pub rack_files : ℕ → List ListedRequest → List Outcome → List (List Place) → List (List ℕ × List ℕ)
-rack_files k rs os us = rebuilt_files k 0 rs os ++ (report_name k, report rs os us) ∷ []
-
--- the files of the racks from the k-th on
-abbrev pub files_from : ℕ → List (List Record) → List (List Outcome) → List (List (List Place)) → List (List ℕ × List ℕ)
-files_from k [] answers us = []
-files_from k (l ∷ ls) [] us = []
-files_from k (l ∷ ls) (a ∷ answers) [] = []
-files_from k (l ∷ ls) (a ∷ answers) (u ∷ us) = rack_files k (before_close l) a u ++ files_from (k + 1) ls answers us
-
--- all files that are written
-abbrev pub written_files : Files → List (List Record) → List (List Reads) → List (List Outcome) → List (List ℕ × List ℕ)
-written_files there lists reads answers = files_from 0 lists answers (unread_all there lists reads)
 
 -- these are the lists of the files, the reads of their survivors and the answers
 pub record Serves (there : Files) (lists : List (List Record)) (reads : List (List Reads)) (answers : List (List Outcome)) : Type 0 where
