@@ -4,7 +4,8 @@ pub mod Fuel
 pub mod SpacedNames
 pub mod Orders
 pub mod Plain
-pub mod Rows
+pub mod ReportLines
+pub mod RackRows
 pub mod RackDigests
 pub mod Put
 pub mod PutAll
@@ -16,4 +17,6 @@ pub mod FewFeeds
 pub mod ReadRacks
 pub mod Making
 pub mod MakingAll
+pub mod Fits
+pub mod FewAnswers
 pub mod Answered

@@ -11,8 +11,7 @@ use Rattle.farm_files.specs.declared.shelf.ShelfFault.TheVariants as shelf_fault
 use Rattle.farm_files.specs.declared.faults.ServeFault.{ServeFault}
 use Rattle.farm_files.specs.declared.faults.ServeFault.TheVariants as fault
 use Rattle.farm_files.specs.Names.{list_name}
-use Rattle.farm_files.specs.Serving.{HaveFeeds, HaveLists, Reads, Serves}
-use Rattle.farm_files.specs.Written.{written_files}
+use Rattle.farm_files.specs.Serving.{HaveFeeds, HaveLists, Reads, Serves, written_files}
 
 -- some first feeds of the rack have lists, and the list of the feed behind them is refused
 abbrev pub RefusesFeed : Files → ℕ → ℕ → ListFault → Type 0

@@ -16,6 +16,7 @@ use Rattle.farm_files.specs.declared.listing.Record.{Record}
 use Rattle.farm_files.specs.declared.listing.Record.TheVariants as rec
 use Rattle.farm_files.specs.Files.{Files}
 use Rattle.farm_files.specs.Names.{fragment_name, list_name}
+use Rattle.farm_files.specs.Written.{files_from}
 
 -- ---- the lists
 
@@ -125,3 +126,7 @@ pub record Serves (there : Files) (lists : List (List (List Record))) (reads : L
   pub listed : AreLists there lists
   pub read : AreAllReads lists reads
   pub answered : AreAllMergedAnswers (orders_all there lists reads) answers
+
+-- all files that are written, in their order: a name and its bytes
+abbrev pub written_files : Files → List (List (List Record)) → List (List (List Reads)) → List (List (ℕ × Outcome)) → List (List ℕ × List ℕ)
+written_files there lists reads answers = files_from 0 lists answers (unread_all there lists reads)
