@@ -34,20 +34,19 @@ of_four (x ∷ fs) all =
     let step : (f : ℕ) → count f (x ∷ fs) ≡ cond (x == f) 1 0 + count f fs = λ f. sum_by-cons (λ g. cond (g == f) 1 0) x fs in
     omega (arith, of_four fs all.1, one_of x all.0, step 0, step 1, step 2, step 3)
 
-none_of : (f : ℕ) (fs : List ℕ) (n : ℕ) → n ≤ f → AllByRecursion (λ g. g < n) fs → count f fs ≡ 0
-none_of f [] n past all = refl
+different : (a b : ℕ) → a < b → cond (a == b) 1 0 < 1
+different a b less = by (a == b) refl
+  where
+    by : (t : Bool) → (a == b) ≡ t → cond t 1 0 < 1
+    by true e = absurd (let same : a ≡ b = grind (arith, nat_tests) in omega (arith, same, less))
+    by false e = omega arith
+
+none_of : (f : ℕ) (fs : List ℕ) (n : ℕ) → n ≤ f → AllByRecursion (λ g. g < n) fs → count f fs < 1
+none_of f [] n past all = omega arith
 none_of f (x ∷ fs) n past all =
     let rest = none_of f fs n past all.1 in
     let less : x < f = omega (arith, all.0, past) in
-    let other : cond (x == f) 1 0 ≡ 0 = different x f less in
-    omega (arith, sum_by-cons (λ g. cond (g == f) 1 0) x fs, other, rest)
-  where
-    different : (a b : ℕ) → a < b → cond (a == b) 1 0 ≡ 0
-    different a b less = by (a == b) refl
-      where
-        by : (t : Bool) → (a == b) ≡ t → cond t 1 0 ≡ 0
-        by true e = absurd (let same : a ≡ b = grind (arith, nat_tests) in omega (arith, same, less))
-        by false e = refl
+    omega (arith, sum_by-cons (λ g. cond (g == f) 1 0) x fs, different x f less, rest)
 
 wider : (n : ℕ) (fs : List ℕ) → n ≤ 4 → AllByRecursion (λ g. g < n) fs → AllByRecursion (λ g. g < 4) fs
 wider n [] few all = tt
