@@ -17,3 +17,5 @@ pub mod Making
 pub mod ReadAllRacks
 pub mod MakingAll
 pub mod Answered
+pub mod OneFeed
+pub mod Fits

@@ -9,6 +9,7 @@ pub mod Memory
 pub mod Names
 pub mod Named
 pub mod Written
+pub mod ReportLaws
 pub mod Serving
 pub mod Faults
 pub mod Parts
