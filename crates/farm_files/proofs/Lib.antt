@@ -20,3 +20,5 @@ pub mod MakingAll
 pub mod Fits
 pub mod FewAnswers
 pub mod Answered
+pub mod OneFeed
+pub mod Fits

@@ -158,10 +158,11 @@ pub plain_fields : (shape : ReportShape) (n : ℕ) (row : Row) → n < 2 ^ 64 �
 plain_fields shape n row small fed e =
     let r = row.listed in
     let a = accepted row.listed e in
-    let named = plain_name r.stripe (and_right (nat_le 1 (length r.stripe) && nat_le (length r.stripe) 32) (list_all is_name_byte r.stripe) a.named) in
-    (plain_decimal n small,
-    plain_if shape.feeds (decimal row.feed) _ (plain_decimal row.feed fed)
-    (named, (plain_place r.target, (plain_decimal r.len (omega (arith, a.short)), (plain_outcome row.outcome, (plain_digest row.outcome, (plain_places row.unread, plain_end shape.codes (code_text r.code) (plain_code r.code))))))))
+    let named = plain_name r.stripe (and_right (nat_le 1 (length r.stripe) && nat_le (length r.stripe) 32) (list_all is_name_byte r.stripe) a.named) in (
+      plain_decimal n small,
+      plain_if shape.feeds (decimal row.feed) _ (plain_decimal row.feed fed)
+          (named, (plain_place r.target, (plain_decimal r.len (omega (arith, a.short)), (plain_outcome row.outcome, (plain_digest row.outcome, (plain_places row.unread, plain_end shape.codes (code_text r.code) (plain_code r.code))))))),
+    )
 
 several_fields : (shape : ReportShape) (n : ℕ) (row : Row) → 1 < length (report_fields shape n row)
 several_fields shape n row = by shape.feeds

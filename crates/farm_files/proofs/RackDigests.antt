@@ -1,6 +1,6 @@
 -- The digests of outcomes, place by place and rack by rack.
 use Rattle.std.proofs.Common.{◌≡◌, ◌<◌, ◌≤◌, ◌+◌, ◌++◌, ◌∙◌, Bor, Global, Vec, ℕ, List, [], ◌∷◌, Option, length, take, drop, map, get_or, flat_map, refl, sym, ap, arith}
-use Rattle.std.proofs.lemmas.List.{at_drop_more, drop-append-le, get_or-map, length-append, length-map, map-append, take-append-le, take_all, drop_all}
+use Rattle.std.proofs.lemmas.List.{at_drop_more, drop-append-le, length-append, length-map, map-append, take-append-le, take_all, drop_all}
 use Rattle.lrc_code.specs.declared.outcomes.Outcome.{Outcome}
 use Rattle.farm_files.specs.Report.{fragment_digest}
 

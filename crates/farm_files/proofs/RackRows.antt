@@ -1,6 +1,6 @@
 -- The rows of a rack, number by number.
-use Rattle.std.proofs.Common.{◌≡◌, ◌<◌, ◌≤◌, ◌+◌, ◌++◌, ◌∙◌, ◌⊎◌, inl, inr, ℕ, zero, suc, Bool, true, false, cond, eqb, List, [], ◌∷◌, Option, Some, None, length, take, map, set, get_or, refl, sym, ap, arith}
-use Rattle.std.specs.Prelude.{count_by, option_map, option_and_then, ◌==◌}
+use Rattle.std.proofs.Common.{◌≡◌, ◌<◌, ◌≤◌, ◌+◌, ◌++◌, ◌∙◌, ◌⊎◌, inl, inr, ℕ, zero, suc, Bool, cond, List, [], ◌∷◌, Option, Some, length, take, map, set, get_or, refl, sym, ap, arith}
+use Rattle.std.specs.Prelude.{count_by, option_and_then, ◌==◌}
 use Rattle.std.specs.List.{AllZip, filter_map, range_with_len, slice_get}
 use Rattle.std.proofs.lemmas.Bool.{cases_eq, eq-eqb, ne_eqb}
 use Rattle.std.proofs.lemmas.List.{get_or-map, get_or-set_same, get_or-set_other, get_or_read, length-map, length-take, map-append, take_more}
@@ -11,7 +11,7 @@ use Rattle.lrc_code.specs.declared.places.Place.{Place}
 use Rattle.lrc_code.specs.declared.outcomes.Outcome.{Outcome}
 use Rattle.farm_files.specs.Listed.{ListedRequest}
 use Rattle.farm_files.specs.Report.{Row}
-use Rattle.farm_files.specs.Rows.{FitsFeeds, member, position, row_at, row_of_number}
+use Rattle.farm_files.specs.Rows.{FitsFeeds, position, row_at, row_of_number}
 
 -- an answer: its feed's number and the outcome
 abbrev Answer : Type 0

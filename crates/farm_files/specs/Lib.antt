@@ -10,6 +10,7 @@ pub mod Names
 pub mod Named
 pub mod Pairs
 pub mod Written
+pub mod ReportLaws
 pub mod Serving
 pub mod Faults
 pub mod Parts

@@ -1,5 +1,5 @@
 -- What a report says.
-use Rattle.std.specs.Prelude.{◌+◌, ◌++◌, ℕ, Bool, true, false, if◌then◌else◌, List, [], ◌∷◌, Option, Some, None, codes, decimal, map}
+use Rattle.std.specs.Prelude.{◌+◌, ◌++◌, ℕ, Bool, true, false, List, [], ◌∷◌, Option, Some, None, codes, decimal, map}
 use Rattle.std.specs.List.{flat_map, join_with_byte, list_any}
 use Rattle.hex.specs.Hex.{encode_lower}
 use Rattle.sha2.specs.Sha256.{sha256}

@@ -1,5 +1,5 @@
 -- The rows of a rack's report, from the answers to a merge of its feeds.
-use Rattle.std.specs.Prelude.{◌<◌, ◌≤◌, ◌==◌, ℕ, nat_lt, List, Option, length, map, take, count_by, option_map, option_and_then, slice_index}
+use Rattle.std.specs.Prelude.{◌<◌, ◌≤◌, ◌==◌, ℕ, nat_lt, List, Option, length, take, count_by, option_map, option_and_then, slice_index}
 use Rattle.std.specs.List.{All, filter_map, list_any, range_with_len, slice_get}
 use Rattle.lrc_code.specs.declared.places.Place.{Place}
 use Rattle.lrc_code.specs.declared.outcomes.Outcome.{Outcome}

@@ -11,6 +11,7 @@ mod memory;
 mod names;
 mod reading;
 mod report;
+pub mod report_laws;
 mod rows;
 mod serving;
 mod shelf;

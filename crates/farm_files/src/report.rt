@@ -224,11 +224,7 @@ fn row_line<'a>(
 }
 
 // Adds a field where it is told.
-fn push_if<'a>(
-    fields: &mut Vec<&'a [u8]>,
-    is_told: bool,
-    field: &'a [u8],
-) -> Result<(), AllocError>
+fn push_if<'a>(fields: &mut Vec<&'a [u8]>, is_told: bool, field: &'a [u8]) -> Result<(), AllocError>
     ensures { OnOk result (map (λ f. f.now) fields.new.items ≡ map (λ f. f.now) fields.old.items ++ field_if is_told field.now) }
 {
     if is_told {

@@ -1,4 +1,4 @@
-use Rattle.std.proofs.Common.{◌≡◌, ◌<◌, ◌+◌, ◌++◌, ◌∷◌, [], ◌∙◌, Bor, Vec, Global, ℕ, List, length, map, set, get_or, sym, ap, arith}
+use Rattle.std.proofs.Common.{◌≡◌, ◌<◌, ◌+◌, ◌++◌, ◌∷◌, [], ◌∙◌, Bor, Vec, Global, ℕ, length, map, set, get_or, sym, ap, arith}
 use Rattle.std.proofs.lemmas.List.{length-set, map-append}
 use Rattle.lrc_code.specs.declared.places.Place.{Place}
 use Rattle.farm_files.specs.Listed.{ListedRequest}
@@ -24,8 +24,12 @@ at c =
 pub index-position-requires : goal.index-position-requires
 unfolding size
 index-position-requires c =
-    omega (arith, known_in size c.args.requests.now c.args.answers.now c.loop-number.number c.index-answers-number.result c.requires.answers c.loop-number-test.true c.index-answers-number.is,
-    c.loop-number.invariant.sized, c.loop-number.counts.ok.0)
+    omega (
+      arith,
+      known_in size c.args.requests.now c.args.answers.now c.loop-number.number c.index-answers-number.result c.requires.answers c.loop-number-test.true c.index-answers-number.is,
+      c.loop-number.invariant.sized,
+      c.loop-number.counts.ok.0,
+    )
 
 pub overflow_add-position : goal.overflow_add-position
 overflow_add-position c =
@@ -50,7 +54,7 @@ answer_row-requires-clause-unread_feed c =
 pub answer_row-requires-clause-unread_position : goal.answer_row-requires-clause-unread_position
 answer_row-requires-clause-unread_position c =
     let within = position_in (λ (rs : Vec (Bor ListedRequest) Global). rs.items) c.args.requests.now c.args.answers.now c.loop-number.number c.index-position.result.now c.index-answers-number.result c.requires.answers
-        c.loop-number-test.true c.index-answers-number.is (at (goal.at.answer_row-requires-clause-unread_position c).After-index-position) in
+    c.loop-number-test.true c.index-answers-number.is (at (goal.at.answer_row-requires-clause-unread_position c).After-index-position) in
     let same = as_many_at (λ (rs : Vec (Bor ListedRequest) Global). rs.items) (λ (us : Vec (Vec Place Global) Global). us.items) c.args.requests.now c.args.unread.now c.index-answers-number.result.0 c.requires.unread in
     omega (arith, within, same)
 
@@ -60,7 +64,7 @@ loop-number-preserved c =
     let requests = map (λ (rs : Vec (Bor ListedRequest) Global). map (λ (r : Bor ListedRequest). r.now) rs.items) c.args.requests.now in
     let unread = map (λ (us : Vec (Vec Place Global) Global). map (λ (u : Vec Place Global). u.items) us.items) c.args.unread.now in
     let made = number_is requests unread c.args.answers.now c.loop-number.number c.index-position.result.now c.index-answers-number.result (row_of c.answer_row.result)
-        c.loop-number-test.true c.index-answers-number.is (at here) c.answer_row.ensures.row in
+    c.loop-number-test.true c.index-answers-number.is (at here) c.answer_row.ensures.row in
     record {
       made = ap (map row_of) c.in_ok-push.ensures.items ∙ map-append row_of c.loop-number.rows.items _ ∙ ap (λ t. t ++ row_of c.answer_row.result ∷ []) c.loop-number.invariant.made
           ∙ sym (numbers_push (row_of_number requests unread c.args.answers.now) c.loop-number.number (row_of c.answer_row.result) made);

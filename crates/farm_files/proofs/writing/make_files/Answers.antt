@@ -54,7 +54,7 @@ split_at-requires g c =
 pub push_rack-requires-clause-answers : goal.push_rack-requires-clause-answers
 push_rack-requires-clause-answers g c =
     let fits = all_zip-at (λ (l : Vec (Vec Record Global) Global) (os : Vec (ℕ × Outcome) Global). FitsFeeds (counts l.items) (map (λ a. a.0) os.items)) c.args.lists.now c.args.answers.now c.loop-rack.rack
-        c.index-lists-rack.result c.index-answers-rack.result c.loop-rack-test.true c.requires.answers in
+    c.index-lists-rack.result c.index-answers-rack.result c.loop-rack-test.true c.requires.answers in
     subst (λ fs. FitsFeeds (counts fs) (map (λ a. a.0) c.as_slice-outcomes.result.now)) (sym c.as_slice.ensures.value)
     (subst (λ os. FitsFeeds (counts c.index-lists-rack.result.items) (map (λ a. a.0) os)) (sym c.as_slice-outcomes.ensures.value)
     (subst (λ (l : Vec (Vec Record Global) Global). FitsFeeds (counts l.items) (map (λ a. a.0) c.index-answers-rack.result.items)) (sym c.index-lists-rack.is)
@@ -70,7 +70,7 @@ push_rack-requires-clause-digests g c =
 pub push_rack-requires-clause-unread : goal.push_rack-requires-clause-unread
 push_rack-requires-clause-unread g c =
     let sized = all_zip-at (λ (l : Vec (Vec Record Global) Global) (us : Vec (Vec (Vec Place Global) Global) Global). Sized l.items us.items) c.args.lists.now c.args.unread.now c.loop-rack.rack
-        c.index-lists-rack.result c.index-unread-rack.result c.loop-rack-test.true c.requires.unread in
+    c.index-lists-rack.result c.index-unread-rack.result c.loop-rack-test.true c.requires.unread in
     subst (λ fs. Sized fs c.as_slice-in-loop-rack.result.now) (sym c.as_slice.ensures.value)
     (subst (λ us. Sized c.index-lists-rack.result.items us) (sym c.as_slice-in-loop-rack.ensures.value)
     (subst (λ (l : Vec (Vec Record Global) Global). Sized l.items c.index-unread-rack.result.items) (sym c.index-lists-rack.is)
