@@ -21,4 +21,3 @@ pub mod Fits
 pub mod FewAnswers
 pub mod Answered
 pub mod OneFeed
-pub mod Fits
