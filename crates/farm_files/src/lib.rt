@@ -25,6 +25,7 @@ pub use folder::FolderShelf;
 pub use listed::Listed;
 pub use listing::{ListFault, Record, read_list};
 pub use memory::MemoryShelf;
+pub use names::list_file;
 pub use report::{ReportRow, ReportShape, merged_report_text, report_text};
 pub use serving::{Served, serve};
 pub use shelf::{Shelf, ShelfFault};
