@@ -19,3 +19,4 @@ pub mod MakingAll
 pub mod Answered
 pub mod OneFeed
 pub mod Fits
+pub mod FeedRows

@@ -1,9 +1,7 @@
 //! Reports, by the calls that make them alone.
 use crate::report::requests_before_close;
 use crate::tests::shared::{EMPTY_REPORT, LIST, REPORT, REPORT_WITHOUT_PX};
-use crate::{
-    Listed, Record, ReportRow, ReportShape, merged_report_text, read_list, report_text,
-};
+use crate::{Listed, Record, ReportRow, ReportShape, merged_report_text, read_list, report_text};
 use lrc_code::{Bytes, Code, Outcome, Place};
 use std::alloc::{AllocError, Global};
 
@@ -17,8 +15,7 @@ const WIDE_REPORT: &[u8] = b"number,stripe,target,length,outcome,digest,unread,c
 ";
 
 // The report on a rack whose first feed has one request, and whose second has none.
-const REPORT_OF_TWO_FEEDS: &[u8] =
-    b"number,feed,stripe,target,length,outcome,digest,unread
+const REPORT_OF_TWO_FEEDS: &[u8] = b"number,feed,stripe,target,length,outcome,digest,unread
 0,0,abc,x0,3,rebuilt,ba7816bf8f01cfea414140de5dae2223b00361a396177a9cb410ff61f20015ad,
 ";
 
