@@ -21,3 +21,4 @@ pub mod Fits
 pub mod FewAnswers
 pub mod Answered
 pub mod OneFeed
+pub mod FeedRows

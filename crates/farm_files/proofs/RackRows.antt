@@ -1,20 +1,24 @@
 -- The rows of a rack, number by number.
 use Rattle.std.proofs.Common.{◌≡◌, ◌<◌, ◌≤◌, ◌+◌, ◌++◌, ◌∙◌, ◌⊎◌, inl, inr, ℕ, zero, suc, Bool, cond, List, [], ◌∷◌, Option, Some, length, take, map, set, get_or, refl, sym, ap, arith}
-use Rattle.std.specs.Prelude.{count_by, option_and_then, ◌==◌}
+use Rattle.std.specs.Prelude.{count_by, option_map, option_and_then, ◌==◌}
 use Rattle.std.specs.List.{AllZip, filter_map, range_with_len, slice_get}
 use Rattle.std.proofs.lemmas.Bool.{cases_eq, eq-eqb, ne_eqb}
-use Rattle.std.proofs.lemmas.List.{get_or-map, get_or-set_same, get_or-set_other, get_or_read, length-map, length-take, map-append, take_more}
+use Rattle.std.proofs.lemmas.List.{get_or-map, get_or-set_same, get_or-set_other, get_or_default, get_or_read, length-map, length-take, map-append, map-id, take_all, take_more}
 use Rattle.std.proofs.lemmas.List.Elements.{All-get_or, filter_map-append}
 use Rattle.std.proofs.lemmas.List.Sums.{count_by-le-length, count_by_more_no, count_by_more_yes, sum_by-cons, sum_by-take-le}
 use Rattle.std.proofs.lemmas.Option.{slice_get-get_or}
 use Rattle.lrc_code.specs.declared.places.Place.{Place}
 use Rattle.lrc_code.specs.declared.outcomes.Outcome.{Outcome}
 use Rattle.farm_files.specs.Listed.{ListedRequest}
+use Rattle.lrc_code.specs.declared.codes.Code.TheVariants.{Narrow}
+use Rattle.lrc_code.specs.declared.places.Place.TheVariants.{X0}
+use Rattle.lrc_code.specs.declared.outcomes.Outcome.TheVariants.{Several}
 use Rattle.farm_files.specs.Report.{Row}
-use Rattle.farm_files.specs.Rows.{FitsFeeds, position, row_at, row_of_number}
+use Rattle.farm_files.specs.ReportLaws.{RowsTellTheAnswers}
+use Rattle.farm_files.specs.Rows.{FitsFeeds, member, position, row_at, row_of_number}
 
 -- an answer: its feed's number and the outcome
-abbrev Answer : Type 0
+abbrev pub Answer : Type 0
 Answer = ℕ × Outcome
 
 pub count_by-map : {X Y : Type 0} (p : Y → Bool) (f : X → Y) (xs : List X) → count_by p (map f xs) ≡ count_by (λ x. p (f x)) xs
@@ -129,3 +133,62 @@ position_in items vs answers n p a fits within is at =
     let below = position_within (map (λ v. length (items v)) vs) answers n a fits within is in
     let same = sizes_at items vs a.0 in
     omega (arith, below, same, at)
+
+-- ---- the rows tell the answers
+
+member_is : {A : Type 0} (lists : List (List A)) (i j : ℕ) (d : A) → i < length lists → j < length (get_or lists i []) → member lists i j ≡ Some (get_or (get_or lists i []) j d)
+member_is lists i j d outer inner = ap (λ o. option_and_then (λ list. slice_get list j) o) (slice_get-get_or lists i [] outer) ∙ slice_get-get_or (get_or lists i []) j d inner
+
+-- a request, for places beyond a list
+pub some_request : ListedRequest
+some_request = record { code = Narrow; stripe = []; target = X0; len = 0; survivors = [] }
+
+-- the row of a number
+pub row_for : (requests : List (List ListedRequest)) (unread : List (List (List Place))) (answers : List Answer) (n : ℕ) (a : Answer) → FitsFeeds (map length requests) (map (λ x. x.0) answers)
+    → AllZip (λ rs us. length us ≡ length rs) requests unread → n < length answers → a ≡ get_or answers n a
+    → (row : Row) × (row_of_number requests unread answers n ≡ Some row) × (row.feed ≡ a.0) × (row.outcome ≡ a.1)
+    × (row.listed ≡ get_or (get_or requests a.0 []) (position answers a.0 n) some_request) × (position answers a.0 n < length (get_or requests a.0 []))
+row_for requests unread answers n a fits sized within is =
+    let p = position answers a.0 n in
+    let known = known_in length requests answers n a fits within is in
+    let below = position_in (λ (rs : List ListedRequest). rs) requests answers n (position answers a.0 n) a fits within is refl in
+    let same = map-id requests in
+    let others = as_many (λ (rs : List ListedRequest). rs) (λ (us : List (List Place)). us) requests unread sized in
+    let alike = as_many_at (λ (rs : List ListedRequest). rs) (λ (us : List (List Place)). us) requests unread a.0 sized in
+    let left = map-id unread in
+    let inner : position answers a.0 n < length (get_or requests a.0 []) = omega (arith, below, ap (λ (rs : List (List ListedRequest)). length (get_or rs a.0 [])) same) in
+    let inner_left : position answers a.0 n < length (get_or unread a.0 []) = omega (arith, below, alike, ap (λ (us : List (List (List Place))). length (get_or us a.0 [])) left) in
+    let r = get_or (get_or requests a.0 []) p some_request in
+    let u = get_or (get_or unread a.0 []) p [] in
+    let found = member_is requests a.0 (position answers a.0 n) some_request known inner in
+    let found_left = member_is unread a.0 (position answers a.0 n) [] (omega (arith, known, others)) inner_left in
+    let made : row_at requests unread a (position answers a.0 n) ≡ Some (record { feed = a.0; listed = r; outcome = a.1; unread = u }) =
+    ap (λ o. option_and_then (λ x. option_map (λ y. record { feed = a.0; listed = x; outcome = a.1; unread = y }) (member unread a.0 (position answers a.0 n))) o) found
+    ∙ ap (λ o. option_map (λ y. record { feed = a.0; listed = r; outcome = a.1; unread = y }) o) found_left in
+    (record { feed = a.0; listed = r; outcome = a.1; unread = u }, number_is requests unread answers n (position answers a.0 n) a _ within is refl made, refl, refl, refl, inner)
+
+tell : Row → Answer
+tell row = (row.feed, row.outcome)
+
+rows_tell_front : (requests : List (List ListedRequest)) (unread : List (List (List Place))) (answers : List Answer) → FitsFeeds (map length requests) (map (λ x. x.0) answers)
+    → AllZip (λ rs us. length us ≡ length rs) requests unread → (n : ℕ) → n ≤ length answers → map tell (filter_map (row_of_number requests unread answers) (range_with_len 0 n)) ≡ take n answers
+unfolding tell
+rows_tell_front requests unread answers fits sized zero below = refl
+rows_tell_front requests unread answers fits sized (suc n) below =
+    let h = row_of_number requests unread answers in
+    let d : Answer = (0, Several) in
+    let within : n < length answers = omega arith in
+    let a = get_or answers n d in
+    let is : get_or answers n d ≡ get_or answers n (get_or answers n d) = get_or_default answers n d (get_or answers n d) within in
+    let found = row_for requests unread answers n (get_or answers n d) fits sized within is in
+    let rest = rows_tell_front requests unread answers fits sized n (omega arith) in
+    let more : suc n ≡ n + 1 = omega arith in
+    let told : tell found.0 ≡ a = ap (λ f. (f, found.0.outcome)) found.2 ∙ ap (λ o. ((get_or answers n d).0, o)) found.3 in
+    ap (λ m. map tell (filter_map h (range_with_len 0 m))) more ∙ ap (map tell) (numbers_push h n found.0 found.1)
+    ∙ map-append tell (filter_map h (range_with_len 0 n)) (found.0 ∷ []) ∙ ap (λ t. t ++ tell found.0 ∷ []) rest ∙ ap (λ x. take n answers ++ x ∷ []) told
+    ∙ sym (ap (λ m. take m answers) more ∙ take_more answers n d within)
+
+pub rows_tell : RowsTellTheAnswers
+unfolding tell
+rows_tell requests unread answers fits sized =
+    rows_tell_front requests unread answers fits sized (length answers) (omega arith) ∙ take_all (length answers) answers (omega arith)

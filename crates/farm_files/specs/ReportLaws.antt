@@ -1,12 +1,13 @@
 -- Laws of reports and of the files of racks with one feed.
-use Rattle.std.specs.Prelude.{◌≡◌, ◌+◌, ◌++◌, ℕ, false, List, [], ◌∷◌, codes, decimal, length, map}
-use Rattle.std.specs.List.{AllZip, flat_map, join_with_byte, list_any}
+use Rattle.std.specs.Prelude.{◌≡◌, ◌+◌, ◌++◌, ◌==◌, ℕ, false, List, [], ◌∷◌, codes, count_by, decimal, length, map, slice_index_or, take}
+use Rattle.std.specs.List.{AllZip, filter, flat_map, join_with_byte, list_any}
 use Rattle.lrc_code.specs.declared.places.Place.{Place}
 use Rattle.lrc_code.specs.declared.outcomes.Outcome.{Outcome}
 use Rattle.lrc_code.specs.Places.{name_of}
 use Rattle.farm_files.specs.Listed.{ListedRequest}
 use Rattle.farm_files.specs.Names.{report_name}
 use Rattle.farm_files.specs.Report.{before_close, digest_text, fragment_digest, is_wide, outcome_name, report, report_line}
+use Rattle.farm_files.specs.Rows.{FitsFeeds, rack_rows}
 use Rattle.farm_files.specs.Written.{files_from, rebuilt_file}
 use Rattle.farm_files.specs.declared.listing.Record.{Record}
 
@@ -55,3 +56,17 @@ abbrev pub FilesOfOneFeedAreOfItsList : Type 0
 FilesOfOneFeedAreOfItsList = (lists : List (List Record)) (answers : List (List Outcome)) (us : List (List (List Place)))
     → AllZip (λ l os. length os ≡ length (before_close l)) lists answers → AllZip (λ l u. length u ≡ length (before_close l)) lists us
     → files_from 0 (map (λ l. l ∷ []) lists) (map (λ os. map (λ o. (0, o)) os) answers) (map (λ u. u ∷ []) us) ≡ lists_files 0 lists answers us
+
+-- ---- the rows of a rack
+
+-- where the answers fit the feeds there is a row for each answer, in order, which tells its feed and its outcome
+abbrev pub RowsTellTheAnswers : Type 0
+RowsTellTheAnswers = (requests : List (List ListedRequest)) (unread : List (List (List Place))) (answers : List (ℕ × Outcome))
+    → FitsFeeds (map length requests) (map (λ a. a.0) answers) → AllZip (λ rs us. length us ≡ length rs) requests unread
+    → map (λ row. (row.feed, row.outcome)) (rack_rows requests unread answers) ≡ answers
+
+-- and the rows of one feed are about the feed's first requests, in order
+abbrev pub RowsOfAFeedAreItsFirst : Type 0
+RowsOfAFeedAreItsFirst = (requests : List (List ListedRequest)) (unread : List (List (List Place))) (answers : List (ℕ × Outcome)) (feed : ℕ)
+    → FitsFeeds (map length requests) (map (λ a. a.0) answers) → AllZip (λ rs us. length us ≡ length rs) requests unread
+    → map (λ row. row.listed) (filter (λ row. row.feed == feed) (rack_rows requests unread answers)) ≡ take (count_by (λ a. a.0 == feed) answers) (slice_index_or requests feed [])
