@@ -1,13 +1,14 @@
 -- Sums of terms, one term after another, and the vectors that hold them.
-use Rattle.std.proofs.Common.{◌≡◌, ℕ, ◌+◌, ◌<◌, ◌≤◌, ◌^◌, List, [], ◌∷◌, ◌++◌, length, get_or, take, ap, ap₂, sym, ◌∙◌, arith}
+use Rattle.std.proofs.Common.{◌≡◌, ◌≢◌, ℕ, ◌+◌, ◌<◌, ◌≤◌, ◌^◌, List, [], ◌∷◌, ◌++◌, length, get_or, set, take, ap, ap₂, sym, subst, inl, inr, ◌∙◌, arith, length-set, get_or-set_same, get_or-set_other}
 use Rattle.std.specs.Int.Bits.{bit_xor, xor_assoc, xor_zero_l, xor_zero_r}
 use Rattle.std.proofs.lemmas.Grind.{take_at_read}
 use Rattle.std.proofs.lemmas.List.{take_all}
 use Rattle.lrc_field.specs.Field.{times}
 use Rattle.lrc_field.specs.declared.combining.Term.{Term}
 use Rattle.lrc_field.specs.declared.blocks.Quad.{Quad}
-use Rattle.lrc_field.specs.Blocks.{HasLanes, HasQuad}
-use Rattle.lrc_field.specs.Combined.{product_at, sum_at}
+use Rattle.lrc_field.specs.Blocks.{AreSet, HasLanes, HasQuad}
+use Rattle.lrc_field.specs.Combined.{IsAddedBelow, product_at, sum_at}
+use Rattle.lrc_field.proofs.Shift.{last_or_below}
 use Rattle.lrc_field.proofs.FieldLaws.{times-one, times-zero}
 
 sum_at-append : (xs ys : List Term) (i : ℕ) → sum_at (xs ++ ys) i ≡ bit_xor (sum_at xs i) (sum_at ys i)
@@ -58,3 +59,31 @@ no_product c x o e = sym (ap (λ s. bit_xor o (times s x)) e ∙ ap (bit_xor o) 
 
 pub is_zero : (c b : ℕ) → c < 2 → b ≡ c → (b ≡ 1 → ⊥) → c ≡ 0
 is_zero c b small same apart = omega (arith, small, same, apart)
+
+-- ---- products that are added byte by byte
+
+pub added_more : (f : ℕ → ℕ) (xs zs : List ℕ) (i v : ℕ) → i < length xs → IsAddedBelow f xs zs i → v ≡ bit_xor (get_or xs i 0) (f i)
+    → IsAddedBelow f xs (set zs i v) (i + 1)
+added_more f xs zs i v lt s e =
+    let inside : i < length zs = subst (λ n. i < n) (sym s.len) lt in
+    record {
+      len = length-set zs i v ∙ s.len;
+      done = λ k below. elim (last_or_below k i (omega arith)) as (λ _. get_or (set zs i v) k 0 ≡ bit_xor (get_or xs k 0) (f k)) [
+        | inl same ↦ ap (λ x. get_or (set zs i v) x 0) same ∙ get_or-set_same zs i v 0 inside ∙ e ∙ ap (λ x. bit_xor (get_or xs x 0) (f x)) (sym same)
+        | inr less ↦ (let ne : k ≢ i = omega arith in get_or-set_other zs i k v 0 ne ∙ s.done k less)
+      ];
+      rest = λ k above. (let ne : k ≢ i = omega arith in get_or-set_other zs i k v 0 ne ∙ s.rest k (omega arith));
+    }
+
+pub set_more : (f : ℕ → ℕ) (zs : List ℕ) (i v : ℕ) → i < length zs → AreSet f zs i → v ≡ f i → AreSet f (set zs i v) (i + 1)
+set_more f zs i v lt s e k below = elim (last_or_below k i (omega arith)) as (λ _. get_or (set zs i v) k 0 ≡ f k) [
+  | inl same ↦ ap (λ x. get_or (set zs i v) x 0) same ∙ get_or-set_same zs i v 0 lt ∙ e ∙ ap f (sym same)
+  | inr less ↦ (let ne : k ≢ i = omega arith in get_or-set_other zs i k v 0 ne ∙ s k less)
+]
+
+-- the bytes are the sums of the first j terms; with those of the next, they are of one more
+pub term_added : (ts : List Term) (j from n : ℕ) (d : Term) (before after : List ℕ) (f : ℕ → ℕ) → j < length ts
+    → ((k : ℕ) → k < n → f k ≡ product_at (get_or ts j d) (from + k)) → AreSet (λ k. sum_at (take j ts) (from + k)) before n
+    → ((k : ℕ) → k < n → get_or after k 0 ≡ bit_xor (get_or before k 0) (f k)) → AreSet (λ k. sum_at (take (j + 1) ts) (from + k)) after n
+term_added ts j from n d before after f lt same so_far added k h =
+    added k h ∙ ap₂ bit_xor (so_far k h) (same k h) ∙ sym (sum_at-more ts j (from + k) d lt)

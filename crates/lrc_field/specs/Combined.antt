@@ -37,3 +37,9 @@ IsTableOf c o = MatchOption o (c < 2) (λ t. t ≡ c)
 -- each term's scalar has its tables
 abbrev pub HaveTables : List Term → List (Option ℕ) → Type 0
 HaveTables ts os = (k : ℕ) (d : Term) → k < length ts → IsTableOf (slice_index_or ts k d).scalar (slice_index_or os k None)
+
+-- in front of a place f of each place was added, and nothing else changed
+pub record IsAddedBelow (f : ℕ → ℕ) (before after : List ℕ) (i : ℕ) : Type 0 where
+  pub len : length after ≡ length before
+  pub done : (k : ℕ) → k < i → slice_index after k ≡ bit_xor (slice_index before k) (f k)
+  pub rest : (k : ℕ) → i ≤ k → slice_index after k ≡ slice_index before k

@@ -2,7 +2,7 @@
 //! are written.
 ghost use Rattle.std.specs.Prelude.{◌≡◌, ◌<◌, ◌≤◌, ◌+◌, ◌^◌, ℕ, Bool, true, false, ◌↔◌, IfOk, OnOk, bit_xor, length, slice_index, slice_index_or, None};
 ghost use Rattle.lrc_field.specs.Blocks.{HasLanes, HasQuad, AreSet};
-ghost use Rattle.lrc_field.specs.Combined.{AreZeroBelow, HaveLength, HaveTables, IsCombined, IsTableOf, Reach, product_at, sum_at};
+ghost use Rattle.lrc_field.specs.Combined.{AreZeroBelow, HaveLength, HaveTables, IsAddedBelow, IsCombined, IsTableOf, Reach, sum_at};
 ghost use Rattle.lrc_field.specs.Field.{times};
 
 use crate::blocks::{self, Quad, Tables};
@@ -89,18 +89,6 @@ fn quad_sums_at(terms: &[Term], tables: &[Option<Tables>; 16], i: usize) -> Quad
     sums
 }
 
-// The sum at one place.
-fn byte_sum_at(terms: &[Term], i: usize) -> u8
-    requires { Reach (i + 1) terms.now }
-    ensures { result ≡ sum_at terms.now i }
-{
-    let mut sum = 0;
-    for term in terms {
-        sum ^= product(term.scalar, term.bytes[i]);
-    }
-    sum
-}
-
 fn product(c: Gf, byte: u8) -> u8
     ensures { result ≡ times c byte }
 {
@@ -109,17 +97,6 @@ fn product(c: Gf, byte: u8) -> u8
     } else {
         c.mul(Gf::new(byte)).byte()
     }
-}
-
-// The tables that so many places need: none below 32.
-fn tables_for(len: usize, terms: &[Term]) -> [Option<Tables>; 16]
-    requires { length terms.now ≤ 16 }
-    ensures { 32 ≤ len → HaveTables terms.now result }
-{
-    if len < 32 {
-        return no_tables();
-    }
-    tables_of(terms)
 }
 
 fn no_tables() -> [Option<Tables>; 16]
@@ -179,15 +156,36 @@ fn write_sums(dst: &mut [u8], from: usize, terms: &[Term], tables: &[Option<Tabl
     blocks::put(dst, last, sums);
 }
 
-// The same, byte by byte.
+// The same, one term after the other.
 fn write_few(dst: &mut [u8], from: usize, terms: &[Term])
     requires fits { from + length dst.old < 2 ^ 64 }
     requires room { Reach (from + length dst.old) terms.now }
     ensures len { length dst.new ≡ length dst.old }
     ensures sums { AreSet (λ k. sum_at terms.now (from + k)) dst.new (length dst.old) }
 {
+    clear(dst);
+    for term in terms {
+        add_few(dst, from, term.scalar, term.bytes);
+    }
+}
+
+fn clear(bytes: &mut [u8])
+    ensures len { length bytes.new ≡ length bytes.old }
+    ensures zero { AreSet (λ k. 0) bytes.new (length bytes.old) }
+{
+    for k in 0..bytes.len() {
+        bytes[k] = 0;
+    }
+}
+
+// Adds products with the bytes from place `from` on, byte by byte.
+fn add_few(dst: &mut [u8], from: usize, c: Gf, bytes: &[u8])
+    requires fits { from + length dst.old < 2 ^ 64 }
+    requires room { from + length dst.old ≤ length bytes.now }
+    ensures { IsAddedBelow (λ k. times c (slice_index bytes.now (from + k))) dst.old dst.new (length dst.old) }
+{
     for k in 0..dst.len() {
-        dst[k] = byte_sum_at(terms, from + k);
+        dst[k] ^= product(c, bytes[from + k]);
     }
 }
 
@@ -202,11 +200,24 @@ pub fn combined<A: Allocator>(
     requires lengths { HaveLength len terms.now }
     ensures { IfOk result (λ v. IsCombined len terms.now v.items) }
 {
-    let tables = tables_for(len, terms);
+    if len < 32 {
+        return few_combined(alloc, len, terms);
+    }
+    let tables = tables_of(terms);
     let mut bytes = Vec::with_capacity(alloc, len)?;
     'parts: while bytes.len() < len {
         append_part(&mut bytes, len, terms, &tables)?;
     }
+    Ok(bytes)
+}
+
+// The same of few places, which need no tables.
+fn few_combined<A: Allocator>(alloc: A, len: usize, terms: &[Term]) -> Result<Vec<u8, A>, AllocError>
+    requires { HaveLength len terms.now }
+    ensures { IfOk result (λ v. IsCombined len terms.now v.items) }
+{
+    let mut bytes = Vec::from_elem(alloc, 0u8, len)?;
+    write_few(bytes.as_mut_slice(), 0, terms);
     Ok(bytes)
 }
 
@@ -219,7 +230,7 @@ fn append_part<A: Allocator>(
 ) -> Result<(), AllocError>
     requires few { length terms.now ≤ 16 }
     requires lengths { HaveLength len terms.now }
-    requires tables { 32 ≤ len → HaveTables terms.now tables.now }
+    requires tables { HaveTables terms.now tables.now }
     requires more { length bytes.old.items < len }
     ensures longer { OnOk result (length bytes.old.items < length bytes.new.items) }
     ensures within { OnOk result (length bytes.new.items ≤ len) }
@@ -243,7 +254,8 @@ pub fn sums_are_zero(len: usize, terms: &[Term]) -> bool
         return true;
     }
     if len < 32 {
-        return few_are_zero(len, terms);
+        let mut sums = [0u8; 32];
+        return few_are_zero(&mut sums[..len], terms);
     }
     let tables = tables_of(terms);
     let mut part = [0u8; 1024];
@@ -258,18 +270,14 @@ pub fn sums_are_zero(len: usize, terms: &[Term]) -> bool
     true
 }
 
-// The same, byte by byte.
-fn few_are_zero(len: usize, terms: &[Term]) -> bool
-    requires { HaveLength len terms.now }
-    ensures yes { result ≡ true → AreZeroBelow len terms.now }
-    ensures no { result ≡ false → ¬ AreZeroBelow len terms.now }
+// The same of few places, as many as `sums` has. They are written there.
+fn few_are_zero(sums: &mut [u8], terms: &[Term]) -> bool
+    requires { HaveLength (length sums.old) terms.now }
+    ensures yes { result ≡ true → AreZeroBelow (length sums.old) terms.now }
+    ensures no { result ≡ false → ¬ AreZeroBelow (length sums.old) terms.now }
 {
-    for i in 0..len {
-        if byte_sum_at(terms, i) != 0 {
-            return false;
-        }
-    }
-    true
+    write_few(sums, 0, terms);
+    are_zeros(sums)
 }
 
 // Whether the sums at as many places as `part` has are 00, from place `from` on. They are written there.

@@ -1,7 +1,10 @@
-use Rattle.std.proofs.Common.{◌+◌}
+use Rattle.std.proofs.Common.{◌≡◌, ◌+◌, length, take}
 use Rattle.lrc_field.specs.Blocks.{AreSet}
 use Rattle.lrc_field.specs.Combined.{sum_at}
 use Rattle.lrc_field.proofs.combining.write_few.Given as goal
 
-abbrev pub invariant-loop-k : goal.invariant-loop-k
-invariant-loop-k l = AreSet (λ k. sum_at l.terms (l.from + k)) l.dst l.k
+abbrev pub invariant-loop-term : goal.invariant-loop-term
+invariant-loop-term l = record {
+  len : length l.dst ≡ length l.fn.dst;
+  sums : AreSet (λ k. sum_at (take l.term-index l.terms) (l.from + k)) l.dst (length l.fn.dst);
+}
