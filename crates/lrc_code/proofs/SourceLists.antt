@@ -1,12 +1,12 @@
 -- The bytes that survive at each place, one survivor after another from the last to the first.
 use Rattle.std.specs.Borrow.{Bor}
-use Rattle.std.proofs.Common.{◌≡◌, ℕ, ◌+◌, ◌<◌, List, [], ◌∷◌, length, get_or, set, drop, map, cond, refl, ap, ap₂, sym, ◌∙◌}
+use Rattle.std.proofs.Common.{◌≡◌, ℕ, ◌+◌, ◌<◌, List, length, get_or, set, drop, map, cond, refl, ap, ap₂, sym, ◌∙◌}
 use Rattle.std.proofs.lemmas.List.{drop_more, map-set}
 use Rattle.lrc_code.specs.declared.places.Place.{Place}
 use Rattle.lrc_code.specs.declared.places.Place.TheVariants.{X0, X1, X2, X3, X4, X5, Y0, Y1, Y2, Y3, Y4, Y5, Px, Py, P0, P1}
 use Rattle.lrc_code.specs.declared.requests.Fragment.{Fragment}
 use Rattle.lrc_code.specs.Places.{all_places, index_of, same_place}
-use Rattle.lrc_code.specs.Requests.{AreSources, Survivor, bytes_of}
+use Rattle.lrc_code.specs.Requests.{AreSources, bytes_of}
 use Rattle.lrc_code.specs.Survivors.{survivors_of}
 
 -- bytes at each place, where those of one place are others

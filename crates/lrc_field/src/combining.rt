@@ -212,7 +212,11 @@ pub fn combined<A: Allocator>(
 }
 
 // The same of few places, which need no tables.
-fn few_combined<A: Allocator>(alloc: A, len: usize, terms: &[Term]) -> Result<Vec<u8, A>, AllocError>
+fn few_combined<A: Allocator>(
+    alloc: A,
+    len: usize,
+    terms: &[Term],
+) -> Result<Vec<u8, A>, AllocError>
     requires { HaveLength len terms.now }
     ensures { IfOk result (λ v. IsCombined len terms.now v.items) }
 {

@@ -1,5 +1,5 @@
 -- Rows of a reduction as plans.
-use Rattle.std.proofs.Common.{◌≡◌, ◌<◌, ℕ, suc, zero, Bool, true, false, cond, List, [], ◌∷◌, Option, Some, None, All, length, map, slice_index, refl, sym, ◌∙◌, ap, arith, lit<}
+use Rattle.std.proofs.Common.{◌≡◌, ◌<◌, ℕ, suc, zero, Bool, true, false, cond, List, [], ◌∷◌, Option, Some, None, All, map, slice_index, refl, sym, ◌∙◌, ap, arith, lit<}
 use Rattle.std.specs.Prelude.{MatchOption}
 use Rattle.std.proofs.lemmas.List.Elements.{All-from_recursion}
 use Rattle.lrc_field.specs.Field.{times}
@@ -7,9 +7,8 @@ use Rattle.lrc_field.proofs.FieldLaws.{times-zero}
 use Rattle.lrc_code.specs.declared.places.Place.{Place}
 use Rattle.lrc_code.specs.Code.{Code, combination}
 use Rattle.lrc_code.specs.Places.{index_of, same_place, all_places}
-use Rattle.lrc_code.specs.Sums.{GivesBytes, sum_over}
 use Rattle.lrc_code.proofs.PlaceSums.{sum_over-same, combination-sum_over}
-use Rattle.lrc_plan.specs.ReducedRows.{AreReduced, row_sum, dot}
+use Rattle.lrc_plan.specs.ReducedRows.{AreReduced, row_sum}
 use Rattle.lrc_plan.specs.ValueRows.{IsTargetRow}
 use Rattle.lrc_plan.specs.Planned.{ExtensionsDiffer}
 use Rattle.lrc_plan.specs.RowPlans.{IsRowValue, ReadsSurvivors, IsValueRow, IsCheckRow, AreCheckRows}

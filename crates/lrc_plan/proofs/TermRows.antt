@@ -14,10 +14,9 @@ use Rattle.lrc_field.specs.Combined.{product_at, sum_at, HaveLength}
 use Rattle.lrc_field.proofs.TermSums.{sum_at-snoc}
 use Rattle.lrc_code.specs.declared.places.Place.{Place}
 use Rattle.lrc_code.specs.declared.places.Place.TheVariants.{X0}
-use Rattle.lrc_code.specs.Places.{same_place, index_of, all_places}
+use Rattle.lrc_code.specs.Places.{same_place, all_places}
 use Rattle.lrc_code.specs.Code.{AreBytes, combination}
 use Rattle.lrc_code.specs.Requests.{AreSources, Asked, Survivor, is_among, bytes_of, refusal}
-use Rattle.lrc_code.proofs.PlaceSums.{index_of-eq, index_at}
 use Rattle.lrc_plan.specs.Evaluation.{byte_at}
 use Rattle.lrc_plan.specs.Terms.{survivor_product}
 use Rattle.lrc_plan.proofs.FittingStripes.{whole}

@@ -17,8 +17,8 @@ use lrc_field::Gf;
 use std::alloc::{AllocError, Allocator, Global};
 
 /// The answer to a request over all stripes of its code: the target's bytes that every fitting stripe
-/// has, or that no stripe fits, or that two fitting stripes differ at the target. The plan stands in
-/// `plan_alloc`, the bytes in `alloc`.
+/// has, or that no stripe fits, or that two fitting stripes differ at the target. The bytes stand in `alloc`; the
+/// plan is made as rows of coefficients, which take no memory, so `plan_alloc` is asked for none.
 pub fn solve<A: Allocator + Clone>(
     alloc: Global,
     plan_alloc: A,

@@ -46,11 +46,7 @@ fn is_blank(row: &[Gf; 16]) -> bool
 }
 
 // The survivors' bytes with the row's coefficients that aren't 00, and how many there are.
-fn terms_of<'a>(
-    row: &[Gf; 16],
-    request: &Request,
-    sources: &Sources<'a>,
-) -> ([Term<'a>; 16], usize)
+fn terms_of<'a>(row: &[Gf; 16], request: &Request, sources: &Sources<'a>) -> ([Term<'a>; 16], usize)
     requires { AreSources request.now.survivors sources.now }
     ensures count { result.1 ≤ 16 }
     ensures terms { AreTerms request.now row.now (take result.1 result.0) }

@@ -301,41 +301,30 @@ fn is_answer<A: Allocator>(solved: &Solved<A>, answer: Answer) -> bool {
     }
 }
 
-// Whether the answer is refused at each allocation of the plan and at the one of its bytes in turn, and is then
-// the right one. Only a rebuilt fragment needs bytes.
-fn answers_in_turn(alloc: Global, request: &Request, answer: Answer) -> Result<bool, AllocError> {
-    let survivors = request.survivors();
-    let target = request.target();
-    if survivors.has(target) || !Code::Narrow.has(target) {
-        return Ok(false);
-    }
-    let plan = plan(alloc, survivors, target)?;
-    let planned = allocations(&plan);
-    let bytes = match answer {
-        Answer::Rebuilt(_) => 1usize,
-        _ => 0,
-    };
-    let mut refused = Refused { next: 0 };
-    for size in (0..2 * LARGEST).step_by(8) {
+// Whether the answer is refused for want of its bytes, and is then the right one. Only a rebuilt fragment needs bytes, and nothing
+// else needs memory.
+fn answers_in_turn(alloc: Global, request: &Request, answer: Answer) -> bool {
+    let needs_bytes = matches!(answer, Answer::Rebuilt(_));
+    let mut refused = false;
+    for size in (0..LARGEST).step_by(8) {
         let Ok(heap) = LocalHeap::new(alloc, size) else {
             continue;
         };
         let Ok(_taken) = Vec::<u8, &LocalHeap>::with_capacity(&heap, 16) else {
             continue;
         };
-        let number = fitting(&heap, plan.checks.len()).min(planned);
         match solve_once(&heap, request, answer) {
-            Ended::Granted => return Ok(refused.next == planned.wrapping_add(bytes)),
-            Ended::Refused if refused.follows(number) => {}
-            _ => return Ok(false),
+            Ended::Granted => return refused == needs_bytes,
+            Ended::Refused => refused = true,
+            Ended::Wrongly => return false,
         }
     }
-    Ok(false)
+    false
 }
 
 // How solving ends in this heap, where the answer is to be this one.
 fn solve_once(heap: &LocalHeap, request: &Request, answer: Answer) -> Ended {
-    match solve_in(heap, heap, request) {
+    match solve_in(heap, request) {
         Ok(solved) if is_answer(&solved, answer) => Ended::Granted,
         Ok(_) => Ended::Wrongly,
         Err(AllocError) => Ended::Refused,
@@ -354,7 +343,7 @@ fn solve_refused_answers_want_of_memory(rt: HostRuntime) -> Result<(), AllocErro
             return Ok(());
         };
         assert!(&rt;
-            answers_in_turn(alloc, &request, case.answer)?,
+            answers_in_turn(alloc, &request, case.answer),
             "{}",
             case.name
         );

@@ -1,4 +1,4 @@
-use Rattle.std.proofs.Common.{◌≡◌, ◌≤◌, ℕ, length, drop}
+use Rattle.std.proofs.Common.{◌≤◌, length, drop}
 use Rattle.lrc_code.specs.Requests.{AreSources}
 use Rattle.lrc_code.specs.Survivors.{survivors_of}
 use Rattle.lrc_code.proofs.requests.sources_of.Given as goal

@@ -1,4 +1,3 @@
-use Rattle.std.proofs.Common.{◌≡◌, length}
 use Rattle.lrc_field.specs.Blocks.{AreSet}
 use Rattle.lrc_field.proofs.combining.clear.Given as goal
 

@@ -1,4 +1,4 @@
-use Rattle.std.proofs.Common.{◌≡◌, ◌+◌, ◌<◌, ◌∙◌, ℕ, ap, get_or, length, arith}
+use Rattle.std.proofs.Common.{◌+◌, ◌<◌, ◌∙◌, ℕ, ap, get_or, length, arith}
 use Rattle.lrc_field.specs.Field.{times}
 use Rattle.lrc_field.specs.declared.combining.Term.{Term}
 use Rattle.lrc_field.specs.Combined.{product_at}

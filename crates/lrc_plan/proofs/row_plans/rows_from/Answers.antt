@@ -1,10 +1,5 @@
 use Rattle.lrc_code.specs.Codes.{tables_of}
 use Rattle.lrc_code.specs.Sets.{is_in}
-use Rattle.lrc_plan.specs.Rows.{coef_of, pivot_of}
-use Rattle.std.proofs.Common.{Option, Some, None, List, ℕ}
-use Rattle.std.specs.Prelude.{MatchOption}
-use Rattle.lrc_plan.specs.Planned.{ExtensionsDiffer}
-use Rattle.lrc_plan.specs.RowPlans.{IsValueRow, IsRowValue}
 use Rattle.lrc_plan.proofs.ReductionRows.{reduced_rows}
 use Rattle.lrc_plan.proofs.RowPlanLaws.{value_either}
 use Rattle.lrc_plan.proofs.row_plans.rows_from.Goals as goal
