@@ -22,3 +22,4 @@ pub mod FewAnswers
 pub mod Answered
 pub mod OneFeed
 pub mod FeedRows
+pub mod OneFeedServed

@@ -12,6 +12,7 @@ pub mod Pairs
 pub mod Written
 pub mod ReportLaws
 pub mod Serving
+pub mod ServingLaws
 pub mod Faults
 pub mod Parts
 pub mod Causes

@@ -14,6 +14,7 @@ mod report;
 pub mod report_laws;
 mod rows;
 mod serving;
+pub mod serving_laws;
 mod shelf;
 #[cfg(test)]
 mod tests;

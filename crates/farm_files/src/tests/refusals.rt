@@ -39,8 +39,8 @@ impl Shelf for CountingShelf {
     }
 }
 
-// Serves two racks of one rebuilt fragment each, the second with a feed without requests. In a run that refuses an allocation this ends with the refusal, and
-// then nothing was written.
+// Serves two racks of one rebuilt fragment each, the second with a feed without requests. In a run that refuses an allocation this
+// ends with the refusal, and then nothing was written.
 fn serve_counting<R: Abort + Threads + Wait + Sync>(
     rt: &R,
     alloc: Global,
