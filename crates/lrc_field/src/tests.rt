@@ -32,7 +32,7 @@ fn some_bytes(alloc: Global, len: usize, seed: u32) -> Result<Vec<u8>, AllocErro
     Ok(bytes)
 }
 
-const LENGTHS: [usize; 7] = [0, 1, 31, 32, 33, 64, 65_536];
+const LENGTHS: [usize; 8] = [0, 1, 31, 32, 33, 64, 4_100, 65_536];
 
 #[test]
 fn known_products(rt: HostRuntime) {
