@@ -146,6 +146,10 @@ fn readers_of_a_request(rt: HostRuntime) -> Result<(), AllocError> {
         assert!(&rt; request.survivors().len() == 2 && request.survivors().has(Place::Y2));
         assert_eq!(&rt; request.bytes_at(Place::X1), Some([7u8].as_slice()));
         assert!(&rt; request.bytes_at(Place::X0).is_none());
+        let sources = request.sources();
+        assert_eq!(&rt; sources[Place::X1.index()], [7u8].as_slice());
+        assert_eq!(&rt; sources[Place::Y2.index()], [7u8].as_slice());
+        assert!(&rt; sources[0].is_empty() && sources[15].is_empty());
     }
     let bytes = Bytes::new(vec![in rt.alloc(); 1, 2, 3]?);
     assert_eq!(&rt; bytes.as_slice(), [1u8, 2, 3].as_slice());
