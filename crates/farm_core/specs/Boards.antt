@@ -1,0 +1,73 @@
+-- What a farm holds of the replies to the requests of some racks' feeds.
+use Rattle.std.specs.Prelude.{ℕ, ◌≡◌, ◌+◌, ◌<◌, ◌==◌, ◌&&◌, if◌then◌else◌, List, [], ◌∷◌, ◌++◌, length, map, slice_index_or, Option, Some, None, IsSome}
+use Rattle.std.specs.List.{sum_by, AllZip}
+use mathlib.Core.Option.{some}
+use lib.ListN.{get_elem?}
+use Rattle.lrc_code.specs.declared.outcomes.Outcome.{Outcome}
+use Rattle.lrc_code.specs.Answers.{IsAnswer}
+use Rattle.lrc_code.specs.Requests.{Asked}
+use Rattle.farm_lanes.specs.Counting.{once_below}
+use Rattle.farm_core.specs.declared.orders.Order.{Order}
+use Rattle.farm_core.specs.declared.reply.ReplyResult.TheVariants.{Done}
+use Rattle.farm_core.specs.Orders.{before_close}
+use Rattle.farm_core.specs.Replies.{Replied, Entry}
+use Rattle.farm_core.specs.Merge.{IsLawfulMerge}
+
+-- how many requests stand in front of the closes of a rack's feeds; so many may be answered
+abbrev pub most_served : List (List Order) → ℕ
+most_served feeds = sum_by (λ (list : List Order). length (before_close list)) feeds
+
+-- the feeds of each rack, and for each number that they may draw the reply that came to it
+pub record Held : Type 0 where
+  pub racks : List (List (List Order))
+  pub table : List (List (Option Entry))
+
+-- there is a row for each rack, with a cell for each number that its feeds may draw
+abbrev pub HasRooms : List (List (List Order)) → List (List (Option Entry)) → Type 0
+HasRooms racks table = map (λ (row : List (Option Entry)). length row) table ≡ map most_served racks
+
+-- the reply that came to this number of this rack
+abbrev pub held_at : Held → ℕ → ℕ → Option Entry
+held_at b rack number = slice_index_or (slice_index_or b.table rack []) number None
+
+-- the feeds of this rack may draw this number
+abbrev pub HasRoom : List (List (List Order)) → ℕ → ℕ → Type 0
+HasRoom racks rack number = number < most_served (slice_index_or racks rack [])
+
+-- no reply has come
+abbrev pub HoldsNothing : List (List (List Order)) → Held → Type 0
+HoldsNothing racks b = (b.racks ≡ racks) × ((rack number : ℕ) → held_at b rack number ≡ None)
+
+-- the second holds this reply too, and else what the first holds
+abbrev pub IsHeldToo : Held → ℕ → ℕ → Entry → Held → Type 0
+IsHeldToo b rack number entry more =
+    (more.racks ≡ b.racks)
+    × (held_at more rack number ≡ Some entry)
+    × ((r k : ℕ) → ((r ≡ rack) × (k ≡ number) → ⊥) → held_at more r k ≡ held_at b r k)
+
+-- how many of the replies are by this number of this rack
+abbrev pub replies_to : ℕ → ℕ → List Replied → ℕ
+replies_to rack number [] = 0
+replies_to rack number (x ∷ xs) = (if (x.rack == rack) && (x.number == number) then 1 else 0) + replies_to rack number xs
+
+-- of each rack one reply by each number below its count, and none by any other
+abbrev pub AreOneEach : (ℕ → ℕ) → List Replied → Type 0
+AreOneEach count xs = (rack number : ℕ) → replies_to rack number xs ≡ once_below number (count rack)
+
+-- the entries in front of the first gap
+abbrev pub filled : List (Option Entry) → List Entry
+filled [] = []
+filled (None ∷ cells) = []
+filled (Some e ∷ cells) = e ∷ filled cells
+
+-- the requests of these entries, each with its feed's number
+abbrev pub merge_of : List (Option Entry) → List (ℕ × Asked)
+merge_of row = map (λ (e : Entry). (e.feed, e.request)) (filled row)
+
+-- of each rack the replies in front of the first gap are those to a lawful merge of its feeds
+abbrev pub AreMergedRows : List (List (List Order)) → List (List (Option Entry)) → Type 0
+AreMergedRows racks table = AllZip (λ feeds row. IsLawfulMerge feeds (merge_of row)) racks table
+
+-- the outcome with its feed's number is what this entry says, and answers its request
+abbrev pub IsOutcomeOf : Entry → ℕ × Outcome → Type 0
+IsOutcomeOf e answer = (answer.0 ≡ e.feed) × IsAnswer e.request answer.1 × (e.result ≡ Done answer.1)

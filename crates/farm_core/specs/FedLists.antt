@@ -1,0 +1,21 @@
+-- The feeds of racks.
+use Rattle.std.specs.Prelude.{◌≡◌, ℕ, ◌<◌, ◌≤◌, List, [], ◌∷◌, length, map}
+use Rattle.std.specs.List.{sum_by}
+use Rattle.farm_lanes.specs.Lists.{Each}
+use Rattle.farm_core.specs.declared.orders.Order.{Order}
+
+-- a rack has 1 to 4 feeds
+abbrev pub IsFewFeeds : List (List Order) → Type 0
+IsFewFeeds feeds = (0 < length feeds) × (length feeds ≤ 4)
+
+-- at most 16 racks, each with 1 to 4 feeds
+abbrev pub AreFeeds : List (List (List Order)) → Type 0
+AreFeeds racks = (length racks ≤ 16) × Each IsFewFeeds racks
+
+-- each list is the only feed of a rack
+abbrev pub one_each : List (List Order) → List (List (List Order))
+one_each racks = map (λ list. list ∷ []) racks
+
+-- how many feeds all racks have
+abbrev pub all_feeds_of : List (List (List Order)) → ℕ
+all_feeds_of racks = sum_by (λ (feeds : List (List Order)). length feeds) racks
