@@ -25,16 +25,16 @@ use Rattle.farm_core.specs.declared.orders.Order.TheVariants.{Rebuild}
 use Rattle.farm_core.specs.declared.jobs.Job.{Job}
 use Rattle.farm_core.specs.declared.jobs.Job.TheVariants.{Solve, Stop}
 use Rattle.farm_core.specs.Orders.{before_close, HasClose}
-use Rattle.farm_core.specs.Jobs.{IsOfFeed, numbers_of, requests_of}
+use Rattle.farm_core.specs.Jobs.{IsOfRack, numbers_of, requests_of}
 use Rattle.farm_core.specs.Feed.{HasFed, CountUp, AreRising, IsMade, IsRightLeft}
 use Rattle.farm_core.proofs.Works.{put_more}
 
 -- a job was put for each of the first i requests
-pub record IsFeeding (total : ℕ) (seat : SeatView) (rack feed : ℕ) (requests : List Asked) (jobs : PutView Job) (i : ℕ) (seat' : SeatView) (jobs' : PutView Job) : Type 0 where
+pub record IsFeeding (total : ℕ) (seat : SeatView) (rack : ℕ) (requests : List Asked) (jobs : PutView Job) (i : ℕ) (seat' : SeatView) (jobs' : PutView Job) : Type 0 where
   pub put : List (Item Job)
   pub only_values : Each (λ x. is_end x ≡ false) put
   pub jobs_is : jobs' ≡ put_end jobs.lane jobs.sender put
-  pub racks_are : All (IsOfFeed rack feed) (values put)
+  pub racks_are : All (IsOfRack rack) (values put)
   pub count : length (values put) ≡ i
   pub long : length put ≡ i
   pub requests_are : requests_of (values put) ≡ take i requests
@@ -70,12 +70,12 @@ module _ {A : Type 0} where
 
 requests_append : (xs ys : List Job) → requests_of (xs ++ ys) ≡ requests_of xs ++ requests_of ys
 requests_append [] ys = refl
-requests_append (Solve a f b q ∷ xs) ys = ap (λ l. q.now ∷ l) (requests_append xs ys)
+requests_append (Solve a b q ∷ xs) ys = ap (λ l. q.now ∷ l) (requests_append xs ys)
 requests_append (Stop ∷ xs) ys = requests_append xs ys
 
 numbers_append : (xs ys : List Job) → numbers_of (xs ++ ys) ≡ numbers_of xs ++ numbers_of ys
 numbers_append [] ys = refl
-numbers_append (Solve a f b q ∷ xs) ys = ap (λ l. b ∷ l) (numbers_append xs ys)
+numbers_append (Solve a b q ∷ xs) ys = ap (λ l. b ∷ l) (numbers_append xs ys)
 numbers_append (Stop ∷ xs) ys = numbers_append xs ys
 
 below_at : (ns : List ℕ) (n x j : ℕ) → All (λ m. m < n) ns → get_elem? ns j ≡ some x → x < n
@@ -87,8 +87,8 @@ below_at (m ∷ ns) n x (suc j) below at = below_at ns n x j (λ i d low. below 
 next_here : (orders : List Order) (i : ℕ) (r : Asked) (d : Order) → i < length orders → get_or orders i d ≡ Rebuild r → before_close (drop i orders) ≡ drop i (before_close orders) → drop i (before_close orders) ≡ r ∷ before_close (drop (i + 1) orders)
 next_here orders i r d low is along = sym along ∙ ap before_close (drop_more orders i d low) ∙ ap (λ (x : Order). before_close (x ∷ drop (i + 1) orders)) is
 
-pub feed_begins : (total : ℕ) (seat : SeatView) (rack feed : ℕ) (requests : List Asked) (jobs : PutView Job) → IsUnusedPut jobs → seat.has.numbers ≡ [] → seat.has.knows ≡ false → IsFeeding total seat rack feed requests jobs 0 seat jobs
-feed_begins total seat rack feed requests jobs unused none knows = record {
+pub feed_begins : (total : ℕ) (seat : SeatView) (rack : ℕ) (requests : List Asked) (jobs : PutView Job) → IsUnusedPut jobs → seat.has.numbers ≡ [] → seat.has.knows ≡ false → IsFeeding total seat rack requests jobs 0 seat jobs
+feed_begins total seat rack requests jobs unused none knows = record {
   put = [];
   only_values = λ k x at. absurd (some-ne-none x (sym at));
   jobs_is = unused;
@@ -108,12 +108,12 @@ feed_begins total seat rack feed requests jobs unused none knows = record {
 }
 
 -- a number was drawn, and the job put
-pub feed_more : (total : ℕ) (seat : SeatView) (rack feed : ℕ) (orders : List Order) (jobs : PutView Job) (i : ℕ) (s s' : SeatView) (e e' : PutView Job) (number : ℕ) (job : Job) (r : Asked) (d : Order) (x : Item Job)
-    → IsFeeding total seat rack feed (before_close orders) jobs i s e → before_close (drop i orders) ≡ drop i (before_close orders) → i < length orders → get_or orders i d ≡ Rebuild r
+pub feed_more : (total : ℕ) (seat : SeatView) (rack : ℕ) (orders : List Order) (jobs : PutView Job) (i : ℕ) (s s' : SeatView) (e e' : PutView Job) (number : ℕ) (job : Job) (r : Asked) (d : Order) (x : Item Job)
+    → IsFeeding total seat rack (before_close orders) jobs i s e → before_close (drop i orders) ≡ drop i (before_close orders) → i < length orders → get_or orders i d ≡ Rebuild r
     → s'.gate ≡ s.gate → s'.has ≡ accepted s.has number → All (λ n. n < number) s.has.numbers → (s.has.share ≡ total → number ≡ length s.has.numbers)
-    → values (x ∷ []) ≡ job ∷ [] → is_end x ≡ false → IsOfFeed rack feed job → numbers_of (job ∷ []) ≡ number ∷ [] → requests_of (job ∷ []) ≡ r ∷ [] → e' ≡ with_put e x
-    → IsFeeding total seat rack feed (before_close orders) jobs (i + 1) s' e'
-feed_more total seat rack feed orders jobs i s s' e e' number job r d x was along low is gate has above lone says value of_rack number_is request_is more =
+    → values (x ∷ []) ≡ job ∷ [] → is_end x ≡ false → IsOfRack rack job → numbers_of (job ∷ []) ≡ number ∷ [] → requests_of (job ∷ []) ≡ r ∷ [] → e' ≡ with_put e x
+    → IsFeeding total seat rack (before_close orders) jobs (i + 1) s' e'
+feed_more total seat rack orders jobs i s s' e e' number job r d x was along low is gate has above lone says value of_rack number_is request_is more =
     let vals : values (was.put ++ x ∷ []) ≡ values was.put ++ job ∷ [] = values-append was.put (x ∷ []) ∙ ap (λ l. values was.put ++ l) says in
     let nums : numbers_of (values (was.put ++ x ∷ [])) ≡ numbers_of (values was.put) ++ number ∷ [] = ap numbers_of vals ∙ (numbers_append (values was.put) (job ∷ []) ∙ ap (λ l. numbers_of (values was.put) ++ l) number_is) in
     let reqs : requests_of (values (was.put ++ x ∷ [])) ≡ requests_of (values was.put) ++ r ∷ [] = ap requests_of vals ∙ (requests_append (values was.put) (job ∷ []) ∙ ap (λ l. requests_of (values was.put) ++ l) request_is) in
@@ -121,7 +121,7 @@ feed_more total seat rack feed orders jobs i s s' e e' number job r d x was alon
       put = was.put ++ x ∷ [];
       only_values = each_snoc (λ x. is_end x ≡ false) was.put x was.only_values value;
       jobs_is = put_more e e' jobs.lane jobs.sender was.put x was.jobs_is more;
-      racks_are = subst (λ l. All (IsOfFeed rack feed) l) (sym vals) (all_push (IsOfFeed rack feed) (values was.put) job was.racks_are of_rack);
+      racks_are = subst (λ l. All (IsOfRack rack) l) (sym vals) (all_push (IsOfRack rack) (values was.put) job was.racks_are of_rack);
       count = ap (λ (l : List Job). length l) vals ∙ (length_push (values was.put) job ∙ ap (λ n. n + 1) was.count);
       long = length_push was.put x ∙ ap (λ n. n + 1) was.long;
       requests_are = reqs ∙ (ap (λ l. l ++ r ∷ []) was.requests_are ∙ sym (take_next i (before_close orders) r (before_close (drop (i + 1) orders)) (next_here orders i r d low is along)));
@@ -148,16 +148,16 @@ feed_more total seat rack feed orders jobs i s s' e e' number job r d x was alon
     one_more ns n up is k y at = ⊎_elim (λ old. up k y old) (λ (new : (k ≡ length ns) × (n ≡ y)). sym new.1 ∙ (is ∙ sym new.0)) (at_snoc_or ns n y k at)
 
 -- the feeder ends
-pub feed_ends : (gate : GateName) (seat : SeatView) (rack feed : ℕ) (list : List Order) (jobs : PutView Job) (i : ℕ) (s s' : SeatView) (e e' : PutView Job) (right : Option TableId) (close : Option ℕ)
-    → IsFeeding gate.size.total seat rack feed (before_close list) jobs i s e → s'.gate ≡ s.gate → s'.has.share ≡ s.has.share → s'.has.numbers ≡ s.has.numbers → s'.has.draws ≤ s'.has.share
+pub feed_ends : (gate : GateName) (seat : SeatView) (rack : ℕ) (list : List Order) (jobs : PutView Job) (i : ℕ) (s s' : SeatView) (e e' : PutView Job) (right : Option TableId) (close : Option ℕ)
+    → IsFeeding gate.size.total seat rack (before_close list) jobs i s e → s'.gate ≡ s.gate → s'.has.share ≡ s.has.share → s'.has.numbers ≡ s.has.numbers → s'.has.draws ≤ s'.has.share
     → e' ≡ with_put e (End e.sender (length e.put))
     → ((put : List (Item Job)) → length (values put) ≡ i → IsRightLeft gate.id seat.has list (length (values put) ≡ length (before_close list)) right close s'.has)
-    → HasFed gate seat rack feed list jobs s' right close e'
-feed_ends gate seat rack feed list jobs i s s' e e' right close was gate_is share numbers within more left = record {
+    → HasFed gate seat rack list jobs s' right close e'
+feed_ends gate seat rack list jobs i s s' e e' right close was gate_is share numbers within more left = record {
   put = was.put;
   only_values = was.only_values;
   jobs_is = more ∙ ap (λ (u : PutView Job). with_put u (End u.sender (length u.put))) was.jobs_is;
-  feed_is = was.racks_are;
+  rack_is = was.racks_are;
   requests_are = was.requests_are ∙ ap (λ n. take n (before_close list)) (sym was.count);
   numbers_are = numbers ∙ was.numbers_are;
   rising = was.rising;

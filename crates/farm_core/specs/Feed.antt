@@ -14,7 +14,7 @@ use Rattle.farm_lanes.specs.GateView.{GateName, SeatView}
 use Rattle.farm_core.specs.declared.orders.Order.{Order}
 use Rattle.farm_core.specs.declared.jobs.Job.{Job}
 use Rattle.farm_core.specs.Orders.{before_close, HasClose}
-use Rattle.farm_core.specs.Jobs.{IsOfFeed, numbers_of, requests_of}
+use Rattle.farm_core.specs.Jobs.{IsOfRack, numbers_of, requests_of}
 
 -- the numbers are 0, 1, 2 and so on
 abbrev pub CountUp : List ℕ → Type 0
@@ -37,11 +37,11 @@ IsRightLeft gate was list All_put None close left = (left.used ≡ was.used + 1)
 
 -- With this seat and this end, unused at first, a feeder put a job for each of the first requests of its list, with the
 -- numbers that it drew, which rise, and then its end mark.
-pub record HasFed (gate : GateName) (seat : SeatView) (rack feed : ℕ) (list : List Order) (jobs : PutView Job) (seat_left : SeatView) (right_left : Option TableId) (close : Option ℕ) (jobs_left : PutView Job) : Type 0 where
+pub record HasFed (gate : GateName) (seat : SeatView) (rack : ℕ) (list : List Order) (jobs : PutView Job) (seat_left : SeatView) (right_left : Option TableId) (close : Option ℕ) (jobs_left : PutView Job) : Type 0 where
   pub put : List (Item Job)
   pub only_values : Each (λ x. is_end x ≡ false) put
   pub jobs_is : jobs_left ≡ put_end jobs.lane jobs.sender (put ++ End jobs.sender (length put) ∷ [])
-  pub feed_is : All (IsOfFeed rack feed) (values put)
+  pub rack_is : All (IsOfRack rack) (values put)
   pub requests_are : requests_of (values put) ≡ take (length (values put)) (before_close list)
   pub numbers_are : seat_left.has.numbers ≡ numbers_of (values put)
   pub rising : AreRising (numbers_of (values put))

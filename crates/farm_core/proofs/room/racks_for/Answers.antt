@@ -50,6 +50,9 @@ bounds-gates-rack c = let was = c.loop-own.invariant.1 in let a = c.in-Some.ensu
 pub feeds-requires : goal.feeds-requires
 feeds-requires c = let was = c.loop-own.invariant.1 in let a = c.in-Some.ensures.steps.1 in let b = c.len-rack.ensures in omega arith
 
+pub rack_room-requires-clause-rack : goal.rack_room-requires-clause-rack
+rack_room-requires-clause-rack c = let was = c.loop-own.invariant.1 in let a = c.in-Some.ensures.steps.1 in let b = c.len-rack.ensures in let d = c.racks.ensures.limit in omega arith
+
 pub rack_room-requires-clause-new : goal.rack_room-requires-clause-new
 rack_room-requires-clause-new c =
     let was = c.loop-own.invariant in let done = c.loop-own.yielded in
