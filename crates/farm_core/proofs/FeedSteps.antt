@@ -1,5 +1,5 @@
 -- A feeder goes on.
-use Rattle.std.proofs.Common.{◌≡◌, ℕ, zero, suc, ◌+◌, ◌<◌, ◌≤◌, List, [], ◌∷◌, ◌++◌, length, take, drop, get_or, Option, None, false, refl, sym, ap, ◌∙◌, subst, ⊎_elim, arith}
+use Rattle.std.proofs.Common.{◌≡◌, ℕ, zero, suc, ◌+◌, ◌<◌, ◌≤◌, List, [], ◌∷◌, ◌++◌, length, take, drop, get_or, Option, Some, None, Bool, false, refl, sym, ap, ◌∙◌, subst, ⊎_elim, arith}
 use Rattle.std.specs.List.{All}
 use Rattle.std.proofs.lemmas.List.{drop_more, length_push, get_or_append_left, get_or_push}
 use Rattle.std.proofs.Common.{below_more}
@@ -26,7 +26,7 @@ use Rattle.farm_core.specs.declared.jobs.Job.{Job}
 use Rattle.farm_core.specs.declared.jobs.Job.TheVariants.{Solve, Stop}
 use Rattle.farm_core.specs.Orders.{before_close, HasClose}
 use Rattle.farm_core.specs.Jobs.{IsOfRack, numbers_of, requests_of}
-use Rattle.farm_core.specs.Feed.{HasFed, CountUp, AreRising, IsMade, IsRightLeft}
+use Rattle.farm_core.specs.Feed.{HasFed, CountUp, AreRising, IsMade, IsRightLeft, refused_draws}
 use Rattle.farm_core.proofs.Works.{put_more}
 
 -- a job was put for each of the first i requests
@@ -46,6 +46,7 @@ pub record IsFeeding (total : ℕ) (seat : SeatView) (rack : ℕ) (requests : Li
   pub share_is : seat'.has.share ≡ seat.has.share
   pub within : i ≤ length requests
   pub draws_are : seat'.has.draws ≡ seat.has.draws + i
+  pub held_is : seat'.has.held ≡ seat.has.held
   pub kept : (seat'.has.used ≡ seat.has.used) × (seat'.has.made ≡ seat.has.made) × (seat'.has.knows ≡ false)
 
 module _ {A : Type 0} where
@@ -104,6 +105,7 @@ feed_begins total seat rack requests jobs unused none knows = record {
   share_is = refl;
   within = omega arith;
   draws_are = omega arith;
+  held_is = refl;
   kept = (refl, refl, knows);
 }
 
@@ -133,6 +135,7 @@ feed_more total seat rack orders jobs i s s' e e' number job r d x was along low
       share_is = ap (λ (q : SeatRecord). q.share) has ∙ was.share_is;
       within = drop_some i (before_close orders) r (before_close (drop (i + 1) orders)) (next_here orders i r d low is along);
       draws_are = let a = ap (λ (q : SeatRecord). q.draws) has in let b = was.draws_are in omega arith;
+      held_is = ap (λ (q : SeatRecord). q.held) has ∙ was.held_is;
       kept = (ap (λ (q : SeatRecord). q.used) has ∙ was.kept.0, ap (λ (q : SeatRecord). q.made) has ∙ was.kept.1, ap (λ (q : SeatRecord). q.knows) has ∙ was.kept.2);
     }
   where
@@ -149,11 +152,11 @@ feed_more total seat rack orders jobs i s s' e e' number job r d x was along low
 
 -- the feeder ends
 pub feed_ends : (gate : GateName) (seat : SeatView) (rack : ℕ) (list : List Order) (jobs : PutView Job) (i : ℕ) (s s' : SeatView) (e e' : PutView Job) (right : Option TableId) (close : Option ℕ)
-    → IsFeeding gate.size.total seat rack (before_close list) jobs i s e → s'.gate ≡ s.gate → s'.has.share ≡ s.has.share → s'.has.numbers ≡ s.has.numbers → s'.has.draws ≤ s'.has.share
+    → IsFeeding gate.size.total seat rack (before_close list) jobs i s e → s'.gate ≡ s.gate → s'.has.share ≡ s.has.share → s'.has.numbers ≡ s.has.numbers → s'.has.draws ≤ s'.has.share → s'.has.held ≡ s.has.held → s'.has.draws ≡ s.has.draws + refused_draws right s'.has.knows
     → e' ≡ with_put e (End e.sender (length e.put))
     → ((put : List (Item Job)) → length (values put) ≡ i → IsRightLeft gate.id seat.has list (length (values put) ≡ length (before_close list)) right close s'.has)
     → HasFed gate seat rack list jobs s' right close e'
-feed_ends gate seat rack list jobs i s s' e e' right close was gate_is share numbers within more left = record {
+feed_ends gate seat rack list jobs i s s' e e' right close was gate_is share numbers within held draws more left = record {
   put = was.put;
   only_values = was.only_values;
   jobs_is = more ∙ ap (λ (u : PutView Job). with_put u (End u.sender (length u.put))) was.jobs_is;
@@ -164,14 +167,25 @@ feed_ends gate seat rack list jobs i s s' e e' right close was gate_is share num
   lone = was.lone;
   gate_is = gate_is ∙ was.gate_is;
   share_is = share ∙ was.share_is;
+  held_is = held ∙ was.held_is;
+  draws_are = let a = was.draws_are in let b = was.count in omega arith;
   within = within;
   right = left was.put was.count;
 }
+
+-- a close leaves the rights that the seat holds
+pub close_holds : (s s' : SeatRecord) (result : Result ℕ AlreadyClosed) → MatchResult result (λ n. (s' ≡ made_close s n) × (s.knows ≡ false)) (λ _. s' ≡ missed_close s) → s'.held ≡ s.held
+close_holds s s' (Ok n) closed = ap (λ (q : SeatRecord). q.held) closed.0
+close_holds s s' (Err e) closed = ap (λ (q : SeatRecord). q.held) closed
+
+-- the right is back, and the seat drew so many times more than jobs were put
+pub draws_told : (draws : ℕ) (right : TableId) (s : SeatRecord) (more : ℕ) (told : Bool) → s.knows ≡ told → refused_draws (Some right) told ≡ more → s.draws ≡ draws + more → s.draws ≡ draws + refused_draws (Some right) s.knows
+draws_told draws right s more told knows is all = all ∙ ap (λ n. draws + n) (sym (ap (refused_draws (Some right)) knows ∙ is))
 
 -- the right was spent
 pub right_spent : (gate : TableId) (was s s' : SeatRecord) (list : List Order) (result : Result ℕ AlreadyClosed) (close : Option ℕ) (all : Type 0) → HasClose list → close ≡ result_ok result
     → MatchResult result (λ n. (s' ≡ made_close s n) × (s.knows ≡ false)) (λ _. s' ≡ missed_close s) → s.used ≡ was.used → s.made ≡ was.made → all → IsRightLeft gate was list all None close s'
 right_spent gate was s s' list (Ok n) close all has is closed used made put =
-    (ap (λ (q : SeatRecord). q.used) closed.0 ∙ ap (λ k. k + 1) used, subst (λ c. IsMade was.made c s'.made) (sym is) (ap (λ (q : SeatRecord). q.made) closed.0 ∙ ap (λ l. l ++ n ∷ []) made), put, has)
+    (ap (λ (q : SeatRecord). q.used) closed.0 ∙ ap (λ k. k + 1) used, subst (λ c. IsMade was.made c s'.made) (sym is) (ap (λ (q : SeatRecord). q.made) closed.0 ∙ ap (λ l. l ++ n ∷ []) made), put, has, ap (λ (q : SeatRecord). q.knows) closed.0)
 right_spent gate was s s' list (Err e) close all has is closed used made put =
-    (ap (λ (q : SeatRecord). q.used) closed ∙ ap (λ k. k + 1) used, subst (λ c. IsMade was.made c s'.made) (sym is) (ap (λ (q : SeatRecord). q.made) closed ∙ made), put, has)
+    (ap (λ (q : SeatRecord). q.used) closed ∙ ap (λ k. k + 1) used, subst (λ c. IsMade was.made c s'.made) (sym is) (ap (λ (q : SeatRecord). q.made) closed ∙ made), put, has, ap (λ (q : SeatRecord). q.knows) closed)

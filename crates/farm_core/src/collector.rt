@@ -5,7 +5,7 @@ ghost use Rattle.farm_core.specs.Rows.{Answers, HasNoGaps, IsLeastGap};
 ghost use Rattle.farm_core.specs.declared.reply.FinishFault.TheVariants.{OutOfMemory};
 ghost use Rattle.farm_core.specs.Orders.{IsServed};
 ghost use Rattle.farm_core.specs.Expected.{AreExpected};
-ghost use Rattle.farm_core.specs.Replies.{IsNothingYet, IsAdded, reply_at, IsInPlace, NoneStarved};
+ghost use Rattle.farm_core.specs.Replies.{IsNothingYet, IsAdded, reply_at, IsComplete, IsInPlace, NoneStarved};
 ghost use Rattle.farm_core.specs.Faults.{entry_of, IsRefused, IsUnfinished};
 
 use crate::orders::Racks;
@@ -66,6 +66,7 @@ impl<'a> Collector<'a> {
         requires { IsInPlace self }
         ensures all { IfOk result (λ v. AreExpected self.entry.racks (map (λ answers. answers.items) v.items)) }
         ensures fed { OnOk result (NoneStarved self.entry) }
+        ensures complete { OnOk result (IsComplete self.entry) }
         ensures refused { IfErr result (λ e. IsUnfinished self.entry e) }
     {
         let Collector {
