@@ -1,11 +1,11 @@
 -- One rack more has put what its feeds drew.
-use Rattle.std.proofs.Common.{◌≡◌, ◌≢◌, ℕ, zero, suc, ◌+◌, ◌<◌, ◌≤◌, ◌&&◌, List, [], ◌∷◌, ◌++◌, length, map, refl, sym, ap, ◌∙◌, subst, inl, inr, ⊎_elim, arith, nat_eq, nat_lt, cond}
+use Rattle.std.proofs.Common.{◌≡◌, ◌≢◌, ℕ, suc, ◌+◌, ◌<◌, ◌&&◌, List, [], ◌∷◌, ◌++◌, length, map, refl, sym, ap, ◌∙◌, subst, inl, inr, ⊎_elim, arith, nat_eq, cond}
 use Rattle.std.specs.List.{sum_by, All}
-use Rattle.std.proofs.lemmas.Bool.{cases_eq, cases_lt}
+use Rattle.std.proofs.lemmas.Bool.{cases_eq}
 use Rattle.std.proofs.lemmas.Bool.Decides.{nat_tests}
 use Rattle.std.proofs.lemmas.List.{length_push}
 use Rattle.std.proofs.lemmas.List.Sums.{sum_by-cons, sum_by-append}
-use mathlib.Core.Option.{some, some-ne-none, some-injective}
+use mathlib.Core.Option.{some, some-ne-none}
 use lib.ListN.{get_elem?}
 use Rattle.lrc_code.specs.Requests.{Asked}
 use Rattle.farm_lanes.specs.declared.lane.item.Item.{Item}
@@ -14,7 +14,7 @@ use Rattle.farm_lanes.specs.Counting.{times, once_below}
 use Rattle.farm_lanes.specs.LaneEnds.{PutView}
 use Rattle.farm_lanes.specs.LaneRecord.{values}
 use Rattle.farm_lanes.specs.Lists.{Each}
-use Rattle.farm_lanes.proofs.Lists.{at_below, at_snoc_or, at_either, at_map, from_map, sum_map}
+use Rattle.farm_lanes.proofs.Lists.{at_below, at_snoc_or, at_either, at_map, sum_map}
 use Rattle.farm_lanes.proofs.Numbers.{times-cons, same_test, other_test}
 use Rattle.farm_lanes.proofs.Sums.{total_none}
 use Rattle.farm_core.specs.declared.orders.Order.{Order}
@@ -26,7 +26,7 @@ use Rattle.farm_core.specs.Drawn.{Draws, drawn_numbers, AreDrawn, IsDrawnBy}
 use Rattle.farm_core.specs.Joint.{draws_of, HasDrawn}
 use Rattle.farm_core.specs.Put.{AsksNothing, HasPutStops}
 use Rattle.farm_core.specs.Settled.{job_weight, IsSoJob, IsSoItem}
-use Rattle.farm_core.specs.Cleared.{AreAllDrawn, IsDrawnAt, HasPutDrawn, HavePut}
+use Rattle.farm_core.specs.Cleared.{IsDrawnAt, HavePut}
 use Rattle.farm_core.proofs.Settled.{Every, jobs_to, weigh_jobs, job_items}
 use Rattle.farm_core.proofs.Joints.{same_sums}
 

@@ -1,5 +1,5 @@
 -- A reply put in a cell of a table, or not.
-use Rattle.std.proofs.Common.{ℕ, ◌≡◌, ◌<◌, List, [], length, get_or, set, arith, sym, ap, ◌∙◌, Option, Some, None, length-set}
+use Rattle.std.proofs.Common.{ℕ, ◌≡◌, ◌<◌, List, [], length, get_or, set, arith, ap, ◌∙◌, Option, Some, length-set}
 use Rattle.std.specs.Prelude.{Result, Ok, Err, OnOk, IfErr}
 use Rattle.std.proofs.Math.Seq.{map-set_same}
 use Rattle.farm_core.specs.declared.orders.Order.{Order}

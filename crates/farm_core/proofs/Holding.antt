@@ -1,11 +1,8 @@
 -- Replies in any order.
-use Rattle.std.proofs.Common.{ℕ, zero, suc, ◌≡◌, ◌⊎◌, ◌+◌, ◌<◌, ◌≤◌, true, List, [], ◌∷◌, ◌++◌, length, get_or, arith, refl, sym, ap, ◌∙◌, append_assoc, subst, inl, inr, ⊎_elim, Option, Some, None}
+use Rattle.std.proofs.Common.{ℕ, ◌≡◌, ◌+◌, ◌<◌, true, List, [], ◌∷◌, ◌++◌, length, arith, refl, sym, ap, ◌∙◌, append_assoc, subst, inl, inr, Option, Some, None}
 use Rattle.std.specs.Prelude.{IsSome}
 use Rattle.std.specs.Option.{is_some}
-use Rattle.std.proofs.lemmas.Bool.{cases_eq, cases_lt}
-use mathlib.Core.Option.{some, some-ne-none}
-use lib.ListN.{get_elem?}
-use Rattle.farm_lanes.specs.Counting.{once_below}
+use Rattle.std.proofs.lemmas.Bool.{cases_eq}
 use Rattle.farm_lanes.proofs.Lists.{at_front, at_back}
 use Rattle.farm_lanes.proofs.Numbers.{once_le, once_lt}
 use Rattle.farm_core.specs.declared.orders.Order.{Order}
@@ -15,7 +12,7 @@ use Rattle.farm_core.specs.Replies.{Replied, Entry}
 use Rattle.farm_core.specs.Faults.{entry_of}
 use Rattle.farm_core.specs.Slots.{slot_rack}
 use Rattle.farm_core.specs.Boards.{Held, held_at, HoldsNothing, HasRoom, IsHeldToo, replies_to, AreOneEach}
-use Rattle.farm_core.specs.Held.{IsAmong, HoldsAll, IsNotHeld, WasNotHeld, HasHeld}
+use Rattle.farm_core.specs.Held.{HoldsAll, IsNotHeld, WasNotHeld, HasHeld}
 use Rattle.farm_core.proofs.Progress.{no_some, here}
 use Rattle.farm_core.proofs.Settled.{replies_to-append}
 

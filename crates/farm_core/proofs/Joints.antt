@@ -1,17 +1,16 @@
 -- The joined seat of a rack tells what its feeders drew.
-use Rattle.std.proofs.Common.{◌≡◌, ℕ, zero, suc, ◌+◌, ◌-◌, ◌<◌, ◌≤◌, ◌||◌, ◌⊎◌, List, [], ◌∷◌, ◌++◌, length, take, map, Bool, true, false, refl, sym, ap, ◌∙◌, subst, inl, inr, ⊎_elim, arith, append-nil, length-append, Option, Some, None}
+use Rattle.std.proofs.Common.{◌≡◌, ℕ, zero, suc, ◌+◌, ◌<◌, ◌||◌, ◌⊎◌, List, [], ◌∷◌, ◌++◌, length, take, map, Bool, true, false, refl, sym, ap, ◌∙◌, subst, inl, inr, ⊎_elim, arith, append-nil, length-append, Option, Some, None}
 use Rattle.std.specs.List.{sum_by, All}
 use Rattle.std.specs.Option.{is_some}
-use Rattle.std.proofs.lemmas.List.{take_all, length_push}
-use Rattle.std.proofs.lemmas.List.Sums.{sum_by-cons, sum_by-append}
+use Rattle.std.proofs.lemmas.List.{take_all}
+use Rattle.std.proofs.lemmas.List.Sums.{sum_by-cons}
 use mathlib.Core.Option.{some, some-ne-none, some-injective}
 use lib.ListN.{get_elem?}
 use Rattle.atomic_table.specs.Seated.{TableId}
-use Rattle.lrc_code.specs.Requests.{Asked}
 use Rattle.farm_lanes.specs.declared.gate.record.SeatRecord.{SeatRecord}
 use Rattle.farm_lanes.specs.declared.gate.record.GateSize.{GateSize}
 use Rattle.farm_lanes.specs.declared.lane.item.Item.TheVariants.{End}
-use Rattle.farm_lanes.specs.Counting.{times, once_below, AreBelow}
+use Rattle.farm_lanes.specs.Counting.{times}
 use Rattle.farm_lanes.specs.GateRecord.{IsSound}
 use Rattle.farm_lanes.specs.GateView.{GateName, SeatView}
 use Rattle.farm_lanes.specs.LaneEnds.{PutView}
@@ -32,7 +31,7 @@ use Rattle.farm_core.specs.declared.feeding.Fed.{Fed}
 use Rattle.farm_core.specs.Orders.{before_close, HasClose}
 use Rattle.farm_core.specs.Jobs.{IsOfRack, IsOfFeed, numbers_of, requests_of}
 use Rattle.farm_core.specs.Feed.{HasFed, IsRightLeft, AreRising}
-use Rattle.farm_core.specs.Drawn.{Draws, drawn_numbers, drawn_requests, DrewAll, AreDrawn}
+use Rattle.farm_core.specs.Drawn.{Draws, drawn_numbers, drawn_requests, DrewAll}
 use Rattle.farm_core.specs.Joint.{right_back, draws_of, IsOfGate, IsJoint, AreFed, HasDrawn}
 use Rattle.farm_core.proofs.Settled.{there}
 use Rattle.farm_core.proofs.Merged.{map_length}

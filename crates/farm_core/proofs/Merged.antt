@@ -1,5 +1,5 @@
 -- From one reply to each number that was drawn to lawful merges of all racks.
-use Rattle.std.proofs.Common.{◌≡◌, ℕ, zero, suc, ◌+◌, ◌<◌, ◌≤◌, List, [], ◌∷◌, ◌++◌, length, take, map, get_or, refl, sym, ap, ◌∙◌, subst, inl, inr, arith, nat_eq, nat_lt, cond, Option, Some, None, length-append}
+use Rattle.std.proofs.Common.{◌≡◌, ℕ, zero, suc, ◌<◌, ◌≤◌, List, [], ◌∷◌, ◌++◌, length, take, map, get_or, refl, sym, ap, ◌∙◌, subst, inl, inr, arith, Option, Some, None, length-append}
 use Rattle.std.specs.Prelude.{IsSome}
 use Rattle.std.specs.List.{sum_by, AllZip}
 use Rattle.std.proofs.lemmas.Bool.{cases_lt}
@@ -9,7 +9,7 @@ use mathlib.Core.Option.{some, some-ne-none, some-injective}
 use lib.ListN.{get_elem?}
 use Rattle.lrc_code.specs.declared.outcomes.Outcome.{Outcome}
 use Rattle.lrc_code.specs.Requests.{Asked}
-use Rattle.farm_lanes.proofs.Lists.{at_below, at_map, from_map}
+use Rattle.farm_lanes.proofs.Lists.{from_map}
 use Rattle.farm_lanes.proofs.Lengths.{below_length}
 use Rattle.farm_lanes.proofs.Numbers.{times-append}
 use Rattle.farm_lanes.specs.Counting.{times, once_below, AreBelow}
@@ -18,10 +18,10 @@ use Rattle.farm_core.specs.declared.orders.Order.{Order}
 use Rattle.farm_core.specs.Orders.{before_close}
 use Rattle.farm_core.specs.Replies.{Replied, Entry}
 use Rattle.farm_core.specs.Slots.{slot_feed}
-use Rattle.farm_core.specs.Drawn.{Draws, drawn_numbers, drawn_requests, AreDrawn, IsDrawnBy}
+use Rattle.farm_core.specs.Drawn.{Draws, drawn_numbers, AreDrawn, IsDrawnBy}
 use Rattle.farm_core.specs.Expected.{AreAnswers, AreExpected}
-use Rattle.farm_core.specs.Merge.{IsLawfulMerge, IsFedAnswer, AreMergedAnswers, AreAllMergedAnswers}
-use Rattle.farm_core.specs.Boards.{Held, held_at, HasRoom, HasRooms, most_served, replies_to, AreOneEach, filled, merge_of, AreMergedRows, IsOutcomeOf}
+use Rattle.farm_core.specs.Merge.{IsLawfulMerge, IsFedAnswer, AreAllMergedAnswers}
+use Rattle.farm_core.specs.Boards.{Held, held_at, HasRoom, HasRooms, most_served, AreOneEach, filled, merge_of, AreMergedRows, IsOutcomeOf}
 use Rattle.farm_core.specs.Held.{HoldsAll}
 use Rattle.farm_core.specs.Settled.{IsSoReply}
 use Rattle.farm_core.specs.Cleared.{AreAllDrawn, IsDrawnAt}

@@ -4,7 +4,6 @@ use Rattle.std.specs.List.{sum_by, All}
 use mathlib.Core.Option.{some}
 use lib.ListN.{get_elem?}
 use Rattle.atomic_table.specs.Seated.{TableId}
-use Rattle.lrc_code.specs.Requests.{Asked}
 use Rattle.farm_lanes.specs.declared.gate.record.SeatRecord.{SeatRecord}
 use Rattle.farm_lanes.specs.Counting.{times}
 use Rattle.farm_lanes.specs.GateView.{GateName, SeatView}

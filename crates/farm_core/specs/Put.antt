@@ -1,5 +1,5 @@
 -- Put ends that ask for no reply.
-use Rattle.std.specs.Prelude.{⊤, ◌≡◌, ℕ, List}
+use Rattle.std.specs.Prelude.{⊤, ◌≡◌, List}
 use Rattle.farm_lanes.specs.declared.lane.item.Item.{Item}
 use Rattle.farm_lanes.specs.declared.lane.item.Item.TheVariants.{Value, End}
 use Rattle.farm_lanes.specs.Lists.{Each}

@@ -1,5 +1,5 @@
 -- What each job and each reply says, for the settlement of a whole run.
-use Rattle.std.specs.Prelude.{⊤, ◌≡◌, ℕ, ◌==◌, ◌&&◌, if◌then◌else◌}
+use Rattle.std.specs.Prelude.{⊤, ℕ, ◌==◌, ◌&&◌, if◌then◌else◌}
 use Rattle.lrc_code.specs.Requests.{Asked}
 use Rattle.farm_lanes.specs.declared.lane.item.Item.{Item}
 use Rattle.farm_lanes.specs.declared.lane.item.Item.TheVariants.{Value, End}

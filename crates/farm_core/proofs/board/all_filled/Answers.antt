@@ -1,4 +1,4 @@
-use Rattle.std.proofs.Common.{rules, ◌∙◌, ℕ, List, [], ◌∷◌, ◌++◌, vec_items, ap, sym, subst, append_assoc, Option, Vec, Global}
+use Rattle.std.proofs.Common.{rules, ◌∙◌, List, [], ◌∷◌, ◌++◌, vec_items, ap, sym, subst, append_assoc, Option, Vec, Global}
 use Rattle.std.specs.List.{AllZip}
 use Rattle.farm_core.specs.Replies.{Entry}
 use Rattle.farm_core.specs.Slots.{slot_feed}

@@ -1,6 +1,5 @@
 use Rattle.std.proofs.Common.{ℕ, ◌∙◌, List, vec_items, ap, subst, Option}
 use Rattle.std.specs.Prelude.{IfErr}
-use Rattle.farm_core.specs.declared.reply.CollectFault.{CollectFault}
 use Rattle.farm_core.specs.Boards.{Held}
 use Rattle.farm_core.specs.Cells.{IsNotEntered}
 use Rattle.farm_core.specs.Held.{IsNotHeld}

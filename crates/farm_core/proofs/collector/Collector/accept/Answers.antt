@@ -1,4 +1,4 @@
-use Rattle.std.proofs.Common.{arith, ℕ, ◌∙◌, List, vec_items, ap, subst, Option}
+use Rattle.std.proofs.Common.{arith, ℕ, List, vec_items, subst, Option}
 use Rattle.std.specs.Prelude.{IfErr, OnOk}
 use Rattle.farm_core.specs.Cells.{HasCell, IsNotEntered}
 use Rattle.farm_core.specs.Faults.{IsRefused}

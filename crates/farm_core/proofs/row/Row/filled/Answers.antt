@@ -1,4 +1,4 @@
-use Rattle.std.proofs.Common.{rules, arith, ℕ, ◌≡◌, ◌+◌, ◌∙◌, List, [], ◌∷◌, ◌++◌, length, map, vec_items, refl, ap, sym, subst, append_assoc, Option, Some, None}
+use Rattle.std.proofs.Common.{rules, arith, ◌≡◌, ◌∙◌, List, ◌∷◌, ◌++◌, map, vec_items, refl, ap, sym, subst, append_assoc, Option, Some, None}
 use Rattle.std.specs.List.{AllZip}
 use Rattle.std.specs.Option.{option_map}
 use Rattle.std.specs.Vec.Iter.{into_iter_items}

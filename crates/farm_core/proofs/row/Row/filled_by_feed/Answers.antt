@@ -1,9 +1,8 @@
-use Rattle.std.proofs.Common.{rules, arith, ℕ, ◌≡◌, ◌+◌, ◌∙◌, List, [], ◌∷◌, ◌++◌, length, map, vec_items, refl, ap, sym, subst, append_assoc, Option, Some, None}
+use Rattle.std.proofs.Common.{rules, arith, ◌≡◌, ◌∙◌, List, ◌∷◌, ◌++◌, map, vec_items, ap, sym, subst, append_assoc, Option, Some, None}
 use Rattle.std.specs.List.{AllZip}
 use Rattle.std.specs.Option.{option_map}
 use Rattle.std.specs.Vec.Iter.{into_iter_items}
 use Rattle.std.proofs.lemmas.List.{length_push, map-append}
-use Rattle.lrc_code.specs.declared.outcomes.Outcome.{Outcome}
 use Rattle.farm_core.specs.Replies.{Entry, Replied}
 use Rattle.farm_core.specs.Rows.{entries}
 use Rattle.farm_core.specs.Slots.{slot_feed}
