@@ -21,10 +21,10 @@ pub enum ReplyResult {
 /// What became of the request of a rack and a number. Its type keeps that a `Done` outcome is the request's answer.
 #[derive(Debug, Drop)]
 pub struct Reply<'a> {
-    rack: usize,
-    number: u64,
-    request: &'a Request,
-    result: ReplyResult,
+    pub rack: usize,
+    pub number: u64,
+    pub request: &'a Request,
+    pub result: ReplyResult,
 }
 
 impl<'a> Model for Reply<'a> {
@@ -64,14 +64,14 @@ impl<'a> Reply<'a> {
     }
 
     /// The rack of the request.
-    pub fn rack(&self) -> usize
+    pub(crate) fn rack(&self) -> usize
         ensures { result ≡ self.now.rack }
     {
         self.rack
     }
 
     /// The number of the request in its rack.
-    pub fn number(&self) -> u64
+    pub(crate) fn number(&self) -> u64
         ensures { result ≡ self.now.number }
     {
         self.number

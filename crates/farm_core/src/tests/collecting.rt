@@ -5,7 +5,7 @@ ghost use Rattle.farm_core.specs.Orders.{before_close, served};
 ghost use Rattle.farm_core.specs.Replies.{IsInPlace};
 
 use crate::tests::requests::{GLOBAL, LOCAL, SEVERAL, is_byte, is_several, racks_of};
-use crate::{CollectFault, Collector, FinishFault, Order, RackList, Racks, Reply};
+use crate::{CollectFault, Collector, FinishFault, Order, RackList, Racks, Reply, ReplyResult};
 use lrc_code::{Outcome, Request};
 use lrc_plan::solve;
 use std::alloc::{AllocError, Global};
@@ -178,7 +178,13 @@ fn strangers_and_second_replies(rt: HostRuntime) -> Result<(), AllocError> {
     let Some(request) = requests.first() else {
         panic!(rt; "no request");
     };
-    assert!(rt; is_stranger(&mut collector, Reply::starved(1, 0, request)));
+    let elsewhere = Reply {
+        rack: 1,
+        number: 0,
+        request,
+        result: ReplyResult::Starved,
+    };
+    assert!(rt; is_stranger(&mut collector, elsewhere));
     assert!(rt; is_stranger(&mut collector, Reply::starved(0, 1, request)));
     assert!(rt; collector.accept(Reply::starved(0, 0, request)).is_ok());
     let outcome = solve(alloc, alloc, request)?;
