@@ -71,7 +71,7 @@ ends bad-stripe 1 '' 'rack0.csv: record 2: E21 E1' farm "$scratch/bad" "$scratch
 [ -z "$(ls "$scratch/out")" ] || fail faults 'wrote files'
 ends no-output-folder 3 '' E24 farm demo/farm "$scratch/none"
 ends_full served-full 3 '' farm demo/farm "$scratch/out"
-ends served 0 'served 2 racks, 7 answers' '' farm demo/farm "$scratch/out"
+ends served 0 'served 4 racks, 14 answers' '' farm demo/farm "$scratch/out"
 
 # The greatest list and the greatest fragments that a folder may have, and then a fragment and the list with a byte more.
 mkdir "$scratch/greatest" "$scratch/rebuilt"

@@ -1,19 +1,33 @@
 #!/usr/bin/env bash
-# Runs the built program on lines whose replies an independent program worked out (crates/rebuild/cases), and compares.
+# Runs the built program on lines whose replies an independent program works out (scripts/reference.py), and compares: the
+# stored ones (crates/rebuild/cases), and random lines of both codes.
 set -euo pipefail
 cd "$(dirname "$0")/.."
 program=crates/rebuild/out/rebuild
 scratch=$(mktemp -d)
 trap 'rm -rf "$scratch"' EXIT
+
+# Compares the program's replies to a file of lines with those in another. Some of the lines are refused.
+compare() {
+  local lines=$1 wanted=$2 status=0
+  "$program" < "$lines" > "$scratch/replies" || status=$?
+  cmp "$scratch/replies" "$wanted"
+  [ "$status" = 1 ]
+}
+
 compared=0
 for lines in crates/rebuild/cases/*; do
   case $lines in *.stdout) continue ;; esac
-  status=0
-  "$program" < "$lines" > "$scratch/replies" || status=$?
-  cmp "$scratch/replies" "$lines.stdout"
-  # Some of the lines are refused.
-  [ "$status" = 1 ]
+  compare "$lines" "$lines.stdout"
+  scripts/reference.py < "$lines" | cmp - "$lines.stdout"
   echo "reference-lines $lines: $(wc -l < "$scratch/replies") replies as they must be"
   compared=$((compared + 1))
 done
 [ "$compared" != 0 ]
+
+for seed in 2 3 4 5 6; do
+  scripts/reference.py lines 1000 "$seed" > "$scratch/lines"
+  scripts/reference.py < "$scratch/lines" > "$scratch/wanted"
+  compare "$scratch/lines" "$scratch/wanted"
+done
+echo 'reference-lines: 5000 random lines of both codes, each replied to as it must be'

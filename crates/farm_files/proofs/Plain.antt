@@ -16,10 +16,14 @@ use Rattle.lrc_code.specs.declared.outcomes.Outcome.{Outcome}
 use Rattle.lrc_code.specs.declared.outcomes.Outcome.TheVariants as outcome
 use Rattle.lrc_code.specs.declared.requests.RequestFault.{RequestFault}
 use Rattle.lrc_code.specs.declared.requests.RequestFault.TheVariants as fault
+use Rattle.lrc_code.specs.declared.codes.Code.{Code as CodeName}
+use Rattle.lrc_code.specs.declared.codes.Code.TheVariants.{Narrow, Wide}
+use Rattle.lrc_code.specs.Codes.{code_text}
 use Rattle.lrc_code.specs.Places.{name_of}
 use Rattle.lrc_code.specs.Requests.{is_name, is_name_byte}
 use Rattle.farm_files.specs.Listed.{ListedRequest, listed_refusal}
-use Rattle.farm_files.specs.Report.{digest_text, fragment_digest, outcome_name, report_line, report_row}
+use Rattle.farm_files.specs.declared.report.ReportShape.{ReportShape}
+use Rattle.farm_files.specs.Report.{Row, digest_text, field_if, fragment_digest, outcome_name, report_fields, report_line}
 use Rattle.farm_files.proofs.SpacedNames.{and_left, and_right}
 
 -- a field that calls for no quotes
@@ -137,18 +141,46 @@ accepted r e = by (is_name r.stripe) (nat_le 1 r.len && nat_le r.len 65536) _ re
     by true false x h k q = cc
     by false c x h k q = cc
 
-pub plain_fields : (n : ℕ) (r : ListedRequest) (o : Outcome) (unread : List Place) → n < 2 ^ 64 → listed_refusal r ≡ None → ArePlain (report_row n r o unread)
-plain_fields n r o unread small e =
-    let a = accepted r e in
-    let named = plain_name r.stripe (and_right (nat_le 1 (length r.stripe) && nat_le (length r.stripe) 32) (list_all is_name_byte r.stripe) a.named) in
-    (plain_decimal n small, (named, (plain_place r.target, (plain_decimal r.len (omega (arith, a.short)), (plain_outcome o, (plain_digest o, (plain_places unread, tt)))))))
+-- fields that only some shapes have
+plain_if : (b : Bool) (f : List ℕ) (rest : List (List ℕ)) → IsPlain f → ArePlain rest → ArePlain (field_if b f ++ rest)
+plain_if true f rest p q = (p, q)
+plain_if false f rest p q = q
 
-pub row_line : (n : ℕ) (r : ListedRequest) (o : Outcome) (unread : List Place) → n < 2 ^ 64 → listed_refusal r ≡ None → row_text default_writer (report_row n r o unread) ≡ report_line (report_row n r o unread)
-row_line n r o unread small e = plain_row (report_row n r o unread) (omega arith) (plain_fields n r o unread small e)
+plain_end : (b : Bool) (f : List ℕ) → IsPlain f → ArePlain (field_if b f)
+plain_end true f p = (p, tt)
+plain_end false f p = tt
 
-pub row_fields : (n : ℕ) (r : ListedRequest) (o : Outcome) (unread : List Place) (a b c d e f g : List ℕ) → n < 2 ^ 64 → listed_refusal r ≡ None
-    → a ≡ decimal n → b ≡ r.stripe → c ≡ name_of r.target → d ≡ decimal r.len → e ≡ outcome_name o → f ≡ digest_text (fragment_digest o) → g ≡ join_with_byte 32 (map name_of unread)
-    → row_text default_writer (a ∷ b ∷ c ∷ d ∷ e ∷ f ∷ g ∷ []) ≡ report_line (report_row n r o unread)
-row_fields n r o unread a b c d e f g small accept ha hb hc hd he hf hg =
-    let same : a ∷ b ∷ c ∷ d ∷ e ∷ f ∷ g ∷ [] ≡ report_row n r o unread = rw (ha, hb, hc, hd, he, hf, hg) refl in
-    ap (row_text default_writer) same ∙ row_line n r o unread small accept
+plain_code : (code : CodeName) → IsPlain (code_text code)
+plain_code Narrow = refl
+plain_code Wide = refl
+
+pub plain_fields : (shape : ReportShape) (n : ℕ) (row : Row) → n < 2 ^ 64 → row.feed < 2 ^ 64 → listed_refusal row.listed ≡ None → ArePlain (report_fields shape n row)
+plain_fields shape n row small fed e =
+    let r = row.listed in
+    let a = accepted row.listed e in
+    let named = plain_name r.stripe (and_right (nat_le 1 (length r.stripe) && nat_le (length r.stripe) 32) (list_all is_name_byte r.stripe) a.named) in (
+      plain_decimal n small,
+      plain_if shape.feeds (decimal row.feed) _ (plain_decimal row.feed fed)
+          (named, (plain_place r.target, (plain_decimal r.len (omega (arith, a.short)), (plain_outcome row.outcome, (plain_digest row.outcome, (plain_places row.unread, plain_end shape.codes (code_text r.code) (plain_code r.code))))))),
+    )
+
+several_fields : (shape : ReportShape) (n : ℕ) (row : Row) → 1 < length (report_fields shape n row)
+several_fields shape n row = by shape.feeds
+  where
+    by : (b : Bool) → 1 < length (decimal n ∷ (field_if b (decimal row.feed)
+        ++ row.listed.stripe ∷ name_of row.listed.target ∷ decimal row.listed.len ∷ outcome_name row.outcome ∷ digest_text (fragment_digest row.outcome)
+        ∷ join_with_byte 32 (map name_of row.unread) ∷ field_if shape.codes (code_text row.listed.code)))
+    by true = omega arith
+    by false = omega arith
+
+pub row_line : (shape : ReportShape) (n : ℕ) (row : Row) → n < 2 ^ 64 → row.feed < 2 ^ 64 → listed_refusal row.listed ≡ None
+    → row_text default_writer (report_fields shape n row) ≡ report_line (report_fields shape n row)
+row_line shape n row small fed e = plain_row (report_fields shape n row) (several_fields shape n row) (plain_fields shape n row small fed e)
+
+pub row_fields : (shape : ReportShape) (n : ℕ) (row : Row) (a b c d e f g h i : List ℕ) → n < 2 ^ 64 → row.feed < 2 ^ 64 → listed_refusal row.listed ≡ None
+    → a ≡ decimal n → b ≡ decimal row.feed → c ≡ row.listed.stripe → d ≡ name_of row.listed.target → e ≡ decimal row.listed.len → f ≡ outcome_name row.outcome
+    → g ≡ digest_text (fragment_digest row.outcome) → h ≡ join_with_byte 32 (map name_of row.unread) → i ≡ code_text row.listed.code
+    → row_text default_writer (a ∷ (field_if shape.feeds b ++ c ∷ d ∷ e ∷ f ∷ g ∷ h ∷ field_if shape.codes i)) ≡ report_line (report_fields shape n row)
+row_fields shape n row a b c d e f g h i small fed accept ha hb hc hd he hf hg hh hi =
+    let same : a ∷ (field_if shape.feeds b ++ c ∷ d ∷ e ∷ f ∷ g ∷ h ∷ field_if shape.codes i) ≡ report_fields shape n row = rw (ha, hb, hc, hd, he, hf, hg, hh, hi) refl in
+    ap (row_text default_writer) same ∙ row_line shape n row small fed accept

@@ -41,16 +41,16 @@ list_from : (x : Option (List ℕ)) (bytes : List ℕ) (l : Result (List Record)
 list_from None bytes l e h = cc
 list_from (Some b) bytes l e h = let same : bytes ≡ take 1048577 b = cc in ap Some (sym (take_list b) ∙ ap list_of (sym same) ∙ h)
 
-pub list_read : (there : Files) (rack : ℕ) (name bytes : List ℕ) (l : Result (List Record) ListFault) → name ≡ list_name rack → Some bytes ≡ option_map (take 1048577) (there name) → list_of bytes ≡ l
-    → option_map list_of (there (list_name rack)) ≡ Some l
-list_read there rack name bytes l named e h = ap (λ n. option_map list_of (there n)) (sym named) ∙ list_from (there name) bytes l e h
+pub list_read : (there : Files) (rack feed : ℕ) (name bytes : List ℕ) (l : Result (List Record) ListFault) → name ≡ list_name rack feed → Some bytes ≡ option_map (take 1048577) (there name) → list_of bytes ≡ l
+    → option_map list_of (there (list_name rack feed)) ≡ Some l
+list_read there rack feed name bytes l named e h = ap (λ n. option_map list_of (there n)) (sym named) ∙ list_from (there name) bytes l e h
 
 list_none : (x : Option (List ℕ)) → None ≡ option_map (take 1048577) x → option_map list_of x ≡ None
 list_none None e = refl
 list_none (Some b) e = cc
 
-pub list_absent : (there : Files) (rack : ℕ) (name : List ℕ) → name ≡ list_name rack → None ≡ option_map (take 1048577) (there name) → option_map list_of (there (list_name rack)) ≡ None
-list_absent there rack name named e = ap (λ n. option_map list_of (there n)) (sym named) ∙ list_none (there name) e
+pub list_absent : (there : Files) (rack feed : ℕ) (name : List ℕ) → name ≡ list_name rack feed → None ≡ option_map (take 1048577) (there name) → option_map list_of (there (list_name rack feed)) ≡ None
+list_absent there rack feed name named e = ap (λ n. option_map list_of (there n)) (sym named) ∙ list_none (there name) e
 
 -- ---- fragments
 
@@ -99,12 +99,12 @@ fragment_failed there r p = refl
 
 -- ---- faults of a list
 
-pub list_refused : (f : ListFault) (told : Told) (rack n m : ℕ) (name bytes : List ℕ) → m ≡ n → name ≡ list_name rack
+pub list_refused : (f : ListFault) (told : Told) (rack feed n m : ℕ) (name bytes : List ℕ) → m ≡ n → name ≡ list_name rack feed
     → ((t : Files) → told ≡ Some t → Some bytes ≡ option_map (take 1048577) (t name))
-    → IsFaultOf f (list_of bytes) → IsListFault (serve_fault rack f) rack told n m
-list_refused list_fault.OutOfMemory told rack n m name bytes calm named read is = calm
-list_refused list_fault.InputTooLong told rack n m name bytes calm named read is = (refl, calm, λ t e. list_read t rack name bytes _ named (read t e) is)
-list_refused list_fault.BadHeader told rack n m name bytes calm named read is = (refl, calm, λ t e. list_read t rack name bytes _ named (read t e) is)
-list_refused list_fault.TooManyOrders told rack n m name bytes calm named read is = (refl, calm, λ t e. list_read t rack name bytes _ named (read t e) is)
-list_refused (list_fault.BadRecord k) told rack n m name bytes calm named read is = (refl, calm, λ t e. list_read t rack name bytes _ named (read t e) is)
-list_refused (list_fault.Refused k x) told rack n m name bytes calm named read is = (refl, calm, λ t e. list_read t rack name bytes _ named (read t e) is)
+    → IsFaultOf f (list_of bytes) → IsListFault (serve_fault rack feed f) rack feed told n m
+list_refused list_fault.OutOfMemory told rack feed n m name bytes calm named read is = calm
+list_refused list_fault.InputTooLong told rack feed n m name bytes calm named read is = (refl, refl, calm, λ t e. list_read t rack feed name bytes _ named (read t e) is)
+list_refused list_fault.BadHeader told rack feed n m name bytes calm named read is = (refl, refl, calm, λ t e. list_read t rack feed name bytes _ named (read t e) is)
+list_refused list_fault.TooManyOrders told rack feed n m name bytes calm named read is = (refl, refl, calm, λ t e. list_read t rack feed name bytes _ named (read t e) is)
+list_refused (list_fault.BadRecord k) told rack feed n m name bytes calm named read is = (refl, refl, calm, λ t e. list_read t rack feed name bytes _ named (read t e) is)
+list_refused (list_fault.Refused k x) told rack feed n m name bytes calm named read is = (refl, refl, calm, λ t e. list_read t rack feed name bytes _ named (read t e) is)

@@ -2,11 +2,15 @@ pub mod Listed
 pub mod Listing
 pub mod Views
 pub mod Report
+pub mod Rows
 pub mod Files
 pub mod Folder
 pub mod Memory
 pub mod Names
 pub mod Named
+pub mod Pairs
+pub mod Written
+pub mod ReportLaws
 pub mod Serving
 pub mod Faults
 pub mod Parts

@@ -1,29 +1,42 @@
--- What serving a folder of lists writes.
+-- What serving a folder of lists reads, and answers.
 use Rattle.std.specs.Prelude.{◌≡◌, ◌+◌, ◌<◌, ◌≤◌, ◌==◌, ◌++◌, Bool, ℕ, List, [], ◌∷◌, length, map, Option, Some, None, Ok, option_map, option_and_then, if◌then◌else◌, count_by, sum_by}
 use Rattle.std.specs.List.{AllZip, filter, filter_map}
 use Rattle.std.specs.Option.{is_none}
 use Rattle.lrc_code.specs.declared.places.Place.{Place}
 use Rattle.lrc_code.specs.declared.outcomes.Outcome.{Outcome}
-use Rattle.lrc_code.specs.declared.outcomes.Outcome.TheVariants as outcome
 use Rattle.lrc_code.specs.Requests.{Asked, Survivor}
+use Rattle.farm_core.specs.declared.orders.Order.{Order}
+use Rattle.farm_core.specs.declared.orders.Order.TheVariants.{Rebuild, Close}
+use Rattle.farm_core.specs.Merge.{AreAllMergedAnswers}
+use Rattle.farm_files.specs.Pairs.{zip_with}
 use Rattle.farm_files.specs.Listed.{ListedRequest}
 use Rattle.farm_files.specs.Listing.{list_of}
-use Rattle.farm_files.specs.Report.{before_close, report}
+use Rattle.farm_files.specs.Report.{before_close}
 use Rattle.farm_files.specs.declared.listing.Record.{Record}
+use Rattle.farm_files.specs.declared.listing.Record.TheVariants as rec
 use Rattle.farm_files.specs.Files.{Files}
-use Rattle.farm_core.specs.Expected.{AreAllAnswers}
-use Rattle.farm_files.specs.Names.{fragment_name, list_name, rebuilt_name, report_name}
+use Rattle.farm_files.specs.Names.{fragment_name, list_name}
+use Rattle.farm_files.specs.Written.{files_from}
 
 -- ---- the lists
 
--- the racks from the k-th on have these lists
-abbrev pub HaveLists : Files → ℕ → List (List Record) → Type 0
-HaveLists there k [] = Unit {0}
-HaveLists there k (l ∷ ls) = (option_map list_of (there (list_name k)) ≡ Some (Ok l)) × HaveLists there (k + 1) ls
+-- the feeds of a rack from the f-th on have these lists
+abbrev pub HaveFeeds : Files → ℕ → ℕ → List (List Record) → Type 0
+HaveFeeds there rack f [] = Unit {0}
+HaveFeeds there rack f (l ∷ ls) = (option_map list_of (there (list_name rack f)) ≡ Some (Ok l)) × HaveFeeds there rack (f + 1) ls
 
--- these are the lists of all racks
-abbrev pub AreLists : Files → List (List Record) → Type 0
-AreLists there lists = HaveLists there 0 lists × (there (list_name (length lists)) ≡ None) × (0 < length lists) × (length lists ≤ 16)
+-- these are the lists of all feeds of a rack
+abbrev pub AreFeeds : Files → ℕ → List (List Record) → Type 0
+AreFeeds there rack feeds = HaveFeeds there rack 0 feeds × (there (list_name rack (length feeds)) ≡ None) × (0 < length feeds) × (length feeds ≤ 4)
+
+-- the racks from the k-th on have these lists, feed by feed
+abbrev pub HaveLists : Files → ℕ → List (List (List Record)) → Type 0
+HaveLists there k [] = Unit {0}
+HaveLists there k (feeds ∷ racks) = AreFeeds there k feeds × HaveLists there (k + 1) racks
+
+-- these are the lists of all racks, feed by feed
+abbrev pub AreLists : Files → List (List (List Record)) → Type 0
+AreLists there racks = HaveLists there 0 racks × (there (list_name (length racks) 0) ≡ None) × (0 < length racks) × (length racks ≤ 16)
 
 -- ---- the fragments
 
@@ -56,69 +69,64 @@ failures reads = count_by (λ q. q.1) reads
 abbrev pub AreReads : ListedRequest → Reads → Type 0
 AreReads r reads = map (λ q. q.0) reads ≡ r.survivors
 
--- ---- a rack's requests
+-- ---- the requests of a feed
 
-abbrev pub asked_rack : Files → List ListedRequest → List Reads → List Asked
-asked_rack there [] reads = []
-asked_rack there (r ∷ rs) [] = []
-asked_rack there (r ∷ rs) (q ∷ qs) = asked there r q ∷ asked_rack there rs qs
+abbrev pub asked_feed : Files → List ListedRequest → List Reads → List Asked
+asked_feed there rs reads = zip_with (asked there) rs reads
 
-abbrev pub unread_rack : Files → List ListedRequest → List Reads → List (List Place)
-unread_rack there [] reads = []
-unread_rack there (r ∷ rs) [] = []
-unread_rack there (r ∷ rs) (q ∷ qs) = unread there r q ∷ unread_rack there rs qs
+abbrev pub unread_feed : Files → List ListedRequest → List Reads → List (List Place)
+unread_feed there rs reads = zip_with (unread there) rs reads
 
-abbrev pub rack_failures : List Reads → ℕ
-rack_failures reads = sum_by failures reads
+abbrev pub feed_failures : List Reads → ℕ
+feed_failures reads = sum_by failures reads
+
+-- the close of a list, where it has one
+abbrev pub close_of : List Record → List Order
+close_of [] = []
+close_of (rec.Close ∷ rest) = Close ∷ []
+close_of (rec.Rebuild r ∷ rest) = close_of rest
+
+-- the orders of a feed: its requests before its close, with the survivors that were read, and its close, where it has one
+abbrev pub orders_feed : Files → List Record → List Reads → List Order
+orders_feed there list reads = map Rebuild (asked_feed there (before_close list) reads) ++ close_of list
+
+-- ---- the feeds of a rack
+
+abbrev pub AreRackReads : List (List Record) → List (List Reads) → Type 0
+AreRackReads feeds reads = AllZip (λ list feed. AllZip AreReads (before_close list) feed) feeds reads
+
+abbrev pub orders_rack : Files → List (List Record) → List (List Reads) → List (List Order)
+orders_rack there feeds reads = zip_with (orders_feed there) feeds reads
+
+abbrev pub unread_rack : Files → List (List Record) → List (List Reads) → List (List (List Place))
+unread_rack there feeds reads = zip_with (λ list feed. unread_feed there (before_close list) feed) feeds reads
+
+abbrev pub rack_failures : List (List Reads) → ℕ
+rack_failures reads = sum_by feed_failures reads
 
 -- ---- all racks
 
-abbrev pub AreAllReads : List (List Record) → List (List Reads) → Type 0
-AreAllReads lists reads = AllZip (λ list rack. AllZip AreReads (before_close list) rack) lists reads
+abbrev pub AreAllReads : List (List (List Record)) → List (List (List Reads)) → Type 0
+AreAllReads racks reads = AllZip AreRackReads racks reads
 
-abbrev pub asked_all : Files → List (List Record) → List (List Reads) → List (List Asked)
-asked_all there [] reads = []
-asked_all there (l ∷ ls) [] = []
-asked_all there (l ∷ ls) (q ∷ qs) = asked_rack there (before_close l) q ∷ asked_all there ls qs
+abbrev pub orders_all : Files → List (List (List Record)) → List (List (List Reads)) → List (List (List Order))
+orders_all there racks reads = zip_with (orders_rack there) racks reads
 
-abbrev pub unread_all : Files → List (List Record) → List (List Reads) → List (List (List Place))
-unread_all there [] reads = []
-unread_all there (l ∷ ls) [] = []
-unread_all there (l ∷ ls) (q ∷ qs) = unread_rack there (before_close l) q ∷ unread_all there ls qs
+abbrev pub unread_all : Files → List (List (List Record)) → List (List (List Reads)) → List (List (List (List Place)))
+unread_all there racks reads = zip_with (unread_rack there) racks reads
 
-abbrev pub all_failures : List (List Reads) → ℕ
+abbrev pub all_failures : List (List (List Reads)) → ℕ
 all_failures reads = sum_by rack_failures reads
 
--- ---- the files that are written, in their order: a name and its bytes
+-- ---- what is served
 
-abbrev pub rebuilt_file : ℕ → ℕ → ListedRequest → Outcome → List (List ℕ × List ℕ)
-rebuilt_file k n r (outcome.Rebuilt f) = (rebuilt_name k n r.stripe r.target, f) ∷ []
-rebuilt_file k n r outcome.Contradiction = []
-rebuilt_file k n r outcome.Several = []
-
--- the rebuilt fragments of the requests from the n-th on
-abbrev pub rebuilt_files : ℕ → ℕ → List ListedRequest → List Outcome → List (List ℕ × List ℕ)
-rebuilt_files k n [] outcomes = []
-rebuilt_files k n (r ∷ rs) [] = []
-rebuilt_files k n (r ∷ rs) (o ∷ os) = rebuilt_file k n r o ++ rebuilt_files k (n + 1) rs os
-
--- a rack's rebuilt fragments, then its report
-abbrev pub rack_files : ℕ → List ListedRequest → List Outcome → List (List Place) → List (List ℕ × List ℕ)
-rack_files k rs os us = rebuilt_files k 0 rs os ++ (report_name k, report rs os us) ∷ []
-
--- the files of the racks from the k-th on
-abbrev pub files_from : ℕ → List (List Record) → List (List Outcome) → List (List (List Place)) → List (List ℕ × List ℕ)
-files_from k [] answers us = []
-files_from k (l ∷ ls) [] us = []
-files_from k (l ∷ ls) (a ∷ answers) [] = []
-files_from k (l ∷ ls) (a ∷ answers) (u ∷ us) = rack_files k (before_close l) a u ++ files_from (k + 1) ls answers us
-
--- all files that are written
-abbrev pub written_files : Files → List (List Record) → List (List Reads) → List (List Outcome) → List (List ℕ × List ℕ)
-written_files there lists reads answers = files_from 0 lists answers (unread_all there lists reads)
-
--- these are the lists of the files, the reads of their survivors and the answers
-pub record Serves (there : Files) (lists : List (List Record)) (reads : List (List Reads)) (answers : List (List Outcome)) : Type 0 where
+-- These are the lists of the files, the reads of their survivors, and of each rack the answers to a lawful merge of its feeds, each
+-- with its feed's number.
+pub record Serves (there : Files) (lists : List (List (List Record))) (reads : List (List (List Reads))) (answers : List (List (ℕ × Outcome))) : Type 0 where
   pub listed : AreLists there lists
   pub read : AreAllReads lists reads
-  pub answered : AreAllAnswers (asked_all there lists reads) answers
+  pub answered : AreAllMergedAnswers (orders_all there lists reads) answers
+
+-- all files that are written, in their order: a name and its bytes
+abbrev pub written_files : Files → List (List (List Record)) → List (List (List Reads)) → List (List (ℕ × Outcome)) → List (List ℕ × List ℕ)
+written_files there lists reads answers = files_from 0 lists answers (unread_all there lists reads)

@@ -3,6 +3,7 @@ ghost use Rattle.std.specs.Prelude.{◌≡◌, ◌++◌, ◌<◌, None, IfOk, On
 ghost use Rattle.std.specs.List.{flat_map};
 ghost use Rattle.farm_files.specs.Report.{fragment_digest};
 
+use crate::report::ReportRow;
 use lrc_code::Outcome;
 use sha2::{Digest, Sha256};
 use std::alloc::{AllocError, Global};
@@ -20,16 +21,16 @@ pub(crate) fn digest_of(outcome: &Outcome) -> Option<[u8; 32]>
     }
 }
 
-/// The digests of outcomes, made one after the other.
+/// The digests of the outcomes of rows, made one after the other.
 pub(crate) fn digests_of(
     alloc: Global,
-    outcomes: &[Outcome],
+    rows: &[ReportRow],
 ) -> Result<Vec<Option<[u8; 32]>>, AllocError>
-    ensures { IfOk result (λ v. v.items ≡ map fragment_digest outcomes.now) }
+    ensures { IfOk result (λ v. v.items ≡ map (λ r. fragment_digest r.outcome.now) rows.now) }
 {
     let mut digests = Vec::new(alloc);
-    for index in 0..outcomes.len() {
-        digests.push(digest_of(&outcomes[index]))?;
+    for index in 0..rows.len() {
+        digests.push(digest_of(rows[index].outcome))?;
     }
     Ok(digests)
 }
@@ -39,11 +40,11 @@ pub(crate) fn digests_of(
 pub(crate) fn digests_of_racks<R: Threads + Sync>(
     rt: &R,
     alloc: Global,
-    racks: &[Vec<Outcome>],
+    racks: &[Vec<(usize, Outcome)>],
     threads: usize,
 ) -> Result<Vec<Option<[u8; 32]>>, AllocError>
     requires { 0 < threads }
-    ensures { IfOk result (λ v. v.items ≡ flat_map (λ os. map fragment_digest os.items) racks.now) }
+    ensures { IfOk result (λ v. v.items ≡ flat_map (λ rack. map (λ a. fragment_digest a.1) rack.items) racks.now) }
 {
     let outcomes = outcomes_of_racks(alloc, racks)?;
     let mut digests = vec![in alloc; None; outcomes.len()]?;
@@ -52,8 +53,11 @@ pub(crate) fn digests_of_racks<R: Threads + Sync>(
 }
 
 // The outcomes of all racks, rack after rack.
-fn outcomes_of_racks(alloc: Global, racks: &[Vec<Outcome>]) -> Result<Vec<&Outcome>, AllocError>
-    ensures { IfOk result (λ v. map (λ o. o.now) v.items ≡ flat_map (λ os. os.items) racks.now) }
+fn outcomes_of_racks(
+    alloc: Global,
+    racks: &[Vec<(usize, Outcome)>],
+) -> Result<Vec<&Outcome>, AllocError>
+    ensures { IfOk result (λ v. map (λ o. o.now) v.items ≡ flat_map (λ rack. map (λ a. a.1) rack.items) racks.now) }
 {
     let mut outcomes = Vec::new(alloc);
     for rack in racks {
@@ -62,11 +66,14 @@ fn outcomes_of_racks(alloc: Global, racks: &[Vec<Outcome>]) -> Result<Vec<&Outco
     Ok(outcomes)
 }
 
-fn push_outcomes<'a>(outcomes: &mut Vec<&'a Outcome>, rack: &'a [Outcome]) -> Result<(), AllocError>
-    ensures { OnOk result (map (λ o. o.now) outcomes.new.items ≡ map (λ o. o.now) outcomes.old.items ++ rack.now) }
+fn push_outcomes<'a>(
+    outcomes: &mut Vec<&'a Outcome>,
+    rack: &'a [(usize, Outcome)],
+) -> Result<(), AllocError>
+    ensures { OnOk result (map (λ o. o.now) outcomes.new.items ≡ map (λ o. o.now) outcomes.old.items ++ map (λ a. a.1) rack.now) }
 {
     for index in 0..rack.len() {
-        outcomes.push(&rack[index])?;
+        outcomes.push(&rack[index].1)?;
     }
     Ok(())
 }

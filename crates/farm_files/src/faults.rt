@@ -7,14 +7,22 @@ use crate::listing::ListFault;
 use crate::shelf::ShelfFault;
 use farm_core::FarmError;
 use std::alloc::AllocError;
+use std::fmt;
 use thiserror::Error;
 
 /// Why serving a folder ended.
 #[derive(Clone, Copy, Debug, Error, PartialEq, Eq)]
 pub enum ServeFault {
-    /// The list of a rack is refused; it is the first that is.
-    #[error("rack{rack}.csv: {fault}")]
-    List { rack: usize, fault: ListFault },
+    /// The list of a rack's feed is refused; it is the first that is.
+    #[error("{}: {fault}", ListName { rack: *.rack, feed: *.feed })]
+    List {
+        rack: usize,
+        feed: usize,
+        fault: ListFault,
+    },
+    /// E28: a rack has more than 4 feeds.
+    #[error("a rack has more than 4 feeds")]
+    BadFeeds,
     /// E18: there is a list of a seventeenth rack.
     #[error("there are more than 16 racks")]
     TooManyRacks,
@@ -30,6 +38,24 @@ pub enum ServeFault {
     /// E16: memory was wanting.
     #[error("out of memory")]
     OutOfMemory,
+}
+
+// Shown as the name of the file that lists a rack's feed.
+#[derive(Drop)]
+struct ListName {
+    rack: usize,
+    feed: usize,
+}
+
+impl fmt::Display for ListName {
+    fn fmt<W: fmt::Write>(&self, f: &mut fmt::Formatter<W>) -> fmt::Result {
+        let ListName { rack, feed } = self;
+        if *feed == 0 {
+            write!(f, "rack{rack}.csv")
+        } else {
+            write!(f, "rack{rack}.feed{feed}.csv")
+        }
+    }
 }
 
 impl From<AllocError> for ServeFault {

@@ -11,6 +11,8 @@ mod memory;
 mod names;
 mod reading;
 mod report;
+pub mod report_laws;
+mod rows;
 mod serving;
 mod shelf;
 #[cfg(test)]
@@ -23,6 +25,7 @@ pub use folder::FolderShelf;
 pub use listed::Listed;
 pub use listing::{ListFault, Record, read_list};
 pub use memory::MemoryShelf;
-pub use report::report_text;
+pub use names::list_file;
+pub use report::{ReportRow, ReportShape, merged_report_text, report_text};
 pub use serving::{Served, serve};
 pub use shelf::{Shelf, ShelfFault};

@@ -2,7 +2,7 @@
 ghost use Rattle.std.specs.Prelude.{◌≡◌, ◌+◌, ◌*◌, ◌++◌, ◌∷◌, [], OnOk, ◌<◌, ◌≤◌, ◌^◌, ℕ, List, Bool, Option, Some, None, Ok, Err, IfOk, IfErr, IfSome, MatchResult, if◌then◌else◌, is_some, length, map, option_map};
 ghost use Rattle.std.specs.List.{All, AllZip, filter_map};
 ghost use Rattle.farm_core.specs.Orders.{before_close};
-ghost use Rattle.farm_core.specs.declared.orders.Order.TheVariants.{Rebuild};
+ghost use Rattle.farm_core.specs.declared.orders.Order.TheVariants.{Rebuild, Close};
 ghost use Rattle.farm_files.specs.Report.{before_close as listed_before_close};
 ghost use Rattle.lrc_code.specs.Survivors.{survivors_of};
 ghost use Rattle.farm_files.specs.Listing.{list_of};
@@ -10,9 +10,9 @@ ghost use Rattle.farm_files.specs.declared.listing.Record.{Record};
 ghost use Rattle.farm_files.specs.Files.{Files};
 ghost use Rattle.farm_files.specs.declared.faults.ServeFault.TheVariants as serving_fault;
 ghost use Rattle.farm_files.specs.Names.{list_name};
-ghost use Rattle.farm_files.specs.Serving.{AreAllReads, AreLists, AreReads, Reads, all_failures, asked, asked_all, asked_rack, failures, fragment, rack_failures, survivor, unread, unread_all, unread_rack};
+ghost use Rattle.farm_files.specs.Serving.{AreAllReads, AreLists, AreRackReads, AreReads, HaveFeeds, Reads, all_failures, asked, asked_feed, failures, feed_failures, fragment, orders_all, orders_feed, orders_rack, rack_failures, survivor, unread, unread_all, unread_feed, unread_rack};
 ghost use Rattle.farm_files.specs.Parts.{ArePart};
-ghost use Rattle.farm_files.specs.Faults.{CountsFault, Explains, IsListFault, IsReadFault, serve_fault};
+ghost use Rattle.farm_files.specs.Faults.{CountsFault, Explains, IsListFault, IsRackFault, IsReadFault, serve_fault};
 
 use crate::faults::ServeFault;
 use crate::listed::Listed;
@@ -20,29 +20,32 @@ use crate::listing::{ListFault, Record, read_list};
 use crate::names::{fragment_file, list_file};
 use crate::report::requests_before_close;
 use crate::shelf::{Shelf, ShelfFault};
-use farm_core::{Order, RackList, Racks};
+use farm_core::{Feeds, Order, RackList};
 use lrc_code::{Fragment, Place, Request};
 use std::alloc::{AllocError, Global};
 
 const RACK_LIMIT: usize = 16;
 
+const FEED_LIMIT: usize = 4;
+
 // One byte more than a list may have.
 const LIST_ROOM: usize = 1_048_577;
 
-// The list of a rack, where it is there.
-fn read_rack_list<I: Shelf>(
+// The list of a rack's feed, where it is there.
+fn read_feed_list<I: Shelf>(
     alloc: Global,
     input: &mut I,
     rack: usize,
+    feed: usize,
 ) -> Result<Option<Vec<Record>>, ServeFault>
     requires { I.failed input.old < 2 ^ 63 }
     ensures same { I.files input.new ≡ I.files input.old }
     ensures few { IfOk result (λ list. IfSome list (λ l. length l.items ≤ 4096)) }
-    ensures list { IfOk result (λ list. (there : Files) → I.files input.old ≡ Some there → option_map list_of (there (list_name rack)) ≡ option_map (λ v. Ok v.items) list) }
+    ensures list { IfOk result (λ list. (there : Files) → I.files input.old ≡ Some there → option_map list_of (there (list_name rack feed)) ≡ option_map (λ v. Ok v.items) list) }
     ensures calm { IfOk result (λ list. I.failed input.new ≡ I.failed input.old) }
-    ensures fault { IfErr result (λ f. IsListFault f rack (I.files input.old) (I.failed input.old) (I.failed input.new)) }
+    ensures fault { IfErr result (λ f. IsListFault f rack feed (I.files input.old) (I.failed input.old) (I.failed input.new)) }
 {
-    let Ok(name) = list_file(alloc, rack) else {
+    let Ok(name) = list_file(alloc, rack, feed) else {
         return Err(ServeFault::OutOfMemory);
     };
     let bytes = match input.read(alloc, name.as_str(), LIST_ROOM) {
@@ -53,25 +56,28 @@ fn read_rack_list<I: Shelf>(
     };
     match read_list(alloc, bytes.as_slice()) {
         Ok(list) => Ok(Some(list)),
-        Err(fault) => Err(list_fault(rack, fault)),
+        Err(fault) => Err(list_fault(rack, feed, fault)),
     }
 }
 
 // The fault of a list, as serving's.
-fn list_fault(rack: usize, fault: ListFault) -> ServeFault
-    ensures { result ≡ serve_fault rack fault }
+fn list_fault(rack: usize, feed: usize, fault: ListFault) -> ServeFault
+    ensures { result ≡ serve_fault rack feed fault }
 {
     match fault {
         ListFault::InputTooLong => ServeFault::List {
             rack,
+            feed,
             fault: ListFault::InputTooLong,
         },
         ListFault::BadHeader => ServeFault::List {
             rack,
+            feed,
             fault: ListFault::BadHeader,
         },
         ListFault::BadRecord { number: n } => ServeFault::List {
             rack,
+            feed,
             fault: ListFault::BadRecord { number: n },
         },
         ListFault::Refused {
@@ -79,6 +85,7 @@ fn list_fault(rack: usize, fault: ListFault) -> ServeFault
             fault: e,
         } => ServeFault::List {
             rack,
+            feed,
             fault: ListFault::Refused {
                 number: n,
                 fault: e,
@@ -86,6 +93,7 @@ fn list_fault(rack: usize, fault: ListFault) -> ServeFault
         },
         ListFault::TooManyOrders => ServeFault::List {
             rack,
+            feed,
             fault: ListFault::TooManyOrders,
         },
         ListFault::OutOfMemory => ServeFault::OutOfMemory,
@@ -148,35 +156,67 @@ fn read_survivors<I: Shelf>(
     Ok((fragments, unread))
 }
 
-// The lists of all racks.
+// The lists of a rack's feeds; none where the rack is absent.
+fn read_rack_lists<I: Shelf>(
+    alloc: Global,
+    input: &mut I,
+    rack: usize,
+) -> Result<Vec<Vec<Record>>, ServeFault>
+    requires { I.failed input.old < 2 ^ 63 }
+    ensures same { I.files input.new ≡ I.files input.old }
+    ensures lists { IfOk result (λ v. (there : Files) → I.files input.old ≡ Some there → HaveFeeds there rack 0 (map (λ l. l.items) v.items) × (there (list_name rack (length v.items)) ≡ None)) }
+    ensures feeds { IfOk result (λ v. length v.items ≤ 4) }
+    ensures orders { IfOk result (λ v. All (λ l. length l.items ≤ 4096) v.items) }
+    ensures calm { IfOk result (λ v. I.failed input.new ≡ I.failed input.old) }
+    ensures why { IfErr result (λ f. (there : Files) → I.files input.old ≡ Some there → IsRackFault f rack there) }
+    ensures fault { IfErr result (λ f. CountsFault f (I.failed input.old) (I.failed input.new)) }
+{
+    let mut feeds = Vec::new(alloc);
+    for feed in 0..FEED_LIMIT {
+        match read_feed_list(alloc, input, rack, feed)? {
+            Some(list) => push_list(&mut feeds, list)?,
+            None => return Ok(feeds),
+        }
+    }
+    if has_list(alloc, input, rack, FEED_LIMIT)? {
+        return Err(ServeFault::BadFeeds);
+    }
+    Ok(feeds)
+}
+
+// The lists of all racks, feed by feed: of each rack its feeds, up to one that is absent, and then those of the next rack.
 pub(crate) fn read_lists<I: Shelf>(
     alloc: Global,
     input: &mut I,
-) -> Result<Vec<Vec<Record>>, ServeFault>
+) -> Result<Vec<Vec<Vec<Record>>>, ServeFault>
     requires { I.failed input.old < 2 ^ 62 }
     ensures same { I.files input.new ≡ I.files input.old }
-    ensures lists { IfOk result (λ v. (there : Files) → I.files input.old ≡ Some there → AreLists there (map (λ l. l.items) v.items)) }
+    ensures lists { IfOk result (λ v. (there : Files) → I.files input.old ≡ Some there → AreLists there (map (λ feeds. map (λ l. l.items) feeds.items) v.items)) }
     ensures racks { IfOk result (λ v. length v.items ≤ 16) }
-    ensures orders { IfOk result (λ v. All (λ l. length l.items ≤ 4096) v.items) }
+    ensures feeds { IfOk result (λ v. All (λ feeds. (0 < length feeds.items) × (length feeds.items ≤ 4)) v.items) }
+    ensures orders { IfOk result (λ v. All (λ feeds. All (λ l. length l.items ≤ 4096) feeds.items) v.items) }
     ensures calm { IfOk result (λ v. I.failed input.new ≡ I.failed input.old) }
     ensures why { IfErr result (λ f. (there : Files) → I.files input.old ≡ Some there → Explains f there) }
     ensures fault { IfErr result (λ f. CountsFault f (I.failed input.old) (I.failed input.new)) }
 {
-    let mut lists = Vec::new(alloc);
+    let mut racks = Vec::new(alloc);
     for rack in 0..RACK_LIMIT {
-        match read_rack_list(alloc, input, rack)? {
-            Some(list) => push_list(&mut lists, list)?,
-            None if rack == 0 => return Err(ServeFault::NoRacks),
-            None => return Ok(lists),
+        let feeds = read_rack_lists(alloc, input, rack)?;
+        if feeds.is_empty() {
+            if rack == 0 {
+                return Err(ServeFault::NoRacks);
+            }
+            return Ok(racks);
         }
+        push_list(&mut racks, feeds)?;
     }
-    if has_rack(alloc, input, RACK_LIMIT)? {
+    if has_list(alloc, input, RACK_LIMIT, 0)? {
         return Err(ServeFault::TooManyRacks);
     }
-    Ok(lists)
+    Ok(racks)
 }
 
-fn push_list(lists: &mut Vec<Vec<Record>>, list: Vec<Record>) -> Result<(), ServeFault>
+fn push_list<T: Drop>(lists: &mut Vec<T>, list: T) -> Result<(), ServeFault>
     ensures pushed { OnOk result (lists.new.items ≡ lists.old.items ++ list ∷ []) }
     ensures memory { IfErr result (λ f. f ≡ serving_fault.OutOfMemory) }
 {
@@ -186,15 +226,20 @@ fn push_list(lists: &mut Vec<Vec<Record>>, list: Vec<Record>) -> Result<(), Serv
     }
 }
 
-// Whether a rack's list is there.
-fn has_rack<I: Shelf>(alloc: Global, input: &mut I, rack: usize) -> Result<bool, ServeFault>
+// Whether the list of a rack's feed is there.
+fn has_list<I: Shelf>(
+    alloc: Global,
+    input: &mut I,
+    rack: usize,
+    feed: usize,
+) -> Result<bool, ServeFault>
     requires { I.failed input.old < 2 ^ 63 }
     ensures same { I.files input.new ≡ I.files input.old }
-    ensures has { IfOk result (λ has. (there : Files) → I.files input.old ≡ Some there → is_some (there (list_name rack)) ≡ has) }
+    ensures has { IfOk result (λ has. (there : Files) → I.files input.old ≡ Some there → is_some (there (list_name rack feed)) ≡ has) }
     ensures calm { IfOk result (λ has. I.failed input.new ≡ I.failed input.old) }
     ensures fault { IfErr result (λ f. IsReadFault f (I.failed input.old) (I.failed input.new)) }
 {
-    let Ok(name) = list_file(alloc, rack) else {
+    let Ok(name) = list_file(alloc, rack, feed) else {
         return Err(ServeFault::OutOfMemory);
     };
     match input.read(alloc, name.as_str(), 0) {
@@ -231,35 +276,49 @@ fn read_request<I: Shelf>(
     Ok((request, unread))
 }
 
-// The orders of a rack's requests with the survivors that were read, and the places of the others.
-fn read_rack<I: Shelf>(
+// The orders of requests with the survivors that were read, and of a close behind them where one is asked for; and for each request the
+// places of the others.
+fn read_requests<I: Shelf>(
     alloc: Global,
     input: &mut I,
-    rack: &[&Listed],
+    requests: &[&Listed],
+    closes: bool,
 ) -> Result<(RackList, Vec<Vec<Place>>), AllocError>
-    requires room { I.failed input.old + 16 * length rack.now < 2 ^ 63 }
-    requires orders { length rack.now ≤ 4096 }
+    requires room { I.failed input.old + 16 * length requests.now < 2 ^ 63 }
+    requires orders { length requests.now + (if closes then 1 else 0) ≤ 4096 }
     ensures same { I.files input.new ≡ I.files input.old }
-    ensures read { IfOk result (λ v. (reads : List Reads) × AllZip AreReads (map (λ r. r.now) rack.now) reads × (I.failed input.new ≡ I.failed input.old + rack_failures reads)
-        × ((there : Files) → I.files input.old ≡ Some there → (v.0 ≡ map Rebuild (asked_rack there (map (λ r. r.now) rack.now) reads)) × (map (λ u. u.items) v.1.items ≡ unread_rack there (map (λ r. r.now) rack.now) reads))) }
-    ensures sizes { IfOk result (λ v. (length (before_close v.0) ≡ length rack.now) × (length v.1.items ≡ length rack.now)) }
-    ensures few { I.failed input.new ≤ I.failed input.old + 16 * length rack.now }
+    ensures read { IfOk result (λ v. (reads : List Reads) × AllZip AreReads (map (λ r. r.now) requests.now) reads × (I.failed input.new ≡ I.failed input.old + feed_failures reads)
+        × ((there : Files) → I.files input.old ≡ Some there → (v.0 ≡ map Rebuild (asked_feed there (map (λ r. r.now) requests.now) reads) ++ (if closes then Close ∷ [] else []))
+        × (map (λ u. u.items) v.1.items ≡ unread_feed there (map (λ r. r.now) requests.now) reads))) }
+    ensures sizes { IfOk result (λ v. (length (before_close v.0) ≡ length requests.now) × (length v.1.items ≡ length requests.now)) }
+    ensures few { I.failed input.new ≤ I.failed input.old + 16 * length requests.now }
 {
     let mut orders = Vec::new(alloc);
     let mut unread = Vec::new(alloc);
-    for index in 0..rack.len() {
-        let (request, places) = read_request(alloc, input, rack[index])?;
+    for index in 0..requests.len() {
+        let (request, places) = read_request(alloc, input, requests[index])?;
         orders.push(Order::Rebuild(request))?;
         unread.push(places)?;
     }
+    push_close(&mut orders, closes)?;
     let Ok(list) = RackList::new(orders) else {
         unreachable!();
     };
     Ok((list, unread))
 }
 
-// The same of a rack's list, for its requests before the first close.
-fn read_listed_rack<I: Shelf>(
+// Adds a close, where one is asked for.
+fn push_close(orders: &mut Vec<Order>, closes: bool) -> Result<(), AllocError>
+    ensures { OnOk result (orders.new.items ≡ orders.old.items ++ (if closes then Close ∷ [] else [])) }
+{
+    if closes {
+        orders.push(Order::Close)?;
+    }
+    Ok(())
+}
+
+// The orders of a feed's list up to its first close, with the survivors that were read, and for each request the places of the others.
+fn read_feed<I: Shelf>(
     alloc: Global,
     input: &mut I,
     list: &[Record],
@@ -267,41 +326,71 @@ fn read_listed_rack<I: Shelf>(
     requires room { I.failed input.old + 65536 < 2 ^ 63 }
     requires orders { length list.now ≤ 4096 }
     ensures same { I.files input.new ≡ I.files input.old }
-    ensures read { IfOk result (λ v. (reads : List Reads) × AllZip AreReads (listed_before_close list.now) reads × (I.failed input.new ≡ I.failed input.old + rack_failures reads)
-        × ((there : Files) → I.files input.old ≡ Some there → (before_close v.0 ≡ asked_rack there (listed_before_close list.now) reads) × (map (λ u. u.items) v.1.items ≡ unread_rack there (listed_before_close list.now) reads))) }
+    ensures read { IfOk result (λ v. (reads : List Reads) × AllZip AreReads (listed_before_close list.now) reads × (I.failed input.new ≡ I.failed input.old + feed_failures reads)
+        × ((there : Files) → I.files input.old ≡ Some there → (v.0 ≡ orders_feed there list.now reads) × (map (λ u. u.items) v.1.items ≡ unread_feed there (listed_before_close list.now) reads))) }
     ensures sizes { IfOk result (λ v. (length (before_close v.0) ≡ length (listed_before_close list.now)) × (length v.1.items ≡ length (listed_before_close list.now))) }
     ensures few { I.failed input.new ≤ I.failed input.old + 65536 }
 {
     let requests = requests_before_close(alloc, list)?;
-    let read = read_rack(alloc, input, requests.as_slice())?;
+    // A record that isn't among the requests before the close is the close or behind it.
+    let closes = requests.len() < list.len();
+    let read = read_requests(alloc, input, requests.as_slice(), closes)?;
     Ok(read)
 }
 
-// The racks with the survivors that were read, and for each request the places of the others.
-pub(crate) fn read_racks<I: Shelf>(
+// The same of each feed of a rack.
+fn read_rack<I: Shelf>(
     alloc: Global,
     input: &mut I,
     lists: &[Vec<Record>],
-) -> Result<(Racks, Vec<Vec<Vec<Place>>>), AllocError>
-    requires room { I.failed input.old < 2 ^ 62 }
-    requires racks { length lists.now ≤ 16 }
+) -> Result<(Vec<RackList>, Vec<Vec<Vec<Place>>>), AllocError>
+    requires room { I.failed input.old + 262144 < 2 ^ 63 }
+    requires feeds { length lists.now ≤ 4 }
     requires orders { All (λ l. length l.items ≤ 4096) lists.now }
     ensures same { I.files input.new ≡ I.files input.old }
-    ensures read { IfOk result (λ v. (reads : List (List Reads)) × AreAllReads (map (λ l. l.items) lists.now) reads × (I.failed input.new ≡ I.failed input.old + all_failures reads)
-        × ((there : Files) → I.files input.old ≡ Some there → (map before_close v.0 ≡ asked_all there (map (λ l. l.items) lists.now) reads)
-        × (map (λ us. map (λ u. u.items) us.items) v.1.items ≡ unread_all there (map (λ l. l.items) lists.now) reads))) }
-    ensures sizes { IfOk result (λ v. AllZip (λ l os. length (before_close os) ≡ length (listed_before_close l.items)) lists.now v.0
-        × AllZip (λ l us. length us.items ≡ length (listed_before_close l.items)) lists.now v.1.items) }
+    ensures read { IfOk result (λ v. (reads : List (List Reads)) × AreRackReads (map (λ l. l.items) lists.now) reads × (I.failed input.new ≡ I.failed input.old + rack_failures reads)
+        × ((there : Files) → I.files input.old ≡ Some there → (v.0.items ≡ orders_rack there (map (λ l. l.items) lists.now) reads)
+        × (map (λ us. map (λ u. u.items) us.items) v.1.items ≡ unread_rack there (map (λ l. l.items) lists.now) reads))) }
+    ensures orders { IfOk result (λ v. map (λ os. length (before_close os)) v.0.items ≡ map (λ l. length (listed_before_close l.items)) lists.now) }
+    ensures places { IfOk result (λ v. map (λ us. length us.items) v.1.items ≡ map (λ l. length (listed_before_close l.items)) lists.now) }
+    ensures few { I.failed input.new ≤ I.failed input.old + 262144 }
+{
+    let mut feeds = Vec::new(alloc);
+    let mut unread = Vec::new(alloc);
+    for feed in 0..lists.len() {
+        let (list, places) = read_feed(alloc, input, lists[feed].as_slice())?;
+        feeds.push(list)?;
+        unread.push(places)?;
+    }
+    Ok((feeds, unread))
+}
+
+// The feeds of all racks with the survivors that were read, and for each request the places of the others.
+pub(crate) fn read_feeds<I: Shelf>(
+    alloc: Global,
+    input: &mut I,
+    lists: &[Vec<Vec<Record>>],
+) -> Result<(Feeds, Vec<Vec<Vec<Vec<Place>>>>), AllocError>
+    requires room { I.failed input.old < 2 ^ 62 }
+    requires racks { length lists.now ≤ 16 }
+    requires feeds { All (λ feeds. (0 < length feeds.items) × (length feeds.items ≤ 4)) lists.now }
+    requires orders { All (λ feeds. All (λ l. length l.items ≤ 4096) feeds.items) lists.now }
+    ensures same { I.files input.new ≡ I.files input.old }
+    ensures read { IfOk result (λ v. (reads : List (List (List Reads))) × AreAllReads (map (λ feeds. map (λ l. l.items) feeds.items) lists.now) reads × (I.failed input.new ≡ I.failed input.old + all_failures reads)
+        × ((there : Files) → I.files input.old ≡ Some there → (v.0 ≡ orders_all there (map (λ feeds. map (λ l. l.items) feeds.items) lists.now) reads)
+        × (map (λ fs. map (λ us. map (λ u. u.items) us.items) fs.items) v.1.items ≡ unread_all there (map (λ feeds. map (λ l. l.items) feeds.items) lists.now) reads))) }
+    ensures orders { IfOk result (λ v. map (λ feeds. map (λ os. length (before_close os)) feeds) v.0 ≡ map (λ feeds. map (λ l. length (listed_before_close l.items)) feeds.items) lists.now) }
+    ensures places { IfOk result (λ v. map (λ fs. map (λ us. length us.items) fs.items) v.1.items ≡ map (λ feeds. map (λ l. length (listed_before_close l.items)) feeds.items) lists.now) }
 {
     let mut racks = Vec::new(alloc);
     let mut unread = Vec::new(alloc);
     for rack in 0..lists.len() {
-        let (list, places) = read_listed_rack(alloc, input, lists[rack].as_slice())?;
-        racks.push(list)?;
+        let (feeds, places) = read_rack(alloc, input, lists[rack].as_slice())?;
+        racks.push(feeds)?;
         unread.push(places)?;
     }
-    let Ok(racks) = Racks::new(racks) else {
+    let Ok(feeds) = Feeds::new(racks) else {
         unreachable!();
     };
-    Ok((racks, unread))
+    Ok((feeds, unread))
 }

@@ -9,10 +9,10 @@ ghost use Rattle.farm_files.specs.Serving.{Reads, Serves, all_failures, written_
 ghost use Rattle.farm_files.specs.declared.faults.ServeFault.TheVariants as fault;
 
 use crate::faults::ServeFault;
-use crate::reading::{read_lists, read_racks};
+use crate::reading::{read_feeds, read_lists};
 use crate::shelf::Shelf;
 use crate::writing::{make_files, write_files};
-use farm_core::{Pause, Settings, run};
+use farm_core::{Pause, Settings, run_feeds};
 use lrc_code::Outcome;
 use std::alloc::Global;
 use std::sync::Wait;
@@ -25,9 +25,10 @@ pub struct Served {
     pub answers: u64,
 }
 
-/// Serves the lists of one shelf, `rack0.csv`, `rack1.csv` and so on, by files on another: for each rack the rebuilt
-/// fragments of its requests before its list's close, in their order, then its report. Other files stay as they
-/// are. The farm has as many workers as the settings say, and the digests are made in as many threads at most.
+/// Serves the lists of one shelf by files on another. A rack is fed by up to four lists: those of rack 0 are `rack0.csv`,
+/// `rack0.feed1.csv` and so on, up to one that is absent, and then come those of rack 1. For each rack the rebuilt fragments of
+/// the requests that a lawful merge of its feeds answers are written, in the order of their numbers, then its report. Other files
+/// stay as they are. The farm has as many workers as the settings say, and the digests are made in as many threads at most.
 /// All names and bytes are made before the first write, so a fault before it leaves the output untouched; a
 /// fault in a write leaves the files before it whole and those after it untouched. A listed survivor that is absent,
 /// hasn't exactly the listed length or isn't given by the device is left out of its request, and named in the report.
@@ -42,7 +43,7 @@ pub fn serve<R: Threads + Wait + Sync, I: Shelf, O: Shelf, P: Pause>(
     requires input_room { I.failed input.old < 2 ^ 62 }
     requires output_room { O.failed output.old < 2 ^ 62 }
     ensures input { I.files input.new ≡ I.files input.old }
-    ensures served { IfOk result (λ served. (lists : List (List Record)) × (reads : List (List Reads)) × (answers : List (List Outcome))
+    ensures served { IfOk result (λ served. (lists : List (List (List Record))) × (reads : List (List (List Reads))) × (answers : List (List (ℕ × Outcome)))
         × (I.failed input.new ≡ I.failed input.old + all_failures reads)
         × (served.racks ≡ length lists)
         × (served.answers ≡ sum_by (λ a. length a) answers)
@@ -53,8 +54,8 @@ pub fn serve<R: Threads + Wait + Sync, I: Shelf, O: Shelf, P: Pause>(
     ensures device { IfErr result (λ f. f ≡ fault.Device → (I.failed input.old < I.failed input.new) ⊎ (O.failed output.old < O.failed output.new)) }
 {
     let lists = read_lists(alloc, input)?;
-    let (racks, unread) = read_racks(alloc, input, lists.as_slice())?;
-    let answers = run(rt, alloc, &racks, settings, pause)?;
+    let (feeds, unread) = read_feeds(alloc, input, lists.as_slice())?;
+    let answers = run_feeds(rt, alloc, &feeds, settings, pause)?;
     let files = make_files(
         rt,
         alloc,
@@ -71,9 +72,9 @@ pub fn serve<R: Threads + Wait + Sync, I: Shelf, O: Shelf, P: Pause>(
 }
 
 // The number of answers over all racks.
-fn count_answers(answers: &[Vec<Outcome>]) -> u64
+fn count_answers(answers: &[Vec<(usize, Outcome)>]) -> u64
     requires racks { length answers.now ≤ 16 }
-    requires few { All (λ a. length a.items ≤ 4096) answers.now }
+    requires few { All (λ a. length a.items ≤ 16384) answers.now }
     ensures { result ≡ sum_by (λ a. length a.items) answers.now }
 {
     let mut count = 0;

@@ -5,13 +5,14 @@ use Rattle.farm_files.specs.Names.{list_name}
 use Rattle.farm_files.specs.declared.listing.ListFault.{ListFault}
 use Rattle.farm_files.specs.declared.listing.ListFault.TheVariants as list_fault
 use Rattle.farm_files.specs.declared.faults.ServeFault.{ServeFault}
-use Rattle.farm_files.specs.declared.faults.ServeFault.TheVariants.{List as OfList, TooManyRacks, NoRacks, Device, NoThread, OutOfMemory}
+use Rattle.farm_files.specs.declared.faults.ServeFault.TheVariants.{List as OfList, BadFeeds, TooManyRacks, NoRacks, Device, NoThread, OutOfMemory}
 use Rattle.farm_files.specs.declared.serving.Served.{Served}
 
 -- the exit status
 abbrev pub status_of : Result Served ServeFault → ℕ
 status_of (Ok served) = 0
-status_of (Err (OfList rack reason)) = 1
+status_of (Err (OfList rack feed reason)) = 1
+status_of (Err BadFeeds) = 1
 status_of (Err TooManyRacks) = 1
 status_of (Err NoRacks) = 1
 status_of (Err Device) = 3
@@ -31,13 +32,14 @@ reason_text (list_fault.Refused number refusal) = record_text number ++ codes ":
 reason_text list_fault.InputTooLong = codes "E25"
 reason_text list_fault.TooManyOrders = codes "E26"
 
--- the line of a list's fault: the list's file, and what is wrong with it
-abbrev pub list_fault_text : ℕ → ListFault → List ℕ
-list_fault_text rack reason = list_name rack ++ codes ": " ++ reason_text reason
+-- the line of a list's fault: the file of the rack's feed, and what is wrong with it
+abbrev pub list_fault_text : ℕ → ℕ → ListFault → List ℕ
+list_fault_text rack feed reason = list_name rack feed ++ codes ": " ++ reason_text reason
 
 -- the line of a fault
 abbrev pub fault_text : ServeFault → List ℕ
-fault_text (OfList rack reason) = list_fault_text rack reason
+fault_text (OfList rack feed reason) = list_fault_text rack feed reason
+fault_text BadFeeds = codes "E28"
 fault_text TooManyRacks = codes "E18"
 fault_text NoRacks = codes "E23"
 fault_text Device = codes "E24"

@@ -2,18 +2,23 @@
 ghost use Rattle.std.specs.Prelude.{◌≡◌, ◌++◌, IfOk, OnOk, string_bytes};
 ghost use Rattle.rebuild.specs.FarmFaults.{fault_text, list_fault_text, reason_text, status_of};
 
-use farm_files::{ListFault, ServeFault, Served};
+use farm_files::{ListFault, ServeFault, Served, list_file};
 use std::alloc::{AllocError, Global};
 use std::fmt::Write;
 
 /// The exit status of the command `farm`: 0 where the folder was served, 1 where a list was refused, there was none or
-/// there were too many, 3 for a failed device and 4 where memory or a thread was refused.
+/// there were too many racks or feeds, 3 for a failed device and 4 where memory or a thread was refused.
 pub fn farm_status(outcome: &Result<Served, ServeFault>) -> u8
     ensures { result ≡ status_of outcome.now }
 {
     match outcome {
         Ok(_) => 0,
-        Err(ServeFault::List { .. } | ServeFault::TooManyRacks | ServeFault::NoRacks) => 1,
+        Err(
+            ServeFault::List { .. }
+            | ServeFault::BadFeeds
+            | ServeFault::TooManyRacks
+            | ServeFault::NoRacks,
+        ) => 1,
         Err(ServeFault::Device) => 3,
         Err(ServeFault::OutOfMemory | ServeFault::NoThread) => 4,
     }
@@ -24,7 +29,8 @@ pub fn fault_line(alloc: Global, fault: &ServeFault) -> Result<String, AllocErro
     ensures { IfOk result (λ line. string_bytes line ≡ fault_text fault.now) }
 {
     match *fault {
-        ServeFault::List { rack, fault } => list_fault_line(alloc, rack, fault),
+        ServeFault::List { rack, feed, fault } => list_fault_line(alloc, rack, feed, fault),
+        ServeFault::BadFeeds => String::from_str(alloc, "E28"),
         ServeFault::TooManyRacks => String::from_str(alloc, "E18"),
         ServeFault::NoRacks => String::from_str(alloc, "E23"),
         ServeFault::Device => String::from_str(alloc, "E24"),
@@ -33,11 +39,17 @@ pub fn fault_line(alloc: Global, fault: &ServeFault) -> Result<String, AllocErro
     }
 }
 
-// The line that tells the fault of a rack's list.
-fn list_fault_line(alloc: Global, rack: usize, fault: ListFault) -> Result<String, AllocError>
-    ensures { IfOk result (λ line. string_bytes line ≡ list_fault_text rack fault) }
+// The line that tells the fault of the list of a rack's feed.
+fn list_fault_line(
+    alloc: Global,
+    rack: usize,
+    feed: usize,
+    fault: ListFault,
+) -> Result<String, AllocError>
+    ensures { IfOk result (λ line. string_bytes line ≡ list_fault_text rack feed fault) }
 {
-    let mut line = format!(in alloc; "rack{rack}.csv: ")?;
+    let mut line = list_file(alloc, rack, feed)?;
+    line.push_str(": ")?;
     push_reason(&mut line, fault)?;
     Ok(line)
 }

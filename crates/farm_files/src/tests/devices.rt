@@ -40,14 +40,16 @@ fn calls_of_a_shelf(rt: HostRuntime) -> Result<(), AllocError> {
     Ok(())
 }
 
-// A failed read of a list ends serving; one of a fragment leaves the survivor out. The run makes five reads.
+// A failed read of a list, or of a feed's list behind it, ends serving; one of a fragment leaves the survivor out. The run makes six
+// reads: of the list, of a second feed and of a second rack, which are absent, and of three fragments.
 #[test]
 fn failed_reads(rt: HostRuntime) -> Result<(), AllocError> {
     let served_one = Ok(Served {
         racks: 1,
         answers: 1,
     });
-    let rows: [(Result<Served, ServeFault>, Option<&[u8]>); 6] = [
+    let rows: [(Result<Served, ServeFault>, Option<&[u8]>); 7] = [
+        (Err(ServeFault::Device), None),
         (Err(ServeFault::Device), None),
         (Err(ServeFault::Device), None),
         (served_one, Some(REPORT_WITHOUT_X1)),
@@ -64,7 +66,7 @@ fn failed_reads(rt: HostRuntime) -> Result<(), AllocError> {
             run.output.file("rack0.report.csv") == report,
             "call {call}"
         );
-        let fragment = if call == 5 {
+        let fragment = if call == 6 {
             Some(b"abc".as_slice())
         } else {
             None
@@ -73,7 +75,7 @@ fn failed_reads(rt: HostRuntime) -> Result<(), AllocError> {
             run.output.file("rack0-0.abc.x0") == fragment,
             "call {call}"
         );
-        assert!(&rt; input.failures() == u64::from(call < 5), "call {call}");
+        assert!(&rt; input.failures() == u64::from(call < 6), "call {call}");
     }
     Ok(())
 }

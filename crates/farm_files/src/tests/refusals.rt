@@ -39,7 +39,7 @@ impl Shelf for CountingShelf {
     }
 }
 
-// Serves two racks of one rebuilt fragment each. In a run that refuses an allocation this ends with the refusal, and
+// Serves two racks of one rebuilt fragment each, the second with a feed without requests. In a run that refuses an allocation this ends with the refusal, and
 // then nothing was written.
 fn serve_counting<R: Abort + Threads + Wait + Sync>(
     rt: &R,
@@ -48,6 +48,11 @@ fn serve_counting<R: Abort + Threads + Wait + Sync>(
 ) -> Result<(), AllocError> {
     let mut input = input_of(alloc, LIST)?;
     input.place(alloc, "rack1.csv", LIST)?;
+    input.place(
+        alloc,
+        "rack1.feed1.csv",
+        b"order,stripe,target,length,survivors\n",
+    )?;
     let mut output = CountingShelf { writes: 0 };
     let Ok(settings) = Settings::new(workers, 1) else {
         panic!(rt; "{workers} workers are refused");

@@ -257,6 +257,7 @@ fn seventeen_racks(rt: HostRuntime) -> Result<(), AllocError> {
     let run = serve_shelf(&rt, rt.alloc(), &mut input);
     let fault = ServeFault::List {
         rack: 3,
+        feed: 0,
         fault: ListFault::BadHeader,
     };
     assert_eq!(&rt; run.served, Err(fault));
@@ -285,7 +286,7 @@ fn a_refused_list(rt: HostRuntime) -> Result<(), AllocError> {
         let mut input = input_of(rt.alloc(), LIST)?;
         input.place(rt.alloc(), "rack1.csv", bytes)?;
         let run = serve_shelf(&rt, rt.alloc(), &mut input);
-        assert_eq!(&rt; run.served, Err(ServeFault::List { rack: 1, fault }));
+        assert_eq!(&rt; run.served, Err(ServeFault::List { rack: 1, feed: 0, fault }));
         assert!(&rt; run.left_out("rack0.report.csv"));
     }
     Ok(())

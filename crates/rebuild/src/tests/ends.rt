@@ -25,6 +25,7 @@ fn served_folders_end_with_status_0(rt: HostRuntime) {
 #[test]
 fn faults_of_the_whole_end_with_their_number(rt: HostRuntime) {
     assert_ends(&rt, ServeFault::TooManyRacks, 1, "E18");
+    assert_ends(&rt, ServeFault::BadFeeds, 1, "E28");
     assert_ends(&rt, ServeFault::NoRacks, 1, "E23");
     assert_ends(&rt, ServeFault::Device, 3, "E24");
     assert_ends(&rt, ServeFault::OutOfMemory, 4, "E16");
@@ -33,17 +34,25 @@ fn faults_of_the_whole_end_with_their_number(rt: HostRuntime) {
 
 #[test]
 fn faults_of_a_list_name_its_file(rt: HostRuntime) {
-    for (rack, fault, line) in [
-        (0, ListFault::BadHeader, "rack0.csv: E19"),
-        (7, ListFault::InputTooLong, "rack7.csv: E25"),
-        (15, ListFault::TooManyOrders, "rack15.csv: E26"),
+    for (rack, feed, fault, line) in [
+        (0, 0, ListFault::BadHeader, "rack0.csv: E19"),
+        (7, 0, ListFault::InputTooLong, "rack7.csv: E25"),
+        (15, 0, ListFault::TooManyOrders, "rack15.csv: E26"),
         (
             3,
+            0,
             ListFault::BadRecord { number: 4096 },
             "rack3.csv: record 4096: E20",
         ),
+        (0, 1, ListFault::BadHeader, "rack0.feed1.csv: E19"),
+        (
+            12,
+            3,
+            ListFault::BadRecord { number: 2 },
+            "rack12.feed3.csv: record 2: E20",
+        ),
     ] {
-        assert_ends(&rt, ServeFault::List { rack, fault }, 1, line);
+        assert_ends(&rt, ServeFault::List { rack, feed, fault }, 1, line);
     }
 }
 
@@ -56,6 +65,11 @@ fn refused_requests_are_told_by_both_numbers(rt: HostRuntime) {
         (4, RequestFault::NotLost, "rack10.csv: record 4: E21 E4"),
     ] {
         let fault = ListFault::Refused { number, fault };
-        assert_ends(&rt, ServeFault::List { rack: 10, fault }, 1, line);
+        let fault = ServeFault::List {
+            rack: 10,
+            feed: 0,
+            fault,
+        };
+        assert_ends(&rt, fault, 1, line);
     }
 }

@@ -156,7 +156,7 @@ fn help_and_version_are_shown(rt: HostRuntime) {
 }
 
 const HELP: &str = "\
-Rebuilds lost fragments of stripes coded by the (6,2,2) Local Reconstruction Code.
+Rebuilds lost fragments of stripes coded by a (6,2,2) or (12,2,2) Local Reconstruction Code.
 
 Usage: rebuild [COMMAND]
 
@@ -169,8 +169,9 @@ Options:
   -V, --version  Print version
 
 Without a command, rebuild replies to each line of its standard input, as
-  <stripe> <target> <length> <place>=<hexadecimal bytes> ..
-Places: x0 x1 x2 y0 y1 y2 px py p0 p1.
+  [code=<code>] <stripe> <target> <length> <place>=<hexadecimal bytes> ..
+The code is 6-2-2, which needs no word, or 12-2-2.
+Places: x0 x1 x2 y0 y1 y2 px py p0 p1; 12-2-2 has x3 x4 x5 y3 y4 y5 too.
 Example: echo 'a x0 1 x1=02 x2=03 px=00' | rebuild
 Exit status: 0 all lines answered, 1 a line refused, 2 words, 3 device, 4 memory.
 ";
@@ -191,11 +192,13 @@ Options:
 
 Files of IN:
   rack<k>.csv                    the request list of rack k, from rack0.csv on
+  rack<k>.feed<f>.csv            its further feeds, from feed1 to feed3
   <stripe>.<place>               a surviving fragment, as abc.x1
 Files written to OUT, those of these names replaced:
   rack<k>-<n>.<stripe>.<place>   the fragment rebuilt for request n of rack k
   rack<k>.report.csv             what came of each request of rack k
 Exit status: 0 served, 1 lists refused, 2 words, 3 device, 4 memory or threads.
-Faults: E11 workers, E12 queue, E18 over 16 lists, E19 header, E20 record,
-  E21 request, E23 no rack0.csv, E24 device, E25 or E26 list too long.
+Faults: E11 workers, E12 queue, E18 over 16 racks, E19 header, E20 record,
+  E21 request, E23 no rack0.csv, E24 device, E25 or E26 list too long,
+  E28 over 4 feeds.
 ";

@@ -3,4 +3,4 @@ use Rattle.farm_files.specs.Report.{fragment_digest}
 use Rattle.farm_files.proofs.digests.digests_of.Given as goal
 
 abbrev pub invariant-loop-index : goal.invariant-loop-index
-invariant-loop-index l = l.digests.items ≡ map fragment_digest (take l.index l.outcomes)
+invariant-loop-index l = l.digests.items ≡ map (λ r. fragment_digest r.outcome.now) (take l.index l.rows)

@@ -1,75 +1,71 @@
-use Rattle.std.proofs.Common.{◌≡◌, ◌++◌, ◌∷◌, [], ◌∙◌, Bor, List, arith, map, take, ap, length, refl}
-use Rattle.std.proofs.lemmas.List.{length-append}
-use Rattle.std.proofs.Common.{Vec, Global}
+use Rattle.std.proofs.Common.{◌≡◌, ◌∙◌, ◌++◌, ◌∷◌, [], Vec, Global, List, ℕ, arith, length, map, take, ap, refl, get_or}
+use Rattle.std.specs.List.{AllZip}
 use Rattle.lrc_code.specs.declared.places.Place.{Place}
-use Rattle.lrc_code.specs.Requests.{Asked}
 use Rattle.farm_core.specs.Orders.{before_close}
-use Rattle.farm_files.specs.Listed.{ListedRequest}
-use Rattle.farm_files.proofs.ReadRequests.{all_served, orders_more, orders_push, rack_failures_push, reads_push, taken, unread_more}
+use Rattle.farm_core.specs.declared.orders.Order.{Order}
+use Rattle.farm_core.proofs.Rows.{all_zip_push}
+use Rattle.farm_files.specs.Report.{before_close as listed_before_close}
+use Rattle.farm_files.specs.Serving.{AreReads, Reads, feed_failures, orders_feed, unread_feed}
+use Rattle.farm_files.specs.declared.listing.Record.{Record}
+use Rattle.farm_files.proofs.Pairs.{front_images, front_more, images_more, sum_push, values_more}
 use Rattle.farm_files.proofs.reading.read_rack.Goals as goal
 
-pub read_request-requires : goal.read_request-requires
-read_request-requires g c =
-    let (reads, are, same, failed, few, made, left, told) = c.loop-index.invariant in
-    omega (arith, few, c.requires, c.loop-index-test.true)
+-- the reads of a list's requests before its close
+AreOf : List Record → List Reads → Type 0
+AreOf list feed = AllZip AreReads (listed_before_close list) feed
 
-pub returns-in_err-request-clause-few : goal.returns-in_err-request-clause-few
-returns-in_err-request-clause-few g c =
-    let (reads, are, same, failed, few, made, left, told) = c.loop-index.invariant in
-    omega (arith, few, c.in_err-request.ensures.few, c.loop-index-test.true)
+served : List Order → ℕ
+served os = length (before_close os)
 
-pub returns-in_err-push-clause-few : goal.returns-in_err-push-clause-few
-returns-in_err-push-clause-few g c =
-    let (reads, are, same, failed, few, made, left, told) = c.loop-index.invariant in
-    omega (arith, few, c.in_ok-request.ensures.few, c.loop-index-test.true)
+listed : Vec Record Global → ℕ
+listed l = length (listed_before_close l.items)
 
-pub returns-in_err-push-2-clause-few : goal.returns-in_err-push-2-clause-few
-returns-in_err-push-2-clause-few g c =
-    let (reads, are, same, failed, few, made, left, told) = c.loop-index.invariant in
-    omega (arith, few, c.in_ok-request.ensures.few, c.loop-index-test.true)
+places : Vec (Vec Place Global) Global → List (List Place)
+places us = map (λ (u : Vec Place Global). u.items) us.items
 
-pub loop-index-preserved : goal.loop-index-preserved
-loop-index-preserved g c =
-    let (reads, are, same, failed, few, made, left, told) = c.loop-index.invariant in
-    let (q, is, rose, gives) = c.in_ok-request.ensures.read in
-    let rs : List ListedRequest = map (λ (x : Bor ListedRequest). x.now) (take c.loop-index.index c.args.rack.now) in
-    let r : ListedRequest = c.index-rack-index.result.now in
-    let more = taken c.args.rack.now c.loop-index.index c.index-rack-index.result c.loop-index-test.true c.index-rack-index.is in
-    rw more (
-      reads ++ q ∷ [],
-      reads_push rs reads r q are is,
-      c.in_ok-request.ensures.same ∙ same,
-      omega (arith, rose, failed, rack_failures_push reads q),
-      omega (arith, few, c.in_ok-request.ensures.few),
-      (
-        made.0 ++ c.in_ok-request.request ∷ [],
-        orders_push c.loop-index.orders.items c.push.new.self.items made.0 c.in_ok-request.request made.1 c.in_ok-push.ensures.items,
-        omega (arith, made.2, length-append made.0 (c.in_ok-request.request ∷ [])),
-      ),
-      ap length c.in_ok-push-2.ensures.items ∙ omega (arith, left, length-append c.loop-index.unread.items (c.in_ok-request.places ∷ [])),
-      λ there e.
-          let before = told there e in
-          let now = gives there (same ∙ e) in (
-            orders_more there rs reads r q c.loop-index.orders.items c.push.new.self.items c.in_ok-request.request are c.in_ok-push.ensures.items before.0 now.0,
-            unread_more there rs reads r q c.loop-index.unread.items c.push-in-loop-index.new.self.items c.in_ok-request.places are c.in_ok-push-2.ensures.items before.1 now.1,
-          ),
-    )
+count : Vec (Vec Place Global) Global → ℕ
+count us = length us.items
 
-pub loop-index-init : goal.loop-index-init
-loop-index-init g c = (
+pub loop-feed-init : goal.loop-feed-init
+unfolding served listed places count
+loop-feed-init g c = (
   [],
   tt,
   refl,
   omega arith,
   omega arith,
-  ([], c.new-orders.ensures.items, refl),
-  ap length c.new-unread.ensures.items,
-  λ there e. (c.new-orders.ensures.items, ap (map (λ (u : Vec Place Global). u.items)) c.new-unread.ensures.items),
+  ap (map served) c.new-feeds.ensures.items,
+  ap (map count) c.new-unread.ensures.items,
+  λ there e. (c.new-feeds.ensures.items, ap (map places) c.new-unread.ensures.items),
 )
 
-pub returns-clause-sizes : goal.returns-clause-sizes
-returns-clause-sizes g c =
-    let (reads, are, same, failed, few, made, left, told) = c.loop-index.invariant in
-    let all : c.loop-index.index ≡ length c.args.rack.now = omega (arith, c.loop-index-test.false, c.loop-index.auto.index-end) in
-    let served : length (before_close c.in-Ok.list) ≡ length made.0 = ap (λ (rs : List Asked). length rs) (all_served c.in-Ok.list made.0 (c.in-Ok.ensures.ok.0 ∙ made.1)) in
-    (served ∙ made.2 ∙ all, left ∙ all)
+pub loop-feed-preserved : goal.loop-feed-preserved
+unfolding AreOf served listed places count
+loop-feed-preserved g c =
+    let (reads, are, same, failed, few, orders_sized, unread_sized, told) = c.loop-feed.invariant in
+    let (q, is, rose, gives) = c.in_ok-list.ensures.read in
+    let lists : List (Vec Record Global) = c.args.lists.now in
+    let i : ℕ = c.loop-feed.feed in
+    let within = c.loop-feed-test.true in
+    let here : Vec Record Global = c.index-lists-feed.result in
+    let ls : List (List Record) = map (λ (v : Vec Record Global). v.items) (take i lists) in
+    let list : List Record = c.as_slice.result.now in
+    let list_is : list ≡ (get_or lists i here).items = c.as_slice.ensures.value ∙ ap (λ (v : Vec Record Global). v.items) c.index-lists-feed.is in
+    let listed_is = ap (λ (l : List Record). length (listed_before_close l)) list_is in
+    rw (front_more (λ (v : Vec Record Global). v.items) lists i here list within list_is) (
+      reads ++ q ∷ [],
+      all_zip_push AreOf ls reads list q are is,
+      c.in_ok-list.ensures.same ∙ same,
+      omega (arith, rose, failed, sum_push feed_failures reads q),
+      omega (arith, few, c.in_ok-list.ensures.few),
+      front_images served listed c.loop-feed.feeds.items c.push.new.self.items c.in_ok-list.list lists i here within c.in_ok-push.ensures.items orders_sized (c.in_ok-list.ensures.sizes.0 ∙ listed_is),
+      front_images count listed c.loop-feed.unread.items c.push-in-loop-feed.new.self.items c.in_ok-list.places lists i here within c.in_ok-push-2.ensures.items unread_sized
+          (c.in_ok-list.ensures.sizes.1 ∙ listed_is),
+      λ there e.
+          let before = told there e in
+          let now = gives there (same ∙ e) in (
+            values_more (orders_feed there) AreOf ls reads list q c.loop-feed.feeds.items c.push.new.self.items c.in_ok-list.list are c.in_ok-push.ensures.items before.0 now.0,
+            images_more (λ l feed. unread_feed there (listed_before_close l) feed) places AreOf ls reads list q c.loop-feed.unread.items c.push-in-loop-feed.new.self.items c.in_ok-list.places are
+                c.in_ok-push-2.ensures.items before.1 now.1,
+          ),
+    )

@@ -1,18 +1,19 @@
 use Rattle.std.proofs.Common.{◌≡◌, ◌≤◌, ◌+◌, ◌*◌, List, Some, take, map, length}
-use Rattle.std.specs.List.{AllZip}
-use Rattle.lrc_code.specs.Requests.{Asked}
-use Rattle.farm_core.specs.declared.orders.Order.TheVariants.{Rebuild}
+use Rattle.farm_core.specs.Orders.{before_close}
 use Rattle.farm_files.specs.Files.{Files}
-use Rattle.farm_files.specs.Serving.{AreReads, Reads, asked_rack, rack_failures, unread_rack}
+use Rattle.farm_files.specs.Report.{before_close as listed_before_close}
+use Rattle.farm_files.specs.Serving.{AreRackReads, Reads, orders_rack, rack_failures, unread_rack}
 use Rattle.farm_files.proofs.reading.read_rack.Given as goal
 
-abbrev pub invariant-loop-index : goal.invariant-loop-index
-invariant-loop-index g l =
-    (reads : List Reads)
-    × AllZip AreReads (map (λ r. r.now) (take l.index l.rack)) reads
+abbrev pub invariant-loop-feed : goal.invariant-loop-feed
+invariant-loop-feed g l =
+    (reads : List (List Reads))
+    × AreRackReads (map (λ l. l.items) (take l.feed l.lists)) reads
     × (g.I.Shelf.files l.input ≡ g.I.Shelf.files l.fn.input)
     × (g.I.Shelf.failed l.input ≡ g.I.Shelf.failed l.fn.input + rack_failures reads)
-    × (g.I.Shelf.failed l.input ≤ g.I.Shelf.failed l.fn.input + 16 * l.index)
-    × ((requests : List Asked) × (l.orders.items ≡ map Rebuild requests) × (length requests ≡ l.index)) × (length l.unread.items ≡ l.index)
+    × (g.I.Shelf.failed l.input ≤ g.I.Shelf.failed l.fn.input + 65536 * l.feed)
+    × (map (λ os. length (before_close os)) l.feeds.items ≡ map (λ list. length (listed_before_close list.items)) (take l.feed l.lists))
+    × (map (λ us. length us.items) l.unread.items ≡ map (λ list. length (listed_before_close list.items)) (take l.feed l.lists))
     × ((there : Files) → g.I.Shelf.files l.fn.input ≡ Some there
-    → (l.orders.items ≡ map Rebuild (asked_rack there (map (λ r. r.now) (take l.index l.rack)) reads)) × (map (λ u. u.items) l.unread.items ≡ unread_rack there (map (λ r. r.now) (take l.index l.rack)) reads))
+    → (l.feeds.items ≡ orders_rack there (map (λ l. l.items) (take l.feed l.lists)) reads)
+    × (map (λ us. map (λ u. u.items) us.items) l.unread.items ≡ unread_rack there (map (λ l. l.items) (take l.feed l.lists)) reads))

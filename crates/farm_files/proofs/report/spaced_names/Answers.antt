@@ -1,4 +1,4 @@
-use Rattle.farm_files.proofs.Rows.{names_first, names_more}
+use Rattle.farm_files.proofs.ReportLines.{names_first, names_more}
 use Rattle.farm_files.proofs.report.spaced_names.Goals as goal
 use Rattle.farm_files.proofs.report.spaced_names.Goals.{then-index-gt0+in_ok-push, else-index-gt0}
 
