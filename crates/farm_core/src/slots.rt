@@ -28,7 +28,7 @@ pub fn feed_of_slot(slot: usize) -> usize
 }
 
 /// Tells a pause the racks of the slots that workers and feeders name.
-#[derive(Clone, Copy)]
+#[derive(Drop)]
 pub struct SlotPause<'p, P> {
     pub pause: &'p P,
 }
