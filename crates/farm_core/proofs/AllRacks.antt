@@ -1,11 +1,11 @@
 -- One rack more has put what its feeds drew.
-use Rattle.std.proofs.Common.{◌≡◌, ◌≢◌, ℕ, zero, suc, ◌+◌, ◌<◌, ◌≤◌, ◌&&◌, List, [], ◌∷◌, ◌++◌, length, map, refl, sym, ap, ◌∙◌, subst, inl, inr, ⊎_elim, arith, nat_eq, nat_lt, cond}
+use Rattle.std.proofs.Common.{◌≡◌, ◌≢◌, ℕ, suc, ◌+◌, ◌<◌, ◌&&◌, List, [], ◌∷◌, ◌++◌, length, map, refl, sym, ap, ◌∙◌, subst, inl, inr, ⊎_elim, arith, nat_eq, cond}
 use Rattle.std.specs.List.{sum_by, All}
-use Rattle.std.proofs.lemmas.Bool.{cases_eq, cases_lt}
+use Rattle.std.proofs.lemmas.Bool.{cases_eq}
 use Rattle.std.proofs.lemmas.Bool.Decides.{nat_tests}
 use Rattle.std.proofs.lemmas.List.{length_push}
 use Rattle.std.proofs.lemmas.List.Sums.{sum_by-cons, sum_by-append}
-use mathlib.Core.Option.{some, some-ne-none, some-injective}
+use mathlib.Core.Option.{some, some-ne-none}
 use lib.ListN.{get_elem?}
 use Rattle.lrc_code.specs.Requests.{Asked}
 use Rattle.farm_lanes.specs.declared.lane.item.Item.{Item}
@@ -14,18 +14,19 @@ use Rattle.farm_lanes.specs.Counting.{times, once_below}
 use Rattle.farm_lanes.specs.LaneEnds.{PutView}
 use Rattle.farm_lanes.specs.LaneRecord.{values}
 use Rattle.farm_lanes.specs.Lists.{Each}
-use Rattle.farm_lanes.proofs.Lists.{at_below, at_snoc_or, at_either, at_map, from_map, sum_map}
+use Rattle.farm_lanes.proofs.Lists.{at_below, at_snoc_or, at_either, at_map, sum_map}
 use Rattle.farm_lanes.proofs.Numbers.{times-cons, same_test, other_test}
 use Rattle.farm_lanes.proofs.Sums.{total_none}
 use Rattle.farm_core.specs.declared.orders.Order.{Order}
 use Rattle.farm_core.specs.declared.jobs.Job.{Job}
 use Rattle.farm_core.specs.declared.jobs.Job.TheVariants.{Solve, Stop}
 use Rattle.farm_core.specs.Jobs.{IsOfFeed}
+use Rattle.farm_core.specs.Slots.{slot_rack, slot_feed}
 use Rattle.farm_core.specs.Drawn.{Draws, drawn_numbers, AreDrawn, IsDrawnBy}
 use Rattle.farm_core.specs.Joint.{draws_of, HasDrawn}
 use Rattle.farm_core.specs.Put.{AsksNothing, HasPutStops}
 use Rattle.farm_core.specs.Settled.{job_weight, IsSoJob, IsSoItem}
-use Rattle.farm_core.specs.Cleared.{AreAllDrawn, IsDrawnAt, HasPutDrawn, HavePut}
+use Rattle.farm_core.specs.Cleared.{IsDrawnAt, HavePut}
 use Rattle.farm_core.proofs.Settled.{Every, jobs_to, weigh_jobs, job_items}
 use Rattle.farm_core.proofs.Joints.{same_sums}
 
@@ -39,33 +40,33 @@ else_one a r b k apart = grind (arith, nat_tests)
 jobs_here : (rack f k : ℕ) (js : List Job) → All (IsOfFeed rack f) js → jobs_to rack k js ≡ times k (drawn_numbers (draws_of js))
 jobs_here rack f k [] all = refl
 jobs_here rack f k (Stop ∷ js) all = absurd (all 0 Stop (omega arith))
-jobs_here rack f k (Solve a g b q ∷ js) all =
-    let is : a ≡ rack = (all 0 (Solve a g b q) (omega arith)).0 in
+jobs_here rack f k (Solve a b q ∷ js) all =
+    let is : slot_rack a ≡ rack = (all 0 (Solve a b q) (omega arith)).0 in
     let rest = jobs_here rack f k js (λ i d low. all (suc i) d (omega arith)) in
-    let one = here_one a rack b k is in
+    let one = here_one (slot_rack a) rack b k is in
     let more = times-cons k b (drawn_numbers (draws_of js)) in omega arith
 
 jobs_elsewhere : (rack f r k : ℕ) (js : List Job) → rack ≢ r → All (IsOfFeed rack f) js → jobs_to r k js ≡ 0
 jobs_elsewhere rack f r k [] apart all = refl
 jobs_elsewhere rack f r k (Stop ∷ js) apart all = absurd (all 0 Stop (omega arith))
-jobs_elsewhere rack f r k (Solve a g b q ∷ js) apart all =
-    let is : a ≡ rack = (all 0 (Solve a g b q) (omega arith)).0 in
+jobs_elsewhere rack f r k (Solve a b q ∷ js) apart all =
+    let is : slot_rack a ≡ rack = (all 0 (Solve a b q) (omega arith)).0 in
     let rest = jobs_elsewhere rack f r k js apart (λ i d low. all (suc i) d (omega arith)) in
-    let one = else_one a r b k (λ e. apart (sym is ∙ e)) in
+    let one = else_one (slot_rack a) r b k (λ e. apart (sym is ∙ e)) in
     omega arith
 
 -- of the jobs of a feed this holds, if it does of what they drew
 so_jobs_of : (P : ℕ → ℕ → ℕ → Asked → Type 0) (rack f : ℕ) (js : List Job) → All (IsOfFeed rack f) js → ((i : ℕ) (x : ℕ × Asked) → get_elem? (draws_of js) i ≡ some x → P rack f x.0 x.1) → Every (IsSoJob P) js
 so_jobs_of P rack f [] all so = tt
 so_jobs_of P rack f (Stop ∷ js) all so = absurd (all 0 Stop (omega arith))
-so_jobs_of P rack f (Solve a g b q ∷ js) all so =
-    let is = all 0 (Solve a g b q) (omega arith) in
+so_jobs_of P rack f (Solve a b q ∷ js) all so =
+    let is = all 0 (Solve a b q) (omega arith) in
     let Q : ℕ × ℕ → Type 0 = λ p. P p.0 p.1 b q.now in
     (subst Q (λ i. (sym is.0 i, sym is.1 i)) (so 0 (b, q.now) refl), so_jobs_of P rack f js (λ i d low. all (suc i) d (omega arith)) (λ i. so (suc i)))
 
 -- what holds of items by one saying holds by a weaker one
 weaker_item : (P Q : ℕ → ℕ → ℕ → Asked → Type 0) → ((r f k : ℕ) (q : Asked) → P r f k q → Q r f k q) → (x : Item Job) → IsSoItem P x → IsSoItem Q x
-weaker_item P Q step (Value s i (Solve a g b q)) so = step a g b q.now so
+weaker_item P Q step (Value s i (Solve a b q)) so = step (slot_rack a) (slot_feed a) b q.now so
 weaker_item P Q step (Value s i Stop) so = tt
 weaker_item P Q step (End s i) so = tt
 
@@ -172,12 +173,12 @@ puts_more racks feeds puts more was new = record {
 -- and the end for the stops
 weighs_nothing : (r k : ℕ) (xs : List (Item Job)) → Each AsksNothing xs → sum_by (job_weight r k) xs ≡ 0
 weighs_nothing r k [] each = refl
-weighs_nothing r k (Value s i (Solve a f b q) ∷ xs) each = absurd (each 0 (Value s i (Solve a f b q)) refl)
+weighs_nothing r k (Value s i (Solve a b q) ∷ xs) each = absurd (each 0 (Value s i (Solve a b q)) refl)
 weighs_nothing r k (Value s i Stop ∷ xs) each = let a' = sum_by-cons (job_weight r k) (Value s i Stop) xs in let b' = weighs_nothing r k xs (λ j. each (suc j)) in omega arith
 weighs_nothing r k (End s i ∷ xs) each = let a' = sum_by-cons (job_weight r k) (End s i) xs in let b' = weighs_nothing r k xs (λ j. each (suc j)) in omega arith
 
 so_nothing : (P : ℕ → ℕ → ℕ → Asked → Type 0) (x : Item Job) → AsksNothing x → IsSoItem P x
-so_nothing P (Value s i (Solve a f b q)) asks = absurd asks
+so_nothing P (Value s i (Solve a b q)) asks = absurd asks
 so_nothing P (Value s i Stop) asks = tt
 so_nothing P (End s i) asks = tt
 

@@ -1,12 +1,12 @@
 -- Laws of the rows of a board.
-use Rattle.std.proofs.Common.{ℕ, zero, suc, ◌≡◌, ◌+◌, ◌<◌, ◌≤◌, List, [], ◌∷◌, ◌++◌, length, get_or, set, map, take, drop, replicate, arith, refl, sym, ap, ◌∙◌, Option, Some, None}
+use Rattle.std.proofs.Common.{ℕ, zero, suc, ◌≡◌, ◌<◌, List, [], ◌∷◌, length, get_or, set, map, take, drop, replicate, arith, refl, sym, ap, ◌∙◌, Option, None}
 use Rattle.std.proofs.lemmas.List.{length-replicate}
 use Rattle.std.proofs.Math.ListN.{get_or-map}
 use Rattle.std.proofs.Math.Seq.{map-set_same}
 use Rattle.farm_core.specs.declared.orders.Order.{Order}
 use Rattle.farm_core.specs.Replies.{Entry}
-use Rattle.farm_core.specs.Boards.{Held, IsHeldToo, HasRooms, most_served}
-use Rattle.farm_core.proofs.Tables.{row_is, added}
+use Rattle.farm_core.specs.Boards.{HasRooms, most_served}
+use Rattle.farm_core.proofs.Tables.{row_is}
 
 abbrev Table : Type 0
 Table = List (List (Option Entry))

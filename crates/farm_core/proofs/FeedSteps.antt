@@ -1,5 +1,5 @@
 -- A feeder goes on.
-use Rattle.std.proofs.Common.{◌≡◌, ℕ, zero, suc, ◌+◌, ◌<◌, ◌≤◌, List, [], ◌∷◌, ◌++◌, length, take, drop, get_or, Option, None, false, refl, sym, ap, ◌∙◌, subst, ⊎_elim, arith}
+use Rattle.std.proofs.Common.{◌≡◌, ℕ, zero, suc, ◌+◌, ◌<◌, ◌≤◌, List, [], ◌∷◌, ◌++◌, length, take, drop, get_or, Option, Some, None, Bool, false, refl, sym, ap, ◌∙◌, subst, ⊎_elim, arith}
 use Rattle.std.specs.List.{All}
 use Rattle.std.proofs.lemmas.List.{drop_more, length_push, get_or_append_left, get_or_push}
 use Rattle.std.proofs.Common.{below_more}
@@ -25,16 +25,16 @@ use Rattle.farm_core.specs.declared.orders.Order.TheVariants.{Rebuild}
 use Rattle.farm_core.specs.declared.jobs.Job.{Job}
 use Rattle.farm_core.specs.declared.jobs.Job.TheVariants.{Solve, Stop}
 use Rattle.farm_core.specs.Orders.{before_close, HasClose}
-use Rattle.farm_core.specs.Jobs.{IsOfFeed, numbers_of, requests_of}
-use Rattle.farm_core.specs.Feed.{HasFed, CountUp, AreRising, IsMade, IsRightLeft}
+use Rattle.farm_core.specs.Jobs.{IsOfRack, numbers_of, requests_of}
+use Rattle.farm_core.specs.Feed.{HasFed, CountUp, AreRising, IsMade, IsRightLeft, refused_draws}
 use Rattle.farm_core.proofs.Works.{put_more}
 
 -- a job was put for each of the first i requests
-pub record IsFeeding (total : ℕ) (seat : SeatView) (rack feed : ℕ) (requests : List Asked) (jobs : PutView Job) (i : ℕ) (seat' : SeatView) (jobs' : PutView Job) : Type 0 where
+pub record IsFeeding (total : ℕ) (seat : SeatView) (rack : ℕ) (requests : List Asked) (jobs : PutView Job) (i : ℕ) (seat' : SeatView) (jobs' : PutView Job) : Type 0 where
   pub put : List (Item Job)
   pub only_values : Each (λ x. is_end x ≡ false) put
   pub jobs_is : jobs' ≡ put_end jobs.lane jobs.sender put
-  pub racks_are : All (IsOfFeed rack feed) (values put)
+  pub racks_are : All (IsOfRack rack) (values put)
   pub count : length (values put) ≡ i
   pub long : length put ≡ i
   pub requests_are : requests_of (values put) ≡ take i requests
@@ -46,6 +46,7 @@ pub record IsFeeding (total : ℕ) (seat : SeatView) (rack feed : ℕ) (requests
   pub share_is : seat'.has.share ≡ seat.has.share
   pub within : i ≤ length requests
   pub draws_are : seat'.has.draws ≡ seat.has.draws + i
+  pub held_is : seat'.has.held ≡ seat.has.held
   pub kept : (seat'.has.used ≡ seat.has.used) × (seat'.has.made ≡ seat.has.made) × (seat'.has.knows ≡ false)
 
 module _ {A : Type 0} where
@@ -70,12 +71,12 @@ module _ {A : Type 0} where
 
 requests_append : (xs ys : List Job) → requests_of (xs ++ ys) ≡ requests_of xs ++ requests_of ys
 requests_append [] ys = refl
-requests_append (Solve a f b q ∷ xs) ys = ap (λ l. q.now ∷ l) (requests_append xs ys)
+requests_append (Solve a b q ∷ xs) ys = ap (λ l. q.now ∷ l) (requests_append xs ys)
 requests_append (Stop ∷ xs) ys = requests_append xs ys
 
 numbers_append : (xs ys : List Job) → numbers_of (xs ++ ys) ≡ numbers_of xs ++ numbers_of ys
 numbers_append [] ys = refl
-numbers_append (Solve a f b q ∷ xs) ys = ap (λ l. b ∷ l) (numbers_append xs ys)
+numbers_append (Solve a b q ∷ xs) ys = ap (λ l. b ∷ l) (numbers_append xs ys)
 numbers_append (Stop ∷ xs) ys = numbers_append xs ys
 
 below_at : (ns : List ℕ) (n x j : ℕ) → All (λ m. m < n) ns → get_elem? ns j ≡ some x → x < n
@@ -87,8 +88,8 @@ below_at (m ∷ ns) n x (suc j) below at = below_at ns n x j (λ i d low. below 
 next_here : (orders : List Order) (i : ℕ) (r : Asked) (d : Order) → i < length orders → get_or orders i d ≡ Rebuild r → before_close (drop i orders) ≡ drop i (before_close orders) → drop i (before_close orders) ≡ r ∷ before_close (drop (i + 1) orders)
 next_here orders i r d low is along = sym along ∙ ap before_close (drop_more orders i d low) ∙ ap (λ (x : Order). before_close (x ∷ drop (i + 1) orders)) is
 
-pub feed_begins : (total : ℕ) (seat : SeatView) (rack feed : ℕ) (requests : List Asked) (jobs : PutView Job) → IsUnusedPut jobs → seat.has.numbers ≡ [] → seat.has.knows ≡ false → IsFeeding total seat rack feed requests jobs 0 seat jobs
-feed_begins total seat rack feed requests jobs unused none knows = record {
+pub feed_begins : (total : ℕ) (seat : SeatView) (rack : ℕ) (requests : List Asked) (jobs : PutView Job) → IsUnusedPut jobs → seat.has.numbers ≡ [] → seat.has.knows ≡ false → IsFeeding total seat rack requests jobs 0 seat jobs
+feed_begins total seat rack requests jobs unused none knows = record {
   put = [];
   only_values = λ k x at. absurd (some-ne-none x (sym at));
   jobs_is = unused;
@@ -104,16 +105,17 @@ feed_begins total seat rack feed requests jobs unused none knows = record {
   share_is = refl;
   within = omega arith;
   draws_are = omega arith;
+  held_is = refl;
   kept = (refl, refl, knows);
 }
 
 -- a number was drawn, and the job put
-pub feed_more : (total : ℕ) (seat : SeatView) (rack feed : ℕ) (orders : List Order) (jobs : PutView Job) (i : ℕ) (s s' : SeatView) (e e' : PutView Job) (number : ℕ) (job : Job) (r : Asked) (d : Order) (x : Item Job)
-    → IsFeeding total seat rack feed (before_close orders) jobs i s e → before_close (drop i orders) ≡ drop i (before_close orders) → i < length orders → get_or orders i d ≡ Rebuild r
+pub feed_more : (total : ℕ) (seat : SeatView) (rack : ℕ) (orders : List Order) (jobs : PutView Job) (i : ℕ) (s s' : SeatView) (e e' : PutView Job) (number : ℕ) (job : Job) (r : Asked) (d : Order) (x : Item Job)
+    → IsFeeding total seat rack (before_close orders) jobs i s e → before_close (drop i orders) ≡ drop i (before_close orders) → i < length orders → get_or orders i d ≡ Rebuild r
     → s'.gate ≡ s.gate → s'.has ≡ accepted s.has number → All (λ n. n < number) s.has.numbers → (s.has.share ≡ total → number ≡ length s.has.numbers)
-    → values (x ∷ []) ≡ job ∷ [] → is_end x ≡ false → IsOfFeed rack feed job → numbers_of (job ∷ []) ≡ number ∷ [] → requests_of (job ∷ []) ≡ r ∷ [] → e' ≡ with_put e x
-    → IsFeeding total seat rack feed (before_close orders) jobs (i + 1) s' e'
-feed_more total seat rack feed orders jobs i s s' e e' number job r d x was along low is gate has above lone says value of_rack number_is request_is more =
+    → values (x ∷ []) ≡ job ∷ [] → is_end x ≡ false → IsOfRack rack job → numbers_of (job ∷ []) ≡ number ∷ [] → requests_of (job ∷ []) ≡ r ∷ [] → e' ≡ with_put e x
+    → IsFeeding total seat rack (before_close orders) jobs (i + 1) s' e'
+feed_more total seat rack orders jobs i s s' e e' number job r d x was along low is gate has above lone says value of_rack number_is request_is more =
     let vals : values (was.put ++ x ∷ []) ≡ values was.put ++ job ∷ [] = values-append was.put (x ∷ []) ∙ ap (λ l. values was.put ++ l) says in
     let nums : numbers_of (values (was.put ++ x ∷ [])) ≡ numbers_of (values was.put) ++ number ∷ [] = ap numbers_of vals ∙ (numbers_append (values was.put) (job ∷ []) ∙ ap (λ l. numbers_of (values was.put) ++ l) number_is) in
     let reqs : requests_of (values (was.put ++ x ∷ [])) ≡ requests_of (values was.put) ++ r ∷ [] = ap requests_of vals ∙ (requests_append (values was.put) (job ∷ []) ∙ ap (λ l. requests_of (values was.put) ++ l) request_is) in
@@ -121,7 +123,7 @@ feed_more total seat rack feed orders jobs i s s' e e' number job r d x was alon
       put = was.put ++ x ∷ [];
       only_values = each_snoc (λ x. is_end x ≡ false) was.put x was.only_values value;
       jobs_is = put_more e e' jobs.lane jobs.sender was.put x was.jobs_is more;
-      racks_are = subst (λ l. All (IsOfFeed rack feed) l) (sym vals) (all_push (IsOfFeed rack feed) (values was.put) job was.racks_are of_rack);
+      racks_are = subst (λ l. All (IsOfRack rack) l) (sym vals) (all_push (IsOfRack rack) (values was.put) job was.racks_are of_rack);
       count = ap (λ (l : List Job). length l) vals ∙ (length_push (values was.put) job ∙ ap (λ n. n + 1) was.count);
       long = length_push was.put x ∙ ap (λ n. n + 1) was.long;
       requests_are = reqs ∙ (ap (λ l. l ++ r ∷ []) was.requests_are ∙ sym (take_next i (before_close orders) r (before_close (drop (i + 1) orders)) (next_here orders i r d low is along)));
@@ -133,6 +135,7 @@ feed_more total seat rack feed orders jobs i s s' e e' number job r d x was alon
       share_is = ap (λ (q : SeatRecord). q.share) has ∙ was.share_is;
       within = drop_some i (before_close orders) r (before_close (drop (i + 1) orders)) (next_here orders i r d low is along);
       draws_are = let a = ap (λ (q : SeatRecord). q.draws) has in let b = was.draws_are in omega arith;
+      held_is = ap (λ (q : SeatRecord). q.held) has ∙ was.held_is;
       kept = (ap (λ (q : SeatRecord). q.used) has ∙ was.kept.0, ap (λ (q : SeatRecord). q.made) has ∙ was.kept.1, ap (λ (q : SeatRecord). q.knows) has ∙ was.kept.2);
     }
   where
@@ -148,30 +151,41 @@ feed_more total seat rack feed orders jobs i s s' e e' number job r d x was alon
     one_more ns n up is k y at = ⊎_elim (λ old. up k y old) (λ (new : (k ≡ length ns) × (n ≡ y)). sym new.1 ∙ (is ∙ sym new.0)) (at_snoc_or ns n y k at)
 
 -- the feeder ends
-pub feed_ends : (gate : GateName) (seat : SeatView) (rack feed : ℕ) (list : List Order) (jobs : PutView Job) (i : ℕ) (s s' : SeatView) (e e' : PutView Job) (right : Option TableId) (close : Option ℕ)
-    → IsFeeding gate.size.total seat rack feed (before_close list) jobs i s e → s'.gate ≡ s.gate → s'.has.share ≡ s.has.share → s'.has.numbers ≡ s.has.numbers → s'.has.draws ≤ s'.has.share
+pub feed_ends : (gate : GateName) (seat : SeatView) (rack : ℕ) (list : List Order) (jobs : PutView Job) (i : ℕ) (s s' : SeatView) (e e' : PutView Job) (right : Option TableId) (close : Option ℕ)
+    → IsFeeding gate.size.total seat rack (before_close list) jobs i s e → s'.gate ≡ s.gate → s'.has.share ≡ s.has.share → s'.has.numbers ≡ s.has.numbers → s'.has.draws ≤ s'.has.share → s'.has.held ≡ s.has.held → s'.has.draws ≡ s.has.draws + refused_draws right s'.has.knows
     → e' ≡ with_put e (End e.sender (length e.put))
     → ((put : List (Item Job)) → length (values put) ≡ i → IsRightLeft gate.id seat.has list (length (values put) ≡ length (before_close list)) right close s'.has)
-    → HasFed gate seat rack feed list jobs s' right close e'
-feed_ends gate seat rack feed list jobs i s s' e e' right close was gate_is share numbers within more left = record {
+    → HasFed gate seat rack list jobs s' right close e'
+feed_ends gate seat rack list jobs i s s' e e' right close was gate_is share numbers within held draws more left = record {
   put = was.put;
   only_values = was.only_values;
   jobs_is = more ∙ ap (λ (u : PutView Job). with_put u (End u.sender (length u.put))) was.jobs_is;
-  feed_is = was.racks_are;
+  rack_is = was.racks_are;
   requests_are = was.requests_are ∙ ap (λ n. take n (before_close list)) (sym was.count);
   numbers_are = numbers ∙ was.numbers_are;
   rising = was.rising;
   lone = was.lone;
   gate_is = gate_is ∙ was.gate_is;
   share_is = share ∙ was.share_is;
+  held_is = held ∙ was.held_is;
+  draws_are = let a = was.draws_are in let b = was.count in omega arith;
   within = within;
   right = left was.put was.count;
 }
+
+-- a close leaves the rights that the seat holds
+pub close_holds : (s s' : SeatRecord) (result : Result ℕ AlreadyClosed) → MatchResult result (λ n. (s' ≡ made_close s n) × (s.knows ≡ false)) (λ _. s' ≡ missed_close s) → s'.held ≡ s.held
+close_holds s s' (Ok n) closed = ap (λ (q : SeatRecord). q.held) closed.0
+close_holds s s' (Err e) closed = ap (λ (q : SeatRecord). q.held) closed
+
+-- the right is back, and the seat drew so many times more than jobs were put
+pub draws_told : (draws : ℕ) (right : TableId) (s : SeatRecord) (more : ℕ) (told : Bool) → s.knows ≡ told → refused_draws (Some right) told ≡ more → s.draws ≡ draws + more → s.draws ≡ draws + refused_draws (Some right) s.knows
+draws_told draws right s more told knows is all = all ∙ ap (λ n. draws + n) (sym (ap (refused_draws (Some right)) knows ∙ is))
 
 -- the right was spent
 pub right_spent : (gate : TableId) (was s s' : SeatRecord) (list : List Order) (result : Result ℕ AlreadyClosed) (close : Option ℕ) (all : Type 0) → HasClose list → close ≡ result_ok result
     → MatchResult result (λ n. (s' ≡ made_close s n) × (s.knows ≡ false)) (λ _. s' ≡ missed_close s) → s.used ≡ was.used → s.made ≡ was.made → all → IsRightLeft gate was list all None close s'
 right_spent gate was s s' list (Ok n) close all has is closed used made put =
-    (ap (λ (q : SeatRecord). q.used) closed.0 ∙ ap (λ k. k + 1) used, subst (λ c. IsMade was.made c s'.made) (sym is) (ap (λ (q : SeatRecord). q.made) closed.0 ∙ ap (λ l. l ++ n ∷ []) made), put, has)
+    (ap (λ (q : SeatRecord). q.used) closed.0 ∙ ap (λ k. k + 1) used, subst (λ c. IsMade was.made c s'.made) (sym is) (ap (λ (q : SeatRecord). q.made) closed.0 ∙ ap (λ l. l ++ n ∷ []) made), put, has, ap (λ (q : SeatRecord). q.knows) closed.0)
 right_spent gate was s s' list (Err e) close all has is closed used made put =
-    (ap (λ (q : SeatRecord). q.used) closed ∙ ap (λ k. k + 1) used, subst (λ c. IsMade was.made c s'.made) (sym is) (ap (λ (q : SeatRecord). q.made) closed ∙ made), put, has)
+    (ap (λ (q : SeatRecord). q.used) closed ∙ ap (λ k. k + 1) used, subst (λ c. IsMade was.made c s'.made) (sym is) (ap (λ (q : SeatRecord). q.made) closed ∙ made), put, has, ap (λ (q : SeatRecord). q.knows) closed)

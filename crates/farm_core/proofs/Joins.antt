@@ -28,6 +28,7 @@ use Rattle.farm_core.specs.declared.feeding.Fed.{Fed}
 use Rattle.farm_core.specs.declared.rack_feeders.RackFeeders.{RackFeeders}
 use Rattle.farm_core.specs.Feed.{HasFed, IsRightLeft}
 use Rattle.farm_core.specs.Left.{LeftBy}
+use Rattle.farm_core.specs.Slots.{slot_of}
 use Rattle.farm_core.specs.Joint.{IsOfGate, AreFed, HasDrawn}
 use Rattle.farm_core.specs.Cleared.{HavePut}
 use Rattle.farm_core.specs.RacksJoined.{AreAllFeeders, HavePutRacks}
@@ -120,8 +121,8 @@ module _ (gate : GateName) (hs : List FeederHandle) (fs : List Fed) (joined : Fe
             let f = h.0.promise.0.value in
             let is = are.each k f (at_map (λ (h : FeederHandle). h.promise.0.value) hs k h.0 h.1) in
             let same : f.list.now ≡ list = some-injective _ _ (sym is.2 ∙ at_list) in
-            let P : GateName × ℕ × ℕ × List Order → Type 0 = λ p. HasFed p.0 f.seat p.1 p.2 p.3 f.jobs fed.seat fed.right fed.close fed.jobs in
-            (f.seat, f.jobs, f.unclosed.0, f.unclosed.1, subst P (λ i. (is.3 i, is.0 i, is.1 i, same i)) (joined.each k h.0 fed h.1 at));
+            let P : GateName × ℕ × ℕ × List Order → Type 0 = λ p. HasFed p.0 f.seat (slot_of p.1 p.2) p.3 f.jobs fed.seat fed.right fed.close fed.jobs in
+            (f.seat, f.jobs, f.unclosed.0, f.unclosed.1, subst P (λ i. (is.3 i, is.0 i, is.1 i, same i)) (joined.each k h.0 fed h.1 at), (let low = f.few.1 in let e = is.1 in omega arith));
       }
 
 -- a list of one more has a last

@@ -1,17 +1,16 @@
 -- The joined seat of a rack tells what its feeders drew.
-use Rattle.std.proofs.Common.{◌≡◌, ℕ, zero, suc, ◌+◌, ◌-◌, ◌<◌, ◌≤◌, ◌||◌, ◌⊎◌, List, [], ◌∷◌, ◌++◌, length, take, map, Bool, true, false, refl, sym, ap, ◌∙◌, subst, inl, inr, ⊎_elim, arith, append-nil, length-append, Option, Some, None}
+use Rattle.std.proofs.Common.{◌≡◌, ℕ, zero, suc, ◌+◌, ◌<◌, ◌||◌, ◌⊎◌, List, [], ◌∷◌, ◌++◌, length, take, map, Bool, true, false, refl, sym, ap, ◌∙◌, subst, inl, inr, ⊎_elim, arith, append-nil, length-append, Option, Some, None}
 use Rattle.std.specs.List.{sum_by, All}
 use Rattle.std.specs.Option.{is_some}
-use Rattle.std.proofs.lemmas.List.{take_all, length_push}
-use Rattle.std.proofs.lemmas.List.Sums.{sum_by-cons, sum_by-append}
+use Rattle.std.proofs.lemmas.List.{take_all}
+use Rattle.std.proofs.lemmas.List.Sums.{sum_by-cons}
 use mathlib.Core.Option.{some, some-ne-none, some-injective}
 use lib.ListN.{get_elem?}
 use Rattle.atomic_table.specs.Seated.{TableId}
-use Rattle.lrc_code.specs.Requests.{Asked}
 use Rattle.farm_lanes.specs.declared.gate.record.SeatRecord.{SeatRecord}
 use Rattle.farm_lanes.specs.declared.gate.record.GateSize.{GateSize}
 use Rattle.farm_lanes.specs.declared.lane.item.Item.TheVariants.{End}
-use Rattle.farm_lanes.specs.Counting.{times, once_below, AreBelow}
+use Rattle.farm_lanes.specs.Counting.{times}
 use Rattle.farm_lanes.specs.GateRecord.{IsSound}
 use Rattle.farm_lanes.specs.GateView.{GateName, SeatView}
 use Rattle.farm_lanes.specs.LaneEnds.{PutView}
@@ -30,12 +29,14 @@ use Rattle.farm_core.specs.declared.jobs.Job.{Job}
 use Rattle.farm_core.specs.declared.jobs.Job.TheVariants.{Solve, Stop}
 use Rattle.farm_core.specs.declared.feeding.Fed.{Fed}
 use Rattle.farm_core.specs.Orders.{before_close, HasClose}
-use Rattle.farm_core.specs.Jobs.{IsOfFeed, numbers_of, requests_of}
+use Rattle.farm_core.specs.Jobs.{IsOfRack, IsOfFeed, numbers_of, requests_of}
 use Rattle.farm_core.specs.Feed.{HasFed, IsRightLeft, AreRising}
-use Rattle.farm_core.specs.Drawn.{Draws, drawn_numbers, drawn_requests, DrewAll, AreDrawn}
+use Rattle.farm_core.specs.Drawn.{Draws, drawn_numbers, drawn_requests, DrewAll}
 use Rattle.farm_core.specs.Joint.{right_back, draws_of, IsOfGate, IsJoint, AreFed, HasDrawn}
 use Rattle.farm_core.proofs.Settled.{there}
 use Rattle.farm_core.proofs.Merged.{map_length}
+use Rattle.farm_core.specs.Slots.{slot_of}
+use Rattle.farm_core.proofs.SlotJobs.{jobs_of_feed}
 
 or_false : (a b : Bool) → a || b ≡ false → (a ≡ false) × (b ≡ false)
 or_false true b none = absurd (cc)
@@ -80,18 +81,18 @@ joint_turn s t parts was = record {
 -- the numbers and requests of jobs
 numbers_drawn : (js : List Job) → drawn_numbers (draws_of js) ≡ numbers_of js
 numbers_drawn [] = refl
-numbers_drawn (Solve a f b q ∷ js) = ap (λ l. b ∷ l) (numbers_drawn js)
+numbers_drawn (Solve a b q ∷ js) = ap (λ l. b ∷ l) (numbers_drawn js)
 numbers_drawn (Stop ∷ js) = numbers_drawn js
 
 requests_drawn : (js : List Job) → drawn_requests (draws_of js) ≡ requests_of js
 requests_drawn [] = refl
-requests_drawn (Solve a f b q ∷ js) = ap (λ l. q.now ∷ l) (requests_drawn js)
+requests_drawn (Solve a b q ∷ js) = ap (λ l. q.now ∷ l) (requests_drawn js)
 requests_drawn (Stop ∷ js) = requests_drawn js
 
-draws_length : (r f : ℕ) (js : List Job) → All (IsOfFeed r f) js → length (draws_of js) ≡ length js
-draws_length r f [] all = refl
-draws_length r f (Solve a g b q ∷ js) all = ap suc (draws_length r f js (λ k d low. all (suc k) d (omega arith)))
-draws_length r f (Stop ∷ js) all = absurd (all 0 Stop (omega arith))
+draws_length : (r : ℕ) (js : List Job) → All (IsOfRack r) js → length (draws_of js) ≡ length js
+draws_length r [] all = refl
+draws_length r (Solve a b q ∷ js) all = ap suc (draws_length r js (λ k d low. all (suc k) d (omega arith)))
+draws_length r (Stop ∷ js) all = absurd (all 0 Stop (omega arith))
 
 left_back : (gate : TableId) (was : SeatRecord) (list : List Order) (all : Type 0) (right : Option TableId) (close : Option ℕ) (left : SeatRecord) → is_some right ≡ true → IsRightLeft gate was list all right close left
     → (left.used ≡ was.used) × (left.made ≡ was.made) × (left.knows ≡ false → all × ¬ HasClose list)
@@ -133,18 +134,23 @@ module _ (gate : GateName) (rack : ℕ) (lists : List (List Order)) (feds : List
   abbrev drawn : List Draws
   drawn = map (λ (e : PutView Job). draws_of (values e.put)) (map jobs_at feds)
 
-  vals_are : (f : Fed) (seat : SeatView) (k : ℕ) (list : List Order) (jobs : PutView Job) → (h : HasFed gate seat rack k list jobs f.seat f.right f.close f.jobs) → values f.jobs.put ≡ values h.put
+  vals_are : (f : Fed) (seat : SeatView) (k : ℕ) (list : List Order) (jobs : PutView Job) → (h : HasFed gate seat (slot_of rack k) list jobs f.seat f.right f.close f.jobs) → values f.jobs.put ≡ values h.put
   vals_are f seat k list jobs h =
       ap (λ (e : PutView Job). values e.put) h.jobs_is
       ∙ (values-append h.put (End jobs.sender (length h.put) ∷ []) ∙ append-nil (values h.put))
 
   -- what the feeder at a place left
   at_feed : (k : ℕ) (f : Fed) → get_elem? feds k ≡ some f
-      → (list : List Order) × (get_elem? lists k ≡ some list) × (seat : SeatView) × (jobs : PutView Job) × (seat.has.used ≡ 0) × (seat.has.made ≡ []) × HasFed gate seat rack k list jobs f.seat f.right f.close f.jobs
+      → (list : List Order) × (get_elem? lists k ≡ some list) × (seat : SeatView) × (jobs : PutView Job) × (seat.has.used ≡ 0) × (seat.has.made ≡ []) × HasFed gate seat (slot_of rack k) list jobs f.seat f.right f.close f.jobs
   at_feed k f at =
       let l = there lists k (let a = at_below feds k f at in let b = fed.count in omega arith) in
       let h = fed.each k l.0 f l.1 at in
       (l.0, l.1, h.0, h.1, h.2, h.3, h.4)
+
+  few_at : (k : ℕ) (f : Fed) → get_elem? feds k ≡ some f → k < 4
+  few_at k f at =
+      let l = there lists k (let a = at_below feds k f at in let b = fed.count in omega arith) in
+      (fed.each k l.0 f l.1 at).5
 
   -- the feeder of a place of what was drawn
   from_drawn : (k : ℕ) (d : Draws) → get_elem? drawn k ≡ some d → (f : Fed) × (get_elem? feds k ≡ some f) × (draws_at f ≡ d)
@@ -164,10 +170,10 @@ module _ (gate : GateName) (rack : ℕ) (lists : List (List Order)) (feds : List
       let same : h.0 ≡ list = some-injective _ _ (sym h.1 ∙ at_list) in
       let vals = vals_are f h.2 k h.0 h.3 h.6 in
       let long : length (values h.6.put) ≡ length (draws_at f) =
-      sym (draws_length rack k (values h.6.put) h.6.feed_is) ∙ ap (λ (l : List Job). length (draws_of l)) (sym vals) in
+      sym (draws_length (slot_of rack k) (values h.6.put) h.6.rack_is) ∙ ap (λ (l : List Job). length (draws_of l)) (sym vals) in
       requests_drawn (values f.jobs.put) ∙ (ap requests_of vals ∙ (h.6.requests_are ∙ (ap (λ n. take n (before_close h.0)) long ∙ ap (λ (l : List Order). take (length (draws_at f)) (before_close l)) same)))
 
-  drew_all : (k : ℕ) (f : Fed) (list : List Order) → get_elem? feds k ≡ some f → get_elem? lists k ≡ some list → (h : (list : List Order) × (get_elem? lists k ≡ some list) × (seat : SeatView) × (jobs : PutView Job) × (seat.has.used ≡ 0) × (seat.has.made ≡ []) × HasFed gate seat rack k list jobs f.seat f.right f.close f.jobs)
+  drew_all : (k : ℕ) (f : Fed) (list : List Order) → get_elem? feds k ≡ some f → get_elem? lists k ≡ some list → (h : (list : List Order) × (get_elem? lists k ≡ some list) × (seat : SeatView) × (jobs : PutView Job) × (seat.has.used ≡ 0) × (seat.has.made ≡ []) × HasFed gate seat (slot_of rack k) list jobs f.seat f.right f.close f.jobs)
       → length (values h.6.put) ≡ length (before_close h.0) → DrewAll (draws_at f) list
   drew_all k f list at at_list h all =
       let same : h.0 ≡ list = some-injective _ _ (sym h.1 ∙ at_list) in
@@ -221,7 +227,7 @@ module _ (gate : GateName) (rack : ℕ) (lists : List (List Order)) (feds : List
         each = λ k e at.
             let f = from_map jobs_at feds k e at in
             let h = at_feed k f.0 f.1 in
-            subst (λ (u : PutView Job). All (IsOfFeed rack k) (values u.put)) f.2 (subst (λ (l : List Job). All (IsOfFeed rack k) l) (sym (vals_are f.0 h.2 k h.0 h.3 h.6)) h.6.feed_is);
+            subst (λ (u : PutView Job). All (IsOfFeed rack k) (values u.put)) f.2 (subst (λ (l : List Job). All (IsOfFeed rack k) l) (sym (vals_are f.0 h.2 k h.0 h.3 h.6)) (jobs_of_feed rack k (few_at k f.0 f.1) (values h.6.put) h.6.rack_is));
       }
 
 -- a seat that knows a closing and spends rights makes no close

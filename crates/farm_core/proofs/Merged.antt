@@ -1,5 +1,5 @@
 -- From one reply to each number that was drawn to lawful merges of all racks.
-use Rattle.std.proofs.Common.{◌≡◌, ℕ, zero, suc, ◌+◌, ◌<◌, ◌≤◌, List, [], ◌∷◌, ◌++◌, length, take, map, get_or, refl, sym, ap, ◌∙◌, subst, inl, inr, arith, nat_eq, nat_lt, cond, Option, Some, None, length-append}
+use Rattle.std.proofs.Common.{◌≡◌, ℕ, zero, suc, ◌<◌, ◌≤◌, List, [], ◌∷◌, ◌++◌, length, take, map, get_or, refl, sym, ap, ◌∙◌, subst, inl, inr, arith, Option, Some, None, length-append}
 use Rattle.std.specs.Prelude.{IsSome}
 use Rattle.std.specs.List.{sum_by, AllZip}
 use Rattle.std.proofs.lemmas.Bool.{cases_lt}
@@ -9,7 +9,7 @@ use mathlib.Core.Option.{some, some-ne-none, some-injective}
 use lib.ListN.{get_elem?}
 use Rattle.lrc_code.specs.declared.outcomes.Outcome.{Outcome}
 use Rattle.lrc_code.specs.Requests.{Asked}
-use Rattle.farm_lanes.proofs.Lists.{at_below, at_map, from_map}
+use Rattle.farm_lanes.proofs.Lists.{from_map}
 use Rattle.farm_lanes.proofs.Lengths.{below_length}
 use Rattle.farm_lanes.proofs.Numbers.{times-append}
 use Rattle.farm_lanes.specs.Counting.{times, once_below, AreBelow}
@@ -17,10 +17,11 @@ use Rattle.farm_lanes.specs.Lists.{Each}
 use Rattle.farm_core.specs.declared.orders.Order.{Order}
 use Rattle.farm_core.specs.Orders.{before_close}
 use Rattle.farm_core.specs.Replies.{Replied, Entry}
-use Rattle.farm_core.specs.Drawn.{Draws, drawn_numbers, drawn_requests, AreDrawn, IsDrawnBy}
+use Rattle.farm_core.specs.Slots.{slot_feed}
+use Rattle.farm_core.specs.Drawn.{Draws, drawn_numbers, AreDrawn, IsDrawnBy}
 use Rattle.farm_core.specs.Expected.{AreAnswers, AreExpected}
-use Rattle.farm_core.specs.Merge.{IsLawfulMerge, IsFedAnswer, AreMergedAnswers, AreAllMergedAnswers}
-use Rattle.farm_core.specs.Boards.{Held, held_at, HasRoom, HasRooms, most_served, replies_to, AreOneEach, filled, merge_of, AreMergedRows, IsOutcomeOf}
+use Rattle.farm_core.specs.Merge.{IsLawfulMerge, IsFedAnswer, AreAllMergedAnswers}
+use Rattle.farm_core.specs.Boards.{Held, held_at, HasRoom, HasRooms, most_served, AreOneEach, filled, merge_of, AreMergedRows, IsOutcomeOf}
 use Rattle.farm_core.specs.Held.{HoldsAll}
 use Rattle.farm_core.specs.Settled.{IsSoReply}
 use Rattle.farm_core.specs.Cleared.{AreAllDrawn, IsDrawnAt}
@@ -116,11 +117,11 @@ filled_count (Some x ∷ row) (suc n) has lacks = ap suc (filled_count row n (λ
 
 module _ (racks : List (List (List Order))) (count : ℕ → ℕ) (drawn : ℕ → List Draws) (all_drawn : AreAllDrawn racks count drawn) (b : Held) (xs : List Replied) (held : HoldsAll b racks xs) (each : AreOneEach count xs) (right : Each (IsSoReply (IsDrawnAt drawn)) xs) where
   -- the entry of a place is of a number that was drawn for its request
-  entry_drawn : (r k : ℕ) (e : Entry) → held_at b r k ≡ Some e → IsDrawnBy (drawn r) e.feed k e.request
+  entry_drawn : (r k : ℕ) (e : Entry) → held_at b r k ≡ Some e → IsDrawnBy (drawn r) (slot_feed e.rack) k e.request
   entry_drawn r k e is =
       let a = held.among r k e is in
       let y = a.1 in
-      let Q : ℕ × ℕ × Entry → Type 0 = λ p. IsDrawnBy (drawn p.0) p.2.feed p.1 p.2.request in
+      let Q : ℕ × ℕ × Entry → Type 0 = λ p. IsDrawnBy (drawn p.0) (slot_feed p.2.rack) p.1 p.2.request in
       subst Q (λ i. (a.3 i, a.4 i, a.5 i)) (right a.0 y a.2)
 
   row_merged : (r : ℕ) (feeds : List (List Order)) (row : List (Option Entry)) → get_elem? racks r ≡ some feeds → get_or b.table r [] ≡ row → IsLawfulMerge feeds (merge_of row)
@@ -129,9 +130,9 @@ module _ (racks : List (List (List Order))) (count : ℕ → ℕ) (drawn : ℕ �
       let long : length (filled row) ≡ count r = filled_count row (count r)
       (λ k low. subst (λ (o : Option Entry). IsSome o) (sym (cell k)) (held.some r k (let a = each r k in let c = once_pos k (count r) low in omega arith)))
       (λ k high. cell k ∙ held.none r k (let a = each r k in let c = once_zero k (count r) high in omega arith)) in
-      drawn_is_lawful feeds (count r) (drawn r) (all_drawn.each r feeds at) (merge_of row) (map_length (λ (e : Entry). (e.feed, e.request)) (filled row) ∙ long)
+      drawn_is_lawful feeds (count r) (drawn r) (all_drawn.each r feeds at) (merge_of row) (map_length (λ (e : Entry). (slot_feed e.rack, e.request)) (filled row) ∙ long)
       (λ k x here.
-      let e = from_map (λ (e : Entry). (e.feed, e.request)) (filled row) k x here in
+      let e = from_map (λ (e : Entry). (slot_feed e.rack, e.request)) (filled row) k x here in
       subst (λ (p : ℕ × Asked). IsDrawnBy (drawn r) p.0 k p.1) e.2 (entry_drawn r k e.0 (sym (cell k) ∙ filled_at row k e.0 e.1)))
 
   pub rows_merged : HasRooms racks b.table → AreMergedRows racks b.table
@@ -140,7 +141,7 @@ module _ (racks : List (List (List Order))) (count : ℕ → ℕ) (drawn : ℕ �
       zip_places (λ feeds row. IsLawfulMerge feeds (merge_of row)) racks b.table same
       (λ r feeds row at at_row. row_merged r feeds row at (place_is b.table r row [] at_row))
 
-fed_answers : (es : List Entry) (answers : List (ℕ × Outcome)) → AllZip IsOutcomeOf es answers → AllZip IsFedAnswer (map (λ (e : Entry). (e.feed, e.request)) es) answers
+fed_answers : (es : List Entry) (answers : List (ℕ × Outcome)) → AllZip IsOutcomeOf es answers → AllZip IsFedAnswer (map (λ (e : Entry). (slot_feed e.rack, e.request)) es) answers
 fed_answers [] [] all = tt
 fed_answers [] (a ∷ more) all = absurd all
 fed_answers (e ∷ es) [] all = absurd all
@@ -155,14 +156,14 @@ merged_answers (feeds ∷ racks) [] more merged all = absurd merged
 merged_answers (feeds ∷ racks) (row ∷ table) [] merged all = absurd all
 merged_answers (feeds ∷ racks) (row ∷ table) (a ∷ more) merged all = ((merge_of row, merged.0, fed_answers (filled row) a all.0), merged_answers racks table more merged.1 all.1)
 
-one_answers : (es : List Entry) (outcomes : List Outcome) → AllZip (λ (e : Entry) (o : Outcome). IsOutcomeOf e (e.feed, o)) es outcomes → AreAnswers (map (λ (x : ℕ × Asked). x.1) (map (λ (e : Entry). (e.feed, e.request)) es)) outcomes
+one_answers : (es : List Entry) (outcomes : List Outcome) → AllZip (λ (e : Entry) (o : Outcome). IsOutcomeOf e (slot_feed e.rack, o)) es outcomes → AreAnswers (map (λ (x : ℕ × Asked). x.1) (map (λ (e : Entry). (slot_feed e.rack, e.request)) es)) outcomes
 one_answers [] [] all = tt
 one_answers [] (o ∷ more) all = absurd all
 one_answers (e ∷ es) [] all = absurd all
 one_answers (e ∷ es) (o ∷ more) all = (all.0.1, one_answers es more all.1)
 
 -- where each rack has one feed, they are the answers to its list
-pub expected_answers : (racks : List (List Order)) (table : List (List (Option Entry))) (answers : List (List Outcome)) → AreMergedRows (map (λ list. list ∷ []) racks) table → AllZip (λ row outs. AllZip (λ (e : Entry) (o : Outcome). IsOutcomeOf e (e.feed, o)) (filled row) outs) table answers → AreExpected racks answers
+pub expected_answers : (racks : List (List Order)) (table : List (List (Option Entry))) (answers : List (List Outcome)) → AreMergedRows (map (λ list. list ∷ []) racks) table → AllZip (λ row outs. AllZip (λ (e : Entry) (o : Outcome). IsOutcomeOf e (slot_feed e.rack, o)) (filled row) outs) table answers → AreExpected racks answers
 expected_answers [] [] [] merged all = tt
 expected_answers [] [] (a ∷ more) merged all = absurd all
 expected_answers [] (row ∷ table) more merged all = absurd merged

@@ -1,23 +1,22 @@
 -- What was drawn makes a lawful merge.
-use Rattle.std.proofs.Common.{◌≡◌, ◌≢◌, ◌⊎◌, ℕ, zero, suc, ◌+◌, ◌<◌, ◌≤◌, List, [], ◌∷◌, length, take, map, true, false, refl, sym, ap, ◌∙◌, subst, inl, inr, ⊎_elim, arith, nat_eq, nat_lt, cond}
-use Rattle.std.specs.List.{sum_by, All, AllZip}
+use Rattle.std.proofs.Common.{◌≡◌, ◌≢◌, ℕ, zero, suc, ◌+◌, ◌<◌, ◌≤◌, List, [], ◌∷◌, length, take, map, true, false, refl, sym, ap, ◌∙◌, subst, inl, inr, ⊎_elim, arith, nat_lt, cond}
+use Rattle.std.specs.List.{All, AllZip}
 use Rattle.std.proofs.lemmas.Bool.{cases_eq, cases_lt}
 use Rattle.std.proofs.lemmas.Bool.Decides.{nat_tests}
 use mathlib.Core.Option.{some, some-ne-none, some-injective}
 use lib.ListN.{get_elem?}
 use Rattle.lrc_code.specs.declared.outcomes.Outcome.{Outcome}
-use Rattle.lrc_code.specs.Answers.{IsAnswer}
 use Rattle.lrc_code.specs.Requests.{Asked}
-use Rattle.farm_lanes.proofs.Lists.{at_below, at_map, from_map}
+use Rattle.farm_lanes.proofs.Lists.{at_below, at_map}
 use Rattle.farm_lanes.proofs.Numbers.{times-cons, test_one, once_le, once_lt, same_test, other_test}
 use Rattle.farm_lanes.proofs.Sums.{total_two, total_part}
-use Rattle.farm_lanes.specs.Counting.{times, once_below}
+use Rattle.farm_lanes.specs.Counting.{times}
 use Rattle.farm_core.specs.declared.orders.Order.{Order}
 use Rattle.farm_core.specs.Orders.{before_close, HasClose}
 use Rattle.farm_core.specs.Feed.{AreRising}
 use Rattle.farm_core.specs.Drawn.{Draws, drawn_numbers, drawn_requests, DrewAll, AreDrawn, IsDrawnBy}
 use Rattle.farm_core.specs.Expected.{AreAnswers}
-use Rattle.farm_core.specs.Merge.{of_feed, IsWhole, IsEnded, IsLawfulMerge, IsFedAnswer, AreMergedAnswers}
+use Rattle.farm_core.specs.Merge.{of_feed, IsWhole, IsLawfulMerge, IsFedAnswer}
 use Rattle.farm_core.specs.MergeLaws.{MergeOfOneIsIt, AnswersOfOneAreIts}
 use Rattle.farm_core.proofs.Settled.{there}
 

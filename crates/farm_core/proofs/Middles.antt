@@ -1,5 +1,5 @@
 -- Members in the middle of lists.
-use Rattle.std.proofs.Common.{◌≡◌, ℕ, ◌+◌, List, [], ◌∷◌, ◌++◌, length, refl, sym, ap, ◌∙◌, subst, arith, append-nil, length-append}
+use Rattle.std.proofs.Common.{◌≡◌, List, [], ◌∷◌, ◌++◌, length, refl, sym, ap, ◌∙◌, subst, arith, append-nil, length-append}
 use mathlib.Core.Option.{some}
 use lib.ListN.{get_elem?}
 use Rattle.farm_lanes.proofs.Lists.{at_back, at_front}

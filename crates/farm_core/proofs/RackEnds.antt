@@ -1,12 +1,11 @@
 -- The put ends of all racks, and the feeders that had them.
-use Rattle.std.proofs.Common.{◌≡◌, ℕ, zero, suc, ◌+◌, List, [], ◌∷◌, ◌++◌, length, map, refl, sym, ap, ◌∙◌, subst, arith, Option, append-nil}
-use Rattle.std.specs.List.{flat_map}
+use Rattle.std.proofs.Common.{◌≡◌, ℕ, suc, List, [], ◌∷◌, ◌++◌, length, map, refl, sym, ap, ◌∙◌, arith, Option, append-nil}
 use Rattle.std.proofs.lemmas.List.{map-append}
 use Rattle.std.proofs.lemmas.Grind.{flat_map-append}
 use mathlib.Core.Option.{some}
 use lib.ListN.{get_elem?}
 use Rattle.std.specs.declared.thread.PromisedHandle.{PromisedHandle}
-use Rattle.farm_lanes.specs.LaneEnds.{PutView, new_put}
+use Rattle.farm_lanes.specs.LaneEnds.{PutView}
 use Rattle.farm_core.specs.declared.jobs.Job.{Job}
 use Rattle.farm_core.specs.declared.ends.Feeder.{Feeder}
 use Rattle.farm_core.specs.declared.feeding.Fed.{Fed}
@@ -16,7 +15,6 @@ use Rattle.farm_core.specs.declared.rack_feeders.RackRoom.{RackRoom}
 use Rattle.farm_core.specs.Left.{LeftBy}
 use Rattle.farm_core.specs.Threads.{FeedersJoined, feeders_of}
 use Rattle.farm_core.specs.RacksJoined.{Given, rooms_of, started_of, all_given, ends_given, as_new, AreEndsOf}
-use Rattle.farm_core.proofs.Merged.{map_length}
 
 abbrev FeederHandle : Type 0
 FeederHandle = PromisedHandle (Option Fed) FeedOf

@@ -1,17 +1,13 @@
 -- What a room that is ready is made of.
-use Rattle.std.proofs.Common.{◌≡◌, ℕ, ◌+◌, ◌<◌, ◌≤◌, List, [], ◌∷◌, ◌++◌, length, map, refl, sym, ap, ◌∙◌, subst, ⊎_elim, arith}
+use Rattle.std.proofs.Common.{◌≡◌, ℕ, ◌+◌, List, [], ◌∷◌, ◌++◌, length, map, refl, sym, ap, ◌∙◌, subst, ⊎_elim, arith}
 use Rattle.std.proofs.lemmas.List.{map-append, length_push}
 use mathlib.Core.Option.{some}
 use lib.ListN.{get_elem?}
-use Rattle.farm_lanes.proofs.Lists.{at_back, at_front, at_map, at_snoc_or}
-use Rattle.farm_lanes.proofs.Opens.{popped_put, popped_take}
-use Rattle.farm_lanes.specs.LaneEnds.{LaneName, PutView, TakeView, new_put, new_take, IsUnusedPut, AreNewPutEnds, AreNewEnds}
+use Rattle.farm_lanes.proofs.Lists.{at_back, at_front, at_snoc_or}
+use Rattle.farm_lanes.proofs.Opens.{popped_put}
+use Rattle.farm_lanes.specs.LaneEnds.{LaneName, PutView, TakeView, IsUnusedPut, AreNewPutEnds, AreNewEnds}
 use Rattle.farm_lanes.specs.Lists.{Each, EachAt}
-use Rattle.farm_core.specs.declared.orders.Order.{Order}
 use Rattle.farm_core.specs.declared.jobs.Job.{Job}
-use Rattle.farm_core.specs.declared.ends.Feeder.{Feeder}
-use Rattle.farm_core.specs.declared.ends.WorkerEnds.{WorkerEnds}
-use Rattle.farm_core.specs.Replies.{Replied}
 
 module _ {A : Type 0} where
   -- the last of a list, those in front of it, and one in the middle

@@ -1,10 +1,8 @@
 -- From settled lanes to one reply for each request.
-use Rattle.std.proofs.Common.{◌≡◌, ◌≢◌, ℕ, zero, suc, ◌+◌, ◌<◌, ◌≤◌, ◌&&◌, List, [], ◌∷◌, ◌++◌, length, get_or, refl, sym, ap, ◌∙◌, subst, inl, inr, ⊎_elim, arith, nat_eq, nat_lt, cond}
+use Rattle.std.proofs.Common.{◌≡◌, ℕ, zero, suc, ◌+◌, ◌<◌, ◌≤◌, ◌&&◌, List, [], ◌∷◌, ◌++◌, length, refl, sym, ap, subst, ⊎_elim, arith, nat_eq, cond}
 use Rattle.std.specs.Prelude.{⊤}
 use Rattle.std.specs.List.{sum_by, All, AllZip}
 use Rattle.std.proofs.lemmas.List.Sums.{sum_by-cons, sum_by-append}
-use Rattle.std.proofs.lemmas.Bool.Decides.{nat_tests}
-use Rattle.std.proofs.lemmas.Bool.{cases_lt}
 use mathlib.Core.Option.{some, some-ne-none, some-injective}
 use lib.ListN.{get_elem?}
 use Rattle.lrc_code.specs.Requests.{Asked}
@@ -18,6 +16,7 @@ use Rattle.farm_lanes.specs.Lists.{Each}
 use Rattle.farm_core.specs.declared.jobs.Job.{Job}
 use Rattle.farm_core.specs.declared.jobs.Job.TheVariants.{Solve, Stop}
 use Rattle.farm_core.specs.Replies.{Replied}
+use Rattle.farm_core.specs.Slots.{slot_rack, slot_feed}
 use Rattle.farm_core.specs.Boards.{replies_to, AreOneEach}
 use Rattle.farm_core.specs.Jobs.{AreReplies}
 use Rattle.farm_core.specs.Settled.{job_weight, reply_weight, IsSoJob, IsSoItem, IsSoReply, HasAnswered}
@@ -25,12 +24,12 @@ use Rattle.farm_lanes.specs.Counting.{once_below}
 
 abbrev pub jobs_to : ℕ → ℕ → List Job → ℕ
 jobs_to r k [] = 0
-jobs_to r k (Solve a f b q ∷ js) = cond (nat_eq a r && nat_eq b k) 1 0 + jobs_to r k js
+jobs_to r k (Solve a b q ∷ js) = cond (nat_eq (slot_rack a) r && nat_eq b k) 1 0 + jobs_to r k js
 jobs_to r k (Stop ∷ js) = jobs_to r k js
 
 pub weigh_jobs : (r k : ℕ) (xs : List (Item Job)) → sum_by (job_weight r k) xs ≡ jobs_to r k (values xs)
 weigh_jobs r k [] = refl
-weigh_jobs r k (Value s i (Solve a f b q) ∷ xs) = let a' = sum_by-cons (job_weight r k) (Value s i (Solve a f b q)) xs in let b' = weigh_jobs r k xs in omega arith
+weigh_jobs r k (Value s i (Solve a b q) ∷ xs) = let a' = sum_by-cons (job_weight r k) (Value s i (Solve a b q)) xs in let b' = weigh_jobs r k xs in omega arith
 weigh_jobs r k (Value s i Stop ∷ xs) = let a' = sum_by-cons (job_weight r k) (Value s i Stop) xs in let b' = weigh_jobs r k xs in omega arith
 weigh_jobs r k (End s i ∷ xs) = let a' = sum_by-cons (job_weight r k) (End s i) xs in let b' = weigh_jobs r k xs in omega arith
 
@@ -44,10 +43,10 @@ pub replied : (r k : ℕ) (js : List Job) (rs : List Replied) → AreReplies js 
 replied r k [] [] all = refl
 replied r k [] (y ∷ ys) all = absurd all
 replied r k (Stop ∷ js) rs all = replied r k js rs all
-replied r k (Solve a f b q ∷ js) [] all = absurd all
-replied r k (Solve a f b q ∷ js) (y ∷ ys) all =
+replied r k (Solve a b q ∷ js) [] all = absurd all
+replied r k (Solve a b q ∷ js) (y ∷ ys) all =
     let rest = replied r k js ys all.1 in
-    let same : cond (nat_eq y.rack r && nat_eq y.number k) 1 0 ≡ cond (nat_eq a r && nat_eq b k) 1 0 + 0 = rw (all.0.0, all.0.2) (omega arith) in
+    let same : cond (nat_eq (slot_rack y.rack) r && nat_eq y.number k) 1 0 ≡ cond (nat_eq (slot_rack a) r && nat_eq b k) 1 0 + 0 = rw (all.0.0, all.0.1) (omega arith) in
     omega arith
 
 module _ {A : Type 0} where
@@ -90,11 +89,11 @@ module _ (P : ℕ → ℕ → ℕ → Asked → Type 0) where
   so_replies [] [] all so = tt
   so_replies [] (y ∷ ys) all so = absurd all
   so_replies (Stop ∷ js) rs all so = so_replies js rs all so.1
-  so_replies (Solve a f b q ∷ js) [] all so = absurd all
-  so_replies (Solve a f b q ∷ js) (y ∷ ys) all so =
+  so_replies (Solve a b q ∷ js) [] all so = absurd all
+  so_replies (Solve a b q ∷ js) (y ∷ ys) all so =
       let is = all.0 in
-      let Q : ℕ × ℕ × ℕ × Asked → Type 0 = λ p. P p.0 p.1 p.2 p.3 in
-      (subst Q (λ i. (sym is.0 i, sym is.1 i, sym is.2 i, sym is.3 i)) so.0, so_replies js ys all.1 so.1)
+      let Q : ℕ × ℕ × Asked → Type 0 = λ p. P (slot_rack p.0) (slot_feed p.0) p.1 p.2 in
+      (subst Q (λ i. (sym is.0 i, sym is.1 i, sym is.2 i)) so.0, so_replies js ys all.1 so.1)
 
   abbrev pub IsSoReplyItem : Item Replied → Type 0
   IsSoReplyItem (Value s i x) = IsSoReply P x

@@ -1,10 +1,10 @@
 -- From a room that is ready to joined threads.
-use Rattle.std.proofs.Common.{◌≡◌, ℕ, zero, suc, ◌+◌, List, [], ◌∷◌, ◌++◌, length, map, refl, sym, ap, ◌∙◌, subst, ⊎_elim, arith, Option}
+use Rattle.std.proofs.Common.{◌≡◌, ℕ, zero, suc, ◌+◌, List, [], ◌∷◌, ◌++◌, length, map, sym, ap, ◌∙◌, subst, ⊎_elim, arith, Option}
 use Rattle.std.proofs.lemmas.List.{length_push}
 use mathlib.Core.Option.{some, some-ne-none, some-injective}
 use lib.ListN.{get_elem?}
 use Rattle.std.specs.declared.thread.PromisedHandle.{PromisedHandle}
-use Rattle.farm_lanes.proofs.Lists.{at_below, at_map, at_snoc_or}
+use Rattle.farm_lanes.proofs.Lists.{at_map, at_snoc_or}
 use Rattle.farm_lanes.specs.LaneEnds.{PutView, TakeView, new_put}
 use Rattle.farm_lanes.specs.LaneRecord.{values}
 use Rattle.farm_core.specs.declared.orders.Order.{Order}

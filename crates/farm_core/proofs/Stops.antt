@@ -1,17 +1,10 @@
 -- What asks for no reply.
-use Rattle.std.proofs.Common.{◌≡◌, ℕ, suc, ◌<◌, ◌≤◌, ◌&&◌, List, [], ◌∷◌, ◌++◌, length, refl, sym, ap, ◌∙◌, subst, arith, nat_eq, nat_lt, cond}
-use Rattle.std.specs.List.{sum_by}
-use Rattle.std.proofs.lemmas.List.Sums.{sum_by-cons}
-use Rattle.std.proofs.lemmas.List.{get_or_past}
-use Rattle.std.proofs.lemmas.Bool.Decides.{nat_tests}
+use Rattle.std.proofs.Common.{◌≡◌, [], ◌∷◌, ◌++◌, sym, ap, ◌∙◌}
 use mathlib.Core.Option.{some-ne-none}
 use Rattle.farm_lanes.specs.declared.lane.item.Item.{Item}
-use Rattle.farm_lanes.specs.declared.lane.item.Item.TheVariants.{Value, End}
 use Rattle.farm_lanes.specs.LaneEnds.{PutView, with_put, IsUnusedPut}
 use Rattle.farm_lanes.proofs.Lists.{each_snoc}
-use Rattle.farm_lanes.specs.Lists.{Each}
 use Rattle.farm_core.specs.declared.jobs.Job.{Job}
-use Rattle.farm_core.specs.declared.jobs.Job.TheVariants.{Solve, Stop}
 use Rattle.farm_core.specs.Put.{AsksNothing, HasPutStops}
 
 pub stops_begin : (stops : PutView Job) → IsUnusedPut stops → HasPutStops stops stops

@@ -23,7 +23,7 @@ zip_append R (x ∷ xs) xs' (y ∷ ys) ys' all more = (all.0, zip_append R xs xs
 
 pub solves-append : (xs ys : List Job) → solves (xs ++ ys) ≡ solves xs ++ solves ys
 solves-append [] ys = refl
-solves-append (Solve a f b q ∷ xs) ys = ap (λ l. Solve a f b q ∷ l) (solves-append xs ys)
+solves-append (Solve a b q ∷ xs) ys = ap (λ l. Solve a b q ∷ l) (solves-append xs ys)
 solves-append (Stop ∷ xs) ys = solves-append xs ys
 
 pub replies_append : (js js' : List Job) (rs rs' : List Replied) → AreReplies js rs → AreReplies js' rs' → AreReplies (js ++ js') (rs ++ rs')

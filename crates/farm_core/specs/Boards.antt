@@ -1,8 +1,6 @@
 -- What a farm holds of the replies to the requests of some racks' feeds.
-use Rattle.std.specs.Prelude.{ℕ, ◌≡◌, ◌+◌, ◌<◌, ◌==◌, ◌&&◌, if◌then◌else◌, List, [], ◌∷◌, ◌++◌, length, map, slice_index_or, Option, Some, None, IsSome}
+use Rattle.std.specs.Prelude.{ℕ, ◌≡◌, ◌+◌, ◌<◌, ◌==◌, ◌&&◌, if◌then◌else◌, List, [], ◌∷◌, length, map, slice_index_or, Option, Some, None}
 use Rattle.std.specs.List.{sum_by, AllZip}
-use mathlib.Core.Option.{some}
-use lib.ListN.{get_elem?}
 use Rattle.lrc_code.specs.declared.outcomes.Outcome.{Outcome}
 use Rattle.lrc_code.specs.Answers.{IsAnswer}
 use Rattle.lrc_code.specs.Requests.{Asked}
@@ -11,6 +9,7 @@ use Rattle.farm_core.specs.declared.orders.Order.{Order}
 use Rattle.farm_core.specs.declared.reply.ReplyResult.TheVariants.{Done}
 use Rattle.farm_core.specs.Orders.{before_close}
 use Rattle.farm_core.specs.Replies.{Replied, Entry}
+use Rattle.farm_core.specs.Slots.{slot_rack, slot_feed}
 use Rattle.farm_core.specs.Merge.{IsLawfulMerge}
 
 -- how many requests stand in front of the closes of a rack's feeds; so many may be answered
@@ -45,10 +44,10 @@ IsHeldToo b rack number entry more =
     × (held_at more rack number ≡ Some entry)
     × ((r k : ℕ) → ((r ≡ rack) × (k ≡ number) → ⊥) → held_at more r k ≡ held_at b r k)
 
--- how many of the replies are by this number of this rack
+-- how many of the replies are by this number of a slot of this rack
 abbrev pub replies_to : ℕ → ℕ → List Replied → ℕ
 replies_to rack number [] = 0
-replies_to rack number (x ∷ xs) = (if (x.rack == rack) && (x.number == number) then 1 else 0) + replies_to rack number xs
+replies_to rack number (x ∷ xs) = (if (slot_rack x.rack == rack) && (x.number == number) then 1 else 0) + replies_to rack number xs
 
 -- of each rack one reply by each number below its count, and none by any other
 abbrev pub AreOneEach : (ℕ → ℕ) → List Replied → Type 0
@@ -60,14 +59,14 @@ filled [] = []
 filled (None ∷ cells) = []
 filled (Some e ∷ cells) = e ∷ filled cells
 
--- the requests of these entries, each with its feed's number
+-- the requests of these entries, each with the feed of its slot
 abbrev pub merge_of : List (Option Entry) → List (ℕ × Asked)
-merge_of row = map (λ (e : Entry). (e.feed, e.request)) (filled row)
+merge_of row = map (λ (e : Entry). (slot_feed e.rack, e.request)) (filled row)
 
 -- of each rack the replies in front of the first gap are those to a lawful merge of its feeds
 abbrev pub AreMergedRows : List (List (List Order)) → List (List (Option Entry)) → Type 0
 AreMergedRows racks table = AllZip (λ feeds row. IsLawfulMerge feeds (merge_of row)) racks table
 
--- the outcome with its feed's number is what this entry says, and answers its request
+-- the outcome with the feed of its slot is what this entry says, and answers its request
 abbrev pub IsOutcomeOf : Entry → ℕ × Outcome → Type 0
-IsOutcomeOf e answer = (answer.0 ≡ e.feed) × IsAnswer e.request answer.1 × (e.result ≡ Done answer.1)
+IsOutcomeOf e answer = (answer.0 ≡ slot_feed e.rack) × IsAnswer e.request answer.1 × (e.result ≡ Done answer.1)

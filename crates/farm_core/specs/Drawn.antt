@@ -1,11 +1,11 @@
 -- What a rack's feeders drew and put, and what the replies to it make.
-use Rattle.std.specs.Prelude.{◌≡◌, ℕ, ◌<◌, ◌≤◌, ◌⊎◌, List, [], ◌∷◌, length, take, map, slice_index_or, Option, Some, None, IsSome}
+use Rattle.std.specs.Prelude.{◌≡◌, ℕ, ◌⊎◌, List, length, take, map}
 use Rattle.std.specs.List.{sum_by}
 use mathlib.Core.Option.{some}
 use lib.ListN.{get_elem?}
 use Rattle.lrc_code.specs.Requests.{Asked}
 use Rattle.farm_lanes.specs.Counting.{times, once_below}
-use Rattle.farm_lanes.specs.Lists.{Each, EachAt}
+use Rattle.farm_lanes.specs.Lists.{Each}
 use Rattle.farm_core.specs.declared.orders.Order.{Order}
 use Rattle.farm_core.specs.Orders.{before_close, HasClose}
 use Rattle.farm_core.specs.Feed.{AreRising}

@@ -9,7 +9,7 @@ use Rattle.farm_core.specs.Orders.{IsServed}
 use Rattle.farm_core.specs.Replies.{Collected, Entry, reply_at, IsLeastMissing, IsComplete}
 
 abbrev pub entry_of : Replied → Entry
-entry_of reply = record { feed = reply.feed; request = reply.request; result = reply.result }
+entry_of reply = record { rack = reply.rack; request = reply.request; result = reply.result }
 
 -- it is to no request that is served, or the second to its request; it is handed back
 abbrev pub IsRefused : Collected → Replied → CollectFault → Type 0

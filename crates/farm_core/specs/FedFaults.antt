@@ -1,10 +1,9 @@
 -- Why lists are no feeds.
-use Rattle.std.specs.Prelude.{◌≡◌, ◌<◌, ◌≤◌, List, length, map}
+use Rattle.std.specs.Prelude.{◌≡◌, ◌<◌, ◌≤◌, length, map}
 use Rattle.farm_lanes.specs.Lists.{Each}
 use Rattle.std.specs.declared.alloc.Global.{Global}
 use Rattle.std.specs.declared.vec.Vec.{Vec}
 use Rattle.farm_core.specs.declared.orders.RackList.{RackList}
-use Rattle.farm_core.specs.declared.orders.Order.{Order}
 use Rattle.farm_core.specs.declared.feeds.FeedsFault.{FeedsFault}
 use Rattle.farm_core.specs.declared.feeds.FeedsFault.TheVariants.{TooManyRacks, BadFeeds}
 use Rattle.farm_core.specs.FedLists.{IsFewFeeds}

@@ -7,11 +7,12 @@ use Rattle.farm_core.specs.declared.reply.CollectFault.{CollectFault}
 use Rattle.farm_core.specs.declared.reply.CollectFault.TheVariants.{Stranger, Double}
 use Rattle.farm_core.specs.Replies.{Replied, Entry}
 use Rattle.farm_core.specs.Faults.{entry_of}
+use Rattle.farm_core.specs.Slots.{slot_rack}
 use Rattle.farm_core.specs.Boards.{Held, held_at, HasRoom, replies_to}
 
 -- this entry is that of a reply among these, by this number of this rack
 abbrev pub IsAmong : List Replied → ℕ → ℕ → Entry → Type 0
-IsAmong xs rack number e = (i : ℕ) × (x : Replied) × (get_elem? xs i ≡ some x) × (x.rack ≡ rack) × (x.number ≡ number) × (entry_of x ≡ e)
+IsAmong xs rack number e = (i : ℕ) × (x : Replied) × (get_elem? xs i ≡ some x) × (slot_rack x.rack ≡ rack) × (x.number ≡ number) × (entry_of x ≡ e)
 
 -- just these replies are held
 pub record HoldsAll (b : Held) (racks : List (List (List Order))) (xs : List Replied) : Type 0 where
@@ -22,8 +23,8 @@ pub record HoldsAll (b : Held) (racks : List (List (List Order))) (xs : List Rep
 
 -- the reply is by a number that no feed of its rack may draw, or the second by its number; it is handed back
 abbrev pub IsNotHeld : Held → Replied → CollectFault → Type 0
-IsNotHeld b reply (Stranger back) = (back ≡ reply) × (HasRoom b.racks reply.rack reply.number → ⊥)
-IsNotHeld b reply (Double back) = (back ≡ reply) × HasRoom b.racks reply.rack reply.number × IsSome (held_at b reply.rack reply.number)
+IsNotHeld b reply (Stranger back) = (back ≡ reply) × (HasRoom b.racks (slot_rack reply.rack) reply.number → ⊥)
+IsNotHeld b reply (Double back) = (back ≡ reply) × HasRoom b.racks (slot_rack reply.rack) reply.number × IsSome (held_at b (slot_rack reply.rack) reply.number)
 
 -- of these replies one was refused, and those in front of it are held
 pub record WasNotHeld (racks : List (List (List Order))) (b : Held) (fault : CollectFault) (xs : List Replied) : Type 0 where

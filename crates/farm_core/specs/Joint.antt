@@ -1,10 +1,9 @@
 -- What the seats and the ends of a rack's feeders have together.
-use Rattle.std.specs.Prelude.{◌≡◌, ℕ, ◌≤◌, List, [], ◌∷◌, length, map, false, Option, Some, None}
+use Rattle.std.specs.Prelude.{◌≡◌, ℕ, ◌<◌, ◌≤◌, List, [], ◌∷◌, length, map, false, Option, Some, None}
 use Rattle.std.specs.List.{sum_by, All}
 use mathlib.Core.Option.{some}
 use lib.ListN.{get_elem?}
 use Rattle.atomic_table.specs.Seated.{TableId}
-use Rattle.lrc_code.specs.Requests.{Asked}
 use Rattle.farm_lanes.specs.declared.gate.record.SeatRecord.{SeatRecord}
 use Rattle.farm_lanes.specs.Counting.{times}
 use Rattle.farm_lanes.specs.GateView.{GateName, SeatView}
@@ -17,12 +16,13 @@ use Rattle.farm_core.specs.declared.jobs.Job.TheVariants.{Solve, Stop}
 use Rattle.farm_core.specs.declared.feeding.Fed.{Fed}
 use Rattle.farm_core.specs.Jobs.{IsOfFeed}
 use Rattle.farm_core.specs.Feed.{HasFed}
+use Rattle.farm_core.specs.Slots.{slot_of}
 use Rattle.farm_core.specs.Drawn.{Draws, AreDrawn}
 
 -- the numbers and the requests of jobs
 abbrev pub draws_of : List Job → Draws
 draws_of [] = []
-draws_of (Solve rack feed number request ∷ jobs) = (number, request.now) ∷ draws_of jobs
+draws_of (Solve rack number request ∷ jobs) = (number, request.now) ∷ draws_of jobs
 draws_of (Stop ∷ jobs) = draws_of jobs
 
 -- a seat that came of these: shares, numbers, rights and closes add up, and it knows a closing where one of them does
@@ -48,7 +48,7 @@ pub record AreFed (gate : GateName) (rack : ℕ) (lists : List (List Order)) (fe
   pub rights : gate.size.rights ≡ length feds
   pub shares : sum_by (λ (f : Fed). f.seat.has.share) feds ≡ gate.size.total
   pub each : (feed : ℕ) (list : List Order) (fed : Fed) → get_elem? lists feed ≡ some list → get_elem? feds feed ≡ some fed
-      → (seat : SeatView) × (jobs : PutView Job) × (seat.has.used ≡ 0) × (seat.has.made ≡ []) × HasFed gate seat rack feed list jobs fed.seat fed.right fed.close fed.jobs
+      → (seat : SeatView) × (jobs : PutView Job) × (seat.has.used ≡ 0) × (seat.has.made ≡ []) × HasFed gate seat (slot_of rack feed) list jobs fed.seat fed.right fed.close fed.jobs × (feed < 4)
 
 -- the feeders of a rack drew the numbers below n, as is lawful, and each put its jobs by what it drew
 pub record HasDrawn (rack : ℕ) (lists : List (List Order)) (puts : List (PutView Job)) : Type 0 where

@@ -1,9 +1,11 @@
+pub mod Slots
 pub mod Orders
 pub mod Expected
 pub mod Replies
 pub mod Faults
 pub mod Rows
 pub mod Limits
+pub mod Cells
 pub mod Boards
 pub mod Held
 pub mod Jobs

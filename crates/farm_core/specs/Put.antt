@@ -1,5 +1,5 @@
 -- Put ends that ask for no reply.
-use Rattle.std.specs.Prelude.{⊤, ◌≡◌, ℕ, List}
+use Rattle.std.specs.Prelude.{⊤, ◌≡◌, List}
 use Rattle.farm_lanes.specs.declared.lane.item.Item.{Item}
 use Rattle.farm_lanes.specs.declared.lane.item.Item.TheVariants.{Value, End}
 use Rattle.farm_lanes.specs.Lists.{Each}
@@ -9,7 +9,7 @@ use Rattle.farm_core.specs.declared.jobs.Job.TheVariants.{Solve, Stop}
 
 -- the item asks for no reply
 abbrev pub AsksNothing : Item Job → Type 0
-AsksNothing (Value s i (Solve rack feed number request)) = ⊥
+AsksNothing (Value s i (Solve rack number request)) = ⊥
 AsksNothing (Value s i Stop) = ⊤
 AsksNothing (End s i) = ⊤
 

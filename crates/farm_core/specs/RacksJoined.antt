@@ -3,7 +3,6 @@ use Rattle.std.specs.Prelude.{◌≡◌, ℕ, List, length, map}
 use Rattle.std.specs.List.{flat_map}
 use Rattle.farm_lanes.specs.GateView.{GateName}
 use Rattle.farm_lanes.specs.LaneEnds.{PutView, new_put}
-use Rattle.farm_lanes.specs.Lists.{EachAt}
 use mathlib.Core.Option.{some}
 use lib.ListN.{get_elem?}
 use Rattle.farm_core.specs.declared.orders.Order.{Order}

@@ -12,17 +12,16 @@ abbrev pub IsRight : Asked → ReplyResult → Type 0
 IsRight request (Done outcome) = IsAnswer request outcome
 IsRight request Starved = ⊤
 
--- a reply: to the request of a feed of a rack that drew a number, and what became of it
+-- a reply: to the request of a rack and a number, and what became of it
 pub record Replied : Type 0 where
   pub rack : ℕ
-  pub feed : ℕ
   pub number : ℕ
   pub request : Asked
   pub result : ReplyResult
 
--- a request with its feed's number, and the reply to it
+-- a request with the rack that the reply to it names, and that reply
 pub record Entry : Type 0 where
-  pub feed : ℕ
+  pub rack : ℕ
   pub request : Asked
   pub result : ReplyResult
 

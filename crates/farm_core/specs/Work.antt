@@ -22,7 +22,7 @@ pub record HasWorked (jobs : TakeView Job) (replies : PutView Replied) (jobs_lef
 
 -- the item says to stop
 abbrev pub SaysStop : Item Job → Type 0
-SaysStop (Value s i (Solve rack feed number request)) = ⊥
+SaysStop (Value s i (Solve rack number request)) = ⊥
 SaysStop (Value s i Stop) = ⊤
 SaysStop (End s i) = ⊥
 

@@ -5,11 +5,13 @@ ghost use Rattle.farm_core.specs.Boards.{HoldsNothing, HasRoom, HasRooms, IsHeld
 ghost use Rattle.farm_core.specs.Faults.{entry_of};
 ghost use Rattle.farm_core.specs.Held.{IsNotHeld};
 ghost use Rattle.farm_core.specs.RunLists.{lists_of};
+ghost use Rattle.farm_core.specs.Slots.{slot_feed, slot_rack};
 
 use crate::lists::Lists;
 use crate::orders::RackList;
 use crate::reply::{CollectFault, FinishFault, Reply};
-use crate::row::Row;
+use crate::row::{Row, enter};
+use crate::slots::rack_of_slot;
 use lrc_code::Outcome;
 use std::alloc::{AllocError, Global};
 use std::marker::Model;
@@ -64,30 +66,18 @@ impl<'a> Board<'a> {
         let _lists = &self.lists;
     }
 
-    /// Takes in a reply by a number that its rack's feeds may draw and that has none yet. A refusal hands the reply back and changes
+    /// Takes in a reply, which names a slot, by a number that the feeds of the slot's rack may draw and that has none yet. A refusal hands the reply back and changes
     /// nothing. Takes no memory.
     pub fn accept(&mut self, reply: Reply<'a>) -> Result<(), CollectFault<'a>>
-        ensures accepted { OnOk result (IsHeldToo self.old reply.entry.rack reply.entry.number (entry_of reply.entry) self.new) }
+        ensures accepted { OnOk result (IsHeldToo self.old (slot_rack reply.entry.rack) reply.entry.number (entry_of reply.entry) self.new) }
         ensures refused { IfErr result (λ e. IsNotHeld self.old reply.entry e) }
         ensures unchanged { OnErr result (self.new ≡ self.old) }
     {
-        let rack = reply.rack();
-        if rack >= self.rows.len() {
-            return Err(CollectFault::Stranger { reply });
-        }
-        let row = &mut self.rows[rack];
-        if reply.number() >= row.len() as u64 {
-            return Err(CollectFault::Stranger { reply });
-        }
-        let number = reply.number() as usize;
-        if row.has(number) {
-            return Err(CollectFault::Double { reply });
-        }
-        row.put(number, reply);
-        Ok(())
+        let rack = rack_of_slot(reply.rack());
+        enter(self.rows.as_mut_slice(), rack, reply)
     }
 
-    /// Of each rack the answers to the requests of a lawful merge of its feeds, in order, each with its feed's number.
+    /// Of each rack the answers to the requests of a lawful merge of its feeds, in order, each with the feed of its slot.
     pub fn by_feed(self, alloc: Global) -> Result<Vec<Vec<(usize, Outcome)>>, FinishFault>
         ensures { IfOk result (λ v. AllZip (λ row answers. AllZip IsOutcomeOf (filled row) answers.items) self.entry.table v.items) }
     {
@@ -97,7 +87,7 @@ impl<'a> Board<'a> {
 
     /// The same, without the feeds' numbers.
     pub fn answers(self, alloc: Global) -> Result<Vec<Vec<Outcome>>, FinishFault>
-        ensures { IfOk result (λ v. AllZip (λ row answers. AllZip (λ e o. IsOutcomeOf e (e.feed, o)) (filled row) answers.items) self.entry.table v.items) }
+        ensures { IfOk result (λ v. AllZip (λ row answers. AllZip (λ e o. IsOutcomeOf e (slot_feed e.rack, o)) (filled row) answers.items) self.entry.table v.items) }
     {
         let Board { lists: _, rows } = self;
         all_filled(alloc, rows)
@@ -117,7 +107,7 @@ fn all_by_feed(alloc: Global, rows: Vec<Row>) -> Result<Vec<Vec<(usize, Outcome)
 
 // The answers, row by row.
 fn all_filled(alloc: Global, rows: Vec<Row>) -> Result<Vec<Vec<Outcome>>, FinishFault>
-    ensures { IfOk result (λ v. AllZip (λ row answers. AllZip (λ e o. IsOutcomeOf e (e.feed, o)) (filled row) answers.items) rows.entry.items v.items) }
+    ensures { IfOk result (λ v. AllZip (λ row answers. AllZip (λ e o. IsOutcomeOf e (slot_feed e.rack, o)) (filled row) answers.items) rows.entry.items v.items) }
 {
     let mut all = Vec::with_capacity(alloc, rows.len())?;
     for row in rows {

@@ -5,12 +5,12 @@ ghost use Rattle.farm_core.specs.Rows.{Answers, HasNoGaps, IsLeastGap};
 ghost use Rattle.farm_core.specs.declared.reply.FinishFault.TheVariants.{OutOfMemory};
 ghost use Rattle.farm_core.specs.Orders.{IsServed};
 ghost use Rattle.farm_core.specs.Expected.{AreExpected};
-ghost use Rattle.farm_core.specs.Replies.{IsNothingYet, IsAdded, reply_at, IsInPlace, NoneStarved};
+ghost use Rattle.farm_core.specs.Replies.{IsNothingYet, IsAdded, reply_at, IsComplete, IsInPlace, NoneStarved};
 ghost use Rattle.farm_core.specs.Faults.{entry_of, IsRefused, IsUnfinished};
 
 use crate::orders::Racks;
 use crate::reply::{CollectFault, FinishFault, Reply};
-use crate::row::Row;
+use crate::row::{Row, enter};
 use lrc_code::Outcome;
 use std::alloc::{AllocError, Global};
 use std::marker::Model;
@@ -57,20 +57,7 @@ impl<'a> Collector<'a> {
         ensures refused { IfErr result (λ e. IsRefused self.old reply.entry e) }
         ensures unchanged { OnErr result (self.new ≡ self.old) }
     {
-        let rack = reply.rack();
-        if rack >= self.rows.len() {
-            return Err(CollectFault::Stranger { reply });
-        }
-        let row = &mut self.rows[rack];
-        if reply.number() >= row.len() as u64 {
-            return Err(CollectFault::Stranger { reply });
-        }
-        let number = reply.number() as usize;
-        if row.has(number) {
-            return Err(CollectFault::Double { reply });
-        }
-        row.put(number, reply);
-        Ok(())
+        enter(self.rows.as_mut_slice(), reply.rack(), reply)
     }
 
     /// The answers, rack by rack in the order of the requests, where each expected reply has come and none of them
@@ -79,6 +66,7 @@ impl<'a> Collector<'a> {
         requires { IsInPlace self }
         ensures all { IfOk result (λ v. AreExpected self.entry.racks (map (λ answers. answers.items) v.items)) }
         ensures fed { OnOk result (NoneStarved self.entry) }
+        ensures complete { OnOk result (IsComplete self.entry) }
         ensures refused { IfErr result (λ e. IsUnfinished self.entry e) }
     {
         let Collector {

@@ -31,5 +31,6 @@ pub struct Feeder<'a> {
     pub ghost fresh: { (seat.has.numbers ≡ []) × (seat.has.knows ≡ false) },
     pub ghost budget: { seat.has.draws + 4096 ≤ seat.has.share },
     pub ghost unused: { IsUnusedPut jobs },
+    pub ghost few: { (rack < 16) × (feed < 4) },
     pub ghost unclosed: { (seat.has.used ≡ 0) × (seat.has.made ≡ []) },
 }

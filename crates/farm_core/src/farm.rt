@@ -19,6 +19,7 @@ use crate::room::{RackSeats, Room, gates_for, room_for};
 use crate::settings::Settings;
 use crate::settling::{Cleared, settle_all};
 use crate::shared::Shared;
+use crate::slots::SlotPause;
 use crate::space::Space;
 use crate::started::{Started, Starts, join_all, start_all};
 use crate::threads::start_collector;
@@ -132,10 +133,11 @@ fn run_lists<'a, R: Threads + Wait + Sync, P: Pause>(
     ensures { IfOk result (λ b. (b.racks ≡ lists_of lists.entry) × AreMergedRows b.racks b.table) }
 {
     let room = room_for(alloc, lists, gates, seats, settings)?;
+    let slots = SlotPause { pause };
     let lent = Shared {
         rt,
         alloc,
-        pause,
+        pause: &slots,
         refused: Refusals::none(),
     };
     let shared = &lent;

@@ -40,7 +40,7 @@ pub fn feed<'a, R: Wait, P: Pause>(
     requires budget { seat.has.draws + 4096 ≤ seat.has.share }
     requires unused { IsUnusedPut jobs }
     ensures place { (result.rack ≡ rack) × (result.feed ≡ feed) × (result.list.now ≡ list.now) }
-    ensures fed { HasFed gate.now seat rack feed list.now jobs.entry result.seat result.right result.close result.jobs }
+    ensures fed { HasFed gate.now seat rack list.now jobs.entry result.seat result.right result.close result.jobs }
 {
     let mut seat = seat;
     let mut jobs = jobs;
@@ -69,7 +69,6 @@ pub fn feed<'a, R: Wait, P: Pause>(
             rt,
             Job::Solve {
                 rack,
-                feed,
                 number,
                 request,
             },

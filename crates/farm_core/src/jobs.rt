@@ -13,12 +13,11 @@ use lrc_plan::solve;
 use std::alloc::{AllocError, Global};
 use std::sync::Wait;
 
-/// What a worker is to do: to solve a request of a feed of a rack, which the job lends, and reply under its number; or to stop.
+/// What a worker is to do: to solve a request, which the job lends, and reply under its rack and number; or to stop.
 #[derive(Drop)]
 pub enum Job<'a> {
     Solve {
         rack: usize,
-        feed: usize,
         number: u64,
         request: &'a Request,
     },
@@ -45,12 +44,11 @@ fn answer_in_arena(alloc: Global, request: &Request) -> Result<Outcome, AllocErr
 pub(crate) fn reply_to<'a, P: Pause>(
     alloc: Global,
     rack: usize,
-    feed: usize,
     number: u64,
     request: &'a Request,
     pause: &P,
 ) -> Reply<'a>
-    ensures { (result.rack ≡ rack) × (result.feed ≡ feed) × (result.number ≡ number) × (result.request ≡ request.now) }
+    ensures { (result.rack ≡ rack) × (result.number ≡ number) × (result.request ≡ request.now) }
 {
     pause.before(rack, number);
     let reply = match answer_in_arena(alloc, request) {
@@ -58,7 +56,7 @@ pub(crate) fn reply_to<'a, P: Pause>(
         Err(_) => Reply::starved(rack, number, request),
     };
     pause.after(rack, number);
-    reply.from_feed(feed)
+    reply
 }
 
 /// Takes jobs until one says to stop, or until the reply end has no room for another put; puts a reply for each that
@@ -85,12 +83,11 @@ pub fn work<'a, R: Wait, P: Pause>(
             Item::Value {
                 value: Job::Solve {
                     rack,
-                    feed,
                     number,
                     request,
                 },
                 ..
-            } => replies.put(rt, reply_to(alloc, rack, feed, number, request, pause)),
+            } => replies.put(rt, reply_to(alloc, rack, number, request, pause)),
             Item::Value {
                 value: Job::Stop,
                 ..

@@ -21,6 +21,7 @@ mod row;
 mod settings;
 mod settling;
 mod shared;
+mod slots;
 mod space;
 mod started;
 mod taking;

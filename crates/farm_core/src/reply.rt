@@ -18,14 +18,13 @@ pub enum ReplyResult {
     Starved,
 }
 
-/// What became of the request of a rack and a number, with the number of its feed. Its type keeps that a `Done` outcome is the request's answer.
+/// What became of the request of a rack and a number. Its type keeps that a `Done` outcome is the request's answer.
 #[derive(Debug, Drop)]
 pub struct Reply<'a> {
-    rack: usize,
-    feed: usize,
-    number: u64,
-    request: &'a Request,
-    result: ReplyResult,
+    pub rack: usize,
+    pub number: u64,
+    pub request: &'a Request,
+    pub result: ReplyResult,
 }
 
 impl<'a> Model for Reply<'a> {
@@ -33,20 +32,19 @@ impl<'a> Model for Reply<'a> {
 
     ghost Value = { Replied };
 
-    ghost view = { λ r. record { rack = r.rack; feed = r.feed; number = r.number; request = r.request.now; result = r.result } };
+    ghost view = { λ r. record { rack = r.rack; number = r.number; request = r.request.now; result = r.result } };
 
     ghost invariant = { λ r. IsRight r.request.now r.result };
 }
 
 impl<'a> Reply<'a> {
-    /// The answer to a request of a rack's first feed.
+    /// The answer to a request.
     pub fn done(rack: usize, number: u64, request: &'a Request, outcome: Outcome) -> Reply<'a>
         requires { IsAnswer request.now outcome }
-        ensures { result ≡ record { rack = rack; feed = 0; number = number; request = request.now; result = Done outcome } }
+        ensures { result ≡ record { rack = rack; number = number; request = request.now; result = Done outcome } }
     {
         Reply {
             rack,
-            feed: 0,
             number,
             request,
             result: ReplyResult::Done(outcome),
@@ -55,56 +53,28 @@ impl<'a> Reply<'a> {
 
     /// Memory was wanting for the answer. Takes none itself.
     pub fn starved(rack: usize, number: u64, request: &'a Request) -> Reply<'a>
-        ensures { result ≡ record { rack = rack; feed = 0; number = number; request = request.now; result = Starved } }
+        ensures { result ≡ record { rack = rack; number = number; request = request.now; result = Starved } }
     {
         Reply {
             rack,
-            feed: 0,
             number,
             request,
             result: ReplyResult::Starved,
         }
     }
 
-    /// The same reply, to a request of this feed of its rack.
-    pub fn from_feed(self, feed: usize) -> Reply<'a>
-        ensures { result ≡ record self.entry { feed = feed } }
-    {
-        let Reply {
-            rack,
-            feed: _,
-            number,
-            request,
-            result,
-        } = self;
-        Reply {
-            rack,
-            feed,
-            number,
-            request,
-            result,
-        }
-    }
-
     /// The rack of the request.
-    pub fn rack(&self) -> usize
+    pub(crate) fn rack(&self) -> usize
         ensures { result ≡ self.now.rack }
     {
         self.rack
     }
 
     /// The number of the request in its rack.
-    pub fn number(&self) -> u64
+    pub(crate) fn number(&self) -> u64
         ensures { result ≡ self.now.number }
     {
         self.number
-    }
-
-    /// The number of the request's feed in its rack.
-    pub fn feed(&self) -> usize
-        ensures { result ≡ self.now.feed }
-    {
-        self.feed
     }
 
     /// The answer, if there was memory for it.
@@ -114,7 +84,6 @@ impl<'a> Reply<'a> {
     {
         let Reply {
             rack: _,
-            feed: _,
             number: _,
             request: _,
             result,

@@ -124,6 +124,7 @@ fn rack_room<'a>(
     own: RackSeats,
     puts: &mut IntoIter<PutEnd<Job<'a>>>,
 ) -> Result<RackRoom<'a>, FarmError>
+    requires rack { rack < 16 }
     requires few { (0 < length lists.now) × (length lists.now ≤ 4) }
     requires new { IsNewGate (length lists.now) gate.now own }
     requires enough { length lists.now ≤ into_iter_len puts.old }

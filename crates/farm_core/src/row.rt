@@ -1,12 +1,15 @@
 //! The replies to one rack's requests.
-ghost use Rattle.std.specs.Prelude.{◌≡◌, ℕ, ◌<◌, replicate, IfOk, MatchResult, IfSome, IfNone, List, None, Some, length, slice_index_or, slice_set, is_some};
+ghost use Rattle.std.specs.Prelude.{◌≡◌, ℕ, ◌<◌, replicate, IfOk, IfErr, OnOk, OnErr, MatchResult, IfSome, IfNone, List, None, Some, length, slice_index_or, slice_set, is_some};
 ghost use Rattle.std.specs.List.{AllZip};
 ghost use Rattle.farm_core.specs.Rows.{Answers, IsFirstGap, HasNoGap};
 ghost use Rattle.farm_core.specs.Faults.{entry_of};
 ghost use Rattle.farm_core.specs.Boards.{filled, IsOutcomeOf};
+ghost use Rattle.farm_core.specs.Cells.{HasCell, IsEntered, IsNotEntered, cell_at};
+ghost use Rattle.farm_core.specs.Slots.{slot_feed};
 ghost use Rattle.farm_core.specs.declared.reply.FinishFault.TheVariants.{OutOfMemory};
 
-use crate::reply::{FinishFault, Reply};
+use crate::reply::{CollectFault, FinishFault, Reply};
+use crate::slots::feed_of_slot;
 use lrc_code::Outcome;
 use std::alloc::{AllocError, Global};
 use std::marker::Model;
@@ -95,7 +98,7 @@ impl<'a> Row<'a> {
 
     /// The answers in front of the first gap, where none of the replies says that memory was missing.
     pub fn filled(self, alloc: Global) -> Result<Vec<Outcome>, FinishFault>
-        ensures { MatchResult result (λ v. AllZip (λ e o. IsOutcomeOf e (e.feed, o)) (filled self.entry) v.items) (λ e. e ≡ OutOfMemory) }
+        ensures { MatchResult result (λ v. AllZip (λ e o. IsOutcomeOf e (slot_feed e.rack, o)) (filled self.entry) v.items) (λ e. e ≡ OutOfMemory) }
     {
         let Row { cells } = self;
         let mut all = Vec::with_capacity(alloc, cells.len())?;
@@ -111,7 +114,7 @@ impl<'a> Row<'a> {
         Ok(all)
     }
 
-    /// The same, each with its feed's number.
+    /// The same, each with the feed of its slot.
     pub fn filled_by_feed(self, alloc: Global) -> Result<Vec<(usize, Outcome)>, FinishFault>
         ensures { MatchResult result (λ v. AllZip IsOutcomeOf (filled self.entry) v.items) (λ e. e ≡ OutOfMemory) }
     {
@@ -121,7 +124,7 @@ impl<'a> Row<'a> {
             let Some(reply) = cell else {
                 return Ok(all);
             };
-            let feed = reply.feed();
+            let feed = feed_of_slot(reply.rack());
             let Some(outcome) = reply.into_outcome() else {
                 return Err(FinishFault::OutOfMemory);
             };
@@ -129,4 +132,32 @@ impl<'a> Row<'a> {
         }
         Ok(all)
     }
+}
+
+/// Puts a reply in the cell of this rack and its number. Where there is no such cell, or it has a reply already, the reply is handed
+/// back and nothing changes. Takes no memory.
+pub fn enter<'a>(
+    rows: &mut [Row<'a>],
+    rack: usize,
+    reply: Reply<'a>,
+) -> Result<(), CollectFault<'a>>
+    ensures room { OnOk result (HasCell rows.old rack reply.entry.number) }
+    ensures first { OnOk result (cell_at rows.old rack reply.entry.number ≡ None) }
+    ensures entered { OnOk result (IsEntered rows.old rack reply.entry.number (entry_of reply.entry) rows.new) }
+    ensures refused { IfErr result (λ e. IsNotEntered rows.old rack reply.entry e) }
+    ensures unchanged { OnErr result (rows.new ≡ rows.old) }
+{
+    if rack >= rows.len() {
+        return Err(CollectFault::Stranger { reply });
+    }
+    let row = &mut rows[rack];
+    if reply.number() >= row.len() as u64 {
+        return Err(CollectFault::Stranger { reply });
+    }
+    let number = reply.number() as usize;
+    if row.has(number) {
+        return Err(CollectFault::Double { reply });
+    }
+    row.put(number, reply);
+    Ok(())
 }

@@ -79,13 +79,12 @@ fn take_left<'a, R: Wait, P: Pause>(
             Item::Value {
                 value: Job::Solve {
                     rack,
-                    feed,
                     number,
                     request,
                 },
                 ..
             } => {
-                let reply = reply_to(alloc, rack, feed, number, request, pause);
+                let reply = reply_to(alloc, rack, number, request, pause);
                 fault = hand_in(&mut board, fault, reply);
             }
             Item::Value {

@@ -4,6 +4,7 @@ mod feeding;
 mod held;
 mod jobs;
 mod limits;
+mod pausing;
 mod refusals;
 mod requests;
 mod running;

@@ -20,6 +20,7 @@ use crate::rack_feeders::{RackFeeders, RackRoom};
 use crate::reply::Reply;
 use crate::settling::{Cleared, Desk, clear};
 use crate::shared::Shared;
+use crate::slots::slot_number;
 use farm_lanes::{EndedPut, PutEnd, TakeEnd};
 use std::snapshot::Snapshot;
 use std::sync::Wait;
@@ -220,7 +221,7 @@ fn feed_with<'a, R: Wait, P: Pause>(shared: &Shared<R, P>, feeder: Feeder<'a>) -
             gate,
             seat,
             right,
-            rack,
+            slot_number(rack, number),
             number,
             list,
             jobs,

@@ -1,11 +1,11 @@
 //! Replies in whatever order they come.
-ghost use Rattle.std.specs.Prelude.{◌≡◌, IfOk, map, slice_index_or};
+ghost use Rattle.std.specs.Prelude.{◌≡◌, IfOk, map, slice_index_or, true};
 ghost use Rattle.lrc_code.specs.Requests.{Asked};
 ghost use Rattle.farm_core.specs.Orders.{before_close, served};
 ghost use Rattle.farm_core.specs.Replies.{IsInPlace};
 
 use crate::tests::requests::{GLOBAL, LOCAL, SEVERAL, is_byte, is_several, racks_of};
-use crate::{CollectFault, Collector, FinishFault, Order, RackList, Racks, Reply};
+use crate::{CollectFault, Collector, FinishFault, Order, RackList, Racks, Reply, ReplyResult};
 use lrc_code::{Outcome, Request};
 use lrc_plan::solve;
 use std::alloc::{AllocError, Global};
@@ -143,7 +143,9 @@ fn a_starved_reply_and_a_missing_one(rt: HostRuntime) -> Result<(), AllocError> 
 }
 
 // Whether a reply is refused as a stranger, and handed back.
-fn is_stranger<'a>(collector: &mut Collector<'a>, reply: Reply<'a>) -> bool {
+fn is_stranger<'a>(collector: &mut Collector<'a>, reply: Reply<'a>) -> bool
+    ensures { result ≡ true → collector.new ≡ collector.old }
+{
     let (rack, number) = (reply.rack(), reply.number());
     match collector.accept(reply) {
         Err(CollectFault::Stranger { reply }) => reply.rack() == rack && reply.number() == number,
@@ -151,11 +153,16 @@ fn is_stranger<'a>(collector: &mut Collector<'a>, reply: Reply<'a>) -> bool {
     }
 }
 
-// The outcome of a reply that is refused as a second one.
-fn outcome_of_second<'a>(collector: &mut Collector<'a>, reply: Reply<'a>) -> Option<Outcome> {
+// Whether a reply is refused as a second one, and handed back with its outcome, a fragment of this byte.
+fn is_second<'a>(collector: &mut Collector<'a>, reply: Reply<'a>, byte: u8) -> bool
+    ensures { result ≡ true → collector.new ≡ collector.old }
+{
     match collector.accept(reply) {
-        Err(CollectFault::Double { reply }) => reply.into_outcome(),
-        _ => None,
+        Err(CollectFault::Double { reply }) => match reply.into_outcome() {
+            Some(outcome) => is_byte(&outcome, byte),
+            None => false,
+        },
+        _ => false,
     }
 }
 
@@ -171,13 +178,41 @@ fn strangers_and_second_replies(rt: HostRuntime) -> Result<(), AllocError> {
     let Some(request) = requests.first() else {
         panic!(rt; "no request");
     };
-    assert!(rt; is_stranger(&mut collector, Reply::starved(1, 0, request)));
+    let elsewhere = Reply {
+        rack: 1,
+        number: 0,
+        request,
+        result: ReplyResult::Starved,
+    };
+    assert!(rt; is_stranger(&mut collector, elsewhere));
     assert!(rt; is_stranger(&mut collector, Reply::starved(0, 1, request)));
     assert!(rt; collector.accept(Reply::starved(0, 0, request)).is_ok());
     let outcome = solve(alloc, alloc, request)?;
-    let second = Reply::done(0, 0, request, outcome);
+    assert!(rt; is_second(&mut collector, Reply::done(0, 0, request, outcome), 0x01));
+    Ok(())
+}
+
+/// Refused replies leave a collector as it was: it still tells the reply that is missing.
+#[test]
+fn refused_replies_and_a_missing_one(rt: HostRuntime) -> Result<(), AllocError> {
+    let alloc = rt.alloc();
+    let racks = racks_of(&rt, alloc, &[&[LOCAL, GLOBAL]])?;
+    let mut collector = Collector::new(alloc, &racks)?;
+    let Some(list) = racks.lists().first() else {
+        panic!(rt; "no list");
+    };
+    let requests = requests_of(alloc, list)?;
+    let Some(request) = requests.get(1) else {
+        panic!(rt; "no request");
+    };
+    assert!(rt; accepts(&mut collector, reply_of(alloc, 1, request, false)?));
+    assert!(rt; is_second(&mut collector, reply_of(alloc, 1, request, false)?, 0x6e));
+    assert!(rt; is_stranger(&mut collector, reply_of(alloc, 2, request, true)?));
     assert!(rt;
-        matches!(outcome_of_second(&mut collector, second), Some(outcome) if is_byte(&outcome, 0x01))
+        matches!(
+            collector.finish(),
+            Err(FinishFault::Missing { rack: 0, number: 0 })
+        )
     );
     Ok(())
 }

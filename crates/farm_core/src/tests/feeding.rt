@@ -1,6 +1,6 @@
 //! Racks with several feeds.
 use crate::tests::requests::{Entry, GLOBAL, LOCAL, SEVERAL, is_byte, is_several, list_of};
-use crate::{Feeds, FeedsFault, NoPause, Pause, RackList, Settings, run_feeds};
+use crate::{Feeds, NoPause, Pause, RackList, Settings, run_feeds};
 use lrc_code::Outcome;
 use std::alloc::{AllocError, Global};
 use std::process::Abort;
@@ -223,28 +223,6 @@ fn jobs_wait_in_the_queue_alone(rt: HostRuntime) -> Result<(), AllocError> {
     assert!(rt; racks.len() == 1 && racks[0].len() == 4);
     for (feed, outcome) in racks[0].as_slice() {
         assert!(rt; *feed == 0 && is_byte(outcome, 0x01));
-    }
-    Ok(())
-}
-
-/// No feed and five feeds are refused, and the lists come back.
-#[test]
-fn one_to_four_feeds(rt: HostRuntime) -> Result<(), AllocError> {
-    let alloc = rt.alloc();
-    for count in [0, 5] {
-        let mut lists = Vec::new(alloc);
-        for _ in 0..count {
-            lists.push(list_of(&rt, alloc, &[CLOSE])?)?;
-        }
-        let mut racks = Vec::new(alloc);
-        racks.push(lists)?;
-        match Feeds::new(racks) {
-            Err(FeedsFault::BadFeeds { racks }) => {
-                assert!(rt; racks.len() == 1 && racks[0].len() == count)
-            }
-            Err(FeedsFault::TooManyRacks { .. }) => panic!(rt; "too many racks"),
-            Ok(_) => panic!(rt; "bad feeds accepted"),
-        }
     }
     Ok(())
 }

@@ -1,5 +1,5 @@
 //! Limits, each by its last accepted value and its first refused one.
-use crate::{Order, RackList, Racks, Settings, SettingsFault};
+use crate::{Feeds, FeedsFault, Order, RackList, Racks, Settings, SettingsFault};
 use std::alloc::{AllocError, Global};
 use std::process::Abort;
 
@@ -47,6 +47,67 @@ fn number_of_racks(rt: HostRuntime) -> Result<(), AllocError> {
         panic!(rt; "17 racks were accepted");
     };
     assert!(rt; fault.lists.len() == 17);
+    Ok(())
+}
+
+// So many racks of so many feeds, of which the last has another number of them.
+fn feeds(
+    rt: &impl Abort,
+    alloc: Global,
+    racks: usize,
+    each: usize,
+    last: usize,
+) -> Result<Vec<Vec<RackList>>, AllocError> {
+    let mut all = Vec::new(alloc);
+    for rack in 1..=racks {
+        let count = if rack == racks { last } else { each };
+        all.push(empty_lists(rt, alloc, count)?)?;
+    }
+    Ok(all)
+}
+
+// How many racks came back, and how many feeds of the last of them.
+fn sizes(racks: &[Vec<RackList>]) -> (usize, usize) {
+    match racks.last() {
+        Some(last) => (racks.len(), last.len()),
+        None => (0, 0),
+    }
+}
+
+#[test]
+fn racks_of_one_to_four_feeds(rt: HostRuntime) -> Result<(), AllocError> {
+    let alloc = rt.alloc();
+    for (racks, each, last) in [(0, 0, 0), (1, 1, 1), (1, 4, 4), (16, 1, 4), (16, 4, 4)] {
+        let Ok(accepted) = Feeds::new(feeds(&rt, alloc, racks, each, last)?) else {
+            panic!(rt; "feeds were refused");
+        };
+        assert!(rt; sizes(accepted.racks()) == (racks, last));
+    }
+    for last in [0, 5] {
+        for racks in [1, 2, 16] {
+            match Feeds::new(feeds(&rt, alloc, racks, 4, last)?) {
+                Err(FeedsFault::BadFeeds { racks: back }) => {
+                    assert!(rt; sizes(back.as_slice()) == (racks, last))
+                }
+                _ => panic!(rt; "a rack of no feed or of five isn't refused as such"),
+            }
+        }
+    }
+    Ok(())
+}
+
+/// The number of racks is tested in front of that of their feeds.
+#[test]
+fn seventeen_racks_of_feeds(rt: HostRuntime) -> Result<(), AllocError> {
+    let alloc = rt.alloc();
+    for last in [0, 1, 4, 5] {
+        match Feeds::new(feeds(&rt, alloc, 17, 4, last)?) {
+            Err(FeedsFault::TooManyRacks { racks }) => {
+                assert!(rt; sizes(racks.as_slice()) == (17, last))
+            }
+            _ => panic!(rt; "17 racks aren't refused as such"),
+        }
+    }
     Ok(())
 }
 

@@ -1,8 +1,6 @@
 use Rattle.std.proofs.Common.{◌≡◌, ◌+◌, ◌≤◌, ◌++◌, vec_items, vec_len, vec_capacity}
 use Rattle.std.specs.List.{AllZip}
 use Rattle.std.specs.Vec.Iter.{into_iter_items, into_iter_len}
-use Rattle.lrc_code.specs.declared.outcomes.Outcome.{Outcome}
-use Rattle.farm_core.specs.Replies.{Entry}
 use Rattle.farm_core.specs.Boards.{filled, IsOutcomeOf}
 use Rattle.farm_core.proofs.board.all_by_feed.Given as goal
 

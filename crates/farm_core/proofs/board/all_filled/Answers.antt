@@ -1,13 +1,14 @@
-use Rattle.std.proofs.Common.{rules, ◌∙◌, ℕ, List, [], ◌∷◌, ◌++◌, vec_items, ap, sym, subst, append_assoc, Option, Vec, Global}
+use Rattle.std.proofs.Common.{rules, ◌∙◌, List, [], ◌∷◌, ◌++◌, vec_items, ap, sym, subst, append_assoc, Option, Vec, Global}
 use Rattle.std.specs.List.{AllZip}
 use Rattle.farm_core.specs.Replies.{Entry}
+use Rattle.farm_core.specs.Slots.{slot_feed}
 use Rattle.farm_core.specs.Boards.{filled, IsOutcomeOf}
 use Rattle.lrc_code.specs.declared.outcomes.Outcome.{Outcome}
 use Rattle.farm_core.proofs.Rows.{all_zip_push}
 use Rattle.farm_core.proofs.board.all_filled.Goals as goal
 
 AnswersRow : List (Option Entry) → Vec Outcome Global → Type 0
-AnswersRow row answers = AllZip (λ (e : Entry) (o : Outcome). IsOutcomeOf e (e.feed, o)) (filled row) (vec_items answers)
+AnswersRow row answers = AllZip (λ (e : Entry) (o : Outcome). IsOutcomeOf e (slot_feed e.rack, o)) (filled row) (vec_items answers)
 
 pub loop-row-preserved : goal.loop-row-preserved
 unfolding AnswersRow

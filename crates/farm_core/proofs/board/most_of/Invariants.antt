@@ -1,4 +1,4 @@
-use Rattle.std.proofs.Common.{◌≡◌, ◌≤◌, ◌*◌, length, take}
+use Rattle.std.proofs.Common.{◌≡◌, ◌≤◌, ◌*◌, take}
 use Rattle.farm_core.specs.Boards.{most_served}
 use Rattle.farm_core.proofs.board.most_of.Given as goal
 

@@ -1,4 +1,4 @@
-use Rattle.std.proofs.Common.{◌≡◌, ◌∙◌, ◌∷◌, [], sym, ap, subst}
+use Rattle.std.proofs.Common.{◌∷◌, [], sym, subst}
 use Rattle.farm_lanes.specs.GateView.{SeatView}
 use Rattle.farm_lanes.specs.SeatChanges.{joined}
 use Rattle.farm_core.specs.Joint.{IsJoint}

@@ -1,4 +1,4 @@
-use Rattle.std.proofs.Common.{rules, ◌≡◌, ◌∙◌, ◌++◌, ◌+◌, length, List, sym, ap, subst, refl, append_assoc, append-nil, arith}
+use Rattle.std.proofs.Common.{rules, ◌≡◌, ◌∙◌, ◌++◌, length, List, sym, ap, subst, refl, append_assoc, arith}
 use Rattle.std.proofs.lemmas.List.{length_push}
 use Rattle.atomic_table.specs.Seated.{TableId}
 use Rattle.farm_core.proofs.Joints.{IsSpending, spend_begins, spend_next, spend_ends}

@@ -1,4 +1,4 @@
-use Rattle.std.proofs.Common.{◌≡◌, ◌∙◌, ℕ, List, map, vec_items, ap, sym, subst, Vec, Global, Option}
+use Rattle.std.proofs.Common.{ℕ, List, map, subst, Vec, Global, Option}
 use Rattle.std.specs.List.{AllZip}
 use Rattle.lrc_code.specs.declared.outcomes.Outcome.{Outcome}
 use Rattle.farm_core.specs.declared.orders.Order.{Order}

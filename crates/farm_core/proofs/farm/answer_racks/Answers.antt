@@ -1,8 +1,9 @@
-use Rattle.std.proofs.Common.{◌≡◌, ◌∙◌, ℕ, List, map, vec_items, ap, sym, subst, Vec, Global, Option}
+use Rattle.std.proofs.Common.{List, map, subst, Vec, Global, Option}
 use Rattle.std.specs.List.{AllZip}
 use Rattle.lrc_code.specs.declared.outcomes.Outcome.{Outcome}
 use Rattle.farm_core.specs.declared.orders.Order.{Order}
 use Rattle.farm_core.specs.Replies.{Entry}
+use Rattle.farm_core.specs.Slots.{slot_feed}
 use Rattle.farm_core.specs.Boards.{filled, IsOutcomeOf, AreMergedRows}
 use Rattle.farm_core.proofs.Merged.{expected_answers, zip_map}
 use Rattle.farm_core.proofs.farm.answer_racks.Goals as goal
@@ -12,4 +13,4 @@ returns c =
     let told = c.requires in let b = c.args.board in let v = c.in_ok-answers.field-0 in
     expected_answers c.args.racks.now b.table (map (λ (a : Vec Outcome Global). a.items) v.items)
     (subst (λ (l : List (List (List Order))). AreMergedRows l b.table) told.0 told.1)
-    (zip_map (λ (row : List (Option Entry)) (outs : List Outcome). AllZip (λ (e : Entry) (o : Outcome). IsOutcomeOf e (e.feed, o)) (filled row) outs) (λ (a : Vec Outcome Global). a.items) b.table v.items c.in_ok-answers.ensures)
+    (zip_map (λ (row : List (Option Entry)) (outs : List Outcome). AllZip (λ (e : Entry) (o : Outcome). IsOutcomeOf e (slot_feed e.rack, o)) (filled row) outs) (λ (a : Vec Outcome Global). a.items) b.table v.items c.in_ok-answers.ensures)

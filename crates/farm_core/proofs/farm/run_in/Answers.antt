@@ -1,4 +1,4 @@
-use Rattle.std.proofs.Common.{◌≡◌, ◌∙◌, List, refl, subst}
+use Rattle.std.proofs.Common.{◌∙◌, refl}
 use Rattle.farm_core.proofs.farm.run_in.Goals as goal
 
 pub settle_all-requires-clause-joined : goal.settle_all-requires-clause-joined

@@ -1,5 +1,4 @@
-use Rattle.std.proofs.Common.{rules, arith, ◌≡◌, ◌∙◌, ◌+◌, List, [], length, drop, sym, ap}
-use Rattle.farm_core.specs.declared.orders.Order.{Order}
+use Rattle.std.proofs.Common.{rules, arith, ◌≡◌, ◌+◌, length, drop}
 use Rattle.farm_core.specs.FedLists.{all_feeds_of}
 use Rattle.farm_core.specs.RunLists.{lists_of}
 use Rattle.farm_core.proofs.RackRooms.{feeds_rest, feeds_past}

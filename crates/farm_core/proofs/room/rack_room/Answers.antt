@@ -1,4 +1,4 @@
-use Rattle.std.proofs.Common.{rules, arith, ◌≡◌, ◌∙◌, ℕ, ◌+◌, ◌*◌, ◌/◌, ◌≤◌, ◌++◌, ◌∷◌, List, [], length, map, vec_items, vec_len, refl, sym, ap, subst, append_assoc}
+use Rattle.std.proofs.Common.{rules, arith, ◌≡◌, ◌∙◌, ◌*◌, ◌/◌, ◌++◌, ◌∷◌, List, [], length, map, vec_len, refl, sym, ap, subst, append_assoc}
 use Rattle.std.specs.Vec.Iter.{into_iter_items}
 use Rattle.std.proofs.lemmas.List.{length-replicate}
 use mathlib.Core.Option.{some, some-ne-none}
@@ -46,6 +46,7 @@ invariant_of-push_reserved c =
       budget = let a = ap (λ (s : SeatView). s.has.draws) seat_is in let b = ap (λ (s : SeatView). s.has.share) seat_is in let d = share_enough (length c.args.lists.now) c.requires.few.0 c.requires.few.1 in omega arith;
       unused = each_middle IsUnusedPut (into_iter_items c.args.puts.now) (map jobs_at c.loop-feed.feeders.items) _ c.in-Some-next.jobs
           (was.0 ∙ ap (λ (t : List (PutView Job)). map jobs_at c.loop-feed.feeders.items ++ t) c.in-Some-next.ensures.cases.0) c.requires.unused;
+      few = (c.requires.rack, (let a = c.loop-feed-test.true in let b = c.requires.few.1 in let d = c.loop-feed.invariant.4 in omega arith));
       unclosed = (ap (λ (s : SeatView). s.has.used) seat_is, ap (λ (s : SeatView). s.has.made) seat_is);
     }
 

@@ -1,4 +1,4 @@
-use Rattle.std.proofs.Common.{rules, arith, ◌≡◌, ◌∙◌, ℕ, ◌+◌, ◌<◌, ◌≤◌, ◌++◌, ◌∷◌, List, [], length, map, drop, vec_items, vec_len, refl, sym, ap, subst, ⊎_elim, append_assoc, length-append}
+use Rattle.std.proofs.Common.{rules, arith, ◌≡◌, ◌∙◌, ℕ, ◌+◌, ◌<◌, ◌++◌, ◌∷◌, List, [], length, map, drop, vec_len, refl, sym, ap, subst, ⊎_elim, append_assoc, length-append}
 use Rattle.std.specs.Vec.Iter.{into_iter_items, into_iter_len}
 use Rattle.std.proofs.lemmas.List.{length_push}
 use mathlib.Core.Option.{some, some-ne-none, some-injective}
@@ -49,6 +49,9 @@ bounds-gates-rack c = let was = c.loop-own.invariant.1 in let a = c.in-Some.ensu
 
 pub feeds-requires : goal.feeds-requires
 feeds-requires c = let was = c.loop-own.invariant.1 in let a = c.in-Some.ensures.steps.1 in let b = c.len-rack.ensures in omega arith
+
+pub rack_room-requires-clause-rack : goal.rack_room-requires-clause-rack
+rack_room-requires-clause-rack c = let was = c.loop-own.invariant.1 in let a = c.in-Some.ensures.steps.1 in let b = c.len-rack.ensures in let d = c.racks.ensures.limit in omega arith
 
 pub rack_room-requires-clause-new : goal.rack_room-requires-clause-new
 rack_room-requires-clause-new c =

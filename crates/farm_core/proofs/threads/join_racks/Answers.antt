@@ -1,4 +1,4 @@
-use Rattle.std.proofs.Common.{rules, arith, ◌≡◌, ◌∙◌, ◌+◌, ◌*◌, ◌≤◌, ◌++◌, ◌∷◌, List, [], length, map, vec_items, refl, sym, ap, subst, append_assoc, length-append}
+use Rattle.std.proofs.Common.{rules, ◌∙◌, ◌++◌, ◌∷◌, List, [], map, vec_items, refl, sym, ap, subst, append_assoc}
 use Rattle.farm_lanes.specs.LaneEnds.{PutView}
 use Rattle.farm_core.specs.declared.jobs.Job.{Job}
 use Rattle.farm_core.specs.declared.rack_feeders.RackFeeders.{RackFeeders}

@@ -1,4 +1,4 @@
-use Rattle.std.proofs.Common.{arith, ◌≡◌, ◌∙◌, List, length, map, replicate, take, vec_items, ap, sym, subst, Option, None, [], get_or, refl}
+use Rattle.std.proofs.Common.{arith, ◌≡◌, ◌∙◌, List, map, replicate, take, vec_items, ap, sym, subst, Option, None, [], get_or, refl}
 use Rattle.std.proofs.lemmas.List.{take_all}
 use Rattle.farm_core.specs.declared.orders.Order.{Order}
 use Rattle.farm_core.specs.Replies.{Entry}

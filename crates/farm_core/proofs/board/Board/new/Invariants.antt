@@ -1,4 +1,4 @@
-use Rattle.std.proofs.Common.{◌≡◌, ◌≤◌, length, map, take, replicate, vec_items, vec_len, vec_capacity, None}
+use Rattle.std.proofs.Common.{◌≡◌, ◌≤◌, map, take, replicate, vec_items, vec_len, vec_capacity, None}
 use Rattle.farm_core.specs.Boards.{most_served}
 use Rattle.farm_core.specs.RunLists.{lists_of}
 use Rattle.farm_core.proofs.board.Board.new.Given as goal

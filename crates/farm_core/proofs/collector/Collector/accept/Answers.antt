@@ -1,42 +1,28 @@
-use Rattle.std.proofs.Common.{rules, arith, ℕ, ◌≡◌, ◌∙◌, List, [], length, get_or, vec_items, ap, sym, subst, refl, Option, None, Some, set, slice_set, length-set}
-use Rattle.std.specs.Prelude.{IsSome}
-use Rattle.farm_core.specs.Replies.{Entry, IsAdded}
-use Rattle.farm_core.proofs.Rows.{shape_set}
-use Rattle.farm_core.proofs.Tables.{at_rack, row_len, row_is, at_row, added}
-use Rattle.farm_core.specs.Faults.{entry_of}
+use Rattle.std.proofs.Common.{arith, ℕ, List, vec_items, subst, Option}
+use Rattle.std.specs.Prelude.{IfErr, OnOk}
+use Rattle.farm_core.specs.Cells.{HasCell, IsNotEntered}
+use Rattle.farm_core.specs.Faults.{IsRefused}
+use Rattle.farm_core.specs.Orders.{IsServed}
+use Rattle.farm_core.specs.Replies.{Collected, Entry}
+use Rattle.farm_core.proofs.Entering.{if_err, on_ok, refused}
+use Rattle.farm_core.proofs.Rows.{shape_at}
 use Rattle.farm_core.proofs.collector.Collector.accept.Goals as goal
-
-pub returns-then-number-len-clause-refused : goal.returns-then-number-len-clause-refused
-returns-then-number-len-clause-refused c =
-    let len = row_len c.self.inside.racks.now (vec_items c.self.inside.rows) c.self.invariant c.args.reply.rack c.index_mut-row.result.now (at_rack (vec_items c.self.inside.rows) c.rack-rack.result c.args.reply.rack c.index_mut-row.result.now c.rack-rack.ensures c.index_mut-row.ensures.value) (omega arith) in
-    rw (← c.self.view_is) (refl, λ h. omega arith)
-
-pub returns-then-has-clause-refused : goal.returns-then-has-clause-refused
-returns-then-has-clause-refused c =
-    let len = row_len c.self.inside.racks.now (vec_items c.self.inside.rows) c.self.invariant c.args.reply.rack c.index_mut-row.result.now (at_rack (vec_items c.self.inside.rows) c.rack-rack.result c.args.reply.rack c.index_mut-row.result.now c.rack-rack.ensures c.index_mut-row.ensures.value) (omega arith) in
-    let here = at_row c.self.inside.racks.now (vec_items c.self.inside.rows) c.args.reply.rack c.args.reply.number c.index_mut-row.result.now (at_rack (vec_items c.self.inside.rows) c.rack-rack.result c.args.reply.rack c.index_mut-row.result.now c.rack-rack.ensures c.index_mut-row.ensures.value) (omega arith) in
-    let some : IsSome (get_or c.index_mut-row.result.now c.args.reply.number None) = search rules in
-    rw (← c.self.view_is) (refl, omega arith, subst (λ (o : Option Entry). IsSome o) here some)
-
-pub invariant_of-self-2 : goal.invariant_of-self-2
-invariant_of-self-2 c =
-    let table = vec_items c.self.inside.rows in
-    let row : c.index_mut-row.result.now ≡ get_or table c.rack-rack.result [] = row_is table c.rack-rack.result c.index_mut-row.result.now c.index_mut-row.ensures.value (omega arith) in
-    let same : length c.put.new.self ≡ length c.index_mut-row.result.now = ap (λ (r : List (Option Entry)). length r) c.put.ensures ∙ length-set _ _ _ in
-    shape_set c.self.inside.racks.now table c.rack-rack.result c.put.new.self c.self.invariant (same ∙ ap (λ (r : List (Option Entry)). length r) row)
 
 pub returns-clause-served : goal.returns-clause-served
 returns-clause-served c =
-    let len = row_len c.self.inside.racks.now (vec_items c.self.inside.rows) c.self.invariant c.args.reply.rack c.index_mut-row.result.now (at_rack (vec_items c.self.inside.rows) c.rack-rack.result c.args.reply.rack c.index_mut-row.result.now c.rack-rack.ensures c.index_mut-row.ensures.value) (omega arith) in
-    rw (← c.self.view_is) (omega arith)
-
-pub returns-clause-accepted : goal.returns-clause-accepted
-returns-clause-accepted c =
     let table = vec_items c.self.inside.rows in
-    let row = c.index_mut-row.result.now in
-    let put : c.put.new.self ≡ slice_set row c.args.reply.number (Some (entry_of c.args.reply)) =
-    c.put.ensures ∙ ap (λ (n : ℕ). slice_set row n (Some (entry_of c.args.reply))) c.number-number.ensures in
-    rw (← c.self.view_is)
-    (subst (λ (r : ℕ). IsAdded (record { racks = c.self.inside.racks.now; table = table }) c.args.reply.rack c.args.reply.number (entry_of c.args.reply) (record { racks = c.self.inside.racks.now; table = set table r c.put.new.self })) (sym c.rack-rack.ensures)
-    (added c.self.inside.racks.now table c.args.reply.rack c.args.reply.number row c.put.new.self (entry_of c.args.reply)
-    (at_rack table c.rack-rack.result c.args.reply.rack row c.rack-rack.ensures c.index_mut-row.ensures.value) (omega arith) (omega arith) put))
+    let racks = c.self.inside.racks.now in
+    let len = shape_at racks table c.self.invariant c.args.reply.rack in
+    let Q : ℕ × List (List (Option Entry)) → Type 0 = λ p. OnOk c.enter.result (HasCell p.1 p.0 c.args.reply.number) in
+    subst (λ (b : Collected). OnOk c.enter.result (IsServed b.racks c.args.reply.rack c.args.reply.number)) c.self.view_is
+    (on_ok c.enter.result (λ (h : HasCell table c.args.reply.rack c.args.reply.number). omega arith)
+    (subst Q (λ i. (c.rack.ensures i, c.as_mut_slice.ensures.value i)) c.enter.ensures.room))
+
+pub returns-clause-refused : goal.returns-clause-refused
+returns-clause-refused c =
+    let table = vec_items c.self.inside.rows in
+    let racks = c.self.inside.racks.now in
+    let Q : ℕ × List (List (Option Entry)) → Type 0 = λ p. IfErr c.enter.result (λ e. IsNotEntered p.1 p.0 c.args.reply e) in
+    subst (λ (b : Collected). IfErr c.enter.result (λ e. IsRefused b c.args.reply e)) c.self.view_is
+    (if_err (IsNotEntered table c.args.reply.rack c.args.reply) _ c.enter.result (refused racks table c.self.invariant c.args.reply)
+    (subst Q (λ i. (c.rack.ensures i, c.as_mut_slice.ensures.value i)) c.enter.ensures.refused))

@@ -29,6 +29,12 @@ returns-clause-fed c =
     (λ v all. subst (λ (s : Collected). NoneStarved s) c.self.view_is (none_starved (λ (a : Vec Outcome Global). vec_items a) (vec_items c.self.inside.rows) (vec_items v) all))
     (λ e is. tt)
 
+pub returns-clause-complete : goal.returns-clause-complete
+returns-clause-complete c =
+    let none = subst (λ (t : List (List (Option Entry))). HasNoGaps t) c.as_slice.ensures.value c.in_default.ensures.none in
+    let whole = subst (λ (s : Collected). IsComplete s) c.self.view_is (complete_from_no_gaps c.self.inside.racks.now (vec_items c.self.inside.rows) c.self.invariant none) in
+    MatchResult-weaker c.all_outcomes.result c.all_outcomes.ensures (λ v all. whole) (λ e is. tt)
+
 pub returns-clause-refused : goal.returns-clause-refused
 returns-clause-refused c =
     let none = subst (λ (t : List (List (Option Entry))). HasNoGaps t) c.as_slice.ensures.value c.in_default.ensures.none in

@@ -4,7 +4,6 @@ use Rattle.std.proofs.lemmas.Bool.Decides.{nat_tests}
 use mathlib.Core.Option.{some}
 use lib.ListN.{get_elem?}
 use Rattle.farm_lanes.proofs.Lists.{at_below, at_map, from_map}
-use Rattle.farm_core.specs.declared.orders.Order.{Order}
 use Rattle.farm_core.specs.declared.orders.RackList.{RackList}
 use Rattle.farm_core.specs.FedLists.{IsFewFeeds, AreFeeds}
 use Rattle.farm_core.proofs.Merged.{map_length, place_is}

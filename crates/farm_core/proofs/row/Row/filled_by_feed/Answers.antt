@@ -1,11 +1,11 @@
-use Rattle.std.proofs.Common.{rules, arith, ℕ, ◌≡◌, ◌+◌, ◌∙◌, List, [], ◌∷◌, ◌++◌, length, map, vec_items, refl, ap, sym, subst, append_assoc, Option, Some, None}
+use Rattle.std.proofs.Common.{rules, arith, ◌≡◌, ◌∙◌, List, ◌∷◌, ◌++◌, map, vec_items, ap, sym, subst, append_assoc, Option, Some, None}
 use Rattle.std.specs.List.{AllZip}
 use Rattle.std.specs.Option.{option_map}
 use Rattle.std.specs.Vec.Iter.{into_iter_items}
 use Rattle.std.proofs.lemmas.List.{length_push, map-append}
-use Rattle.lrc_code.specs.declared.outcomes.Outcome.{Outcome}
 use Rattle.farm_core.specs.Replies.{Entry, Replied}
 use Rattle.farm_core.specs.Rows.{entries}
+use Rattle.farm_core.specs.Slots.{slot_feed}
 use Rattle.farm_core.specs.Boards.{filled, IsOutcomeOf}
 use Rattle.farm_core.specs.Faults.{entry_of}
 use Rattle.farm_core.proofs.Middles.{whole_front}
@@ -27,8 +27,8 @@ loop-cell-preserved c =
     let was = c.loop-cell.invariant in let done = c.loop-cell.yielded in let step = c.in-Some.ensures.steps.0 in
     let says = c.in-Some-into_outcome.ensures.done in (
       rw append_assoc (was.0 ∙ ap (λ (t : List (Option Replied)). done ++ t) step),
-      outcomes_more IsOutcomeOf done c.in-Some.cell c.in-Some-cell.reply (vec_items c.loop-cell.all) (vec_items c.push_reserved.new.self) (c.feed-feed.result, c.in-Some-into_outcome.outcome)
-          was.1 c.in-Some-cell.is (c.feed-feed.ensures, says.1, says.0) c.push_reserved.ensures.items,
+      outcomes_more IsOutcomeOf done c.in-Some.cell c.in-Some-cell.reply (vec_items c.loop-cell.all) (vec_items c.push_reserved.new.self) (c.feed_of_slot-feed.result, c.in-Some-into_outcome.outcome)
+          was.1 c.in-Some-cell.is (c.feed_of_slot-feed.ensures ∙ ap slot_feed c.rack.ensures, says.1, says.0) c.push_reserved.ensures.items,
       search rules,
       search rules,
       (let a = length_push done c.in-Some.cell in let b = was.4 in let d = c.in-Some.ensures.steps.1 in omega arith),
