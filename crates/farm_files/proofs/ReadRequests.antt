@@ -54,6 +54,7 @@ orders_few orders before rs closes n so are size few = by closes so few
   where
     count : length before ≡ length rs
     count = ap (λ (os : List Order). length os) are ∙ length-map rs Rebuild
+
     by : (b : Bool) → orders ≡ before ++ close_where b → n + cond b 1 0 ≤ 4096 → length orders ≤ 4096
     by true e f = let l : length orders ≡ length (before ++ Close ∷ []) = ap (λ (os : List Order). length os) e in omega (arith, l, length-append before (Close ∷ []), count, size, f)
     by false e f = let l : length orders ≡ length (before ++ []) = ap (λ (os : List Order). length os) e in omega (arith, l, length-append before [], count, size, f)

@@ -14,7 +14,7 @@ use thiserror::Error;
 #[derive(Clone, Copy, Debug, Error, PartialEq, Eq)]
 pub enum ServeFault {
     /// The list of a rack's feed is refused; it is the first that is.
-    #[error("{}: {fault}", ListName { rack: *.rack, feed: *.feed })]
+    #[error("{}: {fault}", ListName {rack: *.rack, feed: *.feed})]
     List {
         rack: usize,
         feed: usize,

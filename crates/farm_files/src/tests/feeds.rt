@@ -216,10 +216,7 @@ fn refused_list_of_a_feed(rt: HostRuntime) -> Result<(), AllocError> {
     assert!(&rt; run.left_out("rack0.report.csv"));
     assert!(&rt; input.failures() == 0);
 
-    let mut input = input_with(
-        rt.alloc(),
-        &[("rack1.csv", LIST), ("rack1.feed1.csv", b"")],
-    )?;
+    let mut input = input_with(rt.alloc(), &[("rack1.csv", LIST), ("rack1.feed1.csv", b"")])?;
     let run = serve_shelf(&rt, rt.alloc(), &mut input);
     let fault = ServeFault::List {
         rack: 1,
@@ -250,9 +247,14 @@ fn failed_reads_with_two_feeds(rt: HostRuntime) -> Result<(), AllocError> {
         let mut input = input_with(rt.alloc(), &[("rack0.feed1.csv", HEADER)])?;
         input.fail_at(call);
         let run = serve_shelf(&rt, rt.alloc(), &mut input);
-        let report = format!(in rt.alloc(); "number,feed,stripe,target,length,outcome,digest,unread\n0,0,abc,x0,3,several,,{left_out}\n")?;
+        let report = format!(in rt.alloc();
+            "number,feed,stripe,target,length,outcome,digest,unread\n0,0,abc,x0,3,several,,{left_out}\n"
+        )?;
         assert!(&rt; run.has_served(1, 1), "call {call}");
-        assert!(&rt; run.wrote("rack0.report.csv", report.as_bytes()), "call {call}");
+        assert!(&rt;
+            run.wrote("rack0.report.csv", report.as_bytes()),
+            "call {call}"
+        );
         assert!(&rt; input.failures() == 1, "call {call}");
     }
     for call in 0..4 {

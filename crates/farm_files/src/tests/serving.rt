@@ -286,7 +286,14 @@ fn a_refused_list(rt: HostRuntime) -> Result<(), AllocError> {
         let mut input = input_of(rt.alloc(), LIST)?;
         input.place(rt.alloc(), "rack1.csv", bytes)?;
         let run = serve_shelf(&rt, rt.alloc(), &mut input);
-        assert_eq!(&rt; run.served, Err(ServeFault::List { rack: 1, feed: 0, fault }));
+        assert_eq!(&rt;
+            run.served,
+            Err(ServeFault::List {
+                rack: 1,
+                feed: 0,
+                fault
+            })
+        );
         assert!(&rt; run.left_out("rack0.report.csv"));
     }
     Ok(())

@@ -51,8 +51,8 @@ returns-clause-read g c =
       λ there e.
           let t = told there e in (
             t.0
-            ∙ ap (λ (rs : List ListedRequest). map Rebuild (asked_feed there rs reads) ++ close_where (nat_lt c.len.result (length c.args.list.now))) same
-            ∙ ap (λ (tail : List Order). map Rebuild (asked_feed there (listed_before_close c.args.list.now) reads) ++ tail) (sym (close_counted c.args.list.now c.len.result counted)),
+                ∙ ap (λ (rs : List ListedRequest). map Rebuild (asked_feed there rs reads) ++ close_where (nat_lt c.len.result (length c.args.list.now))) same
+                ∙ ap (λ (tail : List Order). map Rebuild (asked_feed there (listed_before_close c.args.list.now) reads) ++ tail) (sym (close_counted c.args.list.now c.len.result counted)),
             t.1 ∙ ap (λ (rs : List ListedRequest). unread_feed there rs reads) same,
           ),
     )
