@@ -1,5 +1,5 @@
 -- What was read, answered and made, brought together as what serving promises.
-use Rattle.std.proofs.Common.{◌≡◌, ◌+◌, ◌∙◌, Vec, Global, ℕ, List, [], ◌∷◌, Some, None, length, map, drop, get_or, refl, sym, ap, arith, subst, inr}
+use Rattle.std.proofs.Common.{◌≡◌, ◌+◌, ◌∙◌, Vec, Global, ℕ, List, [], ◌∷◌, Some, None, length, map, drop, get_or, refl, sym, ap, arith, inr}
 use Rattle.std.specs.List.{AllZip}
 use Rattle.std.specs.Prelude.{IfSome, sum_by}
 use Rattle.std.proofs.lemmas.List.Sums.{sum_by-cons}

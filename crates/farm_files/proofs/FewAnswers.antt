@@ -1,6 +1,6 @@
 -- Answers that fit a rack's feeds, and how many they are.
-use Rattle.std.proofs.Common.{◌≡◌, ◌<◌, ◌≤◌, ◌+◌, Vec, Global, ℕ, zero, suc, cond, List, [], ◌∷◌, All, length, map, ap, drop, get_or, sym, refl, arith, subst, inl, inr, true, false}
-use Rattle.std.specs.Prelude.{Bool, count_by, ◌==◌, ◌⊎◌, slice_index}
+use Rattle.std.proofs.Common.{◌≡◌, ◌<◌, ◌≤◌, ◌+◌, Vec, Global, ℕ, zero, suc, cond, List, [], ◌∷◌, All, length, map, ap, drop, get_or, refl, arith, subst, inl, inr, true, false}
+use Rattle.std.specs.Prelude.{Bool, count_by, ◌==◌}
 use Rattle.std.specs.List.{AllByRecursion, AllZip}
 use Rattle.std.proofs.lemmas.Bool.{cases_lt}
 use Rattle.std.proofs.lemmas.Bool.Decides.{nat_tests}

@@ -5,10 +5,10 @@ use Rattle.farm_core.specs.declared.orders.Order.{Order}
 use Rattle.farm_core.specs.declared.orders.RackList.{RackList}
 use Rattle.farm_core.proofs.Rows.{all_zip_push}
 use Rattle.farm_files.specs.Report.{before_close as listed_before_close}
-use Rattle.farm_files.specs.Serving.{AreRackReads, Reads, orders_rack, rack_failures, unread_rack}
+use Rattle.farm_files.specs.Serving.{AreRackReads, orders_rack, rack_failures, unread_rack}
 use Rattle.farm_files.specs.declared.listing.Record.{Record}
 use Rattle.farm_files.proofs.FewFeeds.{few_feeds, never_bad}
-use Rattle.farm_files.proofs.Pairs.{front_images, front_more, images_more, sum_push, values_more}
+use Rattle.farm_files.proofs.Pairs.{front_images, front_more, images_more, sum_push}
 use Rattle.std.proofs.lemmas.List.{take_all, length-map}
 use Rattle.std.proofs.lemmas.Simd.{map-map}
 use Rattle.farm_files.proofs.reading.read_feeds.Goals as goal
