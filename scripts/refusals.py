@@ -33,6 +33,7 @@ TESTS = [
     ("farm_core", "collector_takes_its_room"),
     ("farm_files", "nothing_written_before_all_texts_are_made"),
     ("farm_files", "nothing_written_with_two_workers"),
+    ("farm_files", "digests_in_three_threads"),
 ]
 
 # Limits of address space, in KiB: from where the program is hardly loaded to where all of its threads have room.
@@ -185,7 +186,7 @@ class Farm:
 
     Where memory is refused behind the first write, the files in front of it stand whole."""
 
-    answered = b"served 2 racks, 7 answers\n"
+    answered = b"served 4 racks, 14 answers\n"
 
     def __init__(self, library, workers, queue):
         self.library = library

@@ -107,18 +107,18 @@ fn digests_of_several_lengths(rt: HostRuntime) -> Result<(), AllocError> {
     Ok(())
 }
 
-// Eight of them in lanes and one alone.
+// Two groups of eight and one alone, each in a thread of its own where one can be made.
 #[test]
-fn digests_of_nine_equal_fragments(rt: HostRuntime) -> Result<(), AllocError> {
+fn digests_in_three_threads(rt: HostRuntime) -> Result<(), AllocError> {
     let mut rack = Vec::new(rt.alloc());
-    for _ in 0..9 {
+    for _ in 0..17 {
         let bytes = Bytes::new(Vec::from_slice(rt.alloc(), b"abc")?);
         rack.push((0, Outcome::Rebuilt(bytes)))?;
         rack.push((0, Outcome::Several))?;
     }
     let racks = vec![in rt.alloc(); rack]?;
-    let made = digests_of_racks(&rt, rt.alloc(), racks.as_slice(), 2)?;
-    assert!(&rt; made.len() == 18);
+    let made = digests_of_racks(&rt, rt.alloc(), racks.as_slice(), 3)?;
+    assert!(&rt; made.len() == 34);
     for (index, digest) in made.as_slice().iter().enumerate() {
         if index % 2 == 0 {
             assert!(&rt; *digest == Some(ABC));
