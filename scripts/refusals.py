@@ -169,16 +169,35 @@ class Text:
         return ran, kind_without_memory(ran, refusal.rest or tells_fault)
 
 
+def merges(rows):
+    """The rows of a report in each order that keeps the rows of one feed in theirs. No feed of the demo has a close."""
+    feeds = [row.get("feed") for row in rows]
+    for order in set(itertools.permutations(feeds)):
+        left = {feed: iter([row for row in rows if row.get("feed") == feed]) for feed in feeds}
+        yield [next(left[feed]) for feed in order]
+
+
+def rack_files(rack, rows):
+    """The names and digests of the files of a rack with these rows, in the order of writing."""
+    rows = [row | {"number": str(number)} for number, row in enumerate(rows)]
+    fragments = [
+        (f"rack{rack}-{row['number']}.{row['stripe']}.{row['target']}", row["digest"])
+        for row in rows
+        if row["outcome"] == "rebuilt"
+    ]
+    report = "".join(",".join(fields) + "\n" for fields in [rows[0], *(row.values() for row in rows)])
+    return [*fragments, (f"rack{rack}.report.csv", hashlib.sha256(report.encode()).hexdigest())]
+
+
 def served_files():
-    """The digests of the files that serving the demo's folder writes, in the order of writing, by its stored reports."""
-    files = []
-    for number in range(len(list(DEMO.glob("farm-reports/*")))):
-        report = DEMO / f"farm-reports/rack{number}.report.csv"
-        for row in csv.DictReader(report.read_text().splitlines()):
-            if row["outcome"] == "rebuilt":
-                files.append((f"rack{number}-{row['number']}.{row['stripe']}.{row['target']}", row["digest"]))
-        files.append((report.name, hashlib.sha256(report.read_bytes()).hexdigest()))
-    return files
+    """The files that serving the demo's folder may write, by its stored reports: a list for each merge of the feeds, since
+    that is up to the threads."""
+    racks = []
+    for rack in range(len(list(DEMO.glob("farm-reports/*")))):
+        report = (DEMO / f"farm-reports/rack{rack}.report.csv").read_text()
+        rows = list(csv.DictReader(report.splitlines()))
+        racks.append([rack_files(rack, merged) for merged in merges(rows)])
+    return [list(itertools.chain(*files)) for files in itertools.product(*racks)]
 
 
 class Farm:
@@ -203,9 +222,9 @@ class Farm:
 
     def judged(self, ran, refusal, out):
         there = {it.name: hashlib.sha256(it.read_bytes()).hexdigest() for it in pathlib.Path(out).iterdir()}
-        if there != dict(self.files[: len(there)]):
+        if all(there != dict(files[: len(there)]) for files in self.files):
             raise Fault(f"wrote {sorted(there)}; {ran.told()}")
-        if len(there) == len(self.files) and (ran.status, ran.out, ran.err) == (0, self.answered, b""):
+        if len(there) == len(self.files[0]) and (ran.status, ran.out, ran.err) == (0, self.answered, b""):
             return "answered"
         if not there and (ran.status, ran.out, ran.err) == (EXHAUSTED, b"", WITHOUT_THREAD):
             return "E17"
