@@ -7,6 +7,7 @@ pub mod Plain
 pub mod ReportLines
 pub mod RackRows
 pub mod RackDigests
+pub mod FragmentDigests
 pub mod Put
 pub mod PutAll
 pub mod ReadFiles

@@ -33,6 +33,12 @@ fragment_digest (outcome.Rebuilt f) = Some (sha256 f)
 fragment_digest outcome.Contradiction = None
 fragment_digest outcome.Several = None
 
+-- the fragment of an outcome, where it was rebuilt
+abbrev pub rebuilt_fragment : Outcome → List (List ℕ)
+rebuilt_fragment (outcome.Rebuilt f) = f ∷ []
+rebuilt_fragment outcome.Contradiction = []
+rebuilt_fragment outcome.Several = []
+
 -- a digest in hexadecimal, and nothing where there is none
 abbrev pub digest_text : Option (List ℕ) → List ℕ
 digest_text (Some d) = encode_lower d

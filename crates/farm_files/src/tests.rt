@@ -1,5 +1,6 @@
 //! Lists, reports, shelves and serving, with the bytes and digests of the formats.
 mod devices;
+mod digests;
 mod feeds;
 mod folders;
 mod lists;

@@ -77,7 +77,7 @@ fn nothing_written_before_all_texts_are_made(rt: HostRuntime) -> Result<(), Allo
     serve_counting(&rt, rt.alloc(), 1)
 }
 
-// The digests are made in two threads.
+// Of two workers either may be refused memory.
 #[test]
 fn nothing_written_with_two_workers(rt: HostRuntime) -> Result<(), AllocError> {
     serve_counting(&rt, rt.alloc(), 2)

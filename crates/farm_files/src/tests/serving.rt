@@ -154,9 +154,9 @@ fn place_stripe(shelf: &mut MemoryShelf, alloc: Global, letter: u8) -> Result<()
     Ok(())
 }
 
-// However many threads make the digests, each stands in the row of its own fragment.
+// However many workers there are, each digest stands in the row of its own fragment.
 #[test]
-fn digests_by_any_number_of_threads(rt: HostRuntime) -> Result<(), AllocError> {
+fn digests_with_any_number_of_workers(rt: HostRuntime) -> Result<(), AllocError> {
     let mut input = five_stripes(rt.alloc())?;
     for workers in [1, 2, 3, 5, 16] {
         let output = MemoryShelf::new(rt.alloc());

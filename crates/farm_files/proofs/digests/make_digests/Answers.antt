@@ -1,15 +1,16 @@
-use Rattle.std.proofs.Common.{◌≡◌, ◌∙◌, Bor, None, sym, arith, length, map, get_or}
+use Rattle.std.proofs.Common.{◌≡◌, ◌+◌, ◌∙◌, ℕ, List, [], Bor, sym, ap, arith, length, map, get_or}
 use Rattle.std.proofs.lemmas.List.{ext_get_or, length-map}
-use Rattle.lrc_code.specs.declared.outcomes.Outcome.{Outcome}
-use Rattle.farm_files.specs.Report.{fragment_digest}
+use Rattle.sha2.specs.Sha256.{sha256}
 use Rattle.farm_files.proofs.digests.make_digests.Goals as goal
 
 pub returns : goal.returns
 returns g c =
-    let digests = map (λ (o : Bor Outcome). fragment_digest o.now) c.args.outcomes.now in
-    let same : length c.for_each_mut.new.s ≡ length c.args.outcomes.now = omega (arith, c.for_each_mut.auto.s, c.requires.places) in
-    let counted : length digests ≡ length c.args.outcomes.now = length-map c.args.outcomes.now (λ (o : Bor Outcome). fragment_digest o.now) in
-    ext_get_or None c.for_each_mut.new.s digests (omega (arith, same, counted))
+    let made = c.for_each_chunk_mut.new.s in
+    let digests = map (λ (f : Bor (List ℕ)). sha256 f.now) c.args.fragments.now in
+    let same : length made ≡ length c.args.fragments.now = omega (arith, c.for_each_chunk_mut.auto.s, c.requires.places) in
+    let counted : length digests ≡ length c.args.fragments.now = length-map c.args.fragments.now (λ (f : Bor (List ℕ)). sha256 f.now) in
+    ext_get_or [] made digests (omega (arith, same, counted))
     (λ i within.
-    let changed = (c.for_each_mut.ensures i None (omega (arith, within, same, c.requires.places))).1 in
-    ◌∙◌ {c = get_or digests i None} (sym changed.left) changed.call)
+    let at = (c.for_each_chunk_mut.ensures.by_index i [] (omega (arith, within, same, c.requires.places))).1 in
+    let there : get_or digests (at.start + at.offset) [] ≡ get_or digests i [] = ap (λ (j : ℕ). get_or digests j []) at.start_plus_offset in
+    ◌∙◌ {a = get_or made i []} (sym at.new_element) (at.call at.offset at.offset_in_chunk ∙ there))
