@@ -31,7 +31,7 @@ pub struct Worked<'a> {
     pub replies: EndedPut<Reply<'a>>,
 }
 
-// The request's answer. Its plan is made in an arena of its own, which ends here.
+// The request's answer, with an arena of its own for whatever memory a plan asks for, which ends here.
 fn answer_in_arena(alloc: Global, request: &Request) -> Result<Outcome, AllocError>
     ensures { IfOk result (IsAnswer request.now) }
 {
