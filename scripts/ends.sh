@@ -68,6 +68,13 @@ echo order > "$scratch/bad/rack0.csv"
 ends bad-header 1 '' 'rack0.csv: E19' farm "$scratch/bad" "$scratch/out"
 printf 'order,stripe,target,length,survivors\nclose,,,,\nrebuild,A,x0,1,\n' > "$scratch/bad/rack0.csv"
 ends bad-stripe 1 '' 'rack0.csv: record 2: E21 E1' farm "$scratch/bad" "$scratch/out"
+mkdir "$scratch/feeds-of-a-rack"
+for feed in .feed1 .feed2 .feed3 .feed4 ''; do
+  echo order,stripe,target,length,survivors > "$scratch/feeds-of-a-rack/rack0$feed.csv"
+done
+ends five-feeds 1 '' E28 farm "$scratch/feeds-of-a-rack" "$scratch/out"
+printf 'order,stripe,target,length,survivors,code\nrebuild,a,x6,1,,12-2-2\n' > "$scratch/feeds-of-a-rack/rack0.feed2.csv"
+ends bad-feed 1 '' 'rack0.feed2.csv: record 1: E20' farm "$scratch/feeds-of-a-rack" "$scratch/out"
 [ -z "$(ls "$scratch/out")" ] || fail faults 'wrote files'
 ends no-output-folder 3 '' E24 farm demo/farm "$scratch/none"
 ends_full served-full 3 '' farm demo/farm "$scratch/out"
