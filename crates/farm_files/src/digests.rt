@@ -1,4 +1,4 @@
-//! The digests of rebuilt fragments, made one after the other or in several threads.
+//! The digests of rebuilt fragments, made one after the other, or eight at once in several threads.
 ghost use Rattle.std.specs.Prelude.{◌≡◌, ◌+◌, ◌++◌, ◌*◌, ◌%◌, ◌^◌, ◌<◌, ◌≤◌, ℕ, List, [], IfOk, OnOk, length, map, slice_index_or};
 ghost use Rattle.std.specs.List.{flat_map};
 ghost use Rattle.sha2.specs.Sha256.{sha256};
