@@ -75,6 +75,19 @@ done
 ends five-feeds 1 '' E28 farm "$scratch/feeds-of-a-rack" "$scratch/out"
 printf 'order,stripe,target,length,survivors,code\nrebuild,a,x6,1,,12-2-2\n' > "$scratch/feeds-of-a-rack/rack0.feed2.csv"
 ends bad-feed 1 '' 'rack0.feed2.csv: record 1: E20' farm "$scratch/feeds-of-a-rack" "$scratch/out"
+mkdir "$scratch/racks"
+for rack in $(seq 0 16); do
+  echo order,stripe,target,length,survivors > "$scratch/racks/rack$rack.csv"
+done
+ends seventeen-racks 1 '' E18 farm "$scratch/racks" "$scratch/out"
+echo order > "$scratch/racks/rack3.csv"
+ends bad-rack-in-front 1 '' 'rack3.csv: E19' farm "$scratch/racks" "$scratch/out"
+rm "$scratch/racks/rack3.csv"
+mkdir "$scratch/racks/rack3.csv"
+ends unread-list 3 '' E24 farm "$scratch/racks" "$scratch/out"
+rmdir "$scratch/racks/rack3.csv"
+{ echo order,stripe,target,length,survivors; printf 'close,,,,%.0s\n' $(seq 4097); } > "$scratch/racks/rack0.csv"
+ends many-records 1 '' 'rack0.csv: E26' farm "$scratch/racks" "$scratch/out"
 [ -z "$(ls "$scratch/out")" ] || fail faults 'wrote files'
 ends no-output-folder 3 '' E24 farm demo/farm "$scratch/none"
 ends_full served-full 3 '' farm demo/farm "$scratch/out"
