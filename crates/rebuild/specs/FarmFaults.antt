@@ -8,10 +8,19 @@ use Rattle.farm_files.specs.declared.faults.ServeFault.{ServeFault}
 use Rattle.farm_files.specs.declared.faults.ServeFault.TheVariants.{List as OfList, BadFeeds, TooManyRacks, NoRacks, Device, NoThread, OutOfMemory}
 use Rattle.farm_files.specs.declared.serving.Served.{Served}
 
+-- the exit status of a list's fault
+abbrev pub list_status : ListFault → ℕ
+list_status list_fault.OutOfMemory = 4
+list_status list_fault.BadHeader = 1
+list_status (list_fault.BadRecord number) = 1
+list_status (list_fault.Refused number refusal) = 1
+list_status list_fault.InputTooLong = 1
+list_status list_fault.TooManyOrders = 1
+
 -- the exit status
 abbrev pub status_of : Result Served ServeFault → ℕ
 status_of (Ok served) = 0
-status_of (Err (OfList rack feed reason)) = 1
+status_of (Err (OfList rack feed reason)) = list_status reason
 status_of (Err BadFeeds) = 1
 status_of (Err TooManyRacks) = 1
 status_of (Err NoRacks) = 1
@@ -32,9 +41,18 @@ reason_text (list_fault.Refused number refusal) = record_text number ++ codes ":
 reason_text list_fault.InputTooLong = codes "E25"
 reason_text list_fault.TooManyOrders = codes "E26"
 
--- the line of a list's fault: the file of the rack's feed, and what is wrong with it
+-- a list's fault behind the file of the rack's feed
+abbrev pub listed_reason : ℕ → ℕ → ListFault → List ℕ
+listed_reason rack feed reason = list_name rack feed ++ codes ": " ++ reason_text reason
+
+-- the line of a list's fault: the file of the rack's feed, and what is wrong with it; want of memory is told as everywhere
 abbrev pub list_fault_text : ℕ → ℕ → ListFault → List ℕ
-list_fault_text rack feed reason = list_name rack feed ++ codes ": " ++ reason_text reason
+list_fault_text rack feed list_fault.OutOfMemory = codes "E16"
+list_fault_text rack feed list_fault.BadHeader = listed_reason rack feed list_fault.BadHeader
+list_fault_text rack feed (list_fault.BadRecord number) = listed_reason rack feed (list_fault.BadRecord number)
+list_fault_text rack feed (list_fault.Refused number refusal) = listed_reason rack feed (list_fault.Refused number refusal)
+list_fault_text rack feed list_fault.InputTooLong = listed_reason rack feed list_fault.InputTooLong
+list_fault_text rack feed list_fault.TooManyOrders = listed_reason rack feed list_fault.TooManyOrders
 
 -- the line of a fault
 abbrev pub fault_text : ServeFault → List ℕ

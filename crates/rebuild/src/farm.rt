@@ -1,6 +1,6 @@
 //! How the command `farm` ends: its exit statuses, and the lines that tell its faults.
 ghost use Rattle.std.specs.Prelude.{◌≡◌, ◌++◌, IfOk, OnOk, string_bytes};
-ghost use Rattle.rebuild.specs.FarmFaults.{fault_text, list_fault_text, reason_text, status_of};
+ghost use Rattle.rebuild.specs.FarmFaults.{fault_text, list_fault_text, list_status, listed_reason, reason_text, status_of};
 
 use farm_files::{ListFault, ServeFault, Served, list_file};
 use std::alloc::{AllocError, Global};
@@ -13,14 +13,19 @@ pub fn farm_status(outcome: &Result<Served, ServeFault>) -> u8
 {
     match outcome {
         Ok(_) => 0,
-        Err(
-            ServeFault::List { .. }
-            | ServeFault::BadFeeds
-            | ServeFault::TooManyRacks
-            | ServeFault::NoRacks,
-        ) => 1,
+        Err(ServeFault::List { fault, .. }) => list_status(*fault),
+        Err(ServeFault::BadFeeds | ServeFault::TooManyRacks | ServeFault::NoRacks) => 1,
         Err(ServeFault::Device) => 3,
         Err(ServeFault::OutOfMemory | ServeFault::NoThread) => 4,
+    }
+}
+
+fn list_status(fault: ListFault) -> u8
+    ensures { result ≡ list_status fault }
+{
+    match fault {
+        ListFault::OutOfMemory => 4,
+        _ => 1,
     }
 }
 
@@ -39,7 +44,7 @@ pub fn fault_line(alloc: Global, fault: &ServeFault) -> Result<String, AllocErro
     }
 }
 
-// The line that tells the fault of the list of a rack's feed.
+// The line that tells the fault of the list of a rack's feed. Want of memory is no fault of the list.
 fn list_fault_line(
     alloc: Global,
     rack: usize,
@@ -47,6 +52,21 @@ fn list_fault_line(
     fault: ListFault,
 ) -> Result<String, AllocError>
     ensures { IfOk result (λ line. string_bytes line ≡ list_fault_text rack feed fault) }
+{
+    match fault {
+        ListFault::OutOfMemory => String::from_str(alloc, "E16"),
+        _ => listed_line(alloc, rack, feed, fault),
+    }
+}
+
+// What is wrong with a list, behind its file's name.
+fn listed_line(
+    alloc: Global,
+    rack: usize,
+    feed: usize,
+    fault: ListFault,
+) -> Result<String, AllocError>
+    ensures { IfOk result (λ line. string_bytes line ≡ listed_reason rack feed fault) }
 {
     let mut line = list_file(alloc, rack, feed)?;
     line.push_str(": ")?;

@@ -30,6 +30,12 @@ fn faults_of_the_whole_end_with_their_number(rt: HostRuntime) {
     assert_ends(&rt, ServeFault::Device, 3, "E24");
     assert_ends(&rt, ServeFault::OutOfMemory, 4, "E16");
     assert_ends(&rt, ServeFault::NoThread, 4, "E17");
+    let fault = ServeFault::List {
+        rack: 0,
+        feed: 0,
+        fault: ListFault::OutOfMemory,
+    };
+    assert_ends(&rt, fault, 4, "E16");
 }
 
 #[test]
