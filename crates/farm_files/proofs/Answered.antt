@@ -1,11 +1,11 @@
 -- What was read, answered and made, brought together as what serving promises.
-use Rattle.std.proofs.Common.{◌≡◌, ◌+◌, ◌∙◌, Vec, Global, ℕ, List, [], ◌∷◌, Some, None, length, map, drop, get_or, refl, sym, ap, arith, inr}
+use Rattle.std.proofs.Common.{◌≡◌, ◌+◌, ◌∙◌, Vec, Global, ℕ, List, [], ◌∷◌, Some, None, Err, length, map, drop, get_or, refl, sym, ap, arith, inr}
 use Rattle.std.specs.List.{AllZip}
 use Rattle.std.specs.Prelude.{IfSome, sum_by}
 use Rattle.std.proofs.lemmas.List.Sums.{sum_by-cons}
 use Rattle.lrc_code.specs.declared.places.Place.{Place}
 use Rattle.lrc_code.specs.declared.outcomes.Outcome.{Outcome}
-use Rattle.farm_files.specs.Files.{Files, Told}
+use Rattle.farm_files.specs.Files.{CountsFailure, Files, Told}
 use Rattle.farm_files.specs.Report.{before_close as listed_before_close}
 use Rattle.farm_files.specs.Serving.{Reads, unread_all, written_files}
 use Rattle.farm_files.specs.Written.{files_from}
@@ -82,6 +82,6 @@ where_told None P each = tt
 where_told (Some there) P each = each there refl
 
 -- what a failed write leaves
-pub write_leaves : (f : ShelfFault) (told old new : Told) → StopsServing f told old new → LeavesOutput (of_shelf f) told old new
-write_leaves shelf.Device told old new stops = inr stops
-write_leaves shelf.OutOfMemory told old new stops = inr stops
+pub write_leaves : (f : ShelfFault) (told old new : Told) (before after : ℕ) → CountsFailure {A = Unit {0}} (Err f) before after → StopsServing f told old new → LeavesOutput (of_shelf f) told old new before after
+write_leaves shelf.Device told old new before after rose stops = inr (rose, stops)
+write_leaves shelf.OutOfMemory told old new before after calm stops = (calm, inr stops)

@@ -37,15 +37,16 @@ abbrev pub StopsServing : ShelfFault → Told → Told → Told → Type 0
 StopsServing f there old new = IfSome there (λ t. (lists : List (List (List Record))) × (reads : List (List (List Reads))) × (answers : List (List (ℕ × Outcome)))
     × Serves t lists reads answers × StopsWriting f (written_files t lists reads answers) old new)
 
--- what a fault leaves of the output
-abbrev pub LeavesOutput : ServeFault → Told → Told → Told → Type 0
-LeavesOutput fault.Device there old new = (new ≡ old) ⊎ StopsServing shelf_fault.Device there old new
-LeavesOutput fault.OutOfMemory there old new = (new ≡ old) ⊎ StopsServing shelf_fault.OutOfMemory there old new
-LeavesOutput fault.NoThread there old new = new ≡ old
-LeavesOutput fault.NoRacks there old new = new ≡ old
-LeavesOutput fault.TooManyRacks there old new = new ≡ old
-LeavesOutput fault.BadFeeds there old new = new ≡ old
-LeavesOutput (fault.List rack feed reason) there old new = new ≡ old
+-- what a fault leaves of the output, whose device failed so often before and after: a failed write leaves it as StopsWriting says,
+-- and where the failed device was the input's it is as it was
+abbrev pub LeavesOutput : ServeFault → Told → Told → Told → ℕ → ℕ → Type 0
+LeavesOutput fault.Device there old new before after = ((after ≡ before) × (new ≡ old)) ⊎ ((after ≡ before + 1) × StopsServing shelf_fault.Device there old new)
+LeavesOutput fault.OutOfMemory there old new before after = (after ≡ before) × ((new ≡ old) ⊎ StopsServing shelf_fault.OutOfMemory there old new)
+LeavesOutput fault.NoThread there old new before after = (after ≡ before) × (new ≡ old)
+LeavesOutput fault.NoRacks there old new before after = (after ≡ before) × (new ≡ old)
+LeavesOutput fault.TooManyRacks there old new before after = (after ≡ before) × (new ≡ old)
+LeavesOutput fault.BadFeeds there old new before after = (after ≡ before) × (new ≡ old)
+LeavesOutput (fault.List rack feed reason) there old new before after = (after ≡ before) × (new ≡ old)
 
 -- why the list of a rack's feed can't be read: by the files of the input, and by how often its device failed before and after
 abbrev pub IsListFault : ServeFault → ℕ → ℕ → Told → ℕ → ℕ → Type 0

@@ -50,7 +50,7 @@ pub fn serve<R: Threads + Wait + Sync, I: Shelf, O: Shelf, P: Pause>(
         × IfSome (I.files input.old) (λ there. Serves there lists reads answers
         × (O.files output.new ≡ option_map (λ old. put_all old (written_files there lists reads answers)) (O.files output.old)))) }
     ensures why { IfErr result (λ f. IfSome (I.files input.old) (λ there. Explains f there)) }
-    ensures output { IfErr result (λ f. LeavesOutput f (I.files input.old) (O.files output.old) (O.files output.new)) }
+    ensures output { IfErr result (λ f. LeavesOutput f (I.files input.old) (O.files output.old) (O.files output.new) (O.failed output.old) (O.failed output.new)) }
     ensures device { IfErr result (λ f. f ≡ fault.Device → (I.failed input.old < I.failed input.new) ⊎ (O.failed output.old < O.failed output.new)) }
 {
     let lists = read_lists(alloc, input)?;

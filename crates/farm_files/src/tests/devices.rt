@@ -1,7 +1,7 @@
 //! Shelves whose calls fail, one at a time.
 use crate::tests::shared::{
     LIST, REPORT, REPORT_WITHOUT_PX, REPORT_WITHOUT_X1, REPORT_WITHOUT_X2, has_file, input_of,
-    serve_onto, serve_shelf,
+    serve_onto, serve_shelf, shelf_of,
 };
 use crate::{MemoryShelf, ServeFault, Served, Shelf, ShelfFault};
 use std::alloc::AllocError;
@@ -76,6 +76,25 @@ fn failed_reads(rt: HostRuntime) -> Result<(), AllocError> {
             "call {call}"
         );
         assert!(&rt; input.failures() == u64::from(call < 6), "call {call}");
+    }
+    Ok(())
+}
+
+// A failed read of a list leaves the output as it was, and its device isn't called.
+#[test]
+fn failed_read_leaves_the_output(rt: HostRuntime) -> Result<(), AllocError> {
+    let standing: [(&str, &[u8]); 1] = [("rack0.report.csv", b"kept")];
+    for call in 0..3 {
+        let mut input = input_of(rt.alloc(), LIST)?;
+        input.fail_at(call);
+        let mut output = shelf_of(rt.alloc(), &standing)?;
+        output.fail_at(0);
+        let run = serve_onto(&rt, rt.alloc(), (2, 1), &mut input, output);
+        assert_eq!(&rt; run.served, Err(ServeFault::Device));
+        assert!(&rt; input.failures() == 1);
+        assert!(&rt; run.output.failures() == 0);
+        assert!(&rt; run.wrote("rack0.report.csv", b"kept"));
+        assert!(&rt; run.left_out("rack0-0.abc.x0"));
     }
     Ok(())
 }

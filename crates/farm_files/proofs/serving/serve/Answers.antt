@@ -86,7 +86,7 @@ returns-in_err-write_files-clause-output g c =
     let p = err_from_is_err_and c.from_residual-in_err-write_files.result c.from_residual-in_err-write_files.ensures.1 in
     let at = goal.at.returns-in_err-write_files-clause-output g c in
     rw (p.1, p.2)
-    (write_leaves c.in_err-write_files.field-0.0 (g.I.Shelf.files c.args.input.now) (g.O.Shelf.files c.args.output.now) (g.O.Shelf.files c.write_files.new.output)
+    (write_leaves c.in_err-write_files.field-0.0 (g.I.Shelf.files c.args.input.now) (g.O.Shelf.files c.args.output.now) (g.O.Shelf.files c.write_files.new.output) _ _ c.in_err-write_files.ensures.failure
     (where_told (g.I.Shelf.files c.args.input.now)
     (λ t. (lists : List (List (List Record))) × (reads : List (List (List Reads))) × (answers : List (List (ℕ × Outcome))) × Serves t lists reads answers
     × StopsWriting c.in_err-write_files.field-0.0 (written_files t lists reads answers) (g.O.Shelf.files c.args.output.now) (g.O.Shelf.files c.write_files.new.output))
