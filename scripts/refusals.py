@@ -33,6 +33,7 @@ TESTS = [
     ("farm_core", "collector_takes_its_room"),
     ("farm_files", "nothing_written_before_all_texts_are_made"),
     ("farm_files", "nothing_written_with_two_workers"),
+    ("farm_files", "failed_write_without_memory"),
 ]
 
 # Limits of address space, in KiB: from where the program is hardly loaded to where all of its threads have room.
