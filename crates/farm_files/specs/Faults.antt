@@ -87,6 +87,17 @@ CountsFault fault.TooManyRacks before after = after ≡ before
 CountsFault fault.BadFeeds before after = after ≡ before
 CountsFault (fault.List rack feed reason) before after = after ≡ before
 
+-- how often the input's device failed, and the output's, in serving that ended in this fault: one of them ended it, or neither; reads of
+-- fragments may have failed before, but not where a list ended it
+abbrev pub CountsServing : ServeFault → ℕ → ℕ → ℕ → ℕ → Type 0
+CountsServing fault.Device before after from to = ((after ≡ before + 1) × (to ≡ from)) ⊎ (to ≡ from + 1)
+CountsServing fault.OutOfMemory before after from to = to ≡ from
+CountsServing fault.NoThread before after from to = to ≡ from
+CountsServing fault.NoRacks before after from to = (after ≡ before) × (to ≡ from)
+CountsServing fault.TooManyRacks before after from to = (after ≡ before) × (to ≡ from)
+CountsServing fault.BadFeeds before after from to = (after ≡ before) × (to ≡ from)
+CountsServing (fault.List rack feed reason) before after from to = (after ≡ before) × (to ≡ from)
+
 -- the same, where a read alone can fail
 abbrev pub IsReadFault : ServeFault → ℕ → ℕ → Type 0
 IsReadFault fault.Device before after = after ≡ before + 1

@@ -127,3 +127,20 @@ fn failed_writes(rt: HostRuntime) -> Result<(), AllocError> {
     }
     Ok(())
 }
+
+// A read of a fragment and then a write fail: each device is counted once, and half of the report is left.
+#[test]
+fn failed_read_and_write(rt: HostRuntime) -> Result<(), AllocError> {
+    let mut input = input_of(rt.alloc(), LIST)?;
+    input.fail_at(3);
+    let mut output = MemoryShelf::new(rt.alloc());
+    output.fail_at(0);
+    let run = serve_onto(&rt, rt.alloc(), (2, 1), &mut input, output);
+    assert_eq!(&rt; run.served, Err(ServeFault::Device));
+    assert!(&rt; input.failures() == 1);
+    assert!(&rt; run.output.failures() == 1);
+    assert_eq!(&rt; REPORT_WITHOUT_X1.len(), 73);
+    assert!(&rt; run.wrote("rack0.report.csv", &REPORT_WITHOUT_X1[..36]));
+    assert!(&rt; run.left_out("rack0-0.abc.x0"));
+    Ok(())
+}
