@@ -11,7 +11,7 @@ use Rattle.farm_files.specs.declared.shelf.ShelfFault.TheVariants as shelf_fault
 use Rattle.farm_files.specs.declared.faults.ServeFault.{ServeFault}
 use Rattle.farm_files.specs.declared.faults.ServeFault.TheVariants as fault
 use Rattle.farm_files.specs.Names.{list_name}
-use Rattle.farm_files.specs.Serving.{HaveFeeds, HaveLists, Reads, Serves, written_files}
+use Rattle.farm_files.specs.Serving.{AreLists, HaveFeeds, HaveLists, Reads, Serves, written_files}
 
 -- some first feeds of the rack have lists, and the list of the feed behind them is refused
 abbrev pub RefusesFeed : Files → ℕ → ℕ → ListFault → Type 0
@@ -30,7 +30,7 @@ Explains fault.BadFeeds there = (lists : List (List (List Record))) × HaveLists
 Explains (fault.List rack feed reason) there = (lists : List (List (List Record))) × HaveLists there 0 lists × (length lists ≡ rack) × (rack < 16) × RefusesFeed there rack feed reason
 Explains fault.Device there = Unit {0}
 Explains fault.OutOfMemory there = Unit {0}
-Explains fault.NoThread there = Unit {0}
+Explains fault.NoThread there = (lists : List (List (List Record))) × AreLists there lists
 
 -- a write of what serving these files gives failed
 abbrev pub StopsServing : ShelfFault → Told → Told → Told → Type 0

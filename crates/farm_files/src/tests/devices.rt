@@ -3,7 +3,7 @@ use crate::tests::shared::{
     LIST, REPORT, REPORT_WITHOUT_PX, REPORT_WITHOUT_X1, REPORT_WITHOUT_X2, has_file, input_of,
     serve_onto, serve_shelf, shelf_of,
 };
-use crate::{MemoryShelf, ServeFault, Served, Shelf, ShelfFault};
+use crate::{ListFault, MemoryShelf, ServeFault, Served, Shelf, ShelfFault};
 use std::alloc::AllocError;
 
 #[test]
@@ -124,6 +124,32 @@ fn failed_writes(rt: HostRuntime) -> Result<(), AllocError> {
             "call {call}"
         );
         assert!(&rt; run.output.failures() == u64::from(call < 2), "call {call}");
+    }
+    Ok(())
+}
+
+// The lists are read in order, each tested ahead of the next read: of a failed read and a refused list the first in that order is told.
+// The list of rack 1 is refused; the reads ahead of it are of the list of rack 0 and of its second feed, which is absent.
+#[test]
+fn failed_read_and_refused_list(rt: HostRuntime) -> Result<(), AllocError> {
+    let refused = Err(ServeFault::List {
+        rack: 1,
+        feed: 0,
+        fault: ListFault::BadHeader,
+    });
+    for call in 0..5 {
+        let mut input = input_of(rt.alloc(), LIST)?;
+        input.place(rt.alloc(), "rack1.csv", b"x")?;
+        input.fail_at(call);
+        let run = serve_shelf(&rt, rt.alloc(), &mut input);
+        let expected = if call < 3 {
+            Err(ServeFault::Device)
+        } else {
+            refused
+        };
+        assert!(&rt; run.served == expected, "call {call}");
+        assert!(&rt; input.failures() == u64::from(call < 3), "call {call}");
+        assert!(&rt; run.left_out("rack0.report.csv"));
     }
     Ok(())
 }
