@@ -2,7 +2,7 @@
 ghost use Rattle.std.specs.Prelude.{None};
 
 use crate::tests::shared::{LIST, has_file, input_of};
-use crate::{MemoryShelf, Shelf, ShelfFault, serve};
+use crate::{MemoryShelf, ServeFault, Shelf, ShelfFault, serve};
 use farm_core::{NoPause, Settings};
 use std::alloc::{AllocError, Global};
 use std::process::Abort;
@@ -65,7 +65,8 @@ fn serve_counting<R: Abort + Threads + Wait + Sync>(
             assert!(rt; output.writes == 4);
             Ok(())
         }
-        Err(_) => {
+        Err(fault) => {
+            assert!(rt; matches!(fault, ServeFault::OutOfMemory | ServeFault::NoThread));
             assert!(rt; output.writes == 0);
             Err(AllocError)
         }
