@@ -34,6 +34,7 @@ TESTS = [
     ("farm_files", "nothing_written_before_all_texts_are_made"),
     ("farm_files", "nothing_written_with_two_workers"),
     ("farm_files", "digests_in_three_threads"),
+    ("farm_files", "failed_write_without_memory"),
 ]
 
 # Limits of address space, in KiB: from where the program is hardly loaded to where all of its threads have room.

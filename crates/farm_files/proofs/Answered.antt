@@ -1,16 +1,18 @@
 -- What was read, answered and made, brought together as what serving promises.
-use Rattle.std.proofs.Common.{◌≡◌, ◌+◌, ◌∙◌, Vec, Global, ℕ, List, [], ◌∷◌, Some, None, length, map, drop, get_or, refl, sym, ap, arith, inr}
+use Rattle.std.proofs.Common.{◌≡◌, ◌+◌, ◌∙◌, Vec, Global, ℕ, List, [], ◌∷◌, Some, None, Err, length, map, drop, get_or, refl, sym, ap, arith, inr}
 use Rattle.std.specs.List.{AllZip}
 use Rattle.std.specs.Prelude.{IfSome, sum_by}
 use Rattle.std.proofs.lemmas.List.Sums.{sum_by-cons}
 use Rattle.lrc_code.specs.declared.places.Place.{Place}
 use Rattle.lrc_code.specs.declared.outcomes.Outcome.{Outcome}
-use Rattle.farm_files.specs.Files.{Files, Told}
+use Rattle.farm_core.specs.declared.farm.FarmError.{FarmError}
+use Rattle.farm_core.specs.declared.farm.FarmError.TheVariants as farm
+use Rattle.farm_files.specs.Files.{CountsFailure, Files, Told}
 use Rattle.farm_files.specs.Report.{before_close as listed_before_close}
-use Rattle.farm_files.specs.Serving.{Reads, unread_all, written_files}
+use Rattle.farm_files.specs.Serving.{AreLists, Reads, unread_all, written_files}
 use Rattle.farm_files.specs.Written.{files_from}
-use Rattle.farm_files.specs.Faults.{LeavesOutput, StopsServing}
-use Rattle.farm_files.specs.Causes.{of_shelf}
+use Rattle.farm_files.specs.Faults.{Explains, LeavesOutput, StopsServing}
+use Rattle.farm_files.specs.Causes.{of_farm, of_shelf}
 use Rattle.farm_files.specs.declared.listing.Record.{Record}
 use Rattle.farm_files.specs.declared.shelf.ShelfFault.{ShelfFault}
 use Rattle.farm_files.specs.declared.shelf.ShelfFault.TheVariants as shelf
@@ -82,6 +84,11 @@ where_told None P each = tt
 where_told (Some there) P each = each there refl
 
 -- what a failed write leaves
-pub write_leaves : (f : ShelfFault) (told old new : Told) → StopsServing f told old new → LeavesOutput (of_shelf f) told old new
-write_leaves shelf.Device told old new stops = inr stops
-write_leaves shelf.OutOfMemory told old new stops = inr stops
+pub write_leaves : (f : ShelfFault) (told old new : Told) (before after : ℕ) → CountsFailure {A = Unit {0}} (Err f) before after → StopsServing f told old new → LeavesOutput (of_shelf f) told old new before after
+write_leaves shelf.Device told old new before after rose stops = inr (rose, stops)
+write_leaves shelf.OutOfMemory told old new before after calm stops = (calm, inr stops)
+
+-- why the farm ended: where a thread was refused, all lists had been read
+pub farm_explains : (f : FarmError) (there : Files) (lists : List (List (List Record))) → AreLists there lists → Explains (of_farm f) there
+farm_explains farm.OutOfMemory there lists are = tt
+farm_explains farm.NoThread there lists are = (lists, are)

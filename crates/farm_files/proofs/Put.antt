@@ -29,7 +29,7 @@ pub take_least : (n : ℕ) (xs : List ℕ) → take (min (length xs) n) xs ≡ t
 take_least n xs = rw (min_comm (length xs) n) (take_min n xs)
 
 -- a file that was put, or that was not, leaves the others
-pub put_or_not : {A E : Type 0} (r : Result A E) (old mid new : Files) (name bytes other : List ℕ) → mid ≡ old
-    → OnOk r (new ≡ put mid name bytes) → OnErr r (new ≡ mid) → bytes_eq name other ≡ false → new other ≡ old other
-put_or_not (Ok x) old mid new name bytes other e ok err apart = ap (λ (f : Files). f other) ok ∙ rw apart (ap (λ (f : Files). f other) e)
-put_or_not (Err x) old mid new name bytes other e ok err apart = ap (λ (f : Files). f other) (err ∙ e)
+pub put_or_not : {A E : Type 0} (r : Result A E) (old new : Files) (name bytes other : List ℕ)
+    → OnOk r (new ≡ put old name bytes) → OnErr r (new ≡ old) → bytes_eq name other ≡ false → new other ≡ old other
+put_or_not (Ok x) old new name bytes other ok err apart = ap (λ (f : Files). f other) ok ∙ rw apart refl
+put_or_not (Err x) old new name bytes other ok err apart = ap (λ (f : Files). f other) err

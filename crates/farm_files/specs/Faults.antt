@@ -11,7 +11,7 @@ use Rattle.farm_files.specs.declared.shelf.ShelfFault.TheVariants as shelf_fault
 use Rattle.farm_files.specs.declared.faults.ServeFault.{ServeFault}
 use Rattle.farm_files.specs.declared.faults.ServeFault.TheVariants as fault
 use Rattle.farm_files.specs.Names.{list_name}
-use Rattle.farm_files.specs.Serving.{HaveFeeds, HaveLists, Reads, Serves, written_files}
+use Rattle.farm_files.specs.Serving.{AreLists, HaveFeeds, HaveLists, Reads, Serves, written_files}
 
 -- some first feeds of the rack have lists, and the list of the feed behind them is refused
 abbrev pub RefusesFeed : Files → ℕ → ℕ → ListFault → Type 0
@@ -30,22 +30,23 @@ Explains fault.BadFeeds there = (lists : List (List (List Record))) × HaveLists
 Explains (fault.List rack feed reason) there = (lists : List (List (List Record))) × HaveLists there 0 lists × (length lists ≡ rack) × (rack < 16) × RefusesFeed there rack feed reason
 Explains fault.Device there = Unit {0}
 Explains fault.OutOfMemory there = Unit {0}
-Explains fault.NoThread there = Unit {0}
+Explains fault.NoThread there = (lists : List (List (List Record))) × AreLists there lists
 
 -- a write of what serving these files gives failed
 abbrev pub StopsServing : ShelfFault → Told → Told → Told → Type 0
 StopsServing f there old new = IfSome there (λ t. (lists : List (List (List Record))) × (reads : List (List (List Reads))) × (answers : List (List (ℕ × Outcome)))
     × Serves t lists reads answers × StopsWriting f (written_files t lists reads answers) old new)
 
--- what a fault leaves of the output
-abbrev pub LeavesOutput : ServeFault → Told → Told → Told → Type 0
-LeavesOutput fault.Device there old new = (new ≡ old) ⊎ StopsServing shelf_fault.Device there old new
-LeavesOutput fault.OutOfMemory there old new = (new ≡ old) ⊎ StopsServing shelf_fault.OutOfMemory there old new
-LeavesOutput fault.NoThread there old new = new ≡ old
-LeavesOutput fault.NoRacks there old new = new ≡ old
-LeavesOutput fault.TooManyRacks there old new = new ≡ old
-LeavesOutput fault.BadFeeds there old new = new ≡ old
-LeavesOutput (fault.List rack feed reason) there old new = new ≡ old
+-- what a fault leaves of the output, whose device failed so often before and after: a failed write leaves it as StopsWriting says,
+-- and where the failed device was the input's it is as it was
+abbrev pub LeavesOutput : ServeFault → Told → Told → Told → ℕ → ℕ → Type 0
+LeavesOutput fault.Device there old new before after = ((after ≡ before) × (new ≡ old)) ⊎ ((after ≡ before + 1) × StopsServing shelf_fault.Device there old new)
+LeavesOutput fault.OutOfMemory there old new before after = (after ≡ before) × ((new ≡ old) ⊎ StopsServing shelf_fault.OutOfMemory there old new)
+LeavesOutput fault.NoThread there old new before after = (after ≡ before) × (new ≡ old)
+LeavesOutput fault.NoRacks there old new before after = (after ≡ before) × (new ≡ old)
+LeavesOutput fault.TooManyRacks there old new before after = (after ≡ before) × (new ≡ old)
+LeavesOutput fault.BadFeeds there old new before after = (after ≡ before) × (new ≡ old)
+LeavesOutput (fault.List rack feed reason) there old new before after = (after ≡ before) × (new ≡ old)
 
 -- why the list of a rack's feed can't be read: by the files of the input, and by how often its device failed before and after
 abbrev pub IsListFault : ServeFault → ℕ → ℕ → Told → ℕ → ℕ → Type 0
@@ -85,6 +86,17 @@ CountsFault fault.NoRacks before after = after ≡ before
 CountsFault fault.TooManyRacks before after = after ≡ before
 CountsFault fault.BadFeeds before after = after ≡ before
 CountsFault (fault.List rack feed reason) before after = after ≡ before
+
+-- how often the input's device failed, and the output's, in serving that ended in this fault: one of them ended it, or neither; reads of
+-- fragments may have failed before, but not where a list ended it
+abbrev pub CountsServing : ServeFault → ℕ → ℕ → ℕ → ℕ → Type 0
+CountsServing fault.Device before after from to = ((after ≡ before + 1) × (to ≡ from)) ⊎ (to ≡ from + 1)
+CountsServing fault.OutOfMemory before after from to = to ≡ from
+CountsServing fault.NoThread before after from to = to ≡ from
+CountsServing fault.NoRacks before after from to = (after ≡ before) × (to ≡ from)
+CountsServing fault.TooManyRacks before after from to = (after ≡ before) × (to ≡ from)
+CountsServing fault.BadFeeds before after from to = (after ≡ before) × (to ≡ from)
+CountsServing (fault.List rack feed reason) before after from to = (after ≡ before) × (to ≡ from)
 
 -- the same, where a read alone can fail
 abbrev pub IsReadFault : ServeFault → ℕ → ℕ → Type 0

@@ -1,5 +1,5 @@
 -- A shelf in memory.
-use Rattle.std.specs.Prelude.{◌≡◌, ◌⊎◌, ◌-◌, ◌/◌, ◌==◌, ℕ, Bool, true, false, List, length, take, Option, None, Some, Result, Ok, Err, option_map, if◌then◌else◌}
+use Rattle.std.specs.Prelude.{◌≡◌, ◌-◌, ◌/◌, ◌==◌, ℕ, Bool, true, false, List, length, take, Option, None, Some, Result, Ok, Err, option_map, if◌then◌else◌}
 use Rattle.std.specs.BTreeMap as tree
 use Rattle.farm_files.specs.Files.{Files, put}
 use Rattle.farm_files.specs.declared.shelf.ShelfFault.{ShelfFault}
@@ -32,7 +32,13 @@ FailsWhenDue (Ok x) due = due ≡ false
 FailsWhenDue (Err fault.Device) due = due ≡ true
 FailsWhenDue (Err fault.OutOfMemory) due = due ≡ false
 
--- a write that the device fails leaves half of its bytes, or nothing is changed where there is no memory for these
+-- the device fails in this write exactly where it is due, but where memory is wanting
+abbrev pub FailsWriteWhenDue : Result (Unit {0}) ShelfFault → Bool → Type 0
+FailsWriteWhenDue (Ok x) due = due ≡ false
+FailsWriteWhenDue (Err fault.Device) due = due ≡ true
+FailsWriteWhenDue (Err fault.OutOfMemory) due = Unit {0}
+
+-- a write that the device fails leaves the first half of its bytes, and one without memory changes nothing
 abbrev pub LeavesHalf : ShelfFault → List ℕ → List ℕ → Files → Files → Type 0
-LeavesHalf fault.Device name bytes old new = (new ≡ put old name (take (length bytes / 2) bytes)) ⊎ (new ≡ old)
+LeavesHalf fault.Device name bytes old new = new ≡ put old name (take (length bytes / 2) bytes)
 LeavesHalf fault.OutOfMemory name bytes old new = new ≡ old

@@ -1,7 +1,7 @@
 //! A shelf in memory, which can be told to fail.
 ghost use Rattle.std.specs.Prelude.{◌≡◌, ℕ, List, ◌<◌, ◌+◌, ◌^◌, if◌then◌else◌, Some, None, IfOk, IfErr, OnOk, OnErr, take, option_map};
 ghost use Rattle.farm_files.specs.Files.{CountsFailure, Writes, put};
-ghost use Rattle.farm_files.specs.Memory.{FailsWhenDue, LeavesHalf, due_next, failed_of, fails_in, files_of, is_due};
+ghost use Rattle.farm_files.specs.Memory.{FailsWhenDue, FailsWriteWhenDue, LeavesHalf, due_next, failed_of, fails_in, files_of, is_due};
 
 use crate::shelf::{Shelf, ShelfFault};
 use std::alloc::{AllocError, Global};
@@ -57,13 +57,37 @@ impl MemoryShelf {
     }
 
     /// Of the reads and writes from now on, counted from 0, number `k` fails and the others don't. A failed write leaves
-    /// half of its bytes. A later call replaces an earlier one.
+    /// the first half of its bytes; where there is no memory for these it is want of memory, and changes nothing. A later call
+    /// replaces an earlier one.
     pub fn fail_at(&mut self, k: u64)
         ensures armed { fails_in self.new ≡ Some k }
         ensures files { files_of self.new ≡ files_of self.old }
         ensures failed { failed_of self.new ≡ failed_of self.old }
     {
         self.fails_in = Some(k);
+    }
+
+    // Whether the next call is the one that fails.
+    fn fails_next(&self) -> bool
+        ensures { result ≡ is_due (fails_in self.now) }
+    {
+        match self.fails_in {
+            Some(left) => left == 0,
+            None => false,
+        }
+    }
+
+    // Counts a call that fails for want of memory.
+    fn pass_call(&mut self)
+        ensures next { fails_in self.new ≡ due_next (fails_in self.old) }
+        ensures files { files_of self.new ≡ files_of self.old }
+        ensures failed { failed_of self.new ≡ failed_of self.old }
+    {
+        self.fails_in = match self.fails_in {
+            Some(0) => None,
+            Some(k) => Some(k - 1),
+            None => None,
+        };
     }
 
     // Whether the call at hand is the one that fails; it is counted.
@@ -130,16 +154,21 @@ impl Shelf for MemoryShelf {
         ensures written { Writes result name.now bytes.now (Some (files_of self.old)) (Some (files_of self.new)) }
         ensures failure { CountsFailure result (failed_of self.old) (failed_of self.new) }
         ensures half { IfErr result (λ f. LeavesHalf f name.now bytes.now (files_of self.old) (files_of self.new)) }
-        ensures due { FailsWhenDue result (is_due (fails_in self.old)) }
+        ensures due { FailsWriteWhenDue result (is_due (fails_in self.old)) }
         ensures next { fails_in self.new ≡ due_next (fails_in self.old) }
     {
+        let kept = if self.fails_next() {
+            &bytes[..bytes.len() / 2]
+        } else {
+            bytes
+        };
+        if self.place(alloc, name, kept).is_err() {
+            self.pass_call();
+            return Err(ShelfFault::OutOfMemory);
+        }
         if self.fails_now() {
-            let _ = self.place(alloc, name, &bytes[..bytes.len() / 2]);
             return Err(ShelfFault::Device);
         }
-        match self.place(alloc, name, bytes) {
-            Ok(()) => Ok(()),
-            Err(_) => Err(ShelfFault::OutOfMemory),
-        }
+        Ok(())
     }
 }

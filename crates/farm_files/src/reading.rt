@@ -113,6 +113,7 @@ fn read_fragment<I: Shelf>(
     ensures read { IfOk result (λ v. (failed : Bool) × (I.failed input.new ≡ I.failed input.old + (if failed then 1 else 0))
         × ((there : Files) → I.files input.old ≡ Some there → option_map (λ b. b.items) v ≡ fragment there listed.now (place, failed))) }
     ensures whole { IfOk result (λ v. IfSome v (λ b. length b.items ≡ listed.now.len)) }
+    ensures more { I.failed input.old ≤ I.failed input.new }
     ensures few { I.failed input.new ≤ I.failed input.old + 1 }
 {
     let name = fragment_file(alloc, listed.stripe(), place)?;
@@ -141,6 +142,7 @@ fn read_survivors<I: Shelf>(
     ensures read { IfOk result (λ v. (reads : Reads) × AreReads listed.now reads × (I.failed input.new ≡ I.failed input.old + failures reads)
         × ((there : Files) → I.files input.old ≡ Some there → (survivors_of v.0.items ≡ filter_map (survivor there listed.now) reads) × (v.1.items ≡ unread there listed.now reads))) }
     ensures part { IfOk result (λ v. ArePart listed.now.len listed.now.survivors (survivors_of v.0.items)) }
+    ensures more { I.failed input.old ≤ I.failed input.new }
     ensures few { I.failed input.new ≤ I.failed input.old + 16 }
 {
     let mut fragments = Vec::new(alloc);
@@ -260,6 +262,7 @@ fn read_request<I: Shelf>(
     ensures same { I.files input.new ≡ I.files input.old }
     ensures read { IfOk result (λ v. (reads : Reads) × AreReads listed.now reads × (I.failed input.new ≡ I.failed input.old + failures reads)
         × ((there : Files) → I.files input.old ≡ Some there → (v.0 ≡ asked there listed.now reads) × (v.1.items ≡ unread there listed.now reads))) }
+    ensures more { I.failed input.old ≤ I.failed input.new }
     ensures few { I.failed input.new ≤ I.failed input.old + 16 }
 {
     let (fragments, unread) = read_survivors(alloc, input, listed)?;
@@ -291,6 +294,7 @@ fn read_requests<I: Shelf>(
         × ((there : Files) → I.files input.old ≡ Some there → (v.0 ≡ map Rebuild (asked_feed there (map (λ r. r.now) requests.now) reads) ++ (if closes then Close ∷ [] else []))
         × (map (λ u. u.items) v.1.items ≡ unread_feed there (map (λ r. r.now) requests.now) reads))) }
     ensures sizes { IfOk result (λ v. (length (before_close v.0) ≡ length requests.now) × (length v.1.items ≡ length requests.now)) }
+    ensures more { I.failed input.old ≤ I.failed input.new }
     ensures few { I.failed input.new ≤ I.failed input.old + 16 * length requests.now }
 {
     let mut orders = Vec::new(alloc);
@@ -329,6 +333,7 @@ fn read_feed<I: Shelf>(
     ensures read { IfOk result (λ v. (reads : List Reads) × AllZip AreReads (listed_before_close list.now) reads × (I.failed input.new ≡ I.failed input.old + feed_failures reads)
         × ((there : Files) → I.files input.old ≡ Some there → (v.0 ≡ orders_feed there list.now reads) × (map (λ u. u.items) v.1.items ≡ unread_feed there (listed_before_close list.now) reads))) }
     ensures sizes { IfOk result (λ v. (length (before_close v.0) ≡ length (listed_before_close list.now)) × (length v.1.items ≡ length (listed_before_close list.now))) }
+    ensures more { I.failed input.old ≤ I.failed input.new }
     ensures few { I.failed input.new ≤ I.failed input.old + 65536 }
 {
     let requests = requests_before_close(alloc, list)?;
@@ -353,6 +358,7 @@ fn read_rack<I: Shelf>(
         × (map (λ us. map (λ u. u.items) us.items) v.1.items ≡ unread_rack there (map (λ l. l.items) lists.now) reads))) }
     ensures orders { IfOk result (λ v. map (λ os. length (before_close os)) v.0.items ≡ map (λ l. length (listed_before_close l.items)) lists.now) }
     ensures places { IfOk result (λ v. map (λ us. length us.items) v.1.items ≡ map (λ l. length (listed_before_close l.items)) lists.now) }
+    ensures more { I.failed input.old ≤ I.failed input.new }
     ensures few { I.failed input.new ≤ I.failed input.old + 262144 }
 {
     let mut feeds = Vec::new(alloc);
@@ -381,6 +387,8 @@ pub(crate) fn read_feeds<I: Shelf>(
         × (map (λ fs. map (λ us. map (λ u. u.items) us.items) fs.items) v.1.items ≡ unread_all there (map (λ feeds. map (λ l. l.items) feeds.items) lists.now) reads))) }
     ensures orders { IfOk result (λ v. map (λ feeds. map (λ os. length (before_close os)) feeds) v.0 ≡ map (λ feeds. map (λ l. length (listed_before_close l.items)) feeds.items) lists.now) }
     ensures places { IfOk result (λ v. map (λ fs. map (λ us. length us.items) fs.items) v.1.items ≡ map (λ feeds. map (λ l. length (listed_before_close l.items)) feeds.items) lists.now) }
+    ensures more { I.failed input.old ≤ I.failed input.new }
+    ensures few { I.failed input.new ≤ I.failed input.old + 4194304 }
 {
     let mut racks = Vec::new(alloc);
     let mut unread = Vec::new(alloc);

@@ -1,12 +1,11 @@
 //! Serving a folder of lists.
-ghost use Rattle.std.specs.Prelude.{◌≡◌, ◌⊎◌, ℕ, List, ◌<◌, ◌+◌, ◌≤◌, ◌^◌, IfOk, IfErr, IfSome, length, map, option_map, sum_by};
+ghost use Rattle.std.specs.Prelude.{◌≡◌, ℕ, List, ◌<◌, ◌+◌, ◌≤◌, ◌^◌, IfOk, IfErr, IfSome, length, map, option_map, sum_by};
 ghost use Rattle.std.specs.List.{All};
 ghost use Rattle.lrc_code.specs.declared.outcomes.Outcome.{Outcome};
 ghost use Rattle.farm_files.specs.declared.listing.Record.{Record};
 ghost use Rattle.farm_files.specs.Files.{put_all};
-ghost use Rattle.farm_files.specs.Faults.{Explains, LeavesOutput};
+ghost use Rattle.farm_files.specs.Faults.{CountsServing, Explains, LeavesOutput};
 ghost use Rattle.farm_files.specs.Serving.{Reads, Serves, all_failures, written_files};
-ghost use Rattle.farm_files.specs.declared.faults.ServeFault.TheVariants as fault;
 
 use crate::faults::ServeFault;
 use crate::reading::{read_feeds, read_lists};
@@ -49,9 +48,11 @@ pub fn serve<R: Threads + Wait + Sync, I: Shelf, O: Shelf, P: Pause>(
         × (served.answers ≡ sum_by (λ a. length a) answers)
         × IfSome (I.files input.old) (λ there. Serves there lists reads answers
         × (O.files output.new ≡ option_map (λ old. put_all old (written_files there lists reads answers)) (O.files output.old)))) }
+    ensures calm { IfOk result (λ served. O.failed output.new ≡ O.failed output.old) }
+    ensures reads { (I.failed input.old ≤ I.failed input.new) × (I.failed input.new ≤ I.failed input.old + 4194304) }
     ensures why { IfErr result (λ f. IfSome (I.files input.old) (λ there. Explains f there)) }
-    ensures output { IfErr result (λ f. LeavesOutput f (I.files input.old) (O.files output.old) (O.files output.new)) }
-    ensures device { IfErr result (λ f. f ≡ fault.Device → (I.failed input.old < I.failed input.new) ⊎ (O.failed output.old < O.failed output.new)) }
+    ensures output { IfErr result (λ f. LeavesOutput f (I.files input.old) (O.files output.old) (O.files output.new) (O.failed output.old) (O.failed output.new)) }
+    ensures failures { IfErr result (λ f. CountsServing f (I.failed input.old) (I.failed input.new) (O.failed output.old) (O.failed output.new)) }
 {
     let lists = read_lists(alloc, input)?;
     let (feeds, unread) = read_feeds(alloc, input, lists.as_slice())?;

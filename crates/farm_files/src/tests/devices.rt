@@ -1,9 +1,9 @@
 //! Shelves whose calls fail, one at a time.
 use crate::tests::shared::{
     LIST, REPORT, REPORT_WITHOUT_PX, REPORT_WITHOUT_X1, REPORT_WITHOUT_X2, has_file, input_of,
-    serve_onto, serve_shelf,
+    serve_onto, serve_shelf, shelf_of,
 };
-use crate::{MemoryShelf, ServeFault, Served, Shelf, ShelfFault};
+use crate::{ListFault, MemoryShelf, ServeFault, Served, Shelf, ShelfFault};
 use std::alloc::AllocError;
 
 #[test]
@@ -80,6 +80,25 @@ fn failed_reads(rt: HostRuntime) -> Result<(), AllocError> {
     Ok(())
 }
 
+// A failed read of a list leaves the output as it was, and its device isn't called.
+#[test]
+fn failed_read_leaves_the_output(rt: HostRuntime) -> Result<(), AllocError> {
+    let standing: [(&str, &[u8]); 1] = [("rack0.report.csv", b"kept")];
+    for call in 0..3 {
+        let mut input = input_of(rt.alloc(), LIST)?;
+        input.fail_at(call);
+        let mut output = shelf_of(rt.alloc(), &standing)?;
+        output.fail_at(0);
+        let run = serve_onto(&rt, rt.alloc(), (2, 1), &mut input, output);
+        assert_eq!(&rt; run.served, Err(ServeFault::Device));
+        assert!(&rt; input.failures() == 1);
+        assert!(&rt; run.output.failures() == 0);
+        assert!(&rt; run.wrote("rack0.report.csv", b"kept"));
+        assert!(&rt; run.left_out("rack0-0.abc.x0"));
+    }
+    Ok(())
+}
+
 // A failed write leaves the first half of its bytes, the files before it whole and those after it untouched. The run makes two writes.
 #[test]
 fn failed_writes(rt: HostRuntime) -> Result<(), AllocError> {
@@ -106,5 +125,48 @@ fn failed_writes(rt: HostRuntime) -> Result<(), AllocError> {
         );
         assert!(&rt; run.output.failures() == u64::from(call < 2), "call {call}");
     }
+    Ok(())
+}
+
+// The lists are read in order, each tested ahead of the next read: of a failed read and a refused list the first in that order is told.
+// The list of rack 1 is refused; the reads ahead of it are of the list of rack 0 and of its second feed, which is absent.
+#[test]
+fn failed_read_and_refused_list(rt: HostRuntime) -> Result<(), AllocError> {
+    let refused = Err(ServeFault::List {
+        rack: 1,
+        feed: 0,
+        fault: ListFault::BadHeader,
+    });
+    for call in 0..5 {
+        let mut input = input_of(rt.alloc(), LIST)?;
+        input.place(rt.alloc(), "rack1.csv", b"x")?;
+        input.fail_at(call);
+        let run = serve_shelf(&rt, rt.alloc(), &mut input);
+        let expected = if call < 3 {
+            Err(ServeFault::Device)
+        } else {
+            refused
+        };
+        assert!(&rt; run.served == expected, "call {call}");
+        assert!(&rt; input.failures() == u64::from(call < 3), "call {call}");
+        assert!(&rt; run.left_out("rack0.report.csv"));
+    }
+    Ok(())
+}
+
+// A read of a fragment and then a write fail: each device is counted once, and half of the report is left.
+#[test]
+fn failed_read_and_write(rt: HostRuntime) -> Result<(), AllocError> {
+    let mut input = input_of(rt.alloc(), LIST)?;
+    input.fail_at(3);
+    let mut output = MemoryShelf::new(rt.alloc());
+    output.fail_at(0);
+    let run = serve_onto(&rt, rt.alloc(), (2, 1), &mut input, output);
+    assert_eq!(&rt; run.served, Err(ServeFault::Device));
+    assert!(&rt; input.failures() == 1);
+    assert!(&rt; run.output.failures() == 1);
+    assert_eq!(&rt; REPORT_WITHOUT_X1.len(), 73);
+    assert!(&rt; run.wrote("rack0.report.csv", &REPORT_WITHOUT_X1[..36]));
+    assert!(&rt; run.left_out("rack0-0.abc.x0"));
     Ok(())
 }

@@ -1,6 +1,6 @@
 //! One run over real folders, which the test makes where it runs.
 use crate::tests::shared::{FRAGMENTS, LIST, REPORT};
-use crate::{FolderShelf, Shelf, ShelfFault, serve};
+use crate::{FolderShelf, ServeFault, Shelf, ShelfFault, serve};
 use farm_core::{NoPause, Settings};
 use std::alloc::{AllocError, Global};
 use std::fs;
@@ -48,6 +48,26 @@ fn one_run_over_folders(rt: HostRuntime) -> Result<(), AllocError> {
     assert!(&rt; served.is_ok_and(|served| served.racks == 1 && served.answers == 1));
     assert!(&rt; reads(&mut output, rt.alloc(), "rack0.report.csv", 1000, REPORT));
     assert!(&rt; reads(&mut output, rt.alloc(), "rack0-0.abc.x0", 2, b"ab"));
+    Ok(())
+}
+
+// A list that is a folder can't be read: that is a failure of the input's device, and nothing is written.
+#[test]
+fn a_list_that_is_a_folder(rt: HostRuntime) -> Result<(), AllocError> {
+    for folder in ["unread/in/rack0.csv", "unread/out"] {
+        assert!(&rt; fs::create_dir_all(&rt, folder).is_ok());
+    }
+    let mut input = FolderShelf::open(&rt, rt.alloc(), "unread/in")?;
+    let mut output = FolderShelf::open(&rt, rt.alloc(), "unread/out")?;
+    let Ok(settings) = Settings::new(1, 1) else {
+        panic!(&rt; "one worker is refused");
+    };
+    assert!(&rt; input.failures() == 0 && output.failures() == 0);
+    let served = serve(&rt, rt.alloc(), &mut input, &mut output, settings, &NoPause);
+    assert_eq!(&rt; served, Err(ServeFault::Device));
+    assert!(&rt; input.failures() == 1 && output.failures() == 0);
+    let report = output.read(rt.alloc(), "rack0.report.csv", 1000);
+    assert!(&rt; report.is_ok_and(|read| read.is_none()));
     Ok(())
 }
 

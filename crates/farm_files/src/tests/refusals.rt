@@ -1,8 +1,8 @@
 //! Serving where memory or a thread is refused.
 ghost use Rattle.std.specs.Prelude.{None};
 
-use crate::tests::shared::{LIST, input_of};
-use crate::{Shelf, ShelfFault, serve};
+use crate::tests::shared::{LIST, has_file, input_of};
+use crate::{MemoryShelf, ServeFault, Shelf, ShelfFault, serve};
 use farm_core::{NoPause, Settings};
 use std::alloc::{AllocError, Global};
 use std::process::Abort;
@@ -65,7 +65,8 @@ fn serve_counting<R: Abort + Threads + Wait + Sync>(
             assert!(rt; output.writes == 4);
             Ok(())
         }
-        Err(_) => {
+        Err(fault) => {
+            assert!(rt; matches!(fault, ServeFault::OutOfMemory | ServeFault::NoThread));
             assert!(rt; output.writes == 0);
             Err(AllocError)
         }
@@ -81,4 +82,23 @@ fn nothing_written_before_all_texts_are_made(rt: HostRuntime) -> Result<(), Allo
 #[test]
 fn nothing_written_with_two_workers(rt: HostRuntime) -> Result<(), AllocError> {
     serve_counting(&rt, rt.alloc(), 2)
+}
+
+// A write that the device fails leaves the first half of its bytes; where memory is refused for these it changes nothing.
+#[test]
+fn failed_write_without_memory(rt: HostRuntime) -> Result<(), AllocError> {
+    let mut shelf = MemoryShelf::new(rt.alloc());
+    shelf.place(rt.alloc(), "a", b"kept")?;
+    shelf.fail_at(0);
+    assert!(&rt; shelf.failures() == 0);
+    let written = shelf.write(rt.alloc(), "a", b"other");
+    if written == Err(ShelfFault::OutOfMemory) {
+        assert!(&rt; has_file(&shelf, "a", b"kept"));
+        assert!(&rt; shelf.failures() == 0);
+        return Err(AllocError);
+    }
+    assert_eq!(&rt; written, Err(ShelfFault::Device));
+    assert!(&rt; has_file(&shelf, "a", b"ot"));
+    assert!(&rt; shelf.failures() == 1);
+    Ok(())
 }

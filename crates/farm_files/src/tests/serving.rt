@@ -241,7 +241,11 @@ fn sixteen_racks(rt: HostRuntime) -> Result<(), AllocError> {
     let mut input = empty_lists(rt.alloc(), 16)?;
     let run = serve_shelf(&rt, rt.alloc(), &mut input);
     assert!(&rt; run.has_served(16, 0));
-    assert!(&rt; run.wrote("rack15.report.csv", EMPTY_REPORT));
+    for rack in 0..16 {
+        let name = format!(in rt.alloc(); "rack{rack}.report.csv")?;
+        assert!(&rt; run.wrote(&name, EMPTY_REPORT));
+    }
+    assert!(&rt; run.left_out("rack16.report.csv"));
     Ok(())
 }
 
@@ -294,7 +298,10 @@ fn a_refused_list(rt: HostRuntime) -> Result<(), AllocError> {
                 fault
             })
         );
+        assert!(&rt; input.failures() == 0 && run.output.failures() == 0);
+        assert!(&rt; run.left_out("rack0-0.abc.x0"));
         assert!(&rt; run.left_out("rack0.report.csv"));
+        assert!(&rt; run.left_out("rack1.report.csv"));
     }
     Ok(())
 }

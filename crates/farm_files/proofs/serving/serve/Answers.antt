@@ -7,11 +7,13 @@ use Rattle.lrc_code.specs.declared.outcomes.Outcome.{Outcome}
 use Rattle.farm_core.specs.Merge.{AreAllMergedAnswers}
 use Rattle.farm_core.specs.declared.orders.Order.{Order}
 use Rattle.farm_files.specs.declared.listing.Record.{Record}
+use Rattle.farm_files.specs.Causes.{of_farm}
+use Rattle.farm_files.specs.Faults.{Explains}
 use Rattle.farm_files.specs.Files.{Files, StopsWriting, put_all}
 use Rattle.farm_files.specs.Named.{named}
 use Rattle.farm_files.specs.Report.{before_close as listed_before_close}
 use Rattle.farm_files.specs.Serving.{AreAllReads, Reads, Serves, orders_all, unread_all, written_files}
-use Rattle.farm_files.proofs.Answered.{Answers, Lists, RackUnread, records, total_is, unread_sized, where_told, write_leaves, written_is}
+use Rattle.farm_files.proofs.Answered.{Answers, Lists, RackUnread, farm_explains, records, total_is, unread_sized, where_told, write_leaves, written_is}
 use Rattle.farm_files.proofs.FewAnswers.{FitLists, all_few, fit_lists}
 use Rattle.farm_files.proofs.Fits.{all_answers_fit}
 use Rattle.farm_files.proofs.MakingAll.{all_zip-length}
@@ -81,12 +83,18 @@ told_files g c there e =
     c.as_slice-2.ensures.value c.as_slice-3.ensures.value c.as_slice-4.ensures.value (t.1 ∙ ap (λ (ls : List (List (List Record))). unread_all there ls reads) same)
     (ap (map named) c.as_slice-5.ensures.value ∙ c.in_ok-files.ensures)
 
+pub returns-in_err-answers-clause-why : goal.returns-in_err-answers-clause-why
+returns-in_err-answers-clause-why g c =
+    let p = err_from_is_err_and c.from_residual-in_err-answers.result c.from_residual-in_err-answers.ensures.1 in
+    rw (p.1, p.2)
+    (where_told (g.I.Shelf.files c.args.input.now) (λ t. Explains (of_farm c.in_err-answers.field-0.0) t) (λ t e. farm_explains c.in_err-answers.field-0.0 t _ (c.in_ok-lists.ensures.lists t e)))
+
 pub returns-in_err-write_files-clause-output : goal.returns-in_err-write_files-clause-output
 returns-in_err-write_files-clause-output g c =
     let p = err_from_is_err_and c.from_residual-in_err-write_files.result c.from_residual-in_err-write_files.ensures.1 in
     let at = goal.at.returns-in_err-write_files-clause-output g c in
     rw (p.1, p.2)
-    (write_leaves c.in_err-write_files.field-0.0 (g.I.Shelf.files c.args.input.now) (g.O.Shelf.files c.args.output.now) (g.O.Shelf.files c.write_files.new.output)
+    (write_leaves c.in_err-write_files.field-0.0 (g.I.Shelf.files c.args.input.now) (g.O.Shelf.files c.args.output.now) (g.O.Shelf.files c.write_files.new.output) _ _ c.in_err-write_files.ensures.failure
     (where_told (g.I.Shelf.files c.args.input.now)
     (λ t. (lists : List (List (List Record))) × (reads : List (List (List Reads))) × (answers : List (List (ℕ × Outcome))) × Serves t lists reads answers
     × StopsWriting c.in_err-write_files.field-0.0 (written_files t lists reads answers) (g.O.Shelf.files c.args.output.now) (g.O.Shelf.files c.write_files.new.output))
