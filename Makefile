@@ -8,6 +8,7 @@ CPU := $(shell grep -q avx2 /proc/cpuinfo && echo x86-64-v3 || echo x86-64-v2)
 
 # Proves the program and what it stands on, and builds crates/rebuild/out/rebuild.
 build:
+	@echo 'Proving the program and all that it stands on, then building it. The first time this takes several minutes.'
 	cd crates/rebuild && rt run --cpu=$(CPU) < /dev/null
 
 demo: build
@@ -22,6 +23,7 @@ test:
 	scripts/reference-lines.sh
 	scripts/ends.sh
 	scripts/demo.sh
+	scripts/examples.py
 
 wrong-bodies:
 	scripts/try-wrong-bodies.sh

@@ -1,0 +1,70 @@
+#!/usr/bin/env python3
+"""Runs the commands that documents show, and compares what they write with what the documents show.
+
+An example is an indented block whose first line begins with `$ `. Each such line is a command, and the lines behind it, up
+to the next command, are what it writes. The commands of a document run in turn in one empty folder, with the built program
+as `rebuild`. The words are the documents; without words it takes README.md and docs/FORMATS.md."""
+
+import os
+import pathlib
+import subprocess
+import sys
+import tempfile
+import textwrap
+
+ROOT = pathlib.Path(__file__).resolve().parent.parent
+PROGRAM = ROOT / "crates/rebuild/out/rebuild"
+
+
+def blocks(text):
+    """The indented blocks of a document, without their indentation."""
+    block = []
+    for line in [*text.splitlines(), ""]:
+        if line.startswith("    "):
+            block.append(line)
+        elif block:
+            yield textwrap.dedent("\n".join(block)).splitlines()
+            block = []
+
+
+def examples(text):
+    """The commands of a document, each with the lines that it writes."""
+    for block in blocks(text):
+        if not block[0].startswith("$ "):
+            continue
+        for line in block:
+            if line.startswith("$ "):
+                command = [line[2:], []]
+                yield command
+            else:
+                command[1].append(line)
+
+
+def run(document, folder):
+    """Runs the examples of a document in a folder."""
+    made = 0
+    for command, shown in list(examples((ROOT / document).read_text())):
+        environment = os.environ | {"PATH": f"{folder / 'bin'}:{os.environ['PATH']}", "LC_ALL": "C"}
+        ran = subprocess.run(["bash", "-c", command], cwd=folder / "work", env=environment, capture_output=True, timeout=60)
+        told = (ran.stdout + ran.stderr).decode().splitlines()
+        if told != shown:
+            sys.exit(f"examples {document}: {command}\nshows {shown}\nand wrote {told}")
+        made += 1
+    if made == 0:
+        sys.exit(f"examples {document}: there are none")
+    print(f"examples {document}: {made} commands write what it shows")
+
+
+def main():
+    if not PROGRAM.exists():
+        sys.exit("examples: the program is not built: make build does it")
+    for document in sys.argv[1:] or ["README.md", "docs/FORMATS.md"]:
+        with tempfile.TemporaryDirectory() as scratch:
+            folder = pathlib.Path(scratch)
+            (folder / "bin").mkdir()
+            (folder / "work").mkdir()
+            (folder / "bin/rebuild").symlink_to(PROGRAM)
+            run(document, folder)
+
+
+main()
