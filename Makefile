@@ -45,6 +45,10 @@ test:
 	scripts/reference-lines.sh
 	scripts/ends.sh
 	scripts/demo.sh
+	scripts/manual.sh
+	scripts/completions.sh
+	scripts/install.sh
+	scripts/version.sh
 
 wrong-bodies:
 	scripts/try-wrong-bodies.sh
