@@ -1,7 +1,7 @@
 #!/usr/bin/env bash
 # Tests the completions of bash, zsh and fish: each shell that is installed is asked for the completions of some lines, and
 # they are compared with what they must be. Bash is asked for what the function of the file answers, the others for what
-# they would offer.
+# they would offer. The options of farm are those of its help.
 set -euo pipefail
 cd "$(dirname "$0")/.."
 completions=$PWD/completions
@@ -87,6 +87,11 @@ offered() {
 }
 
 export LC_ALL=C
+options=$(crates/rebuild/out/rebuild farm --help | grep -o -E '^ +(-h, )?--[a-z]+' | grep -o -E -e '--?[a-z]+' | sort | paste -s -d ' ')
+if ! grep -q -x -e "rebuild farm -:$options" "$scratch/lines"; then
+  echo "completions: the options of farm are now $options"
+  exit 1
+fi
 cd "$scratch/here"
 for shell in bash zsh fish; do
   if ! command -v "$shell" > "$scratch/log"; then
