@@ -1,0 +1,112 @@
+#!/usr/bin/env bash
+# Tests the completions of bash, zsh and fish: each shell that is installed is asked for the completions of some lines, and
+# they are compared with what they must be. Bash is asked for what the function of the file answers, the others for what
+# they would offer. The options of farm are those of its help.
+set -euo pipefail
+cd "$(dirname "$0")/.."
+completions=$PWD/completions
+scratch=$(mktemp -d)
+trap 'rm -rf "$scratch"' EXIT
+workers='1 2 3 4 5 6 7 8 9 10 11 12 13 14 15 16'
+
+# Each line, up to where the key is pressed, and what is offered there: the folder below has two folders and a file.
+mkdir -p "$scratch/here/lists" "$scratch/here/served"
+touch "$scratch/here/list.csv"
+cat > "$scratch/lines" << END
+rebuild :farm help
+rebuild f:farm
+rebuild -:--help --version -V -h
+rebuild --v:--version
+rebuild help :farm
+rebuild farm :lists served
+rebuild farm l:lists
+rebuild farm lists s:served
+rebuild farm -:--help --queue --workers -h
+rebuild farm --w:--workers
+rebuild farm --workers :$workers
+rebuild farm --workers=1:1 10 11 12 13 14 15 16
+rebuild farm --queue 1:1 16 128 1024
+rebuild farm lists --workers=4 --:--help --queue
+rebuild farm --queue 8 --:--help --workers
+rebuild farm -- l:lists
+rebuild farm lists -- -:
+END
+
+# What bash offers: the line is cut as bash cuts it, at spaces and with = as a word of its own.
+cat > "$scratch/ask.bash" << 'END'
+source "$1/rebuild.bash"
+complete -p rebuild > /dev/null || exit 1
+read -r -a COMP_WORDS <<< "${2//=/ = }"
+[[ $2 != *' ' ]] || COMP_WORDS+=('')
+COMP_CWORD=$((${#COMP_WORDS[@]} - 1))
+_rebuild
+[ "${#COMPREPLY[@]}" = 0 ] || printf '%s\n' "${COMPREPLY[@]}"
+END
+
+# What zsh offers: an interactive shell in a terminal of its own writes each match that is added to a file.
+cat > "$scratch/ask.zsh" << 'END'
+zmodload zsh/zpty || exit 1
+zpty shell "MATCHES=${(q)3} COMPLETIONS=${(q)1} zsh -f -i"
+zpty -w shell "source ${(q)4}"
+while zpty -r shell said; do [[ $said != ready* ]] || break; done
+zpty -w shell "$2"$'\t'
+while zpty -r shell said; do :; done
+END
+cat > "$scratch/within.zsh" << 'END'
+PROMPT=
+fpath=($COMPLETIONS $fpath)
+autoload -Uz compinit
+compinit -D -u
+bindkey '^I' complete-word
+zstyle ':completion:*' insert-tab false
+comppostfuncs=(exit)
+compadd () {
+  if [[ ${@[1,(i)(-|--)]} == *-(O|A|D)\ * ]]; then
+    builtin compadd "$@"
+  else
+    local -a matches
+    builtin compadd -A matches "$@"
+    [[ $#matches == 0 ]] || print -rl -- $matches >> $MATCHES
+    builtin compadd "$@"
+  fi
+}
+echo ready
+END
+
+# offered SHELL LINE: what the shell offers, sorted, without a folder's last / and an option's part of the word.
+offered() {
+  local shell=$1 line=$2
+  : > "$scratch/offered"
+  case $shell in
+    bash) bash --norc --noprofile -u "$scratch/ask.bash" "$completions" "$line" > "$scratch/offered" ;;
+    zsh) timeout 60 zsh -f "$scratch/ask.zsh" "$completions" "$line" "$scratch/offered" "$scratch/within.zsh" > "$scratch/log" ;;
+    fish) HOME=$scratch fish --no-config -c 'source $argv[1]/rebuild.fish; complete -C $argv[2]' "$completions" "$line" \
+      | cut -f 1 > "$scratch/offered" ;;
+  esac
+  sed -e 's,/$,,' -e 's/^--[a-z]*=//' "$scratch/offered" | sort -u
+}
+
+export LC_ALL=C
+options=$(crates/rebuild/out/rebuild farm --help | grep -o -E '^ +(-h, )?--[a-z]+' | grep -o -E -e '--?[a-z]+' | sort | paste -s -d ' ')
+if ! grep -q -x -e "rebuild farm -:$options" "$scratch/lines"; then
+  echo "completions: the options of farm are now $options"
+  exit 1
+fi
+cd "$scratch/here"
+for shell in bash zsh fish; do
+  if ! command -v "$shell" > "$scratch/log"; then
+    echo "completions: $shell is not installed: its completions aren't tested"
+    continue
+  fi
+  tried=0
+  while IFS=: read -r line wanted; do
+    tr ' ' '\n' <<< "$wanted" | sed '/^$/d' | sort > "$scratch/wanted"
+    offered "$shell" "$line" > "$scratch/sorted" < /dev/null
+    if ! diff "$scratch/wanted" "$scratch/sorted"; then
+      echo "completions: $shell offers something else behind \"$line\" (< must be, > is)"
+      exit 1
+    fi
+    tried=$((tried + 1))
+  done < "$scratch/lines"
+  echo "completions: $shell offers what it must behind $tried lines"
+done

@@ -1,0 +1,96 @@
+#!/usr/bin/env bash
+# Tests the manual pages: mandoc finds no fault in them where it is installed; their tables of coefficients are those of
+# docs/FORMATS.md; the page of the program has each number of a fault, and that of the formats each header and reply;
+# and each example (a display behind a comment "example") is run and gives what the page shows.
+set -euo pipefail
+cd "$(dirname "$0")/.."
+program=$PWD/crates/rebuild/out/rebuild
+scratch=$(mktemp -d)
+trap 'rm -rf "$scratch"' EXIT
+
+if command -v mandoc > "$scratch/log"; then
+  mandoc -Tlint -Wwarning man/rebuild.1 man/rebuild.5
+  echo 'manual: mandoc finds no fault in the pages'
+else
+  echo "manual: mandoc is not installed (Debian's mandoc): the form of the pages isn't tested"
+fi
+
+# Writes each example's commands to a file of the scratch folder, and beside it what a shell that tells each line as it
+# reads it is to show. Tests the tables, the headers and the numbers.
+python3 - "$scratch" <<'PY'
+import re
+import sys
+
+scratch = sys.argv[1]
+ESCAPES = {r'\-': '-', r'\(aq': "'", r'\e': '\\', r'\(ha': '^'}
+
+
+def fail(text):
+    sys.exit('manual: ' + text)
+
+
+def plain(line):
+    return re.sub(r'\\\(..|\\.', lambda found: ESCAPES.get(found[0], found[0]), line)
+
+
+formats = open('docs/FORMATS.md', encoding='ascii').read()
+pages = {name: open('man/' + name, encoding='ascii').read() for name in ('rebuild.1', 'rebuild.5')}
+
+rows = [[cell.strip() for cell in line.strip('|').split('|')] for line in formats.splitlines()]
+tables = [' '.join(row) for row in rows if len(row) in (11, 17)]
+shown = [' '.join(line.split()) for line in pages['rebuild.5'].splitlines()
+         if re.match(r' +x0( [a-z][0-9a-z])+$|(local|global) \w  ', line)]
+wanted = [row for row in tables if not row.startswith('---')]
+wanted = [row.strip() for row in wanted]
+if shown != wanted or len(shown) != 10:
+    fail('the tables of rebuild.5 are not those of docs/FORMATS.md')
+
+numbers = re.findall(r'^\| (E\d+) \|', formats[formats.index('\n## Faults\n'):], re.M)
+told = re.findall(r'^\.It (E\d+)$', pages['rebuild.1'], re.M)
+if sorted(told) != sorted(numbers) or len(told) != 29:
+    fail('the numbers of rebuild.1 are not those of docs/FORMATS.md')
+
+headers = re.findall(r'^ {4}((?:order|number),[a-z,]+)$', formats, re.M)
+for header in headers:
+    if f'\n{header}\n' not in pages['rebuild.5']:
+        fail(f'rebuild.5 does not have the header {header}')
+if len(set(headers)) != 6:
+    fail('docs/FORMATS.md does not have six headers')
+
+for name, page in pages.items():
+    lines = page.splitlines()
+    count = 0
+    number = 0
+    while number < len(lines):
+        if lines[number] == r'.\" example':
+            begin = number + 2
+            end = lines.index('.Ed', begin)
+            text = [plain(line) for line in lines[begin:end]]
+            path = f'{scratch}/{name}.{count}'
+            commands = [line[2:] for line in text if line[:2] in ('$ ', '> ')]
+            said = [line[2:] if line[:2] in ('$ ', '> ') else line for line in text]
+            open(path + '.commands', 'w').write('\n'.join(commands) + '\n')
+            open(path + '.shown', 'w').write('\n'.join(said) + '\n')
+            count += 1
+            number = end
+        elif lines[number].startswith('$ '):
+            fail(f'{name} shows a command that is in no example: {lines[number]}')
+        number += 1
+    if count == 0:
+        fail(f'{name} has no example')
+PY
+
+mkdir "$scratch/bin"
+ln -s "$program" "$scratch/bin/rebuild"
+ran=0
+for commands in "$scratch"/*.commands; do
+  example=${commands%.commands}
+  mkdir "$example"
+  (cd "$example" && LC_ALL=C PATH=$scratch/bin:$PATH bash -v "$commands" > "$example.said" 2>&1 < /dev/null) || true
+  if ! diff "$example.shown" "$example.said"; then
+    echo "manual: the example $(basename "$example") (< shown, > what it gives) is not what it gives"
+    exit 1
+  fi
+  ran=$((ran + 1))
+done
+echo "manual: $ran examples gave what the pages show"
