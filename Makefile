@@ -1,10 +1,10 @@
-# `make demo` proves, builds and runs the program on the sample in demo/; `make test` is the gate, and `make wrong-bodies` tries
-# the wrong bodies that it leaves out.
+# `make demo` proves, builds and runs the program on the sample in demo/; `make test` is the gate, `make wrong-bodies` tries the wrong
+# bodies that it leaves out, and `make scale` runs what docs/SCALE.md shows of several jobs.
 
 # The processor level that programs are built for: v3 has 32-byte vectors (AVX2), v2 those of 16 bytes.
 CPU := $(shell grep -q avx2 /proc/cpuinfo && echo x86-64-v3 || echo x86-64-v2)
 
-.PHONY: build demo test wrong-bodies bench
+.PHONY: build demo test wrong-bodies scale bench
 
 # Proves the program and what it stands on, and builds crates/rebuild/out/rebuild.
 build:
@@ -22,9 +22,14 @@ test:
 	scripts/reference-lines.sh
 	scripts/ends.sh
 	scripts/demo.sh
+	scripts/split-lists-test.py
 
 wrong-bodies:
 	scripts/try-wrong-bodies.sh
+
+# GNU parallel and Slurm over the built program, where they are installed. It is no part of the gate.
+scale: build
+	scripts/scale.sh
 
 bench: build
 	scripts/bench.sh $(CPU)
