@@ -45,6 +45,9 @@ class Lists(unittest.TestCase):
     def done(self, ended, told):
         self.assertEqual((ended.stderr, ended.stdout, ended.returncode), ("", told + "\n", 0))
 
+    def cut(self, ended, told, mebibytes):
+        self.done(ended, f"{told}\nthe run of a folder holds at most {mebibytes} MiB of fragments in memory")
+
     def refused(self, ended, told):
         self.assertEqual((ended.stdout, ended.stderr, ended.returncode), ("", told + "\n", 1))
 
@@ -61,7 +64,7 @@ class Lists(unittest.TestCase):
 
 class Split(Lists):
     def test_empty_list(self):
-        self.done(self.split(FIVE), "split 0 requests into 0 folders; of the fragments that they name 0 are there and 0 are not")
+        self.cut(self.split(FIVE), "split 0 requests into 0 folders; of the fragments that they name 0 are there and 0 are not", 0)
         self.assertEqual((self.names("work/in"), self.names("work/out")), ([], []))
         self.done(self.call("merge", "work", "result"),
                   "merged 0 answers: 0 rebuilt, 0 contradiction, 0 several; 0 with unread survivors")
@@ -69,8 +72,8 @@ class Split(Lists):
 
     def test_exactly_one_folder(self):
         rows = [f"rebuild,s{k},x0,3,\n" for k in range(6)]
-        self.done(self.split(FIVE + "".join(rows), "--racks", "2", "--requests", "3"),
-                  "split 6 requests into 1 folders; of the fragments that they name 0 are there and 0 are not")
+        self.cut(self.split(FIVE + "".join(rows), "--racks", "2", "--requests", "3"),
+                 "split 6 requests into 1 folders; of the fragments that they name 0 are there and 0 are not", 1)
         self.assertEqual(self.names("work/in"), ["0"])
         self.assertEqual(self.names("work/in/0"), ["rack0.csv", "rack1.csv"])
         self.assertEqual(self.text("work/in/0/rack0.csv"), FIVE + "".join(rows[:3]))
@@ -94,8 +97,8 @@ class Split(Lists):
                   "merged 65537 answers: 0 rebuilt, 0 contradiction, 65537 several; 0 with unread survivors")
 
     def test_both_codes(self):
-        self.done(self.split(SIX + "rebuild,abc,x0,3,x1 x2 px,6-2-2\nrebuild,wide,x0,2,x1 x2 x3 x4 x5 px,12-2-2\n", "--requests", "1"),
-                  "split 2 requests into 1 folders; of the fragments that they name 9 are there and 0 are not")
+        self.cut(self.split(SIX + "rebuild,abc,x0,3,x1 x2 px,6-2-2\nrebuild,wide,x0,2,x1 x2 x3 x4 x5 px,12-2-2\n", "--requests", "1"),
+                 "split 2 requests into 1 folders; of the fragments that they name 9 are there and 0 are not", 1)
         self.assertEqual(self.text("work/in/0/rack1.csv"), SIX + "rebuild,wide,x0,2,x1 x2 x3 x4 x5 px,12-2-2\n")
 
     def test_links_and_copies(self):
@@ -106,9 +109,19 @@ class Split(Lists):
             (self.at / "work").rename(self.at / f"work-{linked}")
 
     def test_missing_fragments(self):
-        self.done(self.split(FIVE + "rebuild,abc,x0,3,x1 x2 p0\nrebuild,abc,px,3,p0 p1\n"),
-                  "split 2 requests into 1 folders; of the fragments that they name 2 are there and 2 are not")
+        self.cut(self.split(FIVE + "rebuild,abc,x0,65536,x1 x2 p0\nrebuild,abc,px,65536," + "x0 x1 x2 y0 y1 y2 py p0 p1\n"),
+                 "split 2 requests into 1 folders; of the fragments that they name 2 are there and 7 are not", 1)
+
         self.assertEqual(self.names("work/in/0"), ["abc.x1", "abc.x2", "rack0.csv"])
+
+    def test_memory_of_the_greatest_folder(self):
+        nine = "x0 x1 x2 y0 y1 y2 py p0 p1"
+        ended = self.split(FIVE + "rebuild,abc,x0,1,\n" + f"rebuild,abc,px,65536,{nine}\n" * 2 + "rebuild,abc,x0,1,\n",
+                           "--racks", "1", "--requests", "2")
+        self.assertEqual(ended.stdout.splitlines()[1], "the run of a folder holds at most 1 MiB of fragments in memory")
+        (self.at / "work").rename(self.at / "aside")
+        ended = self.split(FIVE + f"rebuild,abc,px,65536,{nine}\n" * 2)
+        self.assertEqual(ended.stdout.splitlines()[1], "the run of a folder holds at most 2 MiB of fragments in memory")
 
     def test_quotes_crlf_and_byte_order_mark(self):
         self.split('\ufefforder,stripe,target,length,survivors\r\n\r\n"rebuild","abc",x0,"3","x1 x2"\r\nrebuild,"a",x0,1,'.encode())

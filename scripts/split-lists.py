@@ -101,7 +101,7 @@ def requests(path):
 
 def folder_of(store, work, number, racks, header, copy):
     """Makes one folder: its lists, and links to the surviving fragments that they name, or copies. Answers how many
-    fragments there are and how many of those named the store hasn't."""
+    fragments there are, how many of those named the store hasn't, and how many bytes its run holds in memory at most."""
     folder = work / "in" / str(number)
     folder.mkdir()
     for rack, rows in enumerate(racks):
@@ -117,7 +117,8 @@ def folder_of(store, work, number, racks, header, copy):
         else:
             (folder / name).symlink_to(store / name)
         found += 1
-    return found, len(named) - found
+    held = sum(int(row[3]) * (len(row[4].split()) + 1) for rows in racks for row in rows)
+    return found, len(named) - found, held
 
 
 def folders(rows, racks, most):
@@ -140,16 +141,17 @@ def split(words):
     if not store.is_dir():
         raise Refused(f"{words.store}: not a folder")
     total = sum(1 for _ in requests(words.list)) - 1
-    count = found = absent = 0
+    count = found = absent = greatest = 0
     with whole(words.work) as work:
         (work / "in").mkdir()
         (work / "out").mkdir()
         rows = (row for _, row in requests(words.list))
         header = next(rows)
         for number, racks in enumerate(folders(rows, words.racks, words.requests)):
-            there, gone = folder_of(store, work, number, racks, header, words.copy)
-            count, found, absent = count + 1, found + there, absent + gone
+            there, gone, held = folder_of(store, work, number, racks, header, words.copy)
+            count, found, absent, greatest = count + 1, found + there, absent + gone, max(greatest, held)
     print(f"split {total} requests into {count} folders; of the fragments that they name {found} are there and {absent} are not")
+    print(f"the run of a folder holds at most {-(-greatest // 2**20)} MiB of fragments in memory")
 
 
 @contextlib.contextmanager
