@@ -56,10 +56,10 @@ if command -v parallel > /dev/null && parallel --version 2> /dev/null | grep -q 
   compare 'GNU parallel, after a job that died' result-again
   scripts/shown.py "$document" 'Lines by GNU parallel' "$scratch"
   cmp "$scratch/replies" "$scratch/single-replies"
-  for block in 1K 64K 7M; do
+  for block in 40K 256K 6M; do
     parallel --pipe -k -j 4 --block "$block" "$program" < "$scratch/lines" | cmp - "$scratch/single-replies"
   done
-  echo "GNU parallel, lines: $(wc -l < "$scratch/replies") replies are those of a single run, for blocks of 1 KiB to 7 MiB"
+  echo "GNU parallel, lines: $(wc -l < "$scratch/replies") replies are those of a single run, for blocks of 40 KiB to 6 MiB"
 else
   skipped+=("GNU parallel isn't installed (Debian's parallel): its examples were not run")
 fi

@@ -4,14 +4,18 @@
 The built program serves the folders: crates/rebuild/out/rebuild."""
 
 import hashlib
+import os
 import pathlib
+import signal
 import subprocess
 import tempfile
+import time
 import unittest
 
 ROOT = pathlib.Path(__file__).resolve().parent.parent
 SPLIT = ROOT / "scripts/split-lists.py"
 SERVE = ROOT / "scripts/serve-folder.sh"
+PROGRAM = ROOT / "crates/rebuild/out/rebuild"
 FIVE = "order,stripe,target,length,survivors\n"
 SIX = "order,stripe,target,length,survivors,code\n"
 
@@ -243,6 +247,47 @@ class Merge(Lists):
         again = subprocess.run([SERVE, self.at / "work", "2"], capture_output=True, text=True)
         self.assertEqual((again.stderr, again.returncode), ("rack0.csv: E19\n", 1))
         self.assertEqual(self.names("work/out"), ["0", "1", "3"])
+
+    def slow(self, before="", behind=""):
+        """The environment of jobs whose program does this before it serves a folder and behind it."""
+        program = self.at / "slow"
+        program.write_text(f"#!/usr/bin/env bash\n{before}\n{PROGRAM} \"$@\"\n{behind}\n")
+        program.chmod(0o755)
+        return {**os.environ, "REBUILD": str(program)}
+
+    def waited(self, holds):
+        for _ in range(1000):
+            if holds():
+                return
+            time.sleep(0.02)
+        self.fail("not within 20 seconds")
+
+    def test_killed_job(self):
+        self.served()
+        (self.at / "work/out/2").rename(self.at / "aside")
+        kept = {path: path.stat().st_mtime_ns for path in (self.at / "work/out").rglob("*")}
+        job = subprocess.Popen([SERVE, self.at / "work", "2"], env=self.slow(behind="sleep 60"), start_new_session=True)
+        self.waited(lambda: list((self.at / "work/out").glob("2.*/rack0.report.csv")))
+        os.killpg(job.pid, signal.SIGKILL)
+        job.wait()
+        self.refused(self.call("merge", "work", "result"), "work/out: a report is missing of these folders: 2")
+        for path, written in kept.items():
+            self.assertEqual(path.stat().st_mtime_ns, written)
+        self.serve()
+        self.done(self.call("merge", "work", "result"),
+                  "merged 4 answers: 3 rebuilt, 0 contradiction, 1 several; 1 with unread survivors")
+
+    def test_two_jobs_of_one_folder(self):
+        self.split(self.LIST)
+        ready = self.at / "ready"
+        jobs = [subprocess.Popen([SERVE, self.at / "work", "0"], env=self.slow(f"until [ -e {ready} ]; do sleep 0.01; done"),
+                                 stdout=subprocess.PIPE, text=True) for _ in range(2)]
+        self.waited(lambda: len(self.names("work/out")) == 2)
+        ready.touch()
+        told = sorted(job.communicate()[0] for job in jobs)
+        self.assertEqual(told, ["folder 0: served 1 racks, 4 answers\n", "folder 0: served already\n"])
+        self.assertEqual([job.returncode for job in jobs], [0, 0])
+        self.assertEqual(self.names("work/out"), ["0"])
 
 
 if __name__ == "__main__":
