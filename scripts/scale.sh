@@ -1,6 +1,6 @@
 #!/usr/bin/env bash
-# Runs what docs/SCALE.md shows, over a small store that is made here: the built program in several jobs, by GNU parallel and
-# by a Slurm array, where these are installed. Compares each file that comes with that of a single run, and says what
+# Runs what docs/SCALE.md shows, over a small store that is made here: the built program in several jobs, by GNU parallel, over
+# ssh and by a Slurm array, where these are installed. Compares each file that comes with that of a single run, and says what
 # was skipped. With the word `times` it also times folders served by 1, 2 and 4 jobs. It is no part of the gate.
 set -euo pipefail
 cd "$(dirname "$0")/.."
@@ -11,6 +11,9 @@ scratch=$(mktemp -d)
 finish() {
   if [ -e "$scratch/node" ]; then
     scripts/slurm-node.sh stop "$scratch/node"
+  fi
+  if [ -e "$scratch/ssh" ]; then
+    scripts/ssh-hosts.sh stop "$scratch/ssh"
   fi
   rm -rf "$scratch"
 }
@@ -54,6 +57,12 @@ if command -v parallel > /dev/null && parallel --version 2> /dev/null | grep -q 
   compare 'GNU parallel, folders' result
   scripts/shown.py "$document" 'When a job dies' "$scratch"
   compare 'GNU parallel, after a job that died' result-again
+  if PATH=$PATH:/usr/sbin command -v sshd > /dev/null; then
+    scripts/shown.py "$document" 'Folders on several hosts by ssh' "$scratch"
+    compare 'GNU parallel over ssh' result-ssh
+  else
+    skipped+=("no sshd is installed (Debian's openssh-server): GNU parallel was not run over ssh")
+  fi
   scripts/shown.py "$document" 'Lines by GNU parallel' "$scratch"
   cmp "$scratch/replies" "$scratch/single-replies"
   for block in 40K 256K 6M; do
@@ -86,7 +95,6 @@ else
   skipped+=("python3-yaml isn't installed: deploy/kubernetes-job.yaml was not read")
 fi
 skipped+=('the Kubernetes Job was not run: that needs a cluster')
-skipped+=('GNU parallel was not run over ssh: that needs hosts with a common folder')
 
 # Many folders of fragments of 64 KiB, in memory where there is room, so that no disk is timed.
 times() {

@@ -18,7 +18,7 @@ trap 'rm -rf "$part"' EXIT
 said=$("$program" farm "$work/in/$number" "$part" --workers "${WORKERS:-1}")
 # The folder is on its disk before it gets its name.
 sync -f "$part"
-chmod =rwx "$part"
+chmod "$(printf %o $((0777 & ~0$(umask))))" "$part"
 # A second run of the same folder that came first has the name already, with the same files.
 if mv -T "$part" "$out" 2>/dev/null; then
   echo "folder $number: $said"

@@ -13,14 +13,14 @@ export PATH=$PATH:/usr/sbin
 ports=${SLURM_PORTS:-26817}
 
 stop() {
-  local daemon pid wait
+  local daemon pid
   for daemon in slurmd slurmctld munged; do
     [ -e "$folder/$daemon.pid" ] || continue
     pid=$(cat "$folder/$daemon.pid")
     # Only the daemon that was started here, and no other process that has its number now.
     if [ "$(cat "/proc/$pid/comm" 2>/dev/null)" = "$daemon" ]; then
       kill "$pid"
-      for wait in $(seq 100); do
+      for _wait in $(seq 100); do
         [ -e "/proc/$pid" ] || break
         sleep 0.1
       done
