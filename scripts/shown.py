@@ -36,6 +36,8 @@ def main():
     ended = subprocess.run(["bash", "-c", script], cwd=folder, stdin=subprocess.DEVNULL, stdout=subprocess.PIPE,
                            stderr=subprocess.STDOUT, text=True)
     told = ended.stdout.split(MARK + "\n")[1:]
+    if len(told) != len(commands):
+        sys.exit(f"{document}: {section}: only {len(told)} of {len(commands)} commands were run:\n{ended.stdout}")
     for (command, wanted), had in zip(commands, told):
         if had != wanted:
             sys.exit(f"{document}: {section}: $ {command}told\n{had}and not\n{wanted}")
