@@ -1,5 +1,5 @@
-# `make demo` proves, builds and runs the program on the sample in demo/; `make test` is the gate, and `make wrong-bodies` tries
-# the wrong bodies that it leaves out.
+# `make demo` proves, builds and runs the program on the sample in demo/; `make test` is the gate, `make wrong-bodies` tries the wrong
+# bodies that it leaves out, and `make scale` runs what docs/SCALE.md shows of several jobs.
 
 # The processor level that programs are built for: v3 has 32-byte vectors (AVX2), v2 those of 16 bytes.
 CPU := $(shell grep -q avx2 /proc/cpuinfo && echo x86-64-v3 || echo x86-64-v2)
@@ -9,7 +9,7 @@ PREFIX := /usr/local
 DESTDIR :=
 PLACE = $(DESTDIR)$(PREFIX)
 
-.PHONY: build demo install uninstall test wrong-bodies bench
+.PHONY: build demo install uninstall test wrong-bodies scale bench
 
 # Proves the program and what it stands on, and builds crates/rebuild/out/rebuild.
 build:
@@ -51,9 +51,14 @@ test:
 	scripts/completions.sh
 	scripts/install.sh
 	scripts/version.sh
+	scripts/split-lists-test.py
 
 wrong-bodies:
 	scripts/try-wrong-bodies.sh
+
+# GNU parallel and Slurm over the built program, where they are installed. It is no part of the gate.
+scale: build
+	scripts/scale.sh
 
 bench: build
 	scripts/bench.sh $(CPU)

@@ -1,0 +1,78 @@
+#!/usr/bin/env python3
+"""Makes a store to try the farm on: fragments of stripes of both codes with a long request list, and the same requests as
+lines.
+
+    store.py FOLDER REQUESTS LENGTH SEED
+
+makes FOLDER/store, FOLDER/list.csv and FOLDER/lines, with fragments of 1 to LENGTH bytes, or of LENGTH alone where SEED is
+0. Each request is of a stripe of its own with one to five lost fragments. Some have a damaged survivor, and some name one
+that the store hasn't."""
+
+import pathlib
+import random
+import sys
+
+CODES = {
+    "6-2-2": (["x0", "x1", "x2", "y0", "y1", "y2"], [0x04, 0x08, 0x0C, 0x01, 0x02, 0x03]),
+    "12-2-2": (["x0", "x1", "x2", "x3", "x4", "x5", "y0", "y1", "y2", "y3", "y4", "y5"],
+               [0x10, 0x20, 0x30, 0x40, 0x50, 0x60, 0x01, 0x02, 0x03, 0x04, 0x05, 0x06]),
+}
+
+
+def product(a, b):
+    """The product of two bytes in GF(256)."""
+    r = 0
+    while b:
+        if b & 1:
+            r ^= a
+        a <<= 1
+        if a & 0x100:
+            a ^= 0x11D
+        b >>= 1
+    return r
+
+
+PRODUCTS = [bytes(product(a, b) for b in range(256)) for a in range(256)]
+
+
+def combined(coefficients, data, length):
+    """The sum of fragments times coefficients."""
+    total = 0
+    for c, fragment in zip(coefficients, data):
+        total ^= int.from_bytes(fragment.translate(PRODUCTS[c]), "big")
+    return total.to_bytes(length, "big")
+
+
+def stripe(code, length, choose):
+    """A stripe of the code with random data, by the names of its places."""
+    places, first = CODES[code]
+    data = [choose.randbytes(length) for _ in places]
+    rows = [[int(p[0] == "x") for p in places], [int(p[0] == "y") for p in places], first, [product(c, c) for c in first]]
+    return dict(zip(places + ["px", "py", "p0", "p1"], data + [combined(row, data, length) for row in rows]))
+
+
+def main():
+    folder, number, greatest, seed = pathlib.Path(sys.argv[1]), *map(int, sys.argv[2:5])
+    choose = random.Random(seed)
+    store = folder / "store"
+    store.mkdir()
+    with open(folder / "list.csv", "x") as rows, open(folder / "lines", "x") as lines:
+        rows.write("order,stripe,target,length,survivors,code\n")
+        for k in range(number):
+            code = choose.choice(list(CODES))
+            length = choose.randrange(1, greatest + 1) if seed else greatest
+            fragments = stripe(code, length, choose)
+            lost = choose.sample(list(fragments), choose.choice([1, 1, 1, 2, 3, 4, 5]))
+            survivors = [place for place in fragments if place not in lost]
+            fault = choose.randrange(20) if seed else 20
+            if fault == 0:
+                damaged = choose.choice(survivors)
+                fragments[damaged] = bytes([fragments[damaged][0] ^ 1]) + fragments[damaged][1:]
+            there = [place for place in survivors if fault != 1 or place != survivors[k % len(survivors)]]
+            for place in there:
+                (store / f"s{k}.{place}").write_bytes(fragments[place])
+            rows.write(f"rebuild,s{k},{lost[0]},{length},{' '.join(survivors)},{code}\n")
+            lines.write(f"code={code} s{k} {lost[0]} {length} {' '.join(p + '=' + fragments[p].hex() for p in there)}\n")
+
+
+main()
