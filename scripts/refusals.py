@@ -27,10 +27,12 @@ DEMO = ROOT / "demo"
 
 # Tests that end with want of memory where an allocation or a thread is refused, and else pass.
 TESTS = [
-    ("lrc_plan", "evaluate_both_at_two_forks"),
-    ("farm_core", "two_workers_and_a_queue_of_one"),
-    ("farm_core", "six_feeds_with_two_workers"),
-    ("farm_core", "collector_takes_its_room"),
+    ("lrc_tests", "worked_requests_are_answered"),
+    ("lrc_tests", "value_trees_give_the_same_bytes_at_any_forks"),
+    ("lrc_tests", "evaluate_both_at_two_forks"),
+    ("farm_tests", "two_workers_and_a_queue_of_one"),
+    ("farm_tests", "six_feeds_with_two_workers"),
+    ("farm_tests", "collector_takes_its_room"),
     ("farm_files", "nothing_written_before_all_texts_are_made"),
     ("farm_files", "nothing_written_with_two_workers"),
     ("farm_files", "digests_in_three_threads"),

@@ -25,8 +25,6 @@ mod slots;
 mod space;
 mod started;
 mod taking;
-#[cfg(test)]
-mod tests;
 mod threads;
 
 pub use collector::Collector;

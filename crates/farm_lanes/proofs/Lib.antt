@@ -12,4 +12,3 @@ pub mod LaneKeeps
 pub mod LaneParts
 pub mod Opens
 pub mod Settles
-pub mod SmallLanes

@@ -13,8 +13,6 @@ mod record;
 mod rule;
 mod seat;
 mod steps;
-#[cfg(test)]
-mod tests;
 
 use crate::gate::record::{GateSize, SeatRecord};
 use crate::gate::rule::GateRule;

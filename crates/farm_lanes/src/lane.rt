@@ -17,5 +17,3 @@ pub use put_end::{EndedPut, PutEnd};
 pub use settling::{Settled, settle};
 pub use take_end::TakeEnd;
 
-#[cfg(test)]
-mod tests;

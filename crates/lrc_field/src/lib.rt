@@ -8,8 +8,6 @@ mod element;
 mod kernels;
 pub mod laws;
 mod tables;
-#[cfg(test)]
-mod tests;
 
 pub use combining::{Term, combined, sums_are_zero};
 pub use element::Gf;

@@ -16,8 +16,6 @@ mod rows;
 mod solved;
 mod solving;
 mod terms;
-#[cfg(test)]
-mod tests;
 mod tree;
 mod value;
 

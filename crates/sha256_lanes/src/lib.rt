@@ -18,8 +18,6 @@ mod digest;
 mod many;
 mod rounds;
 mod tail;
-#[cfg(test)]
-mod tests;
 
 pub use digest::{are_of_one_length, digests_of_eight};
 pub use many::digests;

@@ -1,0 +1,218 @@
+//! Replies in whatever order they come.
+ghost use Rattle.std.specs.Prelude.{◌≡◌, IfOk, map, slice_index_or, true};
+ghost use Rattle.lrc_code.specs.Requests.{Asked};
+ghost use Rattle.farm_core.specs.Orders.{before_close, served};
+ghost use Rattle.farm_core.specs.Replies.{IsInPlace};
+
+use crate::farm::requests::{GLOBAL, LOCAL, SEVERAL, is_byte, is_several, racks_of};
+use farm_core::{CollectFault, Collector, FinishFault, Order, RackList, Racks, Reply, ReplyResult};
+use lrc_code::{Outcome, Request};
+use lrc_plan::solve;
+use std::alloc::{AllocError, Global};
+
+// The requests of a list in front of its close.
+fn requests_of(alloc: Global, list: &RackList) -> Result<Vec<&Request>, AllocError>
+    ensures { IfOk result (λ v. map (λ r. r.now) v.items ≡ before_close list.now) }
+{
+    let mut requests = Vec::new(alloc);
+    for order in list.orders() {
+        match order {
+            Order::Rebuild(request) => requests.push(request)?,
+            Order::Close => return Ok(requests),
+        }
+    }
+    Ok(requests)
+}
+
+// The reply to rack 0's request of this number: its answer, or that memory was wanting.
+fn reply_of(
+    alloc: Global,
+    number: usize,
+    request: &Request,
+    starved: bool,
+) -> Result<Reply<'_>, AllocError>
+    ensures { IfOk result (λ r. (r.rack ≡ 0) × (r.number ≡ number) × (r.request ≡ request.now)) }
+{
+    if starved {
+        return Ok(Reply::starved(0, number as u64, request));
+    }
+    let outcome = solve(alloc, alloc, request)?;
+    Ok(Reply::done(0, number as u64, request, outcome))
+}
+
+// Whether a collector accepts the reply to the request of its place.
+fn accepts<'a>(collector: &mut Collector<'a>, reply: Reply<'a>) -> bool
+    requires place { (d : Asked) → reply.request ≡ slice_index_or (served collector.old.racks reply.rack) reply.number d }
+    requires before { IsInPlace collector.old }
+    ensures after { IsInPlace collector.new }
+    ensures racks { collector.new.racks ≡ collector.old.racks }
+{
+    match collector.accept(reply) {
+        Ok(()) => true,
+        Err(_) => false,
+    }
+}
+
+// What a collector ends with that gets the replies to rack 0's requests of these numbers, in this order. Those that are
+// starved say that memory was wanting.
+pub(crate) fn gathered(
+    alloc: Global,
+    racks: &Racks,
+    numbers: &[usize],
+    starved: &[usize],
+) -> Result<Result<Vec<Vec<Outcome>>, FinishFault>, AllocError> {
+    let mut collector = Collector::new(alloc, racks)?;
+    let lists = racks.lists();
+    let Some(list) = lists.first() else {
+        return Ok(collector.finish());
+    };
+    let requests = requests_of(alloc, list)?;
+    for number in numbers {
+        let Some(request) = requests.get(*number) else {
+            continue;
+        };
+        let reply = reply_of(alloc, *number, request, starved.contains(number))?;
+        let _ = accepts(&mut collector, reply);
+    }
+    Ok(collector.finish())
+}
+
+// Whether the answers are those of the three requests, in their order.
+pub(crate) fn are_answers_of_three(answers: &[Vec<Outcome>]) -> bool {
+    match answers {
+        [rack] => match rack.as_slice() {
+            [first, second, third] => {
+                is_byte(first, 0x01) && is_several(second) && is_byte(third, 0x6e)
+            }
+            _ => false,
+        },
+        _ => false,
+    }
+}
+
+#[test]
+fn three_replies_in_all_six_orders(rt: HostRuntime) -> Result<(), AllocError> {
+    let alloc = rt.alloc();
+    let racks = racks_of(&rt, alloc, &[&[LOCAL, SEVERAL, GLOBAL]])?;
+    let orders = [
+        [0, 1, 2],
+        [0, 2, 1],
+        [1, 0, 2],
+        [1, 2, 0],
+        [2, 0, 1],
+        [2, 1, 0],
+    ];
+    for order in orders {
+        let Ok(answers) = gathered(alloc, &racks, &order, &[])? else {
+            panic!(rt; "no answers");
+        };
+        assert!(rt; are_answers_of_three(answers.as_slice()));
+    }
+    Ok(())
+}
+
+#[test]
+fn a_starved_reply_and_a_missing_one(rt: HostRuntime) -> Result<(), AllocError> {
+    let alloc = rt.alloc();
+    let racks = racks_of(&rt, alloc, &[&[LOCAL, SEVERAL, GLOBAL]])?;
+    assert!(rt;
+        matches!(
+            gathered(alloc, &racks, &[2, 0, 1], &[1])?,
+            Err(FinishFault::OutOfMemory)
+        )
+    );
+    assert!(rt;
+        matches!(
+            gathered(alloc, &racks, &[2, 1], &[1])?,
+            Err(FinishFault::Missing { rack: 0, number: 0 })
+        )
+    );
+    assert!(rt;
+        matches!(
+            gathered(alloc, &racks, &[], &[])?,
+            Err(FinishFault::Missing { rack: 0, number: 0 })
+        )
+    );
+    assert!(rt;
+        matches!(
+            gathered(alloc, &racks, &[0, 1], &[])?,
+            Err(FinishFault::Missing { rack: 0, number: 2 })
+        )
+    );
+    Ok(())
+}
+
+// Whether a reply is refused as a stranger, and handed back.
+fn is_stranger<'a>(collector: &mut Collector<'a>, reply: Reply<'a>) -> bool
+    ensures { result ≡ true → collector.new ≡ collector.old }
+{
+    let (rack, number) = (reply.rack(), reply.number());
+    match collector.accept(reply) {
+        Err(CollectFault::Stranger { reply }) => reply.rack() == rack && reply.number() == number,
+        _ => false,
+    }
+}
+
+// Whether a reply is refused as a second one, and handed back with its outcome, a fragment of this byte.
+fn is_second<'a>(collector: &mut Collector<'a>, reply: Reply<'a>, byte: u8) -> bool
+    ensures { result ≡ true → collector.new ≡ collector.old }
+{
+    match collector.accept(reply) {
+        Err(CollectFault::Double { reply }) => match reply.into_outcome() {
+            Some(outcome) => is_byte(&outcome, byte),
+            None => false,
+        },
+        _ => false,
+    }
+}
+
+#[test]
+fn strangers_and_second_replies(rt: HostRuntime) -> Result<(), AllocError> {
+    let alloc = rt.alloc();
+    let racks = racks_of(&rt, alloc, &[&[LOCAL]])?;
+    let mut collector = Collector::new(alloc, &racks)?;
+    let Some(list) = racks.lists().first() else {
+        panic!(rt; "no list");
+    };
+    let requests = requests_of(alloc, list)?;
+    let Some(request) = requests.first() else {
+        panic!(rt; "no request");
+    };
+    let elsewhere = Reply {
+        rack: 1,
+        number: 0,
+        request,
+        result: ReplyResult::Starved,
+    };
+    assert!(rt; is_stranger(&mut collector, elsewhere));
+    assert!(rt; is_stranger(&mut collector, Reply::starved(0, 1, request)));
+    assert!(rt; collector.accept(Reply::starved(0, 0, request)).is_ok());
+    let outcome = solve(alloc, alloc, request)?;
+    assert!(rt; is_second(&mut collector, Reply::done(0, 0, request, outcome), 0x01));
+    Ok(())
+}
+
+/// Refused replies leave a collector as it was: it still tells the reply that is missing.
+#[test]
+fn refused_replies_and_a_missing_one(rt: HostRuntime) -> Result<(), AllocError> {
+    let alloc = rt.alloc();
+    let racks = racks_of(&rt, alloc, &[&[LOCAL, GLOBAL]])?;
+    let mut collector = Collector::new(alloc, &racks)?;
+    let Some(list) = racks.lists().first() else {
+        panic!(rt; "no list");
+    };
+    let requests = requests_of(alloc, list)?;
+    let Some(request) = requests.get(1) else {
+        panic!(rt; "no request");
+    };
+    assert!(rt; accepts(&mut collector, reply_of(alloc, 1, request, false)?));
+    assert!(rt; is_second(&mut collector, reply_of(alloc, 1, request, false)?, 0x6e));
+    assert!(rt; is_stranger(&mut collector, reply_of(alloc, 2, request, true)?));
+    assert!(rt;
+        matches!(
+            collector.finish(),
+            Err(FinishFault::Missing { rack: 0, number: 0 })
+        )
+    );
+    Ok(())
+}

@@ -1,0 +1,120 @@
+//! What a run tells its pause: the racks, feeds, positions and numbers of all calls.
+use crate::farm::feeding::{feeds_of, rack_of};
+use crate::farm::requests::{Entry, GLOBAL, LOCAL, SEVERAL, racks_of};
+use farm_core::{Pause, Settings, run, run_feeds};
+use std::alloc::AllocError;
+use std::sync::atomic::{AtomicBool, AtomicU64, Ordering};
+
+// Counts calls, and notes one that names an order or a request that isn't there. Each count has a decimal digit for each rack, or for
+// each feed.
+#[derive(Drop)]
+struct Told {
+    strange: AtomicBool,
+    before: AtomicU64,
+    after: AtomicU64,
+    ahead: AtomicU64,
+    behind: AtomicU64,
+}
+
+impl Told {
+    fn new() -> Told {
+        Told {
+            strange: AtomicBool::new(false),
+            before: AtomicU64::new(0),
+            after: AtomicU64::new(0),
+            ahead: AtomicU64::new(0),
+            behind: AtomicU64::new(0),
+        }
+    }
+
+    fn count(&self, calls: &AtomicU64, digit: Option<u64>) {
+        match digit {
+            Some(one) => {
+                calls.fetch_add(one, Ordering::SeqCst);
+            }
+            None => self.strange.store(true, Ordering::SeqCst),
+        }
+    }
+}
+
+// One in the digit of a rack.
+fn rack_digit(rack: usize, number: u64) -> Option<u64> {
+    match (rack, number) {
+        (0, 0) => Some(1),
+        (1, 0..=2) => Some(10),
+        (2, 0..=3) => Some(100),
+        _ => None,
+    }
+}
+
+// One in the digit of a feed.
+fn feed_digit(rack: usize, feed: usize, position: usize) -> Option<u64> {
+    match (rack, feed, position) {
+        (0, 0, 0) => Some(1),
+        (1, 0, 0) => Some(10),
+        (1, 1, 0..=1) => Some(100),
+        (2, 1, 0) => Some(1000),
+        (2, 2, 0) => Some(10_000),
+        (2, 3, 0..=1) => Some(100_000),
+        _ => None,
+    }
+}
+
+impl Pause for Told {
+    fn before(&self, rack: usize, number: u64) {
+        self.count(&self.before, rack_digit(rack, number));
+    }
+
+    fn after(&self, rack: usize, number: u64) {
+        self.count(&self.after, rack_digit(rack, number));
+    }
+
+    fn ahead(&self, rack: usize, feed: usize, position: usize) {
+        self.count(&self.ahead, feed_digit(rack, feed, position));
+    }
+
+    fn behind(&self, rack: usize, feed: usize, position: usize) {
+        self.count(&self.behind, feed_digit(rack, feed, position));
+    }
+}
+
+/// Racks of one, two and four feeds.
+#[test]
+fn orders_of_seven_feeds(rt: HostRuntime) -> Result<(), AllocError> {
+    let alloc = rt.alloc();
+    let Ok(settings) = Settings::new(3, 1) else {
+        panic!(rt; "settings out of their limits");
+    };
+    let four: [&[Entry]; 4] = [&[], &[LOCAL], &[LOCAL], &[GLOBAL, LOCAL]];
+    let mut racks = Vec::new(alloc);
+    racks.push(rack_of(&rt, alloc, &[&[LOCAL]])?)?;
+    racks.push(rack_of(&rt, alloc, &[&[GLOBAL], &[LOCAL, SEVERAL]])?)?;
+    racks.push(rack_of(&rt, alloc, four.as_slice())?)?;
+    let feeds = feeds_of(&rt, racks);
+    let told = Told::new();
+    assert!(rt; run_feeds(&rt, alloc, &feeds, settings, &told).is_ok());
+    assert!(rt; !told.strange.load(Ordering::SeqCst));
+    assert!(rt; told.before.load(Ordering::SeqCst) == 431);
+    assert!(rt; told.after.load(Ordering::SeqCst) == 431);
+    assert!(rt; told.ahead.load(Ordering::SeqCst) == 211_211);
+    assert!(rt; told.behind.load(Ordering::SeqCst) == 211_211);
+    Ok(())
+}
+
+/// Racks of one list each: a list is its rack's feed 0.
+#[test]
+fn orders_of_two_lists(rt: HostRuntime) -> Result<(), AllocError> {
+    let alloc = rt.alloc();
+    let Ok(settings) = Settings::new(2, 1) else {
+        panic!(rt; "settings out of their limits");
+    };
+    let racks = racks_of(&rt, alloc, &[&[LOCAL], &[GLOBAL]])?;
+    let told = Told::new();
+    assert!(rt; run(&rt, alloc, &racks, settings, &told).is_ok());
+    assert!(rt; !told.strange.load(Ordering::SeqCst));
+    assert!(rt; told.before.load(Ordering::SeqCst) == 11);
+    assert!(rt; told.after.load(Ordering::SeqCst) == 11);
+    assert!(rt; told.ahead.load(Ordering::SeqCst) == 11);
+    assert!(rt; told.behind.load(Ordering::SeqCst) == 11);
+    Ok(())
+}

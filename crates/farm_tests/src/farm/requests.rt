@@ -1,0 +1,120 @@
+//! Requests on one stripe of length 1 (x = 01 02 03, y = 04 05 06, px 00, py 07, p0 04, p1 6E), with their answers.
+use farm_core::{Order, RackList, Racks};
+use lrc_code::{Fragment, Outcome, Place, Request};
+use std::alloc::{AllocError, Global};
+use std::process::Abort;
+
+/// An entry of a list: a lost place and the survivors with their one byte each, or a close.
+#[derive(Clone, Copy)]
+pub(crate) enum Entry {
+    Lost(Place, &'static [(Place, u8)]),
+    Close,
+}
+
+/// x0 from its group: rebuilt 01.
+pub(crate) const LOCAL: Entry = Entry::Lost(
+    Place::X0,
+    &[(Place::X1, 2), (Place::X2, 3), (Place::Px, 0)],
+);
+
+/// y0 with y1, y2 and py lost too: several.
+pub(crate) const SEVERAL: Entry = Entry::Lost(
+    Place::Y0,
+    &[
+        (Place::X0, 1),
+        (Place::X1, 2),
+        (Place::X2, 3),
+        (Place::Px, 0),
+        (Place::P0, 4),
+        (Place::P1, 0x6e),
+    ],
+);
+
+/// p1 from all data: rebuilt 6E.
+pub(crate) const GLOBAL: Entry = Entry::Lost(
+    Place::P1,
+    &[
+        (Place::X0, 1),
+        (Place::X1, 2),
+        (Place::X2, 3),
+        (Place::Y0, 4),
+        (Place::Y1, 5),
+        (Place::Y2, 6),
+    ],
+);
+
+// A request, which is accepted.
+fn request(
+    rt: &impl Abort,
+    alloc: Global,
+    target: Place,
+    survivors: &[(Place, u8)],
+) -> Result<Request, AllocError> {
+    let mut fragments = Vec::new(alloc);
+    for (place, byte) in survivors {
+        fragments.push(Fragment {
+            place: *place,
+            bytes: vec![in alloc; *byte]?,
+        })?;
+    }
+    match Request::new(String::from_str(alloc, "a")?, target, 1, fragments) {
+        Ok(request) => Ok(request),
+        Err(_) => panic!(rt; "a request was refused"),
+    }
+}
+
+fn order(rt: &impl Abort, alloc: Global, entry: &Entry) -> Result<Order, AllocError> {
+    match entry {
+        Entry::Lost(target, survivors) => {
+            let request = request(rt, alloc, *target, survivors)?;
+            Ok(Order::Rebuild(request))
+        }
+        Entry::Close => Ok(Order::Close),
+    }
+}
+
+/// A list of these entries, in their order.
+pub(crate) fn list_of(
+    rt: &impl Abort,
+    alloc: Global,
+    entries: &[Entry],
+) -> Result<RackList, AllocError> {
+    let mut orders = Vec::new(alloc);
+    for entry in entries {
+        orders.push(order(rt, alloc, entry)?)?;
+    }
+    match RackList::new(orders) {
+        Ok(list) => Ok(list),
+        Err(_) => panic!(rt; "too many orders"),
+    }
+}
+
+/// Whether the answer is a fragment of this one byte.
+pub(crate) fn is_byte(outcome: &Outcome, byte: u8) -> bool {
+    match outcome {
+        Outcome::Rebuilt(bytes) => bytes.as_slice() == [byte].as_slice(),
+        Outcome::Contradiction => false,
+        Outcome::Several => false,
+    }
+}
+
+/// Whether the answer is that two stripes differ.
+pub(crate) fn is_several(outcome: &Outcome) -> bool {
+    matches!(outcome, Outcome::Several)
+}
+
+/// Racks with lists of these entries.
+pub(crate) fn racks_of(
+    rt: &impl Abort,
+    alloc: Global,
+    lists: &[&[Entry]],
+) -> Result<Racks, AllocError> {
+    let mut all = Vec::new(alloc);
+    for entries in lists {
+        all.push(list_of(rt, alloc, entries)?)?;
+    }
+    match Racks::new(all) {
+        Ok(racks) => Ok(racks),
+        Err(_) => panic!(rt; "too many racks"),
+    }
+}

@@ -1,0 +1,10 @@
+//! Tests of the public calls of `lrc_field`, `lrc_code` and `lrc_plan`. They stand in a crate of their own, so that a check of
+//! those crates proves them once and not a second time with their tests.
+#![tactic(auto)]
+
+#[cfg(test)]
+mod code;
+#[cfg(test)]
+mod field;
+#[cfg(test)]
+mod plan;

@@ -1,0 +1,217 @@
+//! Plans and grafts against a table, in the global allocator and in an arena.
+use super::fixtures::{are_same, scaled_leaf, set_of, sum_of_leaves};
+use bumpalo::Bump;
+use lrc_code::{Code, Place, PlaceSet};
+use lrc_plan::{Tree, plan, plan_in};
+use std::alloc::{AllocError, Allocator, Global};
+
+// Whether the plan of x0 is local, of three leaves, with so many checks.
+fn is_local<A: Allocator + Clone>(
+    alloc: A,
+    survivors: &[Place],
+    checks: usize,
+) -> Result<bool, AllocError> {
+    let survivors = set_of(survivors);
+    if survivors.has(Place::X0) {
+        return Ok(false);
+    }
+    let plan = plan(alloc, survivors, Place::X0)?;
+    let Some(value) = &plan.value else {
+        return Ok(false);
+    };
+    let leaves = value.leaves();
+    Ok(
+        value.leaf_count() == 3
+            && leaves.len() == 3
+            && leaves.has(Place::X1)
+            && leaves.has(Place::X2)
+            && leaves.has(Place::Px)
+            && plan.checks.len() == checks,
+    )
+}
+
+fn local_plans<A: Allocator + Clone>(alloc: &A) -> Result<bool, AllocError> {
+    let three = [Place::X1, Place::X2, Place::Px];
+    let nine = [
+        Place::X1,
+        Place::X2,
+        Place::Y0,
+        Place::Y1,
+        Place::Y2,
+        Place::Px,
+        Place::Py,
+        Place::P0,
+        Place::P1,
+    ];
+    Ok(is_local(alloc.clone()?, &three, 0)? && is_local(alloc.clone()?, &nine, 3)?)
+}
+
+// A scaled leaf put in the place of both leaves x1 of a sum: x1 + x1 is 00, and so is the graft.
+fn grafts<A: Allocator + Clone>(alloc: &A) -> Result<bool, AllocError> {
+    let host = sum_of_leaves(alloc.clone()?, Place::X1, Place::X1)?;
+    let scion = scaled_leaf(alloc.clone()?, 0x02, Place::X2)?;
+    let Ok(tree) = host.graft(alloc.clone()?, Place::X1, scion) else {
+        return Err(AllocError);
+    };
+    let leaves = tree.leaves();
+    let coefficients = tree.coefficients();
+    Ok(
+        tree.leaf_count() == 2
+            && leaves.len() == 1
+            && leaves.has(Place::X2)
+            && coefficients.iter().all(|c| c.byte() == 0),
+    )
+}
+
+// A place that the host hasn't: the host comes back.
+fn grafts_nothing<A: Allocator + Clone>(alloc: &A) -> Result<bool, AllocError> {
+    let host = sum_of_leaves(alloc.clone()?, Place::X1, Place::X1)?;
+    let same = sum_of_leaves(alloc.clone()?, Place::X1, Place::X1)?;
+    let scion = scaled_leaf(alloc.clone()?, 0x02, Place::X2)?;
+    let Ok(tree) = host.graft(alloc.clone()?, Place::Y0, scion) else {
+        return Err(AllocError);
+    };
+    Ok(are_same(&tree, &same))
+}
+
+#[test]
+fn local_plans_and_grafts(rt: HostRuntime) -> Result<(), AllocError> {
+    let alloc = rt.alloc();
+    assert!(&rt; local_plans(&alloc)?);
+    assert!(&rt; grafts(&alloc)?);
+    assert!(&rt; grafts_nothing(&alloc)?);
+    let bump = Bump::new(alloc);
+    let arena = &bump;
+    assert!(&rt; local_plans(&arena)?);
+    assert!(&rt; grafts(&arena)?);
+    assert!(&rt; grafts_nothing(&arena)?);
+    Ok(())
+}
+
+// Whether the target's plan has a value, and how many checks; none where the target survives or isn't in the code.
+fn counts<A: Allocator + Clone>(
+    alloc: A,
+    code: Code,
+    survivors: PlaceSet,
+    target: Place,
+) -> Result<Option<(bool, usize)>, AllocError> {
+    if survivors.has(target) || !code.has(target) {
+        return Ok(None);
+    }
+    let plan = plan_in(alloc, code, survivors, target)?;
+    Ok(Some((plan.value.is_some(), plan.checks.len())))
+}
+
+#[test]
+fn numbers_of_checks(rt: HostRuntime) -> Result<(), AllocError> {
+    let alloc = rt.alloc();
+    let bump = Bump::new(alloc);
+    let local = set_of(&[Place::X1, Place::X2, Place::Px]);
+    let global = set_of(&[Place::Y0, Place::Py]).others();
+    let whole_group = set_of(&[Place::Y0, Place::Y1, Place::Y2, Place::Py]);
+    let cases = [
+        (local, Place::X0, (true, 0)),
+        (global, Place::Y0, (true, 2)),
+        (whole_group.others(), Place::Y0, (false, 1)),
+        (whole_group.with(Place::X0).others(), Place::X0, (true, 0)),
+        (PlaceSet::empty(), Place::X0, (false, 0)),
+    ];
+    for (survivors, target, expected) in cases {
+        assert!(&rt; counts(alloc, Code::Narrow, survivors, target)? == Some(expected));
+        assert!(&rt; counts(&bump, Code::Narrow, survivors, target)? == Some(expected));
+    }
+    Ok(())
+}
+
+// Whether each of these lost places has a value.
+fn all_have_values<A: Allocator + Clone>(
+    alloc: &A,
+    code: Code,
+    lost: &[Place],
+) -> Result<bool, AllocError> {
+    let survivors = code.others(set_of(lost));
+    for target in lost {
+        match counts(alloc.clone()?, code, survivors, *target)? {
+            Some((true, _)) => {}
+            _ => return Ok(false),
+        }
+    }
+    Ok(true)
+}
+
+// The places whose bits are set.
+fn places_of(alloc: Global, bits: usize) -> Result<Vec<Place>, AllocError> {
+    let mut places = Vec::new(alloc);
+    for index in 0..16usize {
+        if (bits >> index) & 1 == 1 {
+            if let Some(place) = Place::from_index(index) {
+                places.push(place)?;
+            }
+        }
+    }
+    Ok(places)
+}
+
+// How many sets of so many lost places there are, and in how many of them all targets have values.
+fn recovered<A: Allocator + Clone>(
+    alloc: Global,
+    plan_alloc: &A,
+    code: Code,
+    len: usize,
+) -> Result<(usize, usize), AllocError> {
+    let mut sets = Vec::new(alloc);
+    let mut whole = Vec::new(alloc);
+    let end: usize = match code {
+        Code::Narrow => 1024,
+        Code::Wide => 65_536,
+    };
+    for bits in 0..end {
+        if bits.count_ones() as usize == len {
+            let lost = places_of(alloc, bits)?;
+            sets.push(bits)?;
+            if all_have_values(plan_alloc, code, &lost)? {
+                whole.push(bits)?;
+            }
+        }
+    }
+    Ok((sets.len(), whole.len()))
+}
+
+#[test]
+fn sets_of_three_and_four_lost_places(rt: HostRuntime) -> Result<(), AllocError> {
+    let alloc = rt.alloc();
+    let bump = Bump::new(alloc);
+    assert!(&rt; recovered(alloc, &alloc, Code::Narrow, 3)? == (120, 120));
+    assert!(&rt; recovered(alloc, &alloc, Code::Narrow, 4)? == (210, 180));
+    assert!(&rt; recovered(alloc, &&bump, Code::Narrow, 3)? == (120, 120));
+    assert!(&rt; recovered(alloc, &&bump, Code::Narrow, 4)? == (210, 180));
+    assert!(&rt; recovered(alloc, &alloc, Code::Wide, 3)? == (560, 560));
+    assert!(&rt; recovered(alloc, &&bump, Code::Wide, 3)? == (560, 560));
+    Ok(())
+}
+
+// The plan of x0 in the (12,2,2) code from the six others of its group: six leaves.
+#[test]
+fn local_plan_of_six(rt: HostRuntime) -> Result<(), AllocError> {
+    let alloc = rt.alloc();
+    let six = [
+        Place::X1,
+        Place::X2,
+        Place::X3,
+        Place::X4,
+        Place::X5,
+        Place::Px,
+    ];
+    let survivors = set_of(&six);
+    if !survivors.has(Place::X0) {
+        let plan = plan_in(alloc, Code::Wide, survivors, Place::X0)?;
+        assert!(&rt; plan.checks.len() == 0);
+        assert!(&rt; plan.value.is_some());
+        if let Some(value) = &plan.value {
+            let leaves = value.leaves();
+            assert!(&rt; value.leaf_count() == 6 && leaves.len() == 6);
+            assert!(&rt; six.iter().all(|place| leaves.has(*place)));
+        }
+    }
+    Ok(())
+}

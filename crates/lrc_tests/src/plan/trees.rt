@@ -1,0 +1,165 @@
+//! Trees copied out of an arena, and their evaluation.
+ghost use Rattle.std.specs.Prelude.{◌≡◌, IfOk, IfSome};
+ghost use Rattle.lrc_code.specs.declared.places.Place.TheVariants.{X1, X2, Px};
+ghost use Rattle.lrc_plan.specs.Form.{Leaf, Sum};
+ghost use Rattle.lrc_plan.specs.Evaluation.{CanEvaluate};
+ghost use Rattle.lrc_plan.specs.Tree.{form_of};
+
+use super::fixtures::{Answer, CASES, Case, are_same, request_of, scaled_leaf, sum_of_leaves};
+use bumpalo::Bump;
+use lrc_code::{Code, Place, Request};
+use lrc_field::Gf;
+use lrc_plan::{Tree, evaluate, evaluate_both, plan};
+use std::alloc::{AllocError, Allocator, Global};
+use std::thread::Threads;
+
+// 03 * (x1 + x2) + 02 * p0
+fn sample<A: Allocator + Clone>(alloc: A) -> Result<Tree<A>, AllocError> {
+    let sum = sum_of_leaves(alloc.clone()?, Place::X1, Place::X2)?;
+    let left = Tree::Scale(Gf::new(0x03), Box::new(alloc.clone()?, sum)?);
+    let right = scaled_leaf(alloc.clone()?, 0x02, Place::P0)?;
+    Ok(Tree::Sum(Box::new(alloc.clone()?, left)?, Box::new(alloc, right)?))
+}
+
+#[test]
+fn copy_outlives_its_arena(rt: HostRuntime) -> Result<(), AllocError> {
+    let alloc = rt.alloc();
+    let bump = Bump::new(alloc);
+    let inside = sample(&bump)?;
+    let outside = inside.copy_in(alloc)?;
+    assert!(&rt; are_same(&inside, &outside));
+    drop(inside);
+    drop(bump);
+    let expected = sample(alloc)?;
+    assert!(&rt; are_same(&outside, &expected));
+    let coefficients = outside.coefficients();
+    let bytes = [0, 3, 3, 0, 0, 0, 0, 0, 2, 0];
+    for index in 0..10usize {
+        assert!(&rt; coefficients[index].byte() == bytes[index], "at {index}");
+    }
+    Ok(())
+}
+
+// (x1 + x2) + px
+fn three_leaves(alloc: Global) -> Result<Tree<Global>, AllocError>
+    ensures { IfOk result (λ t. form_of t ≡ Sum (Sum (Leaf X1) (Leaf X2)) (Leaf Px)) }
+{
+    let left = Box::new(alloc, sum_of_leaves(alloc, Place::X1, Place::X2)?)?;
+    let right = Box::new(alloc, Tree::Leaf(Place::Px))?;
+    Ok(Tree::Sum(left, right))
+}
+
+// The value tree of a request, planned in an arena that then ends.
+fn value_tree(alloc: Global, request: &Request) -> Result<Option<Tree<Global>>, AllocError>
+    ensures { IfOk result (λ o. IfSome o (λ t. CanEvaluate request.now (form_of t))) }
+{
+    let survivors = request.survivors();
+    let target = request.target();
+    if survivors.has(target) || !Code::Narrow.has(target) {
+        return Ok(None);
+    }
+    let bump = Bump::new(alloc);
+    let plan = plan(&bump, survivors, target)?;
+    match &plan.value {
+        Some(tree) => Ok(Some(tree.copy_in(alloc)?)),
+        None => Ok(None),
+    }
+}
+
+// Whether `evaluate_both` gives these bytes at so many forks.
+fn gives<R: Threads + Sync>(
+    rt: &R,
+    alloc: Global,
+    tree: &Tree<Global>,
+    request: &Request,
+    forks: u8,
+    bytes: &[u8],
+) -> Result<bool, AllocError>
+    requires { CanEvaluate request.now (form_of tree.now) }
+{
+    let both = evaluate_both(rt, alloc, tree, request, forks)?;
+    Ok(both.as_slice() == bytes)
+}
+
+// Whether it gives them without a fork, at two, and at the most.
+fn gives_at_any_forks<R: Threads + Sync>(
+    rt: &R,
+    alloc: Global,
+    tree: &Tree<Global>,
+    request: &Request,
+    bytes: &[u8],
+) -> Result<bool, AllocError>
+    requires { CanEvaluate request.now (form_of tree.now) }
+{
+    for forks in [0, 2, 255] {
+        if !gives(rt, alloc, tree, request, forks, bytes)? {
+            return Ok(false);
+        }
+    }
+    Ok(true)
+}
+
+// What the value tree of a case's request gives.
+#[derive(Drop)]
+enum Given {
+    // There is none.
+    NoTree,
+    // The same bytes in every way, which are those of the case if it has any.
+    Same,
+    // And it has some.
+    Rebuilt,
+    // Something else.
+    Other,
+}
+
+fn given_by_value_tree<R: Threads + Sync>(
+    rt: &R,
+    alloc: Global,
+    case: &Case,
+) -> Result<Given, AllocError> {
+    let Some(request) = request_of(alloc, case)? else {
+        return Ok(Given::Other);
+    };
+    let Some(tree) = value_tree(alloc, &request)? else {
+        return Ok(Given::NoTree);
+    };
+    let bytes = evaluate(alloc, &tree, &request)?;
+    if !gives_at_any_forks(rt, alloc, &tree, &request, &bytes)? {
+        return Ok(Given::Other);
+    }
+    match case.answer {
+        Answer::Rebuilt(expected) if bytes.as_slice() == expected => Ok(Given::Rebuilt),
+        Answer::Rebuilt(_) => Ok(Given::Other),
+        _ => Ok(Given::Same),
+    }
+}
+
+#[test]
+fn value_trees_give_the_same_bytes_at_any_forks(rt: HostRuntime) -> Result<(), AllocError> {
+    let mut rebuilt = 0u32;
+    for case in &CASES {
+        match given_by_value_tree(&rt, rt.alloc(), case)? {
+            Given::NoTree | Given::Same => {}
+            Given::Rebuilt => rebuilt = rebuilt.wrapping_add(1),
+            Given::Other => assert!(&rt; false, "{}", case.name),
+        }
+    }
+    assert!(&rt; rebuilt == 9);
+    Ok(())
+}
+
+// Of few allocations, so that a script can refuse each of them in turn: the answer is then want of memory or these
+// bytes.
+#[test]
+fn evaluate_both_at_two_forks(rt: HostRuntime) -> Result<(), AllocError> {
+    let alloc = rt.alloc();
+    let Some(request) = request_of(alloc, &CASES[0])? else {
+        assert!(&rt; false, "the request is refused");
+        return Ok(());
+    };
+    let survivors = request.survivors();
+    assert!(&rt; survivors.has(Place::X1) && survivors.has(Place::X2) && survivors.has(Place::Px));
+    let tree = three_leaves(alloc)?;
+    assert!(&rt; gives(&rt, alloc, &tree, &request, 2, b"\x01")?);
+    Ok(())
+}
