@@ -3,14 +3,15 @@ use Rattle.std.specs.Prelude.{ℕ, ◌<◌, ◌≤◌, List, [], ◌∷◌, leng
 use Rattle.std.specs.List.{sum_by}
 use Rattle.farm_lanes.specs.Lists.{Each}
 use Rattle.farm_core.specs.declared.orders.Order.{Order}
+use Rattle.farm_core.specs.Limits.{feed_limit, rack_limit}
 
 -- a rack has 1 to 4 feeds
 abbrev pub IsFewFeeds : List (List Order) → Type 0
-IsFewFeeds feeds = (0 < length feeds) × (length feeds ≤ 4)
+IsFewFeeds feeds = (0 < length feeds) × (length feeds ≤ feed_limit)
 
 -- at most 16 racks, each with 1 to 4 feeds
 abbrev pub AreFeeds : List (List (List Order)) → Type 0
-AreFeeds racks = (length racks ≤ 16) × Each IsFewFeeds racks
+AreFeeds racks = (length racks ≤ rack_limit) × Each IsFewFeeds racks
 
 -- each list is the only feed of a rack
 abbrev pub one_each : List (List Order) → List (List (List Order))

@@ -16,6 +16,7 @@ use Rattle.farm_core.specs.declared.jobs.Job.TheVariants.{Solve, Stop}
 use Rattle.farm_core.specs.declared.feeding.Fed.{Fed}
 use Rattle.farm_core.specs.Jobs.{IsOfFeed}
 use Rattle.farm_core.specs.Feed.{HasFed}
+use Rattle.farm_core.specs.Limits.{feed_limit}
 use Rattle.farm_core.specs.Slots.{slot_of}
 use Rattle.farm_core.specs.Drawn.{Draws, AreDrawn}
 
@@ -48,7 +49,7 @@ pub record AreFed (gate : GateName) (rack : ℕ) (lists : List (List Order)) (fe
   pub rights : gate.size.rights ≡ length feds
   pub shares : sum_by (λ (f : Fed). f.seat.has.share) feds ≡ gate.size.total
   pub each : (feed : ℕ) (list : List Order) (fed : Fed) → get_elem? lists feed ≡ some list → get_elem? feds feed ≡ some fed
-      → (seat : SeatView) × (jobs : PutView Job) × (seat.has.used ≡ 0) × (seat.has.made ≡ []) × HasFed gate seat (slot_of rack feed) list jobs fed.seat fed.right fed.close fed.jobs × (feed < 4)
+      → (seat : SeatView) × (jobs : PutView Job) × (seat.has.used ≡ 0) × (seat.has.made ≡ []) × HasFed gate seat (slot_of rack feed) list jobs fed.seat fed.right fed.close fed.jobs × (feed < feed_limit)
 
 -- the feeders of a rack drew the numbers below n, as is lawful, and each put its jobs by what it drew
 pub record HasDrawn (rack : ℕ) (lists : List (List Order)) (puts : List (PutView Job)) : Type 0 where

@@ -6,6 +6,7 @@ use Rattle.farm_core.specs.declared.room.Room.{Room}
 use Rattle.farm_core.specs.declared.started.Started.{Started}
 use Rattle.farm_core.specs.Replies.{Replied}
 use Rattle.farm_core.specs.Boards.{HoldsNothing}
+use Rattle.farm_core.specs.Limits.{all_feeds_limit, rack_limit, worker_limit}
 use Rattle.farm_core.specs.Threads.{AreWorkerEnds, ends_of}
 use Rattle.farm_core.specs.RacksJoined.{AreAllGiven, ends_given, rooms_of, started_of}
 
@@ -15,10 +16,10 @@ pub record IsReady (room : Room) : Type 0 where
   pub jobs_lane : LaneName Job
   pub replies_lane : LaneName Replied
   pub feeders : ℕ
-  pub few_feeders : feeders ≤ 64
-  pub few_racks : length room.racks.items ≤ 16
+  pub few_feeders : feeders ≤ all_feeds_limit
+  pub few_racks : length room.racks.items ≤ rack_limit
   pub some_workers : 0 < length room.workers.items
-  pub few_workers : length room.workers.items ≤ 16
+  pub few_workers : length room.workers.items ≤ worker_limit
   pub all_jobs : jobs_lane.ends ≡ (feeders + 1) + length room.workers.items
   pub all_replies : replies_lane.ends ≡ length room.workers.items + 1
   pub workers_are : AreWorkerEnds jobs_lane replies_lane room.workers.items

@@ -3,13 +3,14 @@ ghost use Rattle.std.specs.Prelude.{◌≡◌, ◌≤◌, IfOk, IfErr, OnOk, OnE
 ghost use Rattle.std.specs.List.{AllZip};
 ghost use Rattle.farm_core.specs.Boards.{HoldsNothing, HasRoom, HasRooms, IsHeldToo, held_at, filled, most_served, IsOutcomeOf};
 ghost use Rattle.farm_core.specs.Faults.{entry_of};
+ghost use Rattle.farm_core.specs.Limits.{feed_limit};
 ghost use Rattle.farm_core.specs.Held.{IsNotHeld};
 ghost use Rattle.farm_core.specs.RunLists.{lists_of};
 ghost use Rattle.farm_core.specs.Slots.{slot_feed, slot_rack};
 
 use crate::lists::Lists;
 use crate::orders::RackList;
-use crate::reply::{CollectFault, FinishFault, Reply};
+use crate::reply::{CollectFault, Reply};
 use crate::row::{Row, enter};
 use crate::slots::rack_of_slot;
 use lrc_code::Outcome;
@@ -36,7 +37,7 @@ impl<'a> Model for Board<'a> {
 
 // How many requests of these feeds may be answered.
 fn most_of(feeds: &[RackList]) -> usize
-    requires { length feeds.now ≤ 4 }
+    requires { length feeds.now ≤ feed_limit }
     ensures { result ≡ most_served feeds.now }
 {
     let mut most = 0;
@@ -78,7 +79,7 @@ impl<'a> Board<'a> {
     }
 
     /// Of each rack the answers to the requests of a lawful merge of its feeds, in order, each with the feed of its slot.
-    pub fn by_feed(self, alloc: Global) -> Result<Vec<Vec<(usize, Outcome)>>, FinishFault>
+    pub fn by_feed(self, alloc: Global) -> Result<Vec<Vec<(usize, Outcome)>>, AllocError>
         ensures { IfOk result (λ v. AllZip (λ row answers. AllZip IsOutcomeOf (filled row) answers.items) self.entry.table v.items) }
     {
         let Board { lists: _, rows } = self;
@@ -86,7 +87,7 @@ impl<'a> Board<'a> {
     }
 
     /// The same, without the feeds' numbers.
-    pub fn answers(self, alloc: Global) -> Result<Vec<Vec<Outcome>>, FinishFault>
+    pub fn answers(self, alloc: Global) -> Result<Vec<Vec<Outcome>>, AllocError>
         ensures { IfOk result (λ v. AllZip (λ row answers. AllZip (λ e o. IsOutcomeOf e (slot_feed e.rack, o)) (filled row) answers.items) self.entry.table v.items) }
     {
         let Board { lists: _, rows } = self;
@@ -95,7 +96,7 @@ impl<'a> Board<'a> {
 }
 
 // The answers, row by row, each with its feed's number.
-fn all_by_feed(alloc: Global, rows: Vec<Row>) -> Result<Vec<Vec<(usize, Outcome)>>, FinishFault>
+fn all_by_feed(alloc: Global, rows: Vec<Row>) -> Result<Vec<Vec<(usize, Outcome)>>, AllocError>
     ensures { IfOk result (λ v. AllZip (λ row answers. AllZip IsOutcomeOf (filled row) answers.items) rows.entry.items v.items) }
 {
     let mut all = Vec::with_capacity(alloc, rows.len())?;
@@ -106,7 +107,7 @@ fn all_by_feed(alloc: Global, rows: Vec<Row>) -> Result<Vec<Vec<(usize, Outcome)
 }
 
 // The answers, row by row.
-fn all_filled(alloc: Global, rows: Vec<Row>) -> Result<Vec<Vec<Outcome>>, FinishFault>
+fn all_filled(alloc: Global, rows: Vec<Row>) -> Result<Vec<Vec<Outcome>>, AllocError>
     ensures { IfOk result (λ v. AllZip (λ row answers. AllZip (λ e o. IsOutcomeOf e (slot_feed e.rack, o)) (filled row) answers.items) rows.entry.items v.items) }
 {
     let mut all = Vec::with_capacity(alloc, rows.len())?;

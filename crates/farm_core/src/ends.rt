@@ -2,6 +2,7 @@
 ghost use Rattle.std.specs.Prelude.{◌≡◌, ◌+◌, ◌<◌, ◌≤◌, [], false, length, vec_len, vec_capacity};
 ghost use Rattle.farm_lanes.specs.LaneEnds.{IsUnusedPut, IsUnusedTake};
 ghost use Rattle.farm_lanes.specs.Lists.{Each};
+ghost use Rattle.farm_core.specs.Limits.{feed_limit, order_limit, rack_limit};
 
 use crate::jobs::Job;
 use crate::orders::RackList;
@@ -29,8 +30,8 @@ pub struct Feeder<'a> {
     pub jobs: PutEnd<Job<'a>>,
     pub ghost own: { (seat.gate ≡ gate.now.id) × (right ≡ gate.now.id) },
     pub ghost fresh: { (seat.has.numbers ≡ []) × (seat.has.knows ≡ false) },
-    pub ghost budget: { seat.has.draws + 4096 ≤ seat.has.share },
+    pub ghost budget: { seat.has.draws + order_limit ≤ seat.has.share },
     pub ghost unused: { IsUnusedPut jobs },
-    pub ghost few: { (rack < 16) × (feed < 4) },
+    pub ghost few: { (rack < rack_limit) × (feed < feed_limit) },
     pub ghost unclosed: { (seat.has.used ≡ 0) × (seat.has.made ≡ []) },
 }

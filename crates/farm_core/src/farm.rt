@@ -14,7 +14,6 @@ use crate::feeds::Feeds;
 use crate::lists::Lists;
 use crate::orders::Racks;
 use crate::pause::Pause;
-use crate::reply::FinishFault;
 use crate::room::{RackSeats, Room, gates_for, room_for};
 use crate::settings::Settings;
 use crate::settling::{Cleared, settle_all};
@@ -23,7 +22,7 @@ use crate::slots::SlotPause;
 use crate::space::Space;
 use crate::started::{Started, Starts, join_all, start_all};
 use crate::threads::start_collector;
-use farm_lanes::{Gate, GateError, LaneError};
+use farm_lanes::Gate;
 use lrc_code::Outcome;
 use std::alloc::{AllocError, Global};
 use std::sync::Wait;
@@ -43,27 +42,6 @@ pub enum FarmError {
 
 impl From<AllocError> for FarmError {
     fn from(_error: AllocError) -> FarmError {
-        FarmError::OutOfMemory
-    }
-}
-
-impl From<LaneError> for FarmError {
-    // A run keeps to the limits of lanes, so memory alone can be wanting.
-    fn from(_error: LaneError) -> FarmError {
-        FarmError::OutOfMemory
-    }
-}
-
-impl From<GateError> for FarmError {
-    // A run keeps to the limits of gates, so memory alone can be wanting.
-    fn from(_error: GateError) -> FarmError {
-        FarmError::OutOfMemory
-    }
-}
-
-impl From<FinishFault> for FarmError {
-    // A run of which all was joined misses no reply, so memory alone can be wanting.
-    fn from(_fault: FinishFault) -> FarmError {
         FarmError::OutOfMemory
     }
 }

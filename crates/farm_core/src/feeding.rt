@@ -2,6 +2,7 @@
 ghost use Rattle.std.specs.Prelude.{◌≡◌, ◌+◌, ◌≤◌, [], false};
 ghost use Rattle.farm_lanes.specs.LaneEnds.{IsUnusedPut};
 ghost use Rattle.farm_core.specs.Feed.{HasFed};
+ghost use Rattle.farm_core.specs.Limits.{order_limit};
 
 use crate::jobs::Job;
 use crate::orders::{Order, RackList};
@@ -37,7 +38,7 @@ pub fn feed<'a, R: Wait, P: Pause>(
 ) -> Fed<'a>
     requires own { (seat.gate ≡ gate.now.id) × (right ≡ gate.now.id) }
     requires fresh { (seat.has.numbers ≡ []) × (seat.has.knows ≡ false) }
-    requires budget { seat.has.draws + 4096 ≤ seat.has.share }
+    requires budget { seat.has.draws + order_limit ≤ seat.has.share }
     requires unused { IsUnusedPut jobs }
     ensures place { (result.rack ≡ rack) × (result.feed ≡ feed) × (result.list.now ≡ list.now) }
     ensures fed { HasFed gate.now seat rack list.now jobs.entry result.seat result.right result.close result.jobs }

@@ -3,12 +3,10 @@ ghost use Rattle.std.specs.Prelude.{◌≡◌, IfOk, IfErr, map};
 ghost use Rattle.farm_core.specs.FedLists.{AreFeeds};
 ghost use Rattle.farm_core.specs.FedFaults.{IsBadFeeds};
 
-use crate::orders::{MOST_RACKS, RackList};
+use crate::limits::{MOST_FEEDS, MOST_RACKS};
+use crate::orders::RackList;
 use std::marker::Model;
 use thiserror::Error;
-
-/// The most feeds of a rack.
-pub const MOST_FEEDS: usize = 4;
 
 /// The feeds of at most 16 racks, 1 to 4 lists for each. Racks, and the feeds of a rack, are numbered from 0. Contracts see the lists of
 /// orders of each rack.

@@ -10,6 +10,7 @@ mod farm;
 mod feeding;
 mod feeds;
 mod jobs;
+pub mod limits;
 mod lists;
 pub mod merge_laws;
 mod orders;

@@ -1,5 +1,6 @@
 //! The feeds of all racks of a run, whether each rack has one list or several.
 ghost use Rattle.std.specs.Prelude.{◌≡◌, ◌<◌, ◌≤◌, [], length, slice_index_or};
+ghost use Rattle.farm_core.specs.Limits.{feed_limit, rack_limit};
 ghost use Rattle.farm_core.specs.RunLists.{lists_of};
 
 use crate::feeds::Feeds;
@@ -16,7 +17,7 @@ impl<'a> Lists<'a> {
     /// The number of racks.
     pub fn racks(self) -> usize
         ensures count { result ≡ length (lists_of self.entry) }
-        ensures limit { length (lists_of self.entry) ≤ 16 }
+        ensures limit { length (lists_of self.entry) ≤ rack_limit }
     {
         match self {
             Lists::One(racks) => racks.lists().len(),
@@ -28,7 +29,7 @@ impl<'a> Lists<'a> {
     pub fn feeds(self, rack: usize) -> &'a [RackList]
         requires { rack < length (lists_of self) }
         ensures all { result.now ≡ slice_index_or (lists_of self.entry) rack [] }
-        ensures few { (0 < length result.now) × (length result.now ≤ 4) }
+        ensures few { (0 < length result.now) × (length result.now ≤ feed_limit) }
     {
         match self {
             Lists::One(racks) => &racks.lists()[rack..rack + 1],

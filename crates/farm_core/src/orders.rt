@@ -1,16 +1,12 @@
 //! The lists of orders that racks hand in.
 ghost use Rattle.std.specs.Prelude.{◌≡◌, ◌<◌, ◌≤◌, IfOk, IfErr, length};
+ghost use Rattle.farm_core.specs.Limits.{order_limit, rack_limit};
 ghost use Rattle.farm_core.specs.Orders.{before_close};
 
+use crate::limits::{MOST_ORDERS, MOST_RACKS};
 use lrc_code::Request;
 use std::marker::Model;
 use thiserror::Error;
-
-/// The most orders that a rack's list may have.
-pub const MOST_ORDERS: usize = 4096;
-
-/// The most racks.
-pub const MOST_RACKS: usize = 16;
 
 /// An order of a rack: to rebuild a fragment, or to answer no order after this one.
 #[derive(Debug, Drop)]
@@ -28,12 +24,13 @@ pub struct RackList {
 impl Model for RackList {
     ghost use Rattle.std.specs.Prelude.{List, length, ◌≤◌};
     ghost use Rattle.farm_core.specs.declared.orders.Order.{Order};
+    ghost use Rattle.farm_core.specs.Limits.{order_limit};
 
     ghost Value = { List Order };
 
     ghost view = { λ r. r.orders.items };
 
-    ghost invariant = { λ r. length r.orders.items ≤ 4096 };
+    ghost invariant = { λ r. length r.orders.items ≤ order_limit };
 }
 
 /// E26: a list has more than 4,096 orders. They are handed back.
@@ -46,8 +43,8 @@ pub struct TooManyOrders {
 impl RackList {
     /// The list of these orders, in their order. Takes no memory.
     pub fn new(orders: Vec<Order>) -> Result<RackList, TooManyOrders>
-        ensures ok { IfOk result (λ r. (r ≡ orders.items) × (length orders.items ≤ 4096)) }
-        ensures refused { IfErr result (λ e. (e.orders ≡ orders) × (4096 < length orders.items)) }
+        ensures ok { IfOk result (λ r. (r ≡ orders.items) × (length orders.items ≤ order_limit)) }
+        ensures refused { IfErr result (λ e. (e.orders ≡ orders) × (order_limit < length orders.items)) }
     {
         if orders.len() > MOST_ORDERS {
             return Err(TooManyOrders { orders });
@@ -58,7 +55,7 @@ impl RackList {
     /// The orders.
     pub fn orders(&self) -> &[Order]
         ensures all { result.now ≡ self.now }
-        ensures limit { length self.now ≤ 4096 }
+        ensures limit { length self.now ≤ order_limit }
     {
         self.orders.as_slice()
     }
@@ -66,7 +63,7 @@ impl RackList {
     /// The number of requests before the first close, or of all where there is no close. These are served.
     pub fn served(&self) -> usize
         ensures count { result ≡ length (before_close self.now) }
-        ensures limit { result ≤ 4096 }
+        ensures limit { result ≤ order_limit }
     {
         let mut number = 0;
         for order in self.orders() {
@@ -88,12 +85,13 @@ pub struct Racks {
 impl Model for Racks {
     ghost use Rattle.std.specs.Prelude.{List, length, ◌≤◌};
     ghost use Rattle.farm_core.specs.declared.orders.Order.{Order};
+    ghost use Rattle.farm_core.specs.Limits.{rack_limit};
 
     ghost Value = { List (List Order) };
 
     ghost view = { λ r. r.lists.items };
 
-    ghost invariant = { λ r. length r.lists.items ≤ 16 };
+    ghost invariant = { λ r. length r.lists.items ≤ rack_limit };
 }
 
 /// E18: there are more than 16 racks. Their lists are handed back.
@@ -106,8 +104,8 @@ pub struct TooManyRacks {
 impl Racks {
     /// The racks with these lists. Takes no memory.
     pub fn new(lists: Vec<RackList>) -> Result<Racks, TooManyRacks>
-        ensures ok { IfOk result (λ r. (r ≡ lists.items) × (length lists.items ≤ 16)) }
-        ensures refused { IfErr result (λ e. (e.lists ≡ lists) × (16 < length lists.items)) }
+        ensures ok { IfOk result (λ r. (r ≡ lists.items) × (length lists.items ≤ rack_limit)) }
+        ensures refused { IfErr result (λ e. (e.lists ≡ lists) × (rack_limit < length lists.items)) }
     {
         if lists.len() > MOST_RACKS {
             return Err(TooManyRacks { lists });
@@ -118,7 +116,7 @@ impl Racks {
     /// The racks' lists.
     pub fn lists(&self) -> &[RackList]
         ensures all { result.now ≡ self.now }
-        ensures limit { length self.now ≤ 16 }
+        ensures limit { length self.now ≤ rack_limit }
     {
         self.lists.as_slice()
     }

@@ -3,18 +3,19 @@ ghost use Rattle.std.specs.Prelude.{◌≡◌, ◌+◌, ◌≤◌, ◌<◌, List
 ghost use Rattle.std.specs.List.{sum_by};
 ghost use Rattle.std.specs.Vec.Iter.{into_iter_items, into_iter_len};
 ghost use Rattle.farm_lanes.specs.Lists.{Each, EachAt};
-ghost use Rattle.farm_lanes.specs.LaneEnds.{LaneName, AreNewEnds, IsUnusedPut, IsUnusedTake, new_take};
+ghost use Rattle.farm_lanes.specs.GateView.{IsRightCount, IsSeatCount};
+ghost use Rattle.farm_lanes.specs.LaneEnds.{LaneName, AreNewEnds, IsCapacity, IsPutterCount, IsTakerCount, IsUnusedPut, IsUnusedTake, new_take};
 ghost use Rattle.farm_core.specs.declared.jobs.Job.{Job};
 ghost use Rattle.farm_core.specs.FedLists.{all_feeds_of};
 ghost use Rattle.farm_core.specs.RunLists.{lists_of};
 ghost use Rattle.farm_core.specs.Gates.{IsNewGate, AreGates};
+ghost use Rattle.farm_core.specs.Limits.{all_feeds_limit, feed_limit, rack_limit};
 ghost use Rattle.farm_core.specs.RacksJoined.{AreAllGiven, ends_given, rooms_of};
 ghost use Rattle.farm_core.specs.Ready.{IsReady};
 ghost use Rattle.farm_core.specs.Threads.{AreRackFeeders};
 
 use crate::board::Board;
 use crate::ends::{Feeder, WorkerEnds};
-use crate::farm::FarmError;
 use crate::jobs::Job;
 use crate::lists::Lists;
 use crate::orders::RackList;
@@ -23,7 +24,7 @@ use crate::reply::Reply;
 use crate::settings::Settings;
 use crate::settling::Desk;
 use crate::space::{Space, space_for};
-use farm_lanes::{Gate, Lane, LaneError, PutEnd, Right, Seat, TakeEnd};
+use farm_lanes::{Gate, GateError, Lane, LaneError, PutEnd, Right, Seat, TakeEnd};
 use std::alloc::{AllocError, Global};
 use std::vec::IntoIter;
 
@@ -37,17 +38,48 @@ pub struct Room<'a> {
     pub space: Space<'a>,
 }
 
+// The ends of a new lane. Within the limits of lanes only memory can be refused.
+fn open_lane<T: Send + Drop>(
+    alloc: Global,
+    capacity: usize,
+    putters: usize,
+    takers: usize,
+) -> Result<(Vec<PutEnd<T>>, Vec<TakeEnd<T>>), AllocError>
+    requires room { IsCapacity capacity }
+    requires count { IsPutterCount putters × IsTakerCount takers }
+    ensures { IfOk result (λ r. AreNewEnds putters takers r.0.items r.1.items) }
+{
+    match Lane::open(alloc, capacity, putters, takers) {
+        Ok(ends) => Ok(ends),
+        Err(LaneError::OutOfMemory) => Err(AllocError),
+        Err(LaneError::NoRoom | LaneError::NoEnds) => unreachable!(),
+    }
+}
+
+// A new gate, with one seat and one right for each of so many feeds. Within the limits of gates only memory can be refused.
+fn open_gate(alloc: Global, feeds: usize) -> Result<(Gate, RackSeats), AllocError>
+    requires count { IsSeatCount feeds × IsRightCount feeds }
+    ensures { IfOk result (λ r. IsNewGate feeds r.0 r.1) }
+{
+    match Gate::open(alloc, feeds, feeds) {
+        Ok((gate, seats, rights)) => Ok((gate, RackSeats { seats, rights })),
+        Err(GateError::OutOfMemory) => Err(AllocError),
+        Err(GateError::NoSeats) => unreachable!(),
+    }
+}
+
 // The ends of a new request lane: the put ends of so many feeders, the one for the stops, and the workers' take ends.
 fn request_lane<'a>(
     alloc: Global,
     capacity: usize,
     feeders: usize,
     workers: usize,
-) -> Result<(Vec<PutEnd<Job<'a>>>, PutEnd<Job<'a>>, Vec<TakeEnd<Job<'a>>>), LaneError>
-    requires { feeders ≤ 64 }
+) -> Result<(Vec<PutEnd<Job<'a>>>, PutEnd<Job<'a>>, Vec<TakeEnd<Job<'a>>>), AllocError>
+    requires room { IsCapacity capacity }
+    requires count { (feeders ≤ all_feeds_limit) × IsTakerCount workers }
     ensures { IfOk result (λ r. AreNewEnds (feeders + 1) workers (r.0.items ++ r.1 ∷ []) r.2.items) }
 {
-    let (mut puts, takes) = Lane::open(alloc, capacity, feeders + 1, workers)?;
+    let (mut puts, takes) = open_lane(alloc, capacity, feeders + 1, workers)?;
     let Some(stops) = puts.pop() else {
         unreachable!();
     };
@@ -59,10 +91,12 @@ fn reply_lane<'a>(
     alloc: Global,
     capacity: usize,
     workers: usize,
-) -> Result<(Vec<PutEnd<Reply<'a>>>, TakeEnd<Reply<'a>>), LaneError>
+) -> Result<(Vec<PutEnd<Reply<'a>>>, TakeEnd<Reply<'a>>), AllocError>
+    requires room { IsCapacity capacity }
+    requires count { IsPutterCount workers }
     ensures { IfOk result (λ r. AreNewEnds workers 1 r.0.items (r.1 ∷ [])) }
 {
-    let (puts, mut takes) = Lane::open(alloc, capacity, workers, 1)?;
+    let (puts, mut takes) = open_lane(alloc, capacity, workers, 1)?;
     let Some(last) = takes.pop() else {
         unreachable!();
     };
@@ -100,7 +134,7 @@ pub struct RackSeats {
 }
 
 /// A gate for each rack, with one seat and one right for each of its feeds.
-pub fn gates_for(alloc: Global, lists: Lists) -> Result<(Vec<Gate>, Vec<RackSeats>), FarmError>
+pub fn gates_for(alloc: Global, lists: Lists) -> Result<(Vec<Gate>, Vec<RackSeats>), AllocError>
     ensures { IfOk result (λ r. AreGates (lists_of lists.entry) r.0.items r.1.items) }
 {
     let racks = lists.racks();
@@ -108,9 +142,9 @@ pub fn gates_for(alloc: Global, lists: Lists) -> Result<(Vec<Gate>, Vec<RackSeat
     let mut all = Vec::with_capacity(alloc, racks)?;
     for rack in 0..racks {
         let feeds = lists.feeds(rack).len();
-        let (gate, seats, rights) = Gate::open(alloc, feeds, feeds)?;
+        let (gate, own) = open_gate(alloc, feeds)?;
         gates.push_reserved(gate);
-        all.push_reserved(RackSeats { seats, rights });
+        all.push_reserved(own);
     }
     Ok((gates, all))
 }
@@ -123,9 +157,9 @@ fn rack_room<'a>(
     lists: &'a [RackList],
     own: RackSeats,
     puts: &mut IntoIter<PutEnd<Job<'a>>>,
-) -> Result<RackRoom<'a>, FarmError>
-    requires rack { rack < 16 }
-    requires few { (0 < length lists.now) × (length lists.now ≤ 4) }
+) -> Result<RackRoom<'a>, AllocError>
+    requires rack { rack < rack_limit }
+    requires few { (0 < length lists.now) × (length lists.now ≤ feed_limit) }
     requires new { IsNewGate (length lists.now) gate.now own }
     requires enough { length lists.now ≤ into_iter_len puts.old }
     requires unused { Each IsUnusedPut (into_iter_items puts.old) }
@@ -176,7 +210,7 @@ fn racks_for<'a>(
     gates: &'a [Gate],
     seats: Vec<RackSeats>,
     puts: Vec<PutEnd<Job<'a>>>,
-) -> Result<Vec<RackRoom<'a>>, FarmError>
+) -> Result<Vec<RackRoom<'a>>, AllocError>
     requires gates { AreGates (lists_of lists) gates.now seats.items }
     requires count { vec_len puts ≡ all_feeds_of (lists_of lists) }
     requires unused { Each IsUnusedPut puts.items }
@@ -202,7 +236,7 @@ fn racks_for<'a>(
 // How many feeds all racks have.
 fn all_feeds(lists: Lists) -> usize
     ensures all { result ≡ all_feeds_of (lists_of lists.entry) }
-    ensures few { result ≤ 64 }
+    ensures few { result ≤ all_feeds_limit }
 {
     let mut count = 0;
     for rack in 0..lists.racks() {
@@ -218,7 +252,7 @@ pub fn room_for<'a>(
     gates: &'a [Gate],
     seats: Vec<RackSeats>,
     settings: Settings,
-) -> Result<Room<'a>, FarmError>
+) -> Result<Room<'a>, AllocError>
     requires { AreGates (lists_of lists) gates.now seats.items }
     ensures racks { IfOk result (λ r. r.desk.board.racks ≡ lists_of lists.entry) }
     ensures ready { IfOk result IsReady }

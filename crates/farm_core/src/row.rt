@@ -97,8 +97,8 @@ impl<'a> Row<'a> {
     }
 
     /// The answers in front of the first gap, where none of the replies says that memory was missing.
-    pub fn filled(self, alloc: Global) -> Result<Vec<Outcome>, FinishFault>
-        ensures { MatchResult result (λ v. AllZip (λ e o. IsOutcomeOf e (slot_feed e.rack, o)) (filled self.entry) v.items) (λ e. e ≡ OutOfMemory) }
+    pub fn filled(self, alloc: Global) -> Result<Vec<Outcome>, AllocError>
+        ensures { IfOk result (λ v. AllZip (λ e o. IsOutcomeOf e (slot_feed e.rack, o)) (filled self.entry) v.items) }
     {
         let Row { cells } = self;
         let mut all = Vec::with_capacity(alloc, cells.len())?;
@@ -107,7 +107,7 @@ impl<'a> Row<'a> {
                 return Ok(all);
             };
             let Some(outcome) = reply.into_outcome() else {
-                return Err(FinishFault::OutOfMemory);
+                return Err(AllocError);
             };
             all.push_reserved(outcome);
         }
@@ -115,8 +115,8 @@ impl<'a> Row<'a> {
     }
 
     /// The same, each with the feed of its slot.
-    pub fn filled_by_feed(self, alloc: Global) -> Result<Vec<(usize, Outcome)>, FinishFault>
-        ensures { MatchResult result (λ v. AllZip IsOutcomeOf (filled self.entry) v.items) (λ e. e ≡ OutOfMemory) }
+    pub fn filled_by_feed(self, alloc: Global) -> Result<Vec<(usize, Outcome)>, AllocError>
+        ensures { IfOk result (λ v. AllZip IsOutcomeOf (filled self.entry) v.items) }
     {
         let Row { cells } = self;
         let mut all = Vec::with_capacity(alloc, cells.len())?;
@@ -126,7 +126,7 @@ impl<'a> Row<'a> {
             };
             let feed = feed_of_slot(reply.rack());
             let Some(outcome) = reply.into_outcome() else {
-                return Err(FinishFault::OutOfMemory);
+                return Err(AllocError);
             };
             all.push_reserved((feed, outcome));
         }

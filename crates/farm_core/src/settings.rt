@@ -1,7 +1,8 @@
 //! Settings of a farm.
 ghost use Rattle.std.specs.Prelude.{◌≡◌, ◌≤◌, IfOk, IfErr};
-ghost use Rattle.farm_core.specs.Limits.{IsOutOfLimits};
+ghost use Rattle.farm_core.specs.Limits.{IsFrom1To, IsOutOfLimits, queue_limit, worker_limit};
 
+use crate::limits::{MOST_QUEUE, MOST_WORKERS};
 use thiserror::Error;
 
 /// The number of workers, 1 to 16, and the capacity of each queue, 1 to 1,024.
@@ -10,9 +11,9 @@ pub struct Settings {
     workers: usize,
     queue: usize,
     pub ghost workers_fit: { 1 ≤ workers },
-    pub ghost workers_limit: { workers ≤ 16 },
+    pub ghost workers_most: { workers ≤ worker_limit },
     pub ghost queue_fits: { 1 ≤ queue },
-    pub ghost queue_limit: { queue ≤ 1024 },
+    pub ghost queue_most: { queue ≤ queue_limit },
 }
 
 /// A setting out of its limits.
@@ -32,10 +33,10 @@ impl Settings {
         ensures ok { IfOk result (λ s. (s.workers ≡ workers) × (s.queue ≡ queue)) }
         ensures refused { IfErr result (IsOutOfLimits workers queue) }
     {
-        if workers == 0 || workers > 16 {
+        if workers == 0 || workers > MOST_WORKERS {
             return Err(SettingsFault::BadWorkers);
         }
-        if queue == 0 || queue > 1024 {
+        if queue == 0 || queue > MOST_QUEUE {
             return Err(SettingsFault::BadQueue);
         }
         Ok(Settings { workers, queue })
@@ -43,14 +44,16 @@ impl Settings {
 
     /// The number of workers.
     pub fn workers(self) -> usize
-        ensures { result ≡ self.workers }
+        ensures same { result ≡ self.workers }
+        ensures limits { IsFrom1To worker_limit result }
     {
         self.workers
     }
 
     /// The capacity of each queue.
     pub fn queue(self) -> usize
-        ensures { result ≡ self.queue }
+        ensures same { result ≡ self.queue }
+        ensures limits { IsFrom1To queue_limit result }
     {
         self.queue
     }

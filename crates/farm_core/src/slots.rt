@@ -1,13 +1,14 @@
 //! Slots: a run counts the feeds of all racks through, four to a rack, and names a feed's slot as the rack of its jobs and replies.
 ghost use Rattle.std.specs.Prelude.{◌≡◌, ◌<◌};
+ghost use Rattle.farm_core.specs.Limits.{feed_limit, rack_limit};
 ghost use Rattle.farm_core.specs.Slots.{slot_of, slot_rack, slot_feed};
 
-use crate::feeds::MOST_FEEDS;
+use crate::limits::MOST_FEEDS;
 use crate::pause::Pause;
 
 /// The slot of a feed of a rack.
 pub fn slot_number(rack: usize, feed: usize) -> usize
-    requires few { (rack < 16) × (feed < 4) }
+    requires few { (rack < rack_limit) × (feed < feed_limit) }
     ensures { result ≡ slot_of rack feed }
 {
     rack * MOST_FEEDS + feed

@@ -1,7 +1,9 @@
 //! Room for what the threads give back.
 ghost use Rattle.std.specs.Prelude.{◌≡◌, ◌+◌, ◌*◌, ◌≤◌, ◌<◌, [], IfOk, vec_capacity};
+ghost use Rattle.farm_core.specs.Limits.{feed_limit, rack_limit};
 
 use crate::jobs::Job;
+use crate::limits::MOST_FEEDS;
 use crate::rack_feeders::RackFeeders;
 use crate::reply::Reply;
 use crate::threads::Worker;
@@ -17,7 +19,7 @@ pub struct EndSpace<'a> {
     pub job_ends: Vec<TakeEnd<Job<'a>>>,
     pub reply_ends: Vec<EndedPut<Reply<'a>>>,
     pub desk: Vec<TakeEnd<Reply<'a>>>,
-    pub ghost puts: { (put_ends.items ≡ []) × (racks * 4 + 1 ≤ vec_capacity put_ends) },
+    pub ghost puts: { (put_ends.items ≡ []) × (racks * feed_limit + 1 ≤ vec_capacity put_ends) },
     pub ghost worked: { (job_ends.items ≡ []) × (workers ≤ vec_capacity job_ends) × (reply_ends.items ≡ []) × (workers ≤ vec_capacity reply_ends) },
     pub ghost last: { (desk.items ≡ []) × (0 < vec_capacity desk) },
 }
@@ -37,13 +39,13 @@ fn end_space_for<'a>(
     racks: usize,
     workers: usize,
 ) -> Result<EndSpace<'a>, AllocError>
-    requires { racks ≤ 16 }
+    requires { racks ≤ rack_limit }
     ensures { IfOk result (λ s. (s.racks ≡ racks) × (s.workers ≡ workers)) }
 {
     Ok(EndSpace {
         racks,
         workers,
-        put_ends: Vec::with_capacity(alloc, racks * 4 + 1)?,
+        put_ends: Vec::with_capacity(alloc, racks * MOST_FEEDS + 1)?,
         job_ends: Vec::with_capacity(alloc, workers)?,
         reply_ends: Vec::with_capacity(alloc, workers)?,
         desk: Vec::with_capacity(alloc, 1)?,
@@ -52,7 +54,7 @@ fn end_space_for<'a>(
 
 /// Empty lists with room for so many racks and workers.
 pub fn space_for<'a>(alloc: Global, racks: usize, workers: usize) -> Result<Space<'a>, AllocError>
-    requires { racks ≤ 16 }
+    requires { racks ≤ rack_limit }
     ensures { IfOk result (λ s. (s.ends.racks ≡ racks) × (s.ends.workers ≡ workers)) }
 {
     Ok(Space {

@@ -3,6 +3,7 @@ ghost use Rattle.std.specs.Prelude.{◌≡◌, ◌<◌, ◌≤◌, [], true, IfS
 ghost use Rattle.farm_lanes.specs.LaneEnds.{IsUnusedPut};
 ghost use Rattle.farm_core.specs.declared.room.Room.{Room};
 ghost use Rattle.farm_core.specs.Cleared.{HasJoined};
+ghost use Rattle.farm_core.specs.Limits.{worker_limit};
 ghost use Rattle.farm_core.specs.RacksJoined.{rooms_of, started_of};
 ghost use Rattle.farm_core.specs.Ready.{IsReady, AreStarted};
 ghost use Rattle.farm_core.specs.Threads.{ends_of};
@@ -91,7 +92,7 @@ pub fn join_all<'a, R: Threads + Wait>(
     started: Started<'a>,
     space: EndSpace<'a>,
 ) -> Option<Joined<'a>>
-    requires few { (vec_len started.working ≤ 16) × (vec_len started.working ≤ space.workers) × (vec_len started.feeding ≤ space.racks) }
+    requires few { (vec_len started.working ≤ worker_limit) × (vec_len started.working ≤ space.workers) × (vec_len started.feeding ≤ space.racks) }
     requires unused { IsUnusedPut started.stops }
     ensures joined { IfSome result (λ j. (room : Room) → IsReady room → AreStarted room started.entry → HasJoined j.all.board.racks j.put_ends.items j.job_ends.items j.reply_ends.items j.desk j.all.board j.all.fault × (j.all.board.racks ≡ room.desk.board.racks) × (0 < length j.job_ends.items)) }
     ensures desk_room { IfSome result (λ j. (j.desk_room.items ≡ []) × (0 < vec_capacity j.desk_room)) }

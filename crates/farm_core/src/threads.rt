@@ -5,6 +5,7 @@ ghost use Rattle.farm_lanes.specs.Lists.{Each};
 ghost use Rattle.farm_core.specs.Left.{LeftBy};
 ghost use Rattle.farm_core.specs.Threads.{WorkersJoined, FeedersJoined, ends_of, feeders_of};
 ghost use Rattle.farm_core.specs.RacksJoined.{HavePutRacks, AreEndsOf, all_given, rooms_of, started_of};
+ghost use Rattle.farm_core.specs.Limits.{worker_limit};
 ghost use Rattle.farm_core.specs.Put.{HasPutStops};
 ghost use Rattle.farm_core.specs.Work.{HasWorked};
 ghost use Rattle.farm_core.specs.Boards.{HoldsNothing};
@@ -376,7 +377,7 @@ pub fn join_racks<'a, R: Threads>(
 // Puts so many jobs that say to stop, and ends.
 pub fn put_stops<'a, R: Wait>(rt: &R, stops: PutEnd<Job<'a>>, count: usize) -> EndedPut<Job<'a>>
     requires unused { IsUnusedPut stops }
-    requires few { count ≤ 16 }
+    requires few { count ≤ worker_limit }
     ensures stops { HasPutStops stops.entry result }
     ensures count { length result.put ≡ count + 1 }
 {

@@ -146,9 +146,9 @@ fn a_starved_reply_and_a_missing_one(rt: HostRuntime) -> Result<(), AllocError> 
 fn is_stranger<'a>(collector: &mut Collector<'a>, reply: Reply<'a>) -> bool
     ensures { result ≡ true → collector.new ≡ collector.old }
 {
-    let (rack, number) = (reply.rack(), reply.number());
+    let (rack, number) = (reply.rack, reply.number);
     match collector.accept(reply) {
-        Err(CollectFault::Stranger { reply }) => reply.rack() == rack && reply.number() == number,
+        Err(CollectFault::Stranger { reply }) => reply.rack == rack && reply.number == number,
         _ => false,
     }
 }

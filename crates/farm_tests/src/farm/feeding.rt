@@ -155,13 +155,28 @@ fn either_feed_may_go_first(rt: HostRuntime) -> Result<(), AllocError> {
     Ok(())
 }
 
-// Holds the worker in the first request until the feeder is behind its third, and a thousand turns more.
+// Holds the worker in the first request until the feeder is behind the order that waits for room in the queue, and a thousand turns
+// more.
 #[derive(Drop)]
 struct Full {
+    waiting: usize,
     behind: AtomicBool,
     ahead: AtomicBool,
     missed: AtomicBool,
     early: AtomicBool,
+}
+
+impl Full {
+    // The order at this position is the first that a full queue has no room for.
+    fn new(waiting: usize) -> Full {
+        Full {
+            waiting,
+            behind: AtomicBool::new(false),
+            ahead: AtomicBool::new(false),
+            missed: AtomicBool::new(false),
+            early: AtomicBool::new(false),
+        }
+    }
 }
 
 impl Pause for Full {
@@ -187,42 +202,47 @@ impl Pause for Full {
     fn after(&self, _rack: usize, _number: u64) {}
 
     fn ahead(&self, _rack: usize, _feed: usize, position: usize) {
-        if position == 3 {
+        if position > self.waiting {
             self.ahead.store(true, Ordering::SeqCst);
         }
     }
 
     fn behind(&self, _rack: usize, _feed: usize, position: usize) {
-        if position == 2 {
+        if position == self.waiting {
             self.behind.store(true, Ordering::SeqCst);
         }
     }
 }
 
-/// With one worker and a queue of one, no more jobs wait than the queue holds.
-#[test]
-fn jobs_wait_in_the_queue_alone(rt: HostRuntime) -> Result<(), AllocError> {
-    let alloc = rt.alloc();
-    let Ok(settings) = Settings::new(1, 1) else {
+// One feed of these entries, 1 worker: while it is held in the first, as many jobs wait as the queue holds, and one more at its end.
+fn fills<R: Abort + Threads + Wait + Sync>(
+    rt: &R,
+    alloc: Global,
+    entries: &[Entry],
+    queue: usize,
+) -> Result<(), AllocError> {
+    let Ok(settings) = Settings::new(1, queue) else {
         panic!(rt; "settings out of their limits");
     };
     let mut racks = Vec::new(alloc);
-    racks.push(rack_of(&rt, alloc, &[&[LOCAL, LOCAL, LOCAL, LOCAL]])?)?;
-    let feeds = feeds_of(&rt, racks);
-    let full = Full {
-        behind: AtomicBool::new(false),
-        ahead: AtomicBool::new(false),
-        missed: AtomicBool::new(false),
-        early: AtomicBool::new(false),
-    };
-    let Ok(racks) = run_feeds(&rt, alloc, &feeds, settings, &full) else {
+    racks.push(rack_of(rt, alloc, &[entries])?)?;
+    let feeds = feeds_of(rt, racks);
+    let full = Full::new(settings.queue() + 1);
+    let Ok(racks) = run_feeds(rt, alloc, &feeds, settings, &full) else {
         panic!(rt; "no answers");
     };
     assert!(rt; !full.missed.load(Ordering::SeqCst));
     assert!(rt; !full.early.load(Ordering::SeqCst));
-    assert!(rt; racks.len() == 1 && racks[0].len() == 4);
+    assert!(rt; racks.len() == 1 && racks[0].len() == entries.len());
     for (feed, outcome) in racks[0].as_slice() {
         assert!(rt; *feed == 0 && is_byte(outcome, 0x01));
     }
     Ok(())
+}
+
+/// With one worker no more jobs wait than the queue holds, and no fewer.
+#[test]
+fn jobs_wait_in_the_queue_alone(rt: HostRuntime) -> Result<(), AllocError> {
+    fills(&rt, rt.alloc(), &[LOCAL, LOCAL, LOCAL, LOCAL], 1)?;
+    fills(&rt, rt.alloc(), &[LOCAL; 7], 4)
 }

@@ -1,11 +1,13 @@
 //! Runs in which a pause holds requests: two until each has met the other, so that one thread alone can't answer both; and one until
 //! the other worker has ended.
-use crate::farm::requests::{GLOBAL, LOCAL, SEVERAL, is_byte, is_several, racks_of};
+use crate::farm::requests::{Entry, GLOBAL, LOCAL, SEVERAL, is_byte, is_several, racks_of};
 use farm_core::{Pause, Settings, run};
 use lrc_code::Outcome;
-use std::alloc::AllocError;
-use std::sync::atomic::{AtomicBool, Ordering};
-use std::thread;
+use std::alloc::{AllocError, Global};
+use std::process::Abort;
+use std::sync::Wait;
+use std::sync::atomic::{AtomicBool, AtomicU64, Ordering};
+use std::thread::{self, Threads};
 
 const MOST_TURNS: u64 = 1_000_000;
 
@@ -60,6 +62,29 @@ impl Pause for Crossed {
     }
 }
 
+// Holds each request until as many were begun as there are workers.
+#[derive(Drop)]
+struct Gathered {
+    workers: u64,
+    begun: AtomicU64,
+    missed: AtomicBool,
+}
+
+impl Pause for Gathered {
+    fn before(&self, _rack: usize, _number: u64) {
+        self.begun.fetch_add(1, Ordering::SeqCst);
+        for _ in 0..MOST_TURNS {
+            if self.begun.load(Ordering::SeqCst) >= self.workers {
+                return;
+            }
+            thread::yield_now();
+        }
+        self.missed.store(true, Ordering::SeqCst);
+    }
+
+    fn after(&self, _rack: usize, _number: u64) {}
+}
+
 // Holds the first request for long.
 struct Late;
 
@@ -84,30 +109,91 @@ fn are_local_several_global(answers: &[Outcome]) -> bool {
     }
 }
 
+fn are_two_locals_and_several(answers: &[Outcome]) -> bool {
+    match answers {
+        [first, second, third] => {
+            is_byte(first, 0x01) && is_byte(second, 0x01) && is_several(third)
+        }
+        _ => false,
+    }
+}
+
+// Runs two racks that ask the same, in which two requests of the second have to meet, and whose answers pass this test.
+fn meets<R: Abort + Threads + Wait + Sync>(
+    rt: &R,
+    alloc: Global,
+    asked: &[Entry],
+    settings: Settings,
+    are_right: fn(&[Outcome]) -> bool,
+) -> Result<(), AllocError> {
+    let racks = racks_of(rt, alloc, &[asked, asked])?;
+    let pause = Crossed::new();
+    let Ok(answers) = run(rt, alloc, &racks, settings, &pause) else {
+        panic!(rt; "no answers");
+    };
+    assert!(rt; !pause.missed.load(Ordering::SeqCst));
+    match answers.as_slice() {
+        [first, second] => {
+            assert!(rt; are_right(first.as_slice()) && are_right(second.as_slice()));
+        }
+        _ => panic!(rt; "not two racks"),
+    }
+    Ok(())
+}
+
 #[test]
 fn two_workers_meet(rt: HostRuntime) -> Result<(), AllocError> {
-    let alloc = rt.alloc();
-    let three = [LOCAL, SEVERAL, GLOBAL];
-    let racks = racks_of(&rt, alloc, &[three.as_slice(), three.as_slice()])?;
     for queue in [8, 1] {
         let Ok(settings) = Settings::new(2, queue) else {
             panic!(rt; "settings out of their limits");
         };
-        let pause = Crossed::new();
-        let Ok(answers) = run(&rt, alloc, &racks, settings, &pause) else {
-            panic!(rt; "no answers");
-        };
-        assert!(rt;
-            !pause.missed.load(Ordering::SeqCst),
-            "at a queue of {queue}"
-        );
-        match answers.as_slice() {
-            [first, second] => {
-                assert!(rt; are_local_several_global(first.as_slice()));
-                assert!(rt; are_local_several_global(second.as_slice()));
-            }
-            _ => panic!(rt; "not two racks"),
+        meets(
+            &rt,
+            rt.alloc(),
+            &[LOCAL, SEVERAL, GLOBAL],
+            settings,
+            are_local_several_global,
+        )?;
+    }
+    Ok(())
+}
+
+#[test]
+fn two_of_sixteen_workers_meet(rt: HostRuntime) -> Result<(), AllocError> {
+    let Ok(settings) = Settings::new(16, 1024) else {
+        panic!(rt; "settings out of their limits");
+    };
+    meets(
+        &rt,
+        rt.alloc(),
+        &[LOCAL, LOCAL, SEVERAL],
+        settings,
+        are_two_locals_and_several,
+    )
+}
+
+/// As many workers are started as are set: sixteen requests are worked on at once.
+#[test]
+fn all_sixteen_workers_meet(rt: HostRuntime) -> Result<(), AllocError> {
+    let alloc = rt.alloc();
+    let racks = racks_of(&rt, alloc, &[&[LOCAL; 16]])?;
+    let Ok(settings) = Settings::new(16, 1) else {
+        panic!(rt; "settings out of their limits");
+    };
+    let pause = Gathered {
+        workers: 16,
+        begun: AtomicU64::new(0),
+        missed: AtomicBool::new(false),
+    };
+    let Ok(answers) = run(&rt, alloc, &racks, settings, &pause) else {
+        panic!(rt; "no answers");
+    };
+    assert!(rt; !pause.missed.load(Ordering::SeqCst));
+    match answers.as_slice() {
+        [only] => {
+            assert!(rt; only.len() == 16 && only.iter().all(|outcome| is_byte(outcome, 0x01)));
         }
+        _ => panic!(rt; "not one rack"),
     }
     Ok(())
 }

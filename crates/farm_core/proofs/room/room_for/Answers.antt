@@ -1,6 +1,6 @@
 use Rattle.std.proofs.Common.{[], ◌∷◌, ◌++◌, ◌∙◌, refl, sym, subst, arith}
 use Rattle.std.proofs.lemmas.List.{length_push}
-use Rattle.farm_lanes.specs.LaneEnds.{IsUnusedTake}
+use Rattle.farm_lanes.specs.LaneEnds.{IsUnusedPut, IsUnusedTake}
 use Rattle.farm_core.specs.RunLists.{lists_of}
 use Rattle.farm_core.proofs.Rooms.{front_unused}
 use Rattle.farm_core.proofs.Readies.{is_ready}
@@ -21,6 +21,9 @@ racks_for-requires-clause-count c =
 pub worker_ends-requires-clause-unused_takes : goal.worker_ends-requires-clause-unused_takes
 worker_ends-requires-clause-unused_takes c = λ k e at. subst IsUnusedTake (sym (c.in_ok-job_puts.ensures.take_ends.each k e at)) refl
 
+pub worker_ends-requires-clause-unused_puts : goal.worker_ends-requires-clause-unused_puts
+worker_ends-requires-clause-unused_puts c = λ k e at. subst IsUnusedPut (sym (c.in_ok-reply_puts.ensures.put_ends.each k e at)) refl
+
 pub returns-clause-ready : goal.returns-clause-ready
 returns-clause-ready c =
     let jobs = c.in_ok-job_puts in let lane = c.in_ok-reply_puts in
@@ -29,6 +32,6 @@ returns-clause-ready c =
     jobs.ensures lane.ensures refl refl
     c.in_ok-board.ensures
     c.all_feeds.ensures.few (omega (arith, c.racks.ensures.limit))
-    (omega (arith, c.workers-workers.ensures, c.args.settings.workers_fit)) (omega (arith, c.workers-workers.ensures, c.args.settings.workers_limit))
+    (omega (arith, c.workers-workers.ensures, c.args.settings.workers_fit)) (omega (arith, c.workers-workers.ensures, c.args.settings.workers_most))
     c.in_ok-ends.ensures.replies c.in_ok-ends.ensures.jobs c.in_ok-racks.ensures.ends c.in_ok-racks.ensures.racks
     (c.in_ok-space.ensures.0 ∙ c.racks.ensures.count) c.in_ok-space.ensures.1
