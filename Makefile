@@ -13,11 +13,10 @@ PLACE = $(DESTDIR)$(PREFIX)
 
 # Proves the program and what it stands on, and builds crates/rebuild/out/rebuild.
 build:
-	@echo 'Proving the program and all that it stands on, then building it. The first time this takes several minutes.'
-	cd crates/rebuild && rt run --cpu=$(CPU) < /dev/null
+	@scripts/build.sh $(CPU)
 
 demo: build
-	scripts/demo.sh
+	@scripts/demo.sh
 
 # Builds nothing, so that it can be run by an administrator who has no toolchain.
 install:

@@ -1,0 +1,81 @@
+#!/usr/bin/env python3
+"""Runs the tests over each wrong body of crates/*/must-fail and crates/*/wrong-bodies, in a copy of the repository and without a
+proof, and says which of them the tests notice too. With names of crates it tries theirs.
+
+An edit that no test notices may still change an answer: a proof says more than tests. docs/WRONG_BODIES.md says which those are.
+"""
+
+import pathlib
+import shutil
+import subprocess
+import sys
+import tempfile
+
+ROOT = pathlib.Path(__file__).resolve().parent.parent
+
+# Where the tests of a crate's calls stand, if not in the crate itself.
+TESTS = {
+    "lrc_field": "lrc_tests",
+    "lrc_code": "lrc_tests",
+    "lrc_plan": "lrc_tests",
+    "farm_lanes": "farm_tests",
+    "farm_core": "farm_tests",
+    "sha256_lanes": "farm_tests",
+}
+
+# Tests that a wrong body keeps from ending are stopped after so many seconds, and have noticed it.
+SECONDS = 300
+
+
+def edited(edit, crate):
+    """Makes an edit in the folder of its crate, and gives the texts that were there."""
+    kept, path, old = {}, None, None
+    for line in edit.read_text().splitlines():
+        key, _, value = line.partition(": ")
+        if key == "file":
+            path = crate / value
+            kept.setdefault(path, path.read_text())
+        elif key == "old":
+            old = value
+        elif key == "new" or line == "new:":
+            text = path.read_text()
+            if text.count(old) != 1:
+                sys.exit(f"{edit}: the text stands {text.count(old)} times in {path.name}: {old}")
+            path.write_text(text.replace(old, value))
+    return kept
+
+
+def ended(folder):
+    """How the tests of the crate in this folder end."""
+    try:
+        ran = subprocess.run(["rt", "try", "--test"], cwd=folder, capture_output=True, text=True, timeout=SECONDS)
+    except subprocess.TimeoutExpired:
+        return "noticed: the tests did not end"
+    failed = [line.split()[1] for line in ran.stdout.splitlines() if line.startswith("test ") and line.endswith("FAILED")]
+    if failed:
+        return f"noticed: {' '.join(failed)}"
+    if ran.returncode == 0:
+        return "not noticed"
+    return f"NOT RUN: {(ran.stdout + ran.stderr).strip().splitlines()[-1:]}"
+
+
+def main():
+    crates = sys.argv[1:] or sorted(it.parent.name for it in ROOT.glob("crates/*/must-fail"))
+    with tempfile.TemporaryDirectory() as copy:
+        copy = pathlib.Path(copy)
+        files = subprocess.run(["git", "ls-files", "-z", "--cached", "--others", "--exclude-standard"], cwd=ROOT, capture_output=True, check=True)
+        for name in filter(None, files.stdout.decode().split("\0")):
+            if (ROOT / name).exists():
+                (copy / name).parent.mkdir(parents=True, exist_ok=True)
+                shutil.copy2(ROOT / name, copy / name)
+        for crate in crates:
+            edits = sorted([*ROOT.glob(f"crates/{crate}/must-fail/*.edit"), *ROOT.glob(f"crates/{crate}/wrong-bodies/*.edit")])
+            for edit in edits:
+                kept = edited(edit, copy / "crates" / crate)
+                print(f"{crate}/{edit.stem}: {ended(copy / 'crates' / TESTS.get(crate, crate))}", flush=True)
+                for path, text in kept.items():
+                    path.write_text(text)
+
+
+if __name__ == "__main__":
+    main()
