@@ -11,6 +11,6 @@ mod tables;
 #[cfg(test)]
 mod tests;
 
-pub use combining::{Term, combined, sums_are_zero};
+pub use combining::{Term, combine_into, combined, sums_are_zero, sums_are_zero_between};
 pub use element::Gf;
 pub use kernels::{add_into, scale_add_into};

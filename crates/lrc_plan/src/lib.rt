@@ -26,5 +26,6 @@ pub use evaluation::evaluate;
 pub use grafting::GraftRefused;
 pub use planning::{plan, plan_in};
 pub use plans::Plan;
+pub use row_plans::{RowPlan, check_rows, plan_rows};
 pub use solving::solve;
 pub use tree::Tree;
