@@ -1,0 +1,7 @@
+pub mod Lent
+pub mod Arguments
+pub mod Combined
+pub mod Windows
+pub mod Stripes
+pub mod Rebuilt
+pub mod Encoded
