@@ -3,3 +3,4 @@ pub mod Combinations
 pub mod Stripes
 pub mod Exports
 pub mod EncodeLemmas
+pub mod Many

@@ -4,4 +4,5 @@ pub mod Combined
 pub mod Windows
 pub mod Stripes
 pub mod Rebuilt
+pub mod RebuiltMany
 pub mod Encoded

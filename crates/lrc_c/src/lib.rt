@@ -10,6 +10,7 @@ mod kernels;
 mod lent;
 mod planning;
 mod rebuilding;
+mod rebuilding_many;
 mod version;
 mod windows;
 
