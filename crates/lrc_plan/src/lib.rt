@@ -3,6 +3,7 @@
 //! and 3.
 #![tactic(auto)]
 
+pub mod answer_laws;
 mod both_branches;
 mod checks;
 mod copying;
