@@ -9,7 +9,12 @@ PREFIX := /usr/local
 DESTDIR :=
 PLACE = $(DESTDIR)$(PREFIX)
 
-.PHONY: build demo install uninstall test wrong-bodies scale bench
+# The C library's version, which its header tells; the first number of the shared object's name changes with its calls.
+LIBRARY_VERSION := $(shell sed -n 's/^.define LRC_VERSION "\(.*\)"$$/\1/p' include/lrc.h)
+SONAME := liblrc.so.0
+LIBRARY := crates/lrc_c/out
+
+.PHONY: build demo install uninstall library install-library uninstall-library test wrong-bodies scale bench
 
 # Proves the program and what it stands on, and builds crates/rebuild/out/rebuild.
 build:
@@ -36,6 +41,26 @@ uninstall:
 	rm -f "$(PLACE)/share/zsh/site-functions/_rebuild"
 	rm -f "$(PLACE)/share/fish/vendor_completions.d/rebuild.fish"
 
+# Proves the C library and what it stands on, and builds it: crates/lrc_c/out/liblrc_c.a and the shared object.
+library:
+	cd crates/lrc_c && rt lib --cpu=$(CPU)
+	$(CC) -shared -o $(LIBRARY)/$(SONAME) -Wl,--whole-archive $(LIBRARY)/liblrc_c.a -Wl,--no-whole-archive -Wl,-z,defs -Wl,-soname,$(SONAME)
+
+# Builds nothing, as `install`.
+install-library:
+	@test -f $(LIBRARY)/$(SONAME) || { echo "The library isn't built: run 'make library' first." >&2; exit 1; }
+	install -D -m 644 include/lrc.h "$(PLACE)/include/lrc.h"
+	install -D -m 644 $(LIBRARY)/liblrc_c.a "$(PLACE)/lib/liblrc.a"
+	install -D -m 755 $(LIBRARY)/$(SONAME) "$(PLACE)/lib/liblrc.so.$(LIBRARY_VERSION)"
+	ln -sf liblrc.so.$(LIBRARY_VERSION) "$(PLACE)/lib/$(SONAME)"
+	ln -sf $(SONAME) "$(PLACE)/lib/liblrc.so"
+	install -d "$(PLACE)/lib/pkgconfig"
+	sed 's|@PREFIX@|$(PREFIX)|; s|@VERSION@|$(LIBRARY_VERSION)|' library/lrc.pc.in > "$(PLACE)/lib/pkgconfig/lrc.pc"
+
+uninstall-library:
+	rm -f "$(PLACE)/include/lrc.h" "$(PLACE)/lib/liblrc.a" "$(PLACE)/lib/pkgconfig/lrc.pc"
+	rm -f "$(PLACE)/lib/liblrc.so" "$(PLACE)/lib/$(SONAME)" "$(PLACE)/lib/liblrc.so.$(LIBRARY_VERSION)"
+
 # The gate leaves the programs and tests that it proved and built in each crate's out/, and the scripts run those.
 test:
 	scripts/wrong-bodies.sh
@@ -51,6 +76,7 @@ test:
 	scripts/install.sh
 	scripts/version.sh
 	scripts/split-lists-test.py
+	scripts/library.sh
 
 wrong-bodies:
 	scripts/try-wrong-bodies.sh
@@ -62,3 +88,4 @@ scale: build
 bench: build
 	scripts/bench.sh $(CPU)
 	scripts/bench-farm.sh $(CPU)
+	scripts/bench-library.sh $(CPU)

@@ -30,6 +30,10 @@ pub record IsCombined (n : ℕ) (ts : List Term) (bytes : List ℕ) : Type 0 whe
 abbrev pub AreZeroBelow : ℕ → List Term → Type 0
 AreZeroBelow n ts = (i : ℕ) → i < n → sum_at ts i ≡ 0
 
+-- the sum of the terms is 0 at the places from one on and below another
+abbrev pub AreZeroBetween : ℕ → ℕ → List Term → Type 0
+AreZeroBetween from to ts = (i : ℕ) → from ≤ i → i < to → sum_at ts i ≡ 0
+
 -- a scalar's tables; 0 and 1 may have none
 abbrev pub IsTableOf : ℕ → Option ℕ → Type 0
 IsTableOf c o = MatchOption o (c < 2) (λ t. t ≡ c)

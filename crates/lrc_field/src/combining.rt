@@ -2,7 +2,7 @@
 //! are written.
 ghost use Rattle.std.specs.Prelude.{◌≡◌, ◌<◌, ◌≤◌, ◌+◌, ◌^◌, ℕ, Bool, true, false, ◌↔◌, IfOk, OnOk, bit_xor, length, slice_index, slice_index_or, None};
 ghost use Rattle.lrc_field.specs.Blocks.{HasLanes, HasQuad, AreSet};
-ghost use Rattle.lrc_field.specs.Combined.{AreZeroBelow, HaveLength, HaveTables, IsAddedBelow, IsCombined, IsTableOf, Reach, sum_at};
+ghost use Rattle.lrc_field.specs.Combined.{AreZeroBelow, AreZeroBetween, HaveLength, HaveTables, IsAddedBelow, IsCombined, IsTableOf, Reach, sum_at};
 ghost use Rattle.lrc_field.specs.Field.{times};
 
 use crate::blocks::{self, Quad, Tables};
@@ -189,6 +189,23 @@ fn add_few(dst: &mut [u8], from: usize, c: Gf, bytes: &[u8])
     }
 }
 
+/// Writes over each byte the sum of the terms at its place, where the first byte stands at place `from`. Takes no
+/// memory.
+pub fn combine_into(dst: &mut [u8], from: usize, terms: &[Term])
+    requires few { length terms.now ≤ 16 }
+    requires fits { from + length dst.old < 2 ^ 64 }
+    requires room { Reach (from + length dst.old) terms.now }
+    ensures len { length dst.new ≡ length dst.old }
+    ensures sums { AreSet (λ k. sum_at terms.now (from + k)) dst.new (length dst.old) }
+{
+    if dst.len() < 32 {
+        write_few(dst, from, terms);
+        return;
+    }
+    let tables = tables_of(terms);
+    write_sums(dst, from, terms, &tables);
+}
+
 /// The sum of the terms at each of `len` places, in a vector that `alloc` gives. The vector is written once: nothing
 /// is filled with zeros but the part that is about to be written.
 pub fn combined<A: Allocator>(
@@ -261,15 +278,28 @@ pub fn sums_are_zero(len: usize, terms: &[Term]) -> bool
         let mut sums = [0u8; 32];
         return few_are_zero(&mut sums[..len], terms);
     }
+    sums_are_zero_between(0, len, terms)
+}
+
+/// Whether the sum of the terms is 00 at each place from `from` on and below `to`.
+pub fn sums_are_zero_between(from: usize, to: usize, terms: &[Term]) -> bool
+    requires few { length terms.now ≤ 16 }
+    requires room { Reach to terms.now }
+    ensures yes { result ≡ true → AreZeroBetween from to terms.now }
+    ensures no { result ≡ false → ¬ AreZeroBetween from to terms.now }
+{
+    if from >= to {
+        return true;
+    }
     let tables = tables_of(terms);
     let mut part = [0u8; 1024];
-    let mut from = 0;
-    'parts: while from < len {
-        let size = (len - from).min(1024);
-        if !part_is_zero(&mut part[..size], from, terms, &tables) {
+    let mut at = from;
+    'parts: while at < to {
+        let size = (to - at).min(1024);
+        if !part_is_zero(&mut part[..size], at, terms, &tables) {
             return false;
         }
-        from += size;
+        at += size;
     }
     true
 }

@@ -9,6 +9,6 @@ mod kernels;
 pub mod laws;
 mod tables;
 
-pub use combining::{Term, combined, sums_are_zero};
+pub use combining::{Term, combine_into, combined, sums_are_zero, sums_are_zero_between};
 pub use element::Gf;
 pub use kernels::{add_into, scale_add_into};

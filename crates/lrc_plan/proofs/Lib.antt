@@ -12,3 +12,4 @@ pub mod Dependences
 pub mod Ranks
 pub mod TermRows
 pub mod RowPlanLaws
+pub mod AnswerLaws

@@ -1,3 +1,4 @@
+pub mod AnswerLaws
 pub mod Form
 pub mod Tree
 pub mod Extensions

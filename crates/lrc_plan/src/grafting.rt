@@ -6,12 +6,22 @@ ghost use Rattle.lrc_plan.specs.Tree.{form_of};
 use crate::tree::Tree;
 use lrc_code::Place;
 use std::alloc::{AllocError, Allocator};
+use std::fmt::{self, Debug, Formatter, Write};
+use thiserror::Error;
 
 /// No memory for a graft: both trees come back as they were.
-#[derive(Drop)]
+#[derive(Drop, Error)]
+#[error("out of memory for a graft")]
 pub struct GraftRefused<A: Allocator> {
     pub host: Tree<A>,
     pub scion: Tree<A>,
+}
+
+impl<A: Allocator> Debug for GraftRefused<A> {
+    // Trees of any allocator are not written out.
+    fn fmt<W: Write>(&self, f: &mut Formatter<W>) -> fmt::Result {
+        f.write_str("GraftRefused")
+    }
 }
 
 impl<A: Allocator> Tree<A> {

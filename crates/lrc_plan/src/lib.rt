@@ -3,6 +3,7 @@
 //! and 3.
 #![tactic(auto)]
 
+pub mod answer_laws;
 mod both_branches;
 mod checks;
 mod copying;
@@ -24,5 +25,6 @@ pub use evaluation::evaluate;
 pub use grafting::GraftRefused;
 pub use planning::{plan, plan_in};
 pub use plans::Plan;
+pub use row_plans::{RowPlan, check_rows, plan_rows};
 pub use solving::solve;
 pub use tree::Tree;

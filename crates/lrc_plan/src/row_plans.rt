@@ -19,17 +19,17 @@ use lrc_field::Gf;
 
 /// How a lost fragment is rebuilt from survivors: coefficients by the places' indexes, 00 at places that don't survive.
 #[derive(Drop)]
-pub(crate) struct RowPlan {
+pub struct RowPlan {
     /// What the survivors' bytes are multiplied with to give the target's byte; none where two stripes with the same
     /// survivors differ there.
-    pub(crate) value: Option<[Gf; 16]>,
+    pub value: Option<[Gf; 16]>,
     /// What gives 00 at every position, in each row, exactly where the survivors are those of a stripe. A row of 00
     /// asks nothing.
-    pub(crate) checks: [[Gf; 16]; 4],
+    pub checks: [[Gf; 16]; 4],
 }
 
 /// The plan for a lost target of a code, which is one of its places, as `plan_in`. Takes no memory.
-pub(crate) fn plan_rows(code: Code, survivors: PlaceSet, target: Place) -> RowPlan
+pub fn plan_rows(code: Code, survivors: PlaceSet, target: Place) -> RowPlan
     requires lost { is_in survivors target ≡ false }
     requires place { has_place (tables_of code) target ≡ true }
     ensures { IsRowPlan (tables_of code) (is_in survivors) target result.value result.checks }
@@ -37,6 +37,16 @@ pub(crate) fn plan_rows(code: Code, survivors: PlaceSet, target: Place) -> RowPl
     let lost = code.others(survivors);
     let reduced = reduce_in(code, lost);
     rows_from(code, &reduced, survivors, target)
+}
+
+/// Rows that give 00 at every position, all of them, exactly where the survivors are those of a stripe; survivors that
+/// are not places of the code play no part. Takes no memory.
+pub fn check_rows(code: Code, survivors: PlaceSet) -> [[Gf; 16]; 4]
+    ensures { AreCheckRows (tables_of code) (is_in survivors) result }
+{
+    let lost = code.others(survivors);
+    let reduced = reduce_in(code, lost);
+    checks_from(code, &reduced, survivors)
 }
 
 // The plan from a reduction by the lost places.

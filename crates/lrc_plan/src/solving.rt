@@ -73,7 +73,7 @@ fn apply<B: Allocator>(
 }
 
 // Whether all rows' sums are 00 at every position.
-fn are_zero(rows: &[[Gf; 16]], request: &Request, sources: &Sources<'_>) -> bool
+pub(crate) fn are_zero(rows: &[[Gf; 16]], request: &Request, sources: &Sources<'_>) -> bool
     requires { AreSources request.now.survivors sources.now }
     ensures yes { result ≡ true → All (IsZeroRow request.now) rows.now }
     ensures no { result ≡ false → ¬ All (IsZeroRow request.now) rows.now }

@@ -1,0 +1,6 @@
+pub mod Masks
+pub mod Combinations
+pub mod Stripes
+pub mod Exports
+pub mod EncodeLemmas
+pub mod Many

@@ -1,0 +1,6 @@
+use Rattle.std.proofs.Common.{ℕ, ◌<◌}
+use Rattle.lrc_c.specs.Lent.{lent, IsUsedAt}
+use Rattle.lrc_c.proofs.combining.are_used.Given as goal
+
+abbrev pub invariant-loop-k : goal.invariant-loop-k
+invariant-loop-k l = (j : ℕ) → j < l.k → IsUsedAt l.coefficients (lent l.at) l.len j

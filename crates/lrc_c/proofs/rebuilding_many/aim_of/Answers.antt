@@ -1,0 +1,13 @@
+use Rattle.std.proofs.Common.{sym, subst}
+use Rattle.lrc_code.specs.Codes.{tables_of}
+use Rattle.lrc_code.specs.Sets.{is_in}
+use Rattle.lrc_c.specs.Lent.{lent, AreUsed}
+use Rattle.lrc_c.proofs.Stripes.{row_used, value_some}
+use Rattle.lrc_c.proofs.rebuilding_many.aim_of.Goals as goal
+
+pub terms_of-terms-requires-2-clause-used : goal.terms_of-terms-requires-2-clause-used
+terms_of-terms-requires-2-clause-used c =
+    subst (λ row. AreUsed row (lent c.args.at.now) c.args.len) (sym c.bytes_of.ensures)
+    (row_used c.args.code (is_in c.args.set) (lent c.args.at.now) c.args.len c.requires.whole
+    c.are_sixteen.ensures.bytes c.are_sixteen.ensures.count c.in-Some.row
+    (value_some (tables_of c.args.code) (is_in c.args.set) c.in-Lost.place c.plan_rows-plan.result.value c.in-Some.row c.in-Some.is c.plan_rows-plan.ensures.of_target).reads)

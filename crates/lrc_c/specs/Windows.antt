@@ -1,0 +1,46 @@
+-- What is tested and written in windows.
+use Rattle.std.specs.Prelude.{◌≡◌, ℕ, List}
+use Rattle.lrc_field.specs.Combined.{AreZeroBetween}
+use Rattle.lrc_c.specs.declared.windows.Wanted.{Wanted}
+use Rattle.lrc_c.specs.declared.windows.Wanted.TheVariants.{Nothing, Sums}
+use Rattle.lrc_c.specs.declared.windows.Wants.{Wants}
+use Rattle.lrc_c.specs.declared.windows.Checks.{Checks}
+use Rattle.lrc_c.specs.Combined.{HaveRoom, IsWritten}
+
+-- sums of a length have a room of that length
+abbrev pub HasRoom : ℕ → Wanted → ℕ → Type 0
+HasRoom len Nothing room = Unit
+HasRoom len (Sums ts) room = HaveRoom len ts.now × (room ≡ len)
+
+-- the sums stand in the room in front of a place
+abbrev pub IsSomeWritten : Wanted → List ℕ → ℕ → Type 0
+IsSomeWritten Nothing bytes i = Unit
+IsSomeWritten (Sums ts) bytes i = IsWritten ts.now bytes i
+
+-- each of four has its room
+pub record AreRooms (len : ℕ) (w : Wants) (a b c d : ℕ) : Type 0 where
+  pub first : HasRoom len w.first a
+  pub second : HasRoom len w.second b
+  pub third : HasRoom len w.third c
+  pub fourth : HasRoom len w.fourth d
+
+-- each of four stands in its room in front of a place
+pub record AreWritten (w : Wants) (i : ℕ) (a b c d : List ℕ) : Type 0 where
+  pub first : IsSomeWritten w.first a i
+  pub second : IsSomeWritten w.second b i
+  pub third : IsSomeWritten w.third c i
+  pub fourth : IsSomeWritten w.fourth d i
+
+-- checks of a length
+pub record AreReady (len : ℕ) (c : Checks) : Type 0 where
+  pub first : HaveRoom len c.first.now
+  pub second : HaveRoom len c.second.now
+  pub third : HaveRoom len c.third.now
+  pub fourth : HaveRoom len c.fourth.now
+
+-- each check is 0 from one place on and below another
+pub record AreZeroWithin (from to : ℕ) (c : Checks) : Type 0 where
+  pub first : AreZeroBetween from to c.first.now
+  pub second : AreZeroBetween from to c.second.now
+  pub third : AreZeroBetween from to c.third.now
+  pub fourth : AreZeroBetween from to c.fourth.now

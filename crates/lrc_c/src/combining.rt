@@ -1,0 +1,139 @@
+//! Combinations of lent bytes with coefficients, as terms.
+ghost use Rattle.std.specs.Prelude.{◌≡◌, ◌<◌, ◌≤◌, ◌^◌, ℕ, true, false, length, take};
+ghost use Rattle.lrc_field.specs.Combined.{AreZeroBetween};
+ghost use Rattle.lrc_code.specs.Encoding.{IsParity};
+ghost use Rattle.lrc_c.specs.Lent.{lent, AreUsed, IsUsedAt};
+ghost use Rattle.lrc_c.specs.Combined.{AreTermsOf, HaveRoom, IsTermAt, IsWritten};
+
+use crate::lent::Lent;
+use lrc_field::{Gf, Term, combine_into, sums_are_zero_between};
+
+/// Writes the combination of lent bytes with coefficients over the bytes. Lent bytes whose coefficient is not 00 have
+/// their length.
+pub(crate) fn combine(coefficients: &[u8], at: &[Lent], out: &mut [u8])
+    requires few { length coefficients.now ≤ 16 }
+    requires used { AreUsed coefficients.now (lent at.now) (length out.old) }
+    ensures { IsParity coefficients.now (lent at.now) (length out.old) out.new }
+{
+    let len = out.len();
+    let (terms, count) = terms_of(coefficients, at, len);
+    write_window(&terms[..count], out, 0, len);
+}
+
+/// Whether lent bytes have the length where their coefficient isn't 00.
+pub(crate) fn are_used(coefficients: &[u8], at: &[Lent], len: usize) -> bool
+    ensures yes { result ≡ true → AreUsed coefficients.now (lent at.now) len }
+    ensures no { result ≡ false → ¬ AreUsed coefficients.now (lent at.now) len }
+{
+    for k in 0..coefficients.len() {
+        if !is_used_at(coefficients, at, k, len) {
+            return false;
+        }
+    }
+    true
+}
+
+// Whether the bytes at an index have the length where their coefficient isn't 00.
+fn is_used_at(coefficients: &[u8], at: &[Lent], k: usize, len: usize) -> bool
+    requires { k < length coefficients.now }
+    ensures yes { result ≡ true → IsUsedAt coefficients.now (lent at.now) len k }
+    ensures no { result ≡ false → ¬ IsUsedAt coefficients.now (lent at.now) len k }
+{
+    if coefficients[k] == 0 {
+        return true;
+    }
+    if k >= at.len() {
+        return true;
+    }
+    at[k].bytes.len() == len
+}
+
+/// Writes the terms' sums over the bytes from place `from` on and below `to`.
+pub(crate) fn write_window(terms: &[Term], out: &mut [u8], from: usize, to: usize)
+    requires ready { HaveRoom (length out.old) terms.now }
+    requires ordered { from ≤ to }
+    requires inside { to ≤ length out.old }
+    ensures len { length out.new ≡ length out.old }
+    ensures sums { IsWritten terms.now out.old from → IsWritten terms.now out.new to }
+{
+    combine_into(&mut out[from..to], from, terms);
+}
+
+/// Whether the terms' sums are 00 at each place from `from` on and below `to`.
+pub(crate) fn is_zero(terms: &[Term], len: usize, from: usize, to: usize) -> bool
+    requires ready { HaveRoom len terms.now }
+    requires inside { to ≤ len }
+    ensures yes { result ≡ true → AreZeroBetween from to terms.now }
+    ensures no { result ≡ false → ¬ AreZeroBetween from to terms.now }
+{
+    if terms.is_empty() {
+        return true;
+    }
+    sums_are_zero_between(from, to, terms)
+}
+
+/// The terms of a combination whose coefficients aren't 00, and how many there are.
+pub(crate) fn terms_of<'a>(
+    coefficients: &[u8],
+    at: &[Lent<'a>],
+    len: usize,
+) -> ([Term<'a>; 16], usize)
+    requires few { length coefficients.now ≤ 16 }
+    requires used { AreUsed coefficients.now (lent at.now) len }
+    ensures count { result.1 ≤ 16 }
+    ensures terms { AreTermsOf coefficients.now (lent at.now) len (take result.1 result.0) }
+{
+    let mut terms = [
+        no_term(),
+        no_term(),
+        no_term(),
+        no_term(),
+        no_term(),
+        no_term(),
+        no_term(),
+        no_term(),
+        no_term(),
+        no_term(),
+        no_term(),
+        no_term(),
+        no_term(),
+        no_term(),
+        no_term(),
+        no_term(),
+    ];
+    let mut count = 0;
+    for k in 0..coefficients.len() {
+        if let Some(term) = term_at(coefficients, at, k, len) {
+            terms[count] = term;
+            count += 1;
+        }
+    }
+    (terms, count)
+}
+
+// The term at an index, with the coefficient and the lent bytes there. None only where its products are 00.
+fn term_at<'a>(coefficients: &[u8], at: &[Lent<'a>], k: usize, len: usize) -> Option<Term<'a>>
+    requires inside { k < length coefficients.now }
+    requires used { AreUsed coefficients.now (lent at.now) len }
+    ensures { IsTermAt coefficients.now (lent at.now) len k result }
+{
+    let c = coefficients[k];
+    if c == 0 {
+        return None;
+    }
+    if k >= at.len() {
+        return None;
+    }
+    Some(Term {
+        scalar: Gf::new(c),
+        bytes: at[k].bytes,
+    })
+}
+
+// A place of the array that nothing reads yet.
+fn no_term<'a>() -> Term<'a> {
+    Term {
+        scalar: Gf::new(0),
+        bytes: &[],
+    }
+}

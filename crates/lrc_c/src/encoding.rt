@@ -1,0 +1,169 @@
+//! Encoding for C.
+ghost use Rattle.std.specs.Prelude.{◌≡◌, ◌∷◌, [], ◌++◌, length, true, false};
+ghost use Rattle.lrc_code.specs.declared.codes.Code.{Code};
+ghost use Rattle.lrc_code.specs.Code.{narrow, wide};
+ghost use Rattle.lrc_code.specs.Codes.{tables_of};
+ghost use Rattle.lrc_code.specs.Encoding.{HaveLength, IsEncoding, IsParity};
+ghost use Rattle.lrc_c.specs.Lent.{lent};
+ghost use Rattle.lrc_c.specs.Windows.{AreRooms, AreWritten};
+ghost use Rattle.lrc_c.specs.Encoded.{AreShort, AreSources};
+
+use crate::arguments::code_numbered;
+use crate::checking::lent_are_bytes;
+use crate::combining::terms_of;
+use crate::lent::Lent;
+use crate::windows::{Checks, Wanted, Wants, write_checked};
+use lrc_code::Code;
+
+// Whether each slice has so many bytes.
+fn have_length(sources: &[Lent], len: usize) -> bool
+    ensures yes { result ≡ true → HaveLength len (lent sources.now) }
+    ensures no { result ≡ false → ¬ HaveLength len (lent sources.now) }
+{
+    for one in sources {
+        if one.bytes.len() != len {
+            return false;
+        }
+    }
+    true
+}
+
+// The four parities of six data fragments.
+fn encode_narrow(sources: &[Lent], px: &mut [u8], py: &mut [u8], p0: &mut [u8], p1: &mut [u8])
+    requires count { length sources.now ≡ 6 }
+    requires lengths { HaveLength (length px.old) (lent sources.now) }
+    requires rooms { (length py.old ≡ length px.old) × (length p0.old ≡ length px.old) × (length p1.old ≡ length px.old) }
+    ensures { IsEncoding narrow (length px.old) (lent sources.now) (lent sources.now ++ (px.new ∷ py.new ∷ p0.new ∷ p1.new ∷ [])) }
+{
+    lent_are_bytes(sources);
+    let rows = Rows {
+        px: &[0x01, 0x01, 0x01, 0x00, 0x00, 0x00],
+        py: &[0x00, 0x00, 0x00, 0x01, 0x01, 0x01],
+        p0: &[0x04, 0x08, 0x0c, 0x01, 0x02, 0x03],
+        p1: &[0x10, 0x40, 0x50, 0x01, 0x04, 0x05],
+    };
+    write_parities(rows, sources, px, py, p0, p1);
+}
+
+// The four parities of twelve data fragments.
+fn encode_wide(sources: &[Lent], px: &mut [u8], py: &mut [u8], p0: &mut [u8], p1: &mut [u8])
+    requires count { length sources.now ≡ 12 }
+    requires lengths { HaveLength (length px.old) (lent sources.now) }
+    requires rooms { (length py.old ≡ length px.old) × (length p0.old ≡ length px.old) × (length p1.old ≡ length px.old) }
+    ensures { IsEncoding wide (length px.old) (lent sources.now) (lent sources.now ++ (px.new ∷ py.new ∷ p0.new ∷ p1.new ∷ [])) }
+{
+    lent_are_bytes(sources);
+    let rows = Rows {
+        px: &[1, 1, 1, 1, 1, 1, 0, 0, 0, 0, 0, 0],
+        py: &[0, 0, 0, 0, 0, 0, 1, 1, 1, 1, 1, 1],
+        p0: &[
+            0x10, 0x20, 0x30, 0x40, 0x50, 0x60, 0x01, 0x02, 0x03, 0x04, 0x05, 0x06,
+        ],
+        p1: &[
+            0x1d, 0x74, 0x69, 0xcd, 0xd0, 0xb9, 0x01, 0x04, 0x05, 0x10, 0x11, 0x14,
+        ],
+    };
+    write_parities(rows, sources, px, py, p0, p1);
+}
+
+// The coefficients of the data fragments in each parity.
+#[derive(Clone, Copy)]
+struct Rows<'a> {
+    px: &'a [u8],
+    py: &'a [u8],
+    p0: &'a [u8],
+    p1: &'a [u8],
+}
+
+// The four parities of data fragments, in one pass.
+fn write_parities(
+    rows: Rows,
+    sources: &[Lent],
+    px: &mut [u8],
+    py: &mut [u8],
+    p0: &mut [u8],
+    p1: &mut [u8],
+)
+    requires few { AreShort rows }
+    requires lengths { HaveLength (length px.old) (lent sources.now) }
+    requires rooms { (length py.old ≡ length px.old) × (length p0.old ≡ length px.old) × (length p1.old ≡ length px.old) }
+    ensures px { IsParity rows.entry.px.now (lent sources.now) (length px.old) px.new }
+    ensures py { IsParity rows.entry.py.now (lent sources.now) (length px.old) py.new }
+    ensures p0 { IsParity rows.entry.p0.now (lent sources.now) (length px.old) p0.new }
+    ensures p1 { IsParity rows.entry.p1.now (lent sources.now) (length px.old) p1.new }
+{
+    let len = px.len();
+    let (px_terms, px_count) = terms_of(rows.px, sources, len);
+    let (py_terms, py_count) = terms_of(rows.py, sources, len);
+    let (p0_terms, p0_count) = terms_of(rows.p0, sources, len);
+    let (p1_terms, p1_count) = terms_of(rows.p1, sources, len);
+    let wants = Wants {
+        first: Wanted::Sums(&px_terms[..px_count]),
+        second: Wanted::Sums(&py_terms[..py_count]),
+        third: Wanted::Sums(&p0_terms[..p0_count]),
+        fourth: Wanted::Sums(&p1_terms[..p1_count]),
+    };
+    write_all(wants, len, px, py, p0, p1);
+}
+
+// Writes what is wanted, without checks.
+fn write_all(wants: Wants, len: usize, a: &mut [u8], b: &mut [u8], c: &mut [u8], d: &mut [u8])
+    requires { AreRooms len wants (length a.old) (length b.old) (length c.old) (length d.old) }
+    ensures { AreWritten wants.entry len a.new b.new c.new d.new }
+{
+    let none = Checks {
+        first: &[],
+        second: &[],
+        third: &[],
+        fourth: &[],
+    };
+    let _ = write_checked(none, wants, len, a, b, c, d);
+}
+
+/// Writes the four parities of the data fragments, which stand in the order of the code. 0: done. 3: the code has
+/// another number of data fragments, or the lengths differ, and nothing is written.
+#[unsafe(no_mangle)]
+pub extern "C" fn lrc_encode_into(
+    code: u8,
+    sources: &[Lent],
+    px: &mut [u8],
+    py: &mut [u8],
+    p0: &mut [u8],
+    p1: &mut [u8],
+) -> u32
+    ensures encoded { (c : Code) → AreSources code (lent sources.now) (length px.old) (length py.old) (length p0.old) (length p1.old) c
+        → (result ≡ 0) × IsEncoding (tables_of c) (length px.old) (lent sources.now) (lent sources.now ++ (px.new ∷ py.new ∷ p0.new ∷ p1.new ∷ [])) }
+    ensures refused { ((c : Code) → ¬ AreSources code (lent sources.now) (length px.old) (length py.old) (length p0.old) (length p1.old) c)
+        → (result ≡ 3) × (px.new ≡ px.old) × (py.new ≡ py.old) × (p0.new ≡ p0.old) × (p1.new ≡ p1.old) }
+{
+    let len = px.len();
+    if py.len() != len {
+        return 3;
+    }
+    if p0.len() != len {
+        return 3;
+    }
+    if p1.len() != len {
+        return 3;
+    }
+    if !have_length(sources, len) {
+        return 3;
+    }
+    match code_numbered(code) {
+        Some(Code::Narrow) => {
+            if sources.len() != 6 {
+                return 3;
+            }
+            encode_narrow(sources, px, py, p0, p1);
+            0
+        }
+        Some(Code::Wide) => {
+            if sources.len() != 12 {
+                return 3;
+            }
+            encode_wide(sources, px, py, p0, p1);
+            0
+        }
+        None => 3,
+    }
+}

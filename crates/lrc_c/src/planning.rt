@@ -1,0 +1,79 @@
+//! Plans for C.
+ghost use Rattle.std.specs.Prelude.{◌≡◌, ◌⊎◌, ℕ, Bool, true, List, Some, None, length};
+ghost use Rattle.lrc_code.specs.declared.places.Place.{Place};
+ghost use Rattle.lrc_code.specs.declared.codes.Code.{Code};
+ghost use Rattle.lrc_code.specs.Codes.{tables_of};
+ghost use Rattle.lrc_plan.specs.RowPlans.{IsRowPlan, IsValueRow};
+ghost use Rattle.lrc_code.specs.Code.{has_place};
+ghost use Rattle.lrc_code.specs.Encoding.{IsParity};
+ghost use Rattle.lrc_c.specs.Arguments.{AreWhole, is_set, IsLost};
+ghost use Rattle.lrc_c.specs.Lent.{lent, at_place, AreUsed};
+ghost use Rattle.lrc_c.specs.Stripes.{Keeps};
+
+use crate::arguments::{lost_place, set_of};
+use crate::checking::{are_sixteen, bytes_of};
+use crate::combining::{are_used, combine};
+use crate::lent::Lent;
+use lrc_field::Gf;
+use lrc_plan::plan_rows;
+
+/// Coefficients by the places' indexes: what gives the target, and four rows that all give 00 exactly where the
+/// survivors are those of a stripe. A row of 00 asks nothing.
+#[repr(C)]
+#[derive(Drop)]
+pub struct Plan {
+    pub value: [u8; 16],
+    pub checks: [[u8; 16]; 4],
+}
+
+// The coefficients of four rows as bytes.
+fn all_bytes_of(rows: [[Gf; 16]; 4]) -> [[u8; 16]; 4]
+    ensures { result ≡ rows }
+{
+    let [a, b, c, d] = rows;
+    [bytes_of(&a), bytes_of(&b), bytes_of(&c), bytes_of(&d)]
+}
+
+/// The plan for a lost place from the survivors, whose bits are set. 0: the target is determined. 2: it is not; the
+/// checks are written, and the coefficients stay as they are. 3: the arguments are no lost place of a code, and nothing
+/// is written.
+#[unsafe(no_mangle)]
+pub extern "C" fn lrc_plan_into(code: u8, survivors: u32, target: u8, plan: &mut Plan) -> u32
+    ensures answer { (c : Code) (p : Place) → IsLost code survivors target c p
+        → ((result ≡ 0) × IsRowPlan (tables_of c) (is_set survivors) p (Some plan.new.value) plan.new.checks)
+        ⊎ ((result ≡ 2) × IsRowPlan (tables_of c) (is_set survivors) p None plan.new.checks) }
+    ensures refused { ((c : Code) (p : Place) → ¬ IsLost code survivors target c p) → (result ≡ 3) × (plan.new ≡ plan.old) }
+{
+    let Some(lost) = lost_place(code, survivors, target) else {
+        return 3;
+    };
+    let rows = plan_rows(lost.code, set_of(survivors), lost.place);
+    plan.checks = all_bytes_of(rows.checks);
+    match rows.value {
+        Some(value) => {
+            plan.value = bytes_of(&value);
+            0
+        }
+        None => 2,
+    }
+}
+
+/// Writes over `out` what a row of a plan gives: the sum of the bytes in `at`, each times its coefficient. Bytes whose
+/// coefficient is 00 are not read. 0: done; with the row of a target it has the bytes that each stripe with these survivors has
+/// there. 3: bytes whose coefficient is not 00 have another length than `out`, and nothing is written.
+#[unsafe(no_mangle)]
+pub extern "C" fn lrc_apply(row: &[u8; 16], at: &[Lent; 16], out: &mut [u8]) -> u32
+    ensures done { AreUsed row.now (lent at.now) (length out.old)
+        → (result ≡ 0) × IsParity row.now (lent at.now) (length out.old) out.new }
+    ensures planned { (c : Code) (survives : Place → Bool) (p : Place) → has_place (tables_of c) p ≡ true
+        → IsValueRow (tables_of c) survives p row.now → AreWhole c survives (lent at.now) (length out.old)
+        → (s : Place → List ℕ) → Keeps (tables_of c) survives (at_place (lent at.now)) (length out.old) s → s p ≡ out.new }
+    ensures refused { ¬ AreUsed row.now (lent at.now) (length out.old) → (result ≡ 3) × (out.new ≡ out.old) }
+{
+    are_sixteen(at);
+    if !are_used(row, at, out.len()) {
+        return 3;
+    }
+    combine(row, at, out);
+    0
+}

@@ -1,0 +1,114 @@
+//! Rebuilding a lost fragment.
+ghost use Rattle.std.specs.Prelude.{◌≡◌, ◌<◌, true, false, length, All};
+ghost use Rattle.lrc_code.specs.declared.places.Place.{Place};
+ghost use Rattle.lrc_code.specs.declared.codes.Code.{Code};
+ghost use Rattle.lrc_code.specs.Code.{has_place};
+ghost use Rattle.lrc_code.specs.Codes.{tables_of};
+ghost use Rattle.lrc_code.specs.Encoding.{IsParity};
+ghost use Rattle.lrc_code.specs.Sets.{is_in};
+ghost use Rattle.lrc_c.specs.declared.rebuilding.Answer.{Answer};
+ghost use Rattle.lrc_c.specs.Lent.{lent, at_place, AreUsed};
+ghost use Rattle.lrc_c.specs.Arguments.{AreWhole, is_set, IsAsked};
+ghost use Rattle.lrc_c.specs.Stripes.{AreZeroRows};
+ghost use Rattle.lrc_c.specs.Rebuilt.{status_of, IsAnswerAt};
+
+use crate::arguments::{are_whole, lost_place, set_of};
+use crate::checking::{are_sixteen, are_zero, bytes_of, write_if_zero};
+use crate::combining::terms_of;
+use crate::lent::Lent;
+use crate::windows::{Wanted, Wants};
+use lrc_code::{Code, Place, PlaceSet};
+use lrc_field::Gf;
+use lrc_plan::plan_rows;
+
+/// What is told of a lost fragment.
+#[derive(Clone, Copy, PartialEq, Eq)]
+pub enum Answer {
+    Rebuilt,
+    Contradiction,
+    Several,
+}
+
+// The answer for a lost target; its bytes are written if they are rebuilt.
+fn rebuild(code: Code, set: PlaceSet, at: &[Lent; 16], target: Place, out: &mut [u8]) -> Answer
+    requires some { 0 < length out.old }
+    requires whole { AreWhole code (is_in set) (lent at.now) (length out.old) }
+    requires place { has_place (tables_of code) target ≡ true }
+    requires lost { is_in set target ≡ false }
+    ensures { IsAnswerAt (tables_of code) (is_in set) (at_place (lent at.now)) (length out.old) target result out.new }
+{
+    are_sixteen(at);
+    let len = out.len();
+    let plan = plan_rows(code, set, target);
+    let Some(row) = plan.value else {
+        if !are_zero(plan.checks, at, len) {
+            return Answer::Contradiction;
+        }
+        return Answer::Several;
+    };
+    if !write_value(plan.checks, &row, at, out) {
+        return Answer::Contradiction;
+    }
+    Answer::Rebuilt
+}
+
+// Tests the checks, and writes a row's combination in the same pass.
+fn write_value(checks: [[Gf; 16]; 4], row: &[Gf; 16], at: &[Lent; 16], out: &mut [u8]) -> bool
+    requires checks { All (λ row. AreUsed row (lent at.now) (length out.old)) checks }
+    requires row { AreUsed row.now (lent at.now) (length out.old) }
+    ensures zero { result ≡ true → AreZeroRows checks (lent at.now) (length out.old) }
+    ensures value { result ≡ true → IsParity row.now (lent at.now) (length out.old) out.new }
+    ensures no { result ≡ false → ¬ AreZeroRows checks (lent at.now) (length out.old) }
+{
+    let len = out.len();
+    let (terms, count) = terms_of(&bytes_of(row), at, len);
+    let wants = Wants {
+        first: Wanted::Sums(&terms[..count]),
+        second: Wanted::Nothing,
+        third: Wanted::Nothing,
+        fourth: Wanted::Nothing,
+    };
+    write_if_zero(checks, at, wants, len, out, &mut [], &mut [], &mut [])
+}
+
+fn status_of(answer: Answer) -> u32
+    ensures { result ≡ status_of answer }
+{
+    match answer {
+        Answer::Rebuilt => 0,
+        Answer::Contradiction => 1,
+        Answer::Several => 2,
+    }
+}
+
+/// Rebuilds the fragment at a lost place from the survivors, whose bits are set; their bytes stand in `at` by the
+/// places' indexes. 0: `out` has the bytes that every stripe with these survivors has there. 1: no stripe has them.
+/// 2: two stripes with these survivors differ there. 3: the arguments are not of that kind, and nothing is written.
+#[unsafe(no_mangle)]
+pub extern "C" fn lrc_rebuild_into(
+    code: u8,
+    survivors: u32,
+    at: &[Lent; 16],
+    target: u8,
+    out: &mut [u8],
+) -> u32
+    ensures answer { (c : Code) (p : Place) → IsAsked code survivors target (lent at.now) (length out.old) c p
+        → (a : Answer) × (result ≡ status_of a)
+        × IsAnswerAt (tables_of c) (is_set survivors) (at_place (lent at.now)) (length out.old) p a out.new }
+    ensures refused { ((c : Code) (p : Place) → ¬ IsAsked code survivors target (lent at.now) (length out.old) c p)
+        → (result ≡ 3) × (out.new ≡ out.old) }
+{
+    let Some(lost) = lost_place(code, survivors, target) else {
+        return 3;
+    };
+    let len = out.len();
+    if len == 0 {
+        return 3;
+    }
+    let set = set_of(survivors);
+    if !are_whole(lost.code, set, at, len) {
+        return 3;
+    }
+    let answer = rebuild(lost.code, set, at, lost.place, out);
+    status_of(answer)
+}

@@ -1,0 +1,225 @@
+//! Rebuilding up to four lost fragments of a stripe in one pass.
+ghost use Rattle.std.specs.Prelude.{◌≡◌, ◌<◌, ◌≤◌, true, false, length, take, max, MatchOption, slice_index};
+ghost use Rattle.lrc_code.specs.declared.codes.Code.{Code};
+ghost use Rattle.lrc_code.specs.Sets.{is_in};
+ghost use Rattle.lrc_c.specs.Arguments.{AreWhole, is_set};
+ghost use Rattle.lrc_c.specs.Lent.{lent};
+ghost use Rattle.lrc_c.specs.RebuiltMany.{AreAllAsked, AreAnswered, IsAimed, IsAsked, IsLostOf, IsReady, IsTargetOf, IsTold, IsWantedOf, status_at};
+
+use crate::arguments::{are_whole, code_numbered, set_of};
+use crate::checking::{are_sixteen, bytes_of, write_if_zero};
+use crate::combining::terms_of;
+use crate::lent::Lent;
+use crate::windows::{Wanted, Wants};
+use lrc_code::{Code, Place, PlaceSet};
+use lrc_field::Term;
+use lrc_plan::{check_rows, plan_rows};
+
+/// The number that stands where no target is asked for.
+pub const NO_PLACE: u8 = 255;
+
+/// A target, or none.
+#[derive(Clone, Copy)]
+pub enum Target {
+    Nothing,
+    Lost(Place),
+}
+
+/// Four targets.
+#[derive(Clone, Copy)]
+pub struct Targets {
+    pub first: Target,
+    pub second: Target,
+    pub third: Target,
+    pub fourth: Target,
+}
+
+/// What a target's plan asks for.
+#[derive(Clone, Copy)]
+pub enum Aim {
+    Nothing,
+    /// The survivors don't determine the target.
+    Several,
+    /// A combination of the survivors.
+    Sums,
+}
+
+/// The numbers that C gets for four targets.
+#[derive(Clone, Copy)]
+pub struct Statuses {
+    pub first: u32,
+    pub second: u32,
+    pub third: u32,
+    pub fourth: u32,
+}
+
+// The target of a number, where that is none, or a lost place of the code whose room has the length.
+fn target_of(code: Code, set: PlaceSet, number: u8, room: usize, len: usize) -> Option<Target>
+    ensures { MatchOption result (¬ IsAsked code (is_in set) len number room) (IsTargetOf code (is_in set) len number room) }
+{
+    if number == NO_PLACE {
+        return Some(Target::Nothing);
+    }
+    let Some(place) = Place::from_index(number as usize) else {
+        return None;
+    };
+    if !code.has(place) {
+        return None;
+    }
+    if set.has(place) {
+        return None;
+    }
+    if room != len {
+        return None;
+    }
+    Some(Target::Lost(place))
+}
+
+// What the plan of a target asks for, with the terms of its combination and their number.
+fn aim_of<'a>(
+    code: Code,
+    set: PlaceSet,
+    at: &[Lent<'a>; 16],
+    len: usize,
+    target: Target,
+) -> (Aim, [Term<'a>; 16], usize)
+    requires whole { AreWhole code (is_in set) (lent at.now) len }
+    requires target { IsLostOf code (is_in set) target }
+    ensures few { result.2 ≤ 16 }
+    ensures aim { IsAimed code (is_in set) (lent at.now) len target result.0 (take result.2 result.1) }
+{
+    are_sixteen(at);
+    let Target::Lost(place) = target else {
+        let (terms, count) = terms_of(&[], at, len);
+        return (Aim::Nothing, terms, count);
+    };
+    let plan = plan_rows(code, set, place);
+    let Some(row) = plan.value else {
+        let (terms, count) = terms_of(&[], at, len);
+        return (Aim::Several, terms, count);
+    };
+    let (terms, count) = terms_of(&bytes_of(&row), at, len);
+    (Aim::Sums, terms, count)
+}
+
+fn wanted_of<'s, 'a>(aim: Aim, terms: &'s [Term<'a>]) -> Wanted<'s, 'a>
+    ensures { IsWantedOf aim terms.entry.now result }
+{
+    match aim {
+        Aim::Sums => Wanted::Sums(terms),
+        Aim::Nothing | Aim::Several => Wanted::Nothing,
+    }
+}
+
+// The number that C gets for a target, by whether the checks are 00.
+fn status_at(aim: Aim, possible: bool) -> u32
+    ensures { result ≡ status_at aim possible }
+{
+    match aim {
+        Aim::Nothing => 0,
+        Aim::Several => { if possible { 2 } else { 1 } }
+        Aim::Sums => { if possible { 0 } else { 1 } }
+    }
+}
+
+// The answers for four targets; the bytes of those that are rebuilt are written.
+fn rebuild_four(
+    code: Code,
+    set: PlaceSet,
+    at: &[Lent; 16],
+    len: usize,
+    targets: Targets,
+    a: &mut [u8],
+    b: &mut [u8],
+    c: &mut [u8],
+    d: &mut [u8],
+) -> Statuses
+    requires some { 0 < len }
+    requires whole { AreWhole code (is_in set) (lent at.now) len }
+    requires first { IsReady code (is_in set) len targets.first (length a.old) }
+    requires second { IsReady code (is_in set) len targets.second (length b.old) }
+    requires third { IsReady code (is_in set) len targets.third (length c.old) }
+    requires fourth { IsReady code (is_in set) len targets.fourth (length d.old) }
+    ensures first { IsTold code (is_in set) (lent at.now) len targets.first result.first a.new }
+    ensures second { IsTold code (is_in set) (lent at.now) len targets.second result.second b.new }
+    ensures third { IsTold code (is_in set) (lent at.now) len targets.third result.third c.new }
+    ensures fourth { IsTold code (is_in set) (lent at.now) len targets.fourth result.fourth d.new }
+{
+    are_sixteen(at);
+    let checks = check_rows(code, set);
+    let (first_aim, first_terms, first_count) = aim_of(code, set, at, len, targets.first);
+    let (second_aim, second_terms, second_count) = aim_of(code, set, at, len, targets.second);
+    let (third_aim, third_terms, third_count) = aim_of(code, set, at, len, targets.third);
+    let (fourth_aim, fourth_terms, fourth_count) = aim_of(code, set, at, len, targets.fourth);
+    let wants = Wants {
+        first: wanted_of(first_aim, &first_terms[..first_count]),
+        second: wanted_of(second_aim, &second_terms[..second_count]),
+        third: wanted_of(third_aim, &third_terms[..third_count]),
+        fourth: wanted_of(fourth_aim, &fourth_terms[..fourth_count]),
+    };
+    let possible = write_if_zero(checks, at, wants, len, a, b, c, d);
+    Statuses {
+        first: status_at(first_aim, possible),
+        second: status_at(second_aim, possible),
+        third: status_at(third_aim, possible),
+        fourth: status_at(fourth_aim, possible),
+    }
+}
+
+/// Rebuilds the fragments at up to four lost places from the survivors, in one pass over these; the checks are tested
+/// once. A target of 255 is none, and gets the status 0. The others get the statuses of `lrc_rebuild_into`, and their rooms,
+/// in the targets' order, have the length. The answer is the greatest status; 3: the arguments are not of that kind, and
+/// nothing is written.
+#[unsafe(no_mangle)]
+pub extern "C" fn lrc_rebuild_many_into(
+    code: u8,
+    survivors: u32,
+    at: &[Lent; 16],
+    len: usize,
+    targets: &[u8; 4],
+    a: &mut [u8],
+    b: &mut [u8],
+    c: &mut [u8],
+    d: &mut [u8],
+    statuses: &mut [u32; 4],
+) -> u32
+    ensures answer { (o : Code) → AreAllAsked code survivors (lent at.now) len targets.now (length a.old) (length b.old) (length c.old) (length d.old) o
+        → AreAnswered o (is_set survivors) (lent at.now) len targets.now statuses.new a.new b.new c.new d.new }
+    ensures greatest { (o : Code) → AreAllAsked code survivors (lent at.now) len targets.now (length a.old) (length b.old) (length c.old) (length d.old) o
+        → result ≡ max (max (slice_index statuses.new 0) (slice_index statuses.new 1)) (max (slice_index statuses.new 2) (slice_index statuses.new 3)) }
+    ensures refused { ((o : Code) → ¬ AreAllAsked code survivors (lent at.now) len targets.now (length a.old) (length b.old) (length c.old) (length d.old) o)
+        → (result ≡ 3) × (statuses.new ≡ statuses.old) × (a.new ≡ a.old) × (b.new ≡ b.old) × (c.new ≡ c.old) × (d.new ≡ d.old) }
+{
+    let Some(own) = code_numbered(code) else {
+        return 3;
+    };
+    if len == 0 {
+        return 3;
+    }
+    let set = set_of(survivors);
+    if !are_whole(own, set, at, len) {
+        return 3;
+    }
+    let [number_a, number_b, number_c, number_d] = *targets;
+    let Some(first) = target_of(own, set, number_a, a.len(), len) else {
+        return 3;
+    };
+    let Some(second) = target_of(own, set, number_b, b.len(), len) else {
+        return 3;
+    };
+    let Some(third) = target_of(own, set, number_c, c.len(), len) else {
+        return 3;
+    };
+    let Some(fourth) = target_of(own, set, number_d, d.len(), len) else {
+        return 3;
+    };
+    let asked = Targets {
+        first,
+        second,
+        third,
+        fourth,
+    };
+    let told = rebuild_four(own, set, at, len, asked, a, b, c, d);
+    *statuses = [told.first, told.second, told.third, told.fourth];
+    told.first.max(told.second).max(told.third.max(told.fourth))
+}

@@ -1,0 +1,103 @@
+//! Several combinations in one pass: window by window, each over the same bytes while these are near the processor.
+ghost use Rattle.std.specs.Prelude.{◌≡◌, ◌<◌, ◌≤◌, ℕ, true, false, length, All};
+ghost use Rattle.lrc_c.specs.Lent.{lent, AreUsed};
+ghost use Rattle.lrc_c.specs.Windows.{AreReady, AreRooms, AreWritten, AreZeroWithin, HasRoom, IsSomeWritten};
+
+use crate::combining::{is_zero, write_window};
+use lrc_field::Term;
+
+// How many bytes of each fragment a window has.
+const WINDOW: usize = 8192;
+
+/// What a room for bytes is wanted for.
+#[derive(Clone, Copy)]
+pub(crate) enum Wanted<'s, 'a> {
+    Nothing,
+    Sums(&'s [Term<'a>]),
+}
+
+/// What four rooms are wanted for.
+#[derive(Clone, Copy)]
+pub(crate) struct Wants<'s, 'a> {
+    pub(crate) first: Wanted<'s, 'a>,
+    pub(crate) second: Wanted<'s, 'a>,
+    pub(crate) third: Wanted<'s, 'a>,
+    pub(crate) fourth: Wanted<'s, 'a>,
+}
+
+/// Sums that are tested for 00.
+#[derive(Clone, Copy)]
+pub(crate) struct Checks<'a> {
+    pub(crate) first: &'a [Term<'a>],
+    pub(crate) second: &'a [Term<'a>],
+    pub(crate) third: &'a [Term<'a>],
+    pub(crate) fourth: &'a [Term<'a>],
+}
+
+/// Tests whether all checks are 00 at every place, and writes what is wanted. Where some check isn't 00 the rooms are
+/// written up to some place, and the answer is false.
+pub(crate) fn write_checked(
+    checks: Checks,
+    wants: Wants,
+    len: usize,
+    a: &mut [u8],
+    b: &mut [u8],
+    c: &mut [u8],
+    d: &mut [u8],
+) -> bool
+    requires ready { AreReady len checks }
+    requires rooms { AreRooms len wants (length a.old) (length b.old) (length c.old) (length d.old) }
+    ensures zero { result ≡ true → AreZeroWithin 0 len checks.entry }
+    ensures written { result ≡ true → AreWritten wants.entry len a.new b.new c.new d.new }
+    ensures no { result ≡ false → ¬ AreZeroWithin 0 len checks.entry }
+{
+    let mut from = 0;
+    'windows: while from < len {
+        let to = window_end(from, len);
+        if !are_zero(checks, len, from, to) {
+            return false;
+        }
+        write_wanted(wants.first, a, len, from, to);
+        write_wanted(wants.second, b, len, from, to);
+        write_wanted(wants.third, c, len, from, to);
+        write_wanted(wants.fourth, d, len, from, to);
+        from = to;
+    }
+    true
+}
+
+// The end of the window that begins at a place.
+fn window_end(from: usize, len: usize) -> usize
+    requires { from < len }
+    ensures further { from < result }
+    ensures within { result ≤ len }
+{
+    from + (len - from).min(WINDOW)
+}
+
+// Whether all sums are 00 at the places of a window.
+fn are_zero(checks: Checks, len: usize, from: usize, to: usize) -> bool
+    requires ready { AreReady len checks }
+    requires inside { to ≤ len }
+    ensures yes { result ≡ true → AreZeroWithin from to checks.entry }
+    ensures no { result ≡ false → ¬ AreZeroWithin from to checks.entry }
+{
+    is_zero(checks.first, len, from, to)
+        && is_zero(checks.second, len, from, to)
+        && is_zero(checks.third, len, from, to)
+        && is_zero(checks.fourth, len, from, to)
+}
+
+// Writes what is wanted over the places of a window.
+fn write_wanted(wanted: Wanted, out: &mut [u8], len: usize, from: usize, to: usize)
+    requires ready { HasRoom len wanted (length out.old) }
+    requires ordered { from ≤ to }
+    requires inside { to ≤ len }
+    ensures len { length out.new ≡ length out.old }
+    ensures sums { IsSomeWritten wanted.entry out.old from → IsSomeWritten wanted.entry out.new to }
+{
+    match wanted {
+        Wanted::Nothing => {}
+        Wanted::Sums(terms) => write_window(terms, out, from, to),
+    }
+}

@@ -1,0 +1,318 @@
+/* Local Reconstruction Codes with six or twelve data fragments, two local and two global parities: encoding, plans,
+ * rebuilding and verifying over the caller's buffers. docs/LIBRARY.md tells how to link it and what is proved of it.
+ *
+ * A stripe has a fragment of equal length, at least one byte, at each place of its code. Lengths are in bytes, and have no limit
+ * but memory. Codes are those of Huang et al., "Erasure Coding in Windows Azure Storage" (USENIX ATC 2012), over the field of
+ * 256 elements with the polynomial 11D; what holds of a stripe holds position by position, so fragments can be cut
+ * anywhere, and all pieces of one position are a stripe again.
+ *
+ *     uint8_t *stripe[LRC_PLACES] = {0};          // 16 pointers by place; NULL where the code has no place
+ *     ..                                          // the data, and room for LRC_PX to LRC_P1
+ *     lrc_encode(LRC_6_2_2, stripe, length);      // writes the four parities
+ *     ..
+ *     const uint8_t *left[LRC_PLACES] = {0};      // NULL: lost
+ *     ..
+ *     uint32_t status = lrc_rebuild(LRC_6_2_2, left, LRC_X0, out, length);
+ *     if (status != LRC_OK)
+ *         fprintf(stderr, "x0: %s\n", lrc_status_text(status));
+ *
+ * Memory. No function takes memory, and none keeps a pointer beyond its call: all buffers are the caller's. A call uses less
+ * than 16 KiB of stack.
+ *
+ * Threads. There is no state: any function may be called from any thread, on buffers that no other thread writes, and from a
+ * signal handler.
+ *
+ * Statuses. Each function tests its numbers and lengths, and answers LRC_BAD_ARGUMENT, with nothing written, where they are
+ * not what it asks. No function aborts, and each returns.
+ *
+ * What it cannot test is the caller's part:
+ *   - a pointer points to as many bytes as the length beside it says, and is not null, also where that length is 0;
+ *   - a buffer that is written overlaps no other argument.
+ * Of the functions in "the library's functions" the answers are proved, of those behind it not: they fill the tables. */
+#ifndef LRC_H
+#define LRC_H
+
+#include <stddef.h>
+#include <stdint.h>
+
+#define LRC_VERSION "0.1.0"
+/* 10,000 times the first number, 100 times the second, and the third: what lrc_version answers of a library of this header. */
+#define LRC_VERSION_NUMBER 100
+
+/* Stands among the targets of lrc_rebuild_many_into where there is none. */
+#define LRC_NO_PLACE 255
+
+#ifdef __cplusplus
+extern "C" {
+#endif
+
+enum lrc_code {
+    LRC_6_2_2 = 0,
+    LRC_12_2_2 = 1
+};
+
+/* The (6,2,2) code has the places LRC_X0 to LRC_P1, the (12,2,2) code all sixteen. The group of px is x0 to x2, or x0 to x5,
+ * that of py is y0 to y2, or y0 to y5: a local parity is the sum of its group. p0 and p1 are the global parities. */
+enum lrc_place {
+    LRC_X0, LRC_X1, LRC_X2, LRC_Y0, LRC_Y1, LRC_Y2, LRC_PX, LRC_PY, LRC_P0, LRC_P1,
+    LRC_X3, LRC_X4, LRC_X5, LRC_Y3, LRC_Y4, LRC_Y5,
+    LRC_PLACES
+};
+
+enum lrc_status {
+    LRC_OK = 0,            /* done: written, rebuilt, determined, those of a stripe */
+    LRC_CONTRADICTION = 1, /* no stripe has these fragments: one is damaged, or of another stripe or code */
+    LRC_SEVERAL = 2,       /* two stripes have these fragments and differ at the target: more are needed */
+    LRC_BAD_ARGUMENT = 3   /* a number or a length is not what the function asks; nothing was written */
+};
+
+/* Bytes that are lent for reading. */
+typedef struct lrc_bytes {
+    const uint8_t *at;
+    size_t length;
+} lrc_bytes;
+
+/* Coefficients by place, for a lost target and a set of survivors. At each position the target's byte is the sum of value[p]
+ * times the byte at p, over all places p; the survivors are those of a stripe exactly where, at every position and for each
+ * r, the sum of checks[r][p] times the byte at p is 0. Places that do not survive have 0 in all rows. A row of zeros asks
+ * nothing, so there are as many checks as other rows. */
+typedef struct lrc_plan {
+    uint8_t value[LRC_PLACES];
+    uint8_t checks[4][LRC_PLACES];
+} lrc_plan;
+
+/* ---- the library's functions */
+
+/* The version of the linked library; LRC_VERSION_NUMBER where it is that of this header. */
+uint32_t lrc_version(void);
+
+/* dst[i] ^= src[i]. LRC_BAD_ARGUMENT where the lengths differ. */
+uint32_t lrc_add(uint8_t *dst, size_t dst_length, const uint8_t *src, size_t src_length);
+
+/* dst[i] ^= scalar * src[i] in the field. LRC_BAD_ARGUMENT where the lengths differ. */
+uint32_t lrc_scale_add(uint8_t *dst, size_t dst_length, uint8_t scalar, const uint8_t *src, size_t src_length);
+
+/* out[i] = the sum of coefficients[k] * sources[k].at[i], each source read once. LRC_BAD_ARGUMENT where there are more than 16
+ * sources or not as many as coefficients, or where one whose coefficient is not 0 has another length than `out`; one with
+ * coefficient 0 is not read. */
+uint32_t lrc_combine(const uint8_t *coefficients, size_t count, const lrc_bytes *sources, size_t source_count, uint8_t *out,
+                     size_t length);
+
+/* Writes the four parities of the data fragments, which stand in the order x0, x1, .., y0, y1, .. LRC_BAD_ARGUMENT where
+ * the number is no code's, `count` is not 6 or 12 as the code says, or the lengths are not all one. */
+uint32_t lrc_encode_into(uint8_t code, const lrc_bytes *data, size_t count, uint8_t *px, size_t px_length, uint8_t *py,
+                         size_t py_length, uint8_t *p0, size_t p0_length, uint8_t *p1, size_t p1_length);
+
+/* Writes the plan for a lost place: bit p of `survivors` says that place p survives. LRC_OK, or LRC_SEVERAL where the
+ * survivors do not determine the target; then the checks alone are written. LRC_BAD_ARGUMENT where the code has no such
+ * place, or it survives. Bits 16 and higher, and those of places that the code has not, play no part. */
+uint32_t lrc_plan_into(uint8_t code, uint32_t survivors, uint8_t target, lrc_plan *plan);
+
+/* Writes what a row of a plan gives: the sum of row[p] times the bytes at[p]. With a plan's value these are the target's bytes
+ * in each stripe that has the survivors' bytes; with a check they are all 0 where there is such a stripe. Pieces of any length
+ * may be passed, and bytes whose coefficient is 0 are not read. LRC_BAD_ARGUMENT where others have another length than `out`. */
+uint32_t lrc_apply(const uint8_t row[LRC_PLACES], const lrc_bytes at[LRC_PLACES], uint8_t *out, size_t length);
+
+/* Writes the fragment at a lost place: LRC_OK, and each stripe that has the survivors' bytes has those in `out` there, and there
+ * is one; LRC_CONTRADICTION, and there is none; or LRC_SEVERAL. All checks are tested in any case. With the last two `out`
+ * holds anything. at[p] is read where bit p of `survivors` is set, and has the length of `out` then, which is not 0; elsewhere
+ * its pointer is not null. LRC_BAD_ARGUMENT where that is not so, where a bit is set of a place that the code has not, or where
+ * lrc_plan_into answers it. */
+uint32_t lrc_rebuild_into(uint8_t code, uint32_t survivors, const lrc_bytes at[LRC_PLACES], uint8_t target, uint8_t *out,
+                          size_t length);
+
+/* The same for up to four targets, with the survivors' checks tested once: targets[0] is written to `a`, and so on. Each has its
+ * status as lrc_rebuild_into would give it; LRC_NO_PLACE stands for no target, whose status is 0, whose room may have any
+ * length and holds anything then. The answer is the greatest status. LRC_BAD_ARGUMENT where one of the targets, or its room's
+ * length, is not as lrc_rebuild_into asks, or `length` is 0. */
+uint32_t lrc_rebuild_many_into(uint8_t code, uint32_t survivors, const lrc_bytes at[LRC_PLACES], size_t length,
+                               const uint8_t targets[4], uint8_t *a, size_t a_length, uint8_t *b, size_t b_length, uint8_t *c,
+                               size_t c_length, uint8_t *d, size_t d_length, uint32_t statuses[4]);
+
+/* Whether the survivors are those of a stripe, or with all places of the code, whether they are a stripe: LRC_OK or
+ * LRC_CONTRADICTION. LRC_BAD_ARGUMENT where the number is no code's, a bit is set of a place that the code has not, or the
+ * bytes of one have another length. */
+uint32_t lrc_verify_at(uint8_t code, uint32_t survivors, const lrc_bytes at[LRC_PLACES], size_t length);
+
+/* ---- names and numbers */
+
+/* What a status says, in English. */
+static inline const char *lrc_status_text(uint32_t status)
+{
+    switch (status) {
+    case LRC_OK:
+        return "done";
+    case LRC_CONTRADICTION:
+        return "no stripe has these fragments";
+    case LRC_SEVERAL:
+        return "the fragments that are left do not determine the lost one";
+    case LRC_BAD_ARGUMENT:
+        return "an argument is not as it has to be";
+    default:
+        return "no status";
+    }
+}
+
+/* The name of a place, as "x0"; "" of no place. */
+static inline const char *lrc_place_name(enum lrc_place place)
+{
+    static const char names[LRC_PLACES][3] = {"x0", "x1", "x2", "y0", "y1", "y2", "px", "py",
+                                              "p0", "p1", "x3", "x4", "x5", "y3", "y4", "y5"};
+    return (unsigned)place < LRC_PLACES ? names[place] : "";
+}
+
+/* The place of a name; LRC_PLACES where there is none. */
+static inline enum lrc_place lrc_place_named(const char *name)
+{
+    unsigned p = 0;
+    while (p < LRC_PLACES) {
+        const char *other = lrc_place_name((enum lrc_place)p);
+        if (name[0] == other[0] && name[0] != '\0' && name[1] == other[1] && name[1] != '\0' && name[2] == '\0')
+            break;
+        p++;
+    }
+    return (enum lrc_place)p;
+}
+
+/* How many data fragments a code has: 6 or 12. */
+static inline size_t lrc_data_count(enum lrc_code code)
+{
+    return code == LRC_6_2_2 ? 6 : 12;
+}
+
+/* The place of the i-th data fragment, in the order x0, x1, .., y0, y1, ..; LRC_PLACES where there are not as many. */
+static inline enum lrc_place lrc_data_place(enum lrc_code code, size_t i)
+{
+    static const uint8_t narrow[6] = {LRC_X0, LRC_X1, LRC_X2, LRC_Y0, LRC_Y1, LRC_Y2};
+    static const uint8_t wide[12] = {LRC_X0, LRC_X1, LRC_X2, LRC_X3, LRC_X4, LRC_X5,
+                                     LRC_Y0, LRC_Y1, LRC_Y2, LRC_Y3, LRC_Y4, LRC_Y5};
+    if (i >= lrc_data_count(code))
+        return LRC_PLACES;
+    return (enum lrc_place)(code == LRC_6_2_2 ? narrow[i] : wide[i]);
+}
+
+/* Whether the code has the place. */
+static inline int lrc_has_place(enum lrc_code code, enum lrc_place place)
+{
+    return (unsigned)place < LRC_PLACES && (code == LRC_12_2_2 || place <= LRC_P1);
+}
+
+/* How many survivors a plan's value reads. */
+static inline unsigned lrc_plan_reads(const lrc_plan *plan)
+{
+    unsigned reads = 0;
+    for (int p = 0; p < LRC_PLACES; p++)
+        reads += plan->value[p] != 0;
+    return reads;
+}
+
+/* How many checks a plan has: rows that are not all 0. */
+static inline unsigned lrc_plan_checks(const lrc_plan *plan)
+{
+    unsigned checks = 0;
+    for (int r = 0; r < 4; r++) {
+        unsigned any = 0;
+        for (int p = 0; p < LRC_PLACES; p++)
+            any |= plan->checks[r][p];
+        checks += any != 0;
+    }
+    return checks;
+}
+
+/* ---- the same over arrays of pointers by place, with one length; a null pointer is a fragment that is lost */
+
+/* Fills the table that the functions above read, and answers the survivors' bits. */
+static inline uint32_t lrc_survivors(const uint8_t *const fragments[LRC_PLACES], lrc_bytes at[LRC_PLACES], size_t length)
+{
+    static const uint8_t nothing = 0;
+    uint32_t survivors = 0;
+    for (int p = 0; p < LRC_PLACES; p++) {
+        at[p].at = fragments[p] != NULL ? fragments[p] : &nothing;
+        at[p].length = fragments[p] != NULL ? length : 0;
+        if (fragments[p] != NULL)
+            survivors |= UINT32_C(1) << p;
+    }
+    return survivors;
+}
+
+/* Writes the four parities of a stripe; the fragments at the code's data places are read. LRC_OK or LRC_BAD_ARGUMENT. */
+static inline uint32_t lrc_encode(enum lrc_code code, uint8_t *const fragments[LRC_PLACES], size_t length)
+{
+    lrc_bytes data[12];
+    if (code != LRC_6_2_2 && code != LRC_12_2_2)
+        return LRC_BAD_ARGUMENT;
+    for (size_t i = 0; i < lrc_data_count(code); i++) {
+        data[i].at = fragments[lrc_data_place(code, i)];
+        data[i].length = length;
+        if (data[i].at == NULL)
+            return LRC_BAD_ARGUMENT;
+    }
+    for (int p = LRC_PX; p <= LRC_P1; p++)
+        if (fragments[p] == NULL)
+            return LRC_BAD_ARGUMENT;
+    return lrc_encode_into((uint8_t)code, data, lrc_data_count(code), fragments[LRC_PX], length, fragments[LRC_PY], length,
+                           fragments[LRC_P0], length, fragments[LRC_P1], length);
+}
+
+/* lrc_rebuild_into: the fragment at `target`, which is lost, goes to `out`. */
+static inline uint32_t lrc_rebuild(enum lrc_code code, const uint8_t *const fragments[LRC_PLACES], enum lrc_place target,
+                                   uint8_t *out, size_t length)
+{
+    lrc_bytes at[LRC_PLACES];
+    uint32_t survivors = lrc_survivors(fragments, at, length);
+    if ((code != LRC_6_2_2 && code != LRC_12_2_2) || (unsigned)target >= LRC_PLACES || out == NULL)
+        return LRC_BAD_ARGUMENT;
+    return lrc_rebuild_into((uint8_t)code, survivors, at, (uint8_t)target, out, length);
+}
+
+/* lrc_rebuild_many_into for any number of targets, four in a pass: targets[i] goes to outs[i], and its status to statuses[i].
+ * The answer is the greatest status. With LRC_BAD_ARGUMENT, earlier fours may be written. */
+static inline uint32_t lrc_rebuild_many(enum lrc_code code, const uint8_t *const fragments[LRC_PLACES],
+                                        const enum lrc_place *targets, uint8_t *const *outs, uint32_t *statuses, size_t count,
+                                        size_t length)
+{
+    lrc_bytes at[LRC_PLACES];
+    uint32_t survivors = lrc_survivors(fragments, at, length), greatest = LRC_OK;
+    if ((code != LRC_6_2_2 && code != LRC_12_2_2) || count == 0)
+        return LRC_BAD_ARGUMENT;
+    for (size_t i = 0; i < count; i++)
+        if ((unsigned)targets[i] >= LRC_PLACES || outs[i] == NULL)
+            return LRC_BAD_ARGUMENT;
+    for (size_t from = 0; from < count; from += 4) {
+        uint8_t none[4], numbers[4], *rooms[4];
+        size_t lengths[4];
+        uint32_t told[4];
+        uint32_t status;
+        for (size_t i = 0; i < 4; i++) {
+            int asked = from + i < count;
+            numbers[i] = asked ? (uint8_t)targets[from + i] : (uint8_t)LRC_NO_PLACE;
+            rooms[i] = asked ? outs[from + i] : &none[i];
+            lengths[i] = asked ? length : 0;
+        }
+        status = lrc_rebuild_many_into((uint8_t)code, survivors, at, length, numbers, rooms[0], lengths[0], rooms[1],
+                                       lengths[1], rooms[2], lengths[2], rooms[3], lengths[3], told);
+        if (status == LRC_BAD_ARGUMENT)
+            return LRC_BAD_ARGUMENT;
+        for (size_t i = 0; i < 4 && from + i < count; i++)
+            statuses[from + i] = told[i];
+        if (status > greatest)
+            greatest = status;
+    }
+    return greatest;
+}
+
+/* lrc_verify_at: whether the fragments that are there are those of a stripe. */
+static inline uint32_t lrc_verify(enum lrc_code code, const uint8_t *const fragments[LRC_PLACES], size_t length)
+{
+    lrc_bytes at[LRC_PLACES];
+    uint32_t survivors = lrc_survivors(fragments, at, length);
+    if (code != LRC_6_2_2 && code != LRC_12_2_2)
+        return LRC_BAD_ARGUMENT;
+    return lrc_verify_at((uint8_t)code, survivors, at, length);
+}
+
+#ifdef __cplusplus
+}
+#endif
+
+#endif

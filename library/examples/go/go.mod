@@ -1,0 +1,3 @@
+module lrc
+
+go 1.19

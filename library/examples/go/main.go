@@ -1,0 +1,131 @@
+// Command lrc calls the C library through cgo: it encodes a stripe, loses three fragments and rebuilds them.
+//
+//	CGO_CFLAGS=$(pkg-config --cflags lrc) CGO_LDFLAGS=$(pkg-config --libs lrc) go run .
+package main
+
+/*
+#include <lrc.h>
+#include <stdlib.h>
+*/
+import "C"
+
+import (
+	"bytes"
+	"crypto/rand"
+	"errors"
+	"fmt"
+	"log"
+	"unsafe"
+)
+
+// What the library answers where it doesn't do what was asked.
+var (
+	ErrContradiction = errors.New("no stripe has these fragments")
+	ErrSeveral       = errors.New("the fragments that are left do not determine the lost one")
+	ErrBadArgument   = errors.New("an argument is not as it has to be")
+)
+
+func toError(status C.uint32_t) error {
+	switch status {
+	case C.LRC_OK:
+		return nil
+	case C.LRC_CONTRADICTION:
+		return ErrContradiction
+	case C.LRC_SEVERAL:
+		return ErrSeveral
+	default:
+		return ErrBadArgument
+	}
+}
+
+// Stripe has a fragment of one length at each place of the (6,2,2) code. The fragments are C's memory, since the library gets
+// a table of pointers to them, and Go's memory may not hold such a table.
+type Stripe struct {
+	length    int
+	fragments [C.LRC_PLACES]*C.uint8_t
+	lost      [C.LRC_PLACES]bool
+}
+
+// NewStripe makes a stripe of zeros. Free gives its memory back.
+func NewStripe(length int) *Stripe {
+	s := &Stripe{length: length}
+	for p := 0; p <= C.LRC_P1; p++ {
+		s.fragments[p] = (*C.uint8_t)(C.calloc(C.size_t(length), 1))
+	}
+	return s
+}
+
+// Free gives the fragments' memory back.
+func (s *Stripe) Free() {
+	for p := range s.fragments {
+		C.free(unsafe.Pointer(s.fragments[p]))
+		s.fragments[p] = nil
+	}
+}
+
+// Bytes are those of the fragment at a place, until Free.
+func (s *Stripe) Bytes(place int) []byte {
+	return unsafe.Slice((*byte)(unsafe.Pointer(s.fragments[place])), s.length)
+}
+
+// Lose says that the fragment at a place is lost.
+func (s *Stripe) Lose(place int) {
+	s.lost[place] = true
+}
+
+// Encode writes the parities.
+func (s *Stripe) Encode() error {
+	return toError(C.lrc_encode(C.LRC_6_2_2, &s.fragments[0], C.size_t(s.length)))
+}
+
+// Rebuild writes the fragment at a lost place from those that survive.
+func (s *Stripe) Rebuild(place int) error {
+	var left [C.LRC_PLACES]*C.uint8_t
+	for p, fragment := range s.fragments {
+		if !s.lost[p] {
+			left[p] = fragment
+		}
+	}
+	err := toError(C.lrc_rebuild(C.LRC_6_2_2, &left[0], C.enum_lrc_place(place), s.fragments[place], C.size_t(s.length)))
+	if err == nil {
+		s.lost[place] = false
+	}
+	return err
+}
+
+func main() {
+	if C.lrc_version() != C.LRC_VERSION_NUMBER {
+		log.Fatal("another version of the library")
+	}
+	stripe := NewStripe(100_000)
+	defer stripe.Free()
+	for p := C.LRC_X0; p <= C.LRC_Y2; p++ {
+		if _, err := rand.Read(stripe.Bytes(p)); err != nil {
+			log.Fatal(err)
+		}
+	}
+	if err := stripe.Encode(); err != nil {
+		log.Fatal(err)
+	}
+	lost := []int{C.LRC_X0, C.LRC_Y1, C.LRC_P0}
+	kept := make(map[int][]byte)
+	for _, p := range lost {
+		kept[p] = append([]byte(nil), stripe.Bytes(p)...)
+		copy(stripe.Bytes(p), make([]byte, stripe.length))
+		stripe.Lose(p)
+	}
+	for _, p := range lost {
+		if err := stripe.Rebuild(p); err != nil {
+			log.Fatal(err)
+		}
+		if !bytes.Equal(stripe.Bytes(p), kept[p]) {
+			log.Fatalf("place %d has other bytes", p)
+		}
+	}
+	stripe.Bytes(C.LRC_X1)[0] ^= 1
+	stripe.Lose(C.LRC_X0)
+	if err := stripe.Rebuild(C.LRC_X0); err != ErrContradiction {
+		log.Fatalf("a changed byte: %v", err)
+	}
+	fmt.Println("rebuilt three of ten fragments")
+}

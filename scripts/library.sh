@@ -1,0 +1,140 @@
+#!/usr/bin/env bash
+# Builds the C library, which the gate proves and doesn't build, and tries it: what the archive asks of a linker, the header by
+# several compilers and standards, the tests in C, `make install-library`, the shared object, and the examples in C, Python, Go and
+# Rust. What isn't installed is left out with a word.
+set -euo pipefail
+cd "$(dirname "$0")/.."
+scratch=$(mktemp -d)
+trap 'rm -rf "$scratch"' EXIT
+# What a make that runs this script was told is not for the runs below.
+unset MAKEFLAGS MFLAGS MAKELEVEL MAKEOVERRIDES PREFIX DESTDIR
+
+compiler=${CC:-gcc}
+archive=crates/lrc_c/out/liblrc_c.a
+warnings=(-Wall -Wextra -Wpedantic -Wconversion -Werror)
+left_out=()
+
+fail() {
+  echo "library: $1"
+  exit 1
+}
+
+# has COMMAND WHAT: whether the command is there; else what is left out without it.
+has() {
+  if command -v "$1" > "$scratch/log"; then
+    return 0
+  fi
+  left_out+=("$2 ($1 isn't installed)")
+  return 1
+}
+
+# quietly WHAT COMMAND..: runs the command, and tells what it wrote only where it fails.
+quietly() {
+  local what=$1
+  shift
+  "$@" > "$scratch/said" 2>&1 || { cat "$scratch/said"; fail "$what"; }
+}
+
+quietly 'make library' make -s library CPU=x86-64-v2
+[ "$(nm -u "$archive" | awk 'NF == 2 { print $2 }' | sort | tr '\n' ' ')" = 'memcpy memset ' ] ||
+  fail "the archive asks for $(nm -u "$archive")"
+exports='lrc_add lrc_apply lrc_combine lrc_encode_into lrc_plan_into lrc_rebuild_into lrc_rebuild_many_into lrc_scale_add lrc_verify_at lrc_version '
+[ "$(nm -g --defined-only "$archive" | awk 'NF == 3 { print $3 }' | LC_ALL=C sort | tr '\n' ' ')" = "$exports" ] ||
+  fail "the archive has other names: $(nm -g --defined-only "$archive")"
+
+# ---- the header
+for standard in c99 c11; do
+  quietly "the header by $standard" "$compiler" -std=$standard "${warnings[@]}" -Iinclude -c -o "$scratch/test.o" library/test.c
+done
+printf '#include <lrc.h>\nint main() { return lrc_version() == LRC_VERSION_NUMBER ? 0 : 1; }\n' > "$scratch/header.cc"
+for other in g++ clang++; do
+  if has "$other" "the header in C++ by $other"; then
+    quietly "the header by $other" "$other" -std=c++17 "${warnings[@]}" -Iinclude -o "$scratch/header" "$scratch/header.cc" "$archive"
+    quietly "the library from $other" "$scratch/header"
+  fi
+done
+if has clang 'the header by clang'; then
+  quietly 'the header by clang' clang -std=c11 "${warnings[@]}" -Iinclude -c -o "$scratch/test.o" library/test.c
+fi
+
+# ---- the tests
+quietly 'the tests' "$compiler" -std=c11 -O2 "${warnings[@]}" -Iinclude -o "$scratch/test" library/test.c "$archive"
+"$scratch/test" > "$scratch/told" || fail "$(tail -n 1 "$scratch/told")"
+echo "library: $(tail -n 1 "$scratch/told")"
+quietly 'the sanitizers' "$compiler" -std=c11 -O1 -g -fsanitize=address,undefined -fno-sanitize-recover=all -Iinclude -DSHORT \
+  -o "$scratch/sanitized" library/test.c "$archive"
+quietly 'the tests with sanitizers' "$scratch/sanitized"
+if has valgrind 'the tests under valgrind'; then
+  quietly 'the tests, built' "$compiler" -std=c11 -O1 -g -Iinclude -DSHORT -o "$scratch/short" library/test.c "$archive"
+  quietly 'the tests under valgrind' valgrind -q --error-exitcode=9 "$scratch/short"
+fi
+if printf '#include <isa-l.h>\n' | "$compiler" -E - > "$scratch/log" 2>&1; then
+  quietly 'the tests beside ISA-L' "$compiler" -std=c11 -O2 -Iinclude -o "$scratch/isal" library/test-isal.c "$archive" -lisal
+  "$scratch/isal" > "$scratch/told" || fail "$(tail -n 1 "$scratch/told")"
+  echo "library: $(tail -n 1 "$scratch/told")"
+else
+  left_out+=("the tests beside ISA-L (Debian's libisal-dev isn't installed)")
+fi
+
+# ---- installing
+root=$scratch/root
+prefix=/opt/lrc
+quietly 'make install-library' make -s install-library "DESTDIR=$root" PREFIX=$prefix
+version=$(sed -n 's/^#define LRC_VERSION "\(.*\)"$/\1/p' include/lrc.h)
+(cd "$root$prefix" && find . \( -type f -o -type l \) -printf '%P\n') | LC_ALL=C sort > "$scratch/came"
+printf '%s\n' include/lrc.h lib/liblrc.a lib/liblrc.so lib/liblrc.so.0 "lib/liblrc.so.$version" lib/pkgconfig/lrc.pc > "$scratch/wanted"
+diff "$scratch/wanted" "$scratch/came" || fail 'make install-library: other files came (< must come, > came)'
+shared=$root$prefix/lib/liblrc.so.$version
+[ "$(nm -D --defined-only "$shared" | awk '{ print $3 }' | LC_ALL=C sort | tr '\n' ' ')" = "$exports" ] ||
+  fail "the shared object shows $(nm -D --defined-only "$shared")"
+readelf -d "$shared" | grep -q 'soname: \[liblrc\.so\.0\]' || fail 'the shared object has no soname'
+
+here=$scratch/here
+quietly 'make install-library' make -s install-library "PREFIX=$here"
+export LD_LIBRARY_PATH=$here/lib
+if has pkg-config 'lrc.pc'; then
+  export PKG_CONFIG_PATH=$here/lib/pkgconfig
+  [ "$(pkg-config --modversion lrc)" = "$version" ] || fail "lrc.pc tells $(pkg-config --modversion lrc)"
+  flags=$(pkg-config --cflags --libs lrc)
+else
+  flags="-I$here/include -L$here/lib -llrc"
+fi
+
+# ---- the examples
+head -c 1000003 /dev/urandom > "$scratch/file"
+# shellcheck disable=SC2086
+quietly 'the example in C' "$compiler" -std=c11 -O2 "${warnings[@]}" -o "$scratch/fragments" library/examples/fragments.c $flags
+mkdir "$scratch/store"
+quietly 'the example in C' "$scratch/fragments" encode "$scratch/file" "$scratch/store"
+[ "$(find "$scratch/store" -type f | wc -l)" = 11 ] || fail "the example in C makes $(ls "$scratch/store")"
+for lost in x0 y2 p1; do
+  cp "$scratch/store/$lost" "$scratch/kept.$lost"
+  rm "$scratch/store/$lost"
+done
+quietly 'the example in C' "$scratch/fragments" rebuild "$scratch/store"
+for lost in x0 y2 p1; do
+  cmp "$scratch/kept.$lost" "$scratch/store/$lost" || fail "the example in C rebuilds another $lost"
+done
+quietly 'the example in C' "$scratch/fragments" decode "$scratch/store" "$scratch/decoded"
+cmp "$scratch/file" "$scratch/decoded" || fail 'the example in C gives another file'
+if has python3 'the example in Python'; then
+  quietly 'the example in Python' python3 library/examples/lrc.py "$here/lib/liblrc.so.0"
+fi
+if has go 'the example in Go'; then
+  cp -r library/examples/go "$scratch/go"
+  quietly 'the example in Go' env -C "$scratch/go" "GOCACHE=$scratch/cache" GOFLAGS=-mod=mod CGO_ENABLED=1 "CGO_CFLAGS=-I$here/include" \
+    "CGO_LDFLAGS=-L$here/lib -llrc" go run .
+fi
+if has rustc 'the example in Rust'; then
+  quietly 'the example in Rust' rustc --edition 2021 --crate-type rlib --crate-name lrc -o "$scratch/liblrc_rust.rlib" library/examples/rust/src/lib.rs
+  quietly 'the example in Rust' rustc --edition 2021 --extern "lrc=$scratch/liblrc_rust.rlib" -L "native=$here/lib" -o "$scratch/rust" \
+    library/examples/rust/examples/stripe.rs
+  quietly 'the example in Rust' "$scratch/rust"
+fi
+
+quietly 'make uninstall-library' make -s uninstall-library "PREFIX=$here"
+[ -z "$(find "$here" -type f -o -type l)" ] || fail "make uninstall-library leaves $(find "$here" -type f -o -type l)"
+for word in ${left_out[@]+"${left_out[@]}"}; do
+  echo "library: left out: $word"
+done
+echo 'library: the archive, the header, the shared object and the examples are as they have to be'
