@@ -117,6 +117,13 @@ for lost in x0 y2 p1; do
 done
 quietly 'the example in C' "$scratch/fragments" decode "$scratch/store" "$scratch/decoded"
 cmp "$scratch/file" "$scratch/decoded" || fail 'the example in C gives another file'
+if has pkg-config 'the commands that docs/LIBRARY.md shows' && has python3 "the commands of docs/LIBRARY.md"; then
+  mkdir "$scratch/shown"
+  cp library/examples/*.c "$scratch/shown"
+  for section in 'A file in ten fragments' 'What a loss costs'; do
+    quietly 'docs/LIBRARY.md' scripts/shown.py docs/LIBRARY.md "$section" "$scratch/shown"
+  done
+fi
 if has python3 'the example in Python'; then
   quietly 'the example in Python' python3 library/examples/lrc.py "$here/lib/liblrc.so.0"
 fi

@@ -1,6 +1,7 @@
 #!/usr/bin/env bash
-# Compares the versions that are told: what the built program says is that of its source, of both manual pages and of the
-# newest heading of the changelog. Its source (crates/rebuild/src/command/definition.rt) is where a version is changed.
+# Compares the versions that are told: what the built program says is that of its source, of both manual pages, of
+# the C library's header and of the newest heading of the changelog. Its source (crates/rebuild/src/command/definition.rt) is
+# where a version is changed.
 set -euo pipefail
 cd "$(dirname "$0")/.."
 scratch=$(mktemp -d)
@@ -27,5 +28,8 @@ done
 for page in man/rebuild.1 man/rebuild.5; do
   compare "$page" "$(sed -n 's/^\.Os rebuild //p' "$page")"
 done
+compare include/lrc.h "$(sed -n 's/^#define LRC_VERSION "\(.*\)"$/\1/p' include/lrc.h)"
+number=$(awk -F . '{ print 10000 * $1 + 100 * $2 + $3 }' <<< "$version")
+compare 'the number in include/lrc.h' "$([ "$(sed -n 's/^#define LRC_VERSION_NUMBER //p' include/lrc.h)" = "$number" ] && echo "$version")"
 compare CHANGELOG.md "$(sed -n 's/^## //p' CHANGELOG.md | head -n 1)"
-echo "version: the program, its manual pages and the changelog tell $version"
+echo "version: the program, its manual pages, the C library's header and the changelog tell $version"

@@ -11,6 +11,8 @@ mod lent;
 mod planning;
 mod rebuilding;
 mod rebuilding_many;
+#[cfg(test)]
+mod tests;
 mod version;
 mod windows;
 

@@ -1,0 +1,110 @@
+//! A stripe of one data byte that isn't 00 through the exports; its parities are the coefficients of x0.
+use crate::checking::lrc_verify_at;
+use crate::encoding::lrc_encode_into;
+use crate::kernels::{lrc_add, lrc_combine, lrc_scale_add};
+use crate::lent::Lent;
+use crate::planning::{Plan, lrc_apply, lrc_plan_into};
+use crate::rebuilding::lrc_rebuild_into;
+use crate::rebuilding_many::lrc_rebuild_many_into;
+use crate::version::lrc_version;
+
+fn one(bytes: &[u8]) -> Lent<'_> {
+    Lent { bytes }
+}
+
+#[test]
+fn a_stripe(rt: HostRuntime) {
+    let x0 = [1u8];
+    let zero = [0u8];
+    let mut px = [9u8];
+    let mut py = [9u8];
+    let mut p0 = [9u8];
+    let mut p1 = [9u8];
+    let sources = [
+        one(&x0),
+        one(&zero),
+        one(&zero),
+        one(&zero),
+        one(&zero),
+        one(&zero),
+    ];
+    assert_eq!(&rt;
+        lrc_encode_into(0, &sources, &mut px, &mut py, &mut p0, &mut p1),
+        0
+    );
+    assert_eq!(&rt; [px[0], py[0], p0[0], p1[0]], [0x01, 0x00, 0x04, 0x10]);
+    let none: &[u8] = &[];
+    let at = [
+        one(&x0),
+        one(&zero),
+        one(&zero),
+        one(&zero),
+        one(&zero),
+        one(&zero),
+        one(&px),
+        one(&py),
+        one(&p0),
+        one(&p1),
+        one(none),
+        one(none),
+        one(none),
+        one(none),
+        one(none),
+        one(none),
+    ];
+    let mut out = [9u8];
+    assert_eq!(&rt; lrc_verify_at(0, 0x3ff, &at, 1), 0);
+    assert_eq!(&rt; lrc_rebuild_into(0, 0x3fe, &at, 0, &mut out), 0);
+    assert_eq!(&rt; out[0], 1);
+    assert_eq!(&rt; lrc_rebuild_into(0, 0x102, &at, 0, &mut out), 2);
+    let group = [0u8, 1, 1, 0, 0, 0, 1, 0, 0, 0, 0, 0, 0, 0, 0, 0];
+    out[0] = 9;
+    assert_eq!(&rt; lrc_apply(&group, &at, &mut out), 0);
+    assert_eq!(&rt; out[0], 1);
+    let mut other = [9u8];
+    let mut statuses = [9u32; 4];
+    let told = lrc_rebuild_many_into(
+        0,
+        0x2be,
+        &at,
+        1,
+        &[0, 8, 255, 255],
+        &mut out,
+        &mut other,
+        &mut [],
+        &mut [],
+        &mut statuses,
+    );
+    assert_eq!(&rt; told, 0);
+    assert_eq!(&rt; statuses, [0, 0, 0, 0]);
+    assert_eq!(&rt; [out[0], other[0]], [0x01, 0x04]);
+}
+
+#[test]
+fn a_plan(rt: HostRuntime) {
+    let mut plan = Plan {
+        value: [9; 16],
+        checks: [[9; 16]; 4],
+    };
+    assert_eq!(&rt; lrc_plan_into(0, 0x46, 0, &mut plan), 0);
+    assert_eq!(&rt;
+        plan.value,
+        [0, 1, 1, 0, 0, 0, 1, 0, 0, 0, 0, 0, 0, 0, 0, 0]
+    );
+}
+
+#[test]
+fn sums(rt: HostRuntime) {
+    let mut dst = [0x80u8, 1];
+    assert_eq!(&rt; lrc_scale_add(&mut dst, 2, &[0x80, 0]), 0);
+    assert_eq!(&rt; dst, [0x9d, 1]);
+    assert_eq!(&rt; lrc_add(&mut dst, &[0x9d, 0]), 0);
+    assert_eq!(&rt; dst, [0, 1]);
+    let mut out = [9u8];
+    assert_eq!(&rt;
+        lrc_combine(&[2, 0], &[one(&[0x80]), one(&[])], &mut out),
+        0
+    );
+    assert_eq!(&rt; out[0], 0x1d);
+    assert_eq!(&rt; lrc_version(), 100);
+}
