@@ -62,4 +62,5 @@ scale: build
 
 bench: build
 	scripts/bench.sh $(CPU)
+	scripts/bench-lines.sh $(CPU)
 	scripts/bench-farm.sh $(CPU)
