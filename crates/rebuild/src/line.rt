@@ -11,6 +11,7 @@ mod input;
 pub mod laws;
 mod lines;
 mod parsing;
+mod refusals;
 mod replies;
 mod words;
 

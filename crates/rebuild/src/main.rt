@@ -3,13 +3,13 @@
 #![tactic(auto)]
 
 pub mod command;
-pub mod farm;
+pub mod farm_faults;
 pub mod line;
 #[cfg(test)]
 mod tests;
 
 use command::{Words, WordsFault, read_words};
-use farm::{farm_status, fault_line};
+use farm_faults::{farm_status, fault_line};
 use farm_core::{NoPause, Settings, SettingsFault};
 use farm_files::{FolderShelf, ServeFault, Served, serve};
 use line::{line_mode, line_status};

@@ -8,11 +8,11 @@ ghost use Rattle.lrc_code.specs.Survivors.{survivor_of, survivors_of};
 ghost use Rattle.lrc_code.specs.Text.{every};
 ghost use Rattle.rebuild.specs.Line.{line_code, request_in, request_of, is_printable, survivor, words};
 ghost use Rattle.rebuild.specs.Parts.{asked_of};
-ghost use Rattle.rebuild.specs.Reply.{refusal_of};
+ghost use Rattle.rebuild.specs.LineReply.{refusal_of};
 
 use super::lines::find_byte;
-use super::replies::LineRefusal;
-use super::words::Words;
+use super::refusals::LineRefusal;
+use super::words::LineWords;
 use hex::FromHexError;
 use lrc_code::text::parse_number;
 use lrc_code::{Code, Fragment, Place, Request};
@@ -60,7 +60,7 @@ fn parse_parts(alloc: Global, line: &[u8]) -> Result<Option<Parts>, AllocError>
     if !are_printable(line) {
         return Ok(None);
     }
-    let mut words = Words::new(line);
+    let mut words = LineWords::new(line);
     let Some(first) = words.next() else {
         return Ok(None);
     };
@@ -91,7 +91,7 @@ fn parse_request(
     alloc: Global,
     code: Code,
     stripe: &[u8],
-    others: Words<'_>,
+    others: LineWords<'_>,
 ) -> Result<Option<Parts>, AllocError>
     requires { list_all is_printable stripe.now ≡ true }
     ensures { IfOk result (λ parts. option_map asked_of parts ≡ request_in code (stripe.now ∷ words others.entry.rest.now)) }
@@ -134,7 +134,7 @@ fn copy_text(alloc: Global, text: &[u8]) -> Result<String, AllocError>
 fn parse_survivors(
     alloc: Global,
     code: Code,
-    others: Words<'_>,
+    others: LineWords<'_>,
 ) -> Result<Option<Vec<Fragment>>, AllocError>
     ensures { IfOk result (λ fragments. option_map (λ fs. survivors_of fs.items) fragments
         ≡ every (map (survivor code) (words others.entry.rest.now))) }
