@@ -10,13 +10,16 @@ ghost use Rattle.rebuild.specs.Line.{line_code, request_in, request_of, is_print
 ghost use Rattle.rebuild.specs.Parts.{asked_of};
 ghost use Rattle.rebuild.specs.LineReply.{refusal_of};
 
-use super::lines::find_byte;
+use super::hexadecimal::decode;
 use super::refusals::LineRefusal;
+use super::scanning::{are_printable, find_near_byte};
 use super::words::LineWords;
-use hex::FromHexError;
 use lrc_code::text::parse_number;
 use lrc_code::{Code, Fragment, Place, Request};
 use std::alloc::{AllocError, Global};
+
+/// How many survivors a request has at most; with room for them their list needn't grow.
+const MOST_SURVIVORS: usize = 15;
 
 /// The request that a line writes, or why the line is refused.
 pub(crate) fn parse_line(
@@ -116,12 +119,6 @@ fn parse_request(
     }))
 }
 
-fn are_printable(bytes: &[u8]) -> bool
-    ensures { result ≡ list_all is_printable bytes.now }
-{
-    bytes.iter().all(|b| 0x20 <= *b && *b <= 0x7e)
-}
-
 // A copy of printable characters.
 fn copy_text(alloc: Global, text: &[u8]) -> Result<String, AllocError>
     requires { list_all is_printable text.now ≡ true }
@@ -139,7 +136,7 @@ fn parse_survivors(
     ensures { IfOk result (λ fragments. option_map (λ fs. survivors_of fs.items) fragments
         ≡ every (map (survivor code) (words others.entry.rest.now))) }
 {
-    let mut survivors = Vec::new(alloc);
+    let mut survivors = Vec::with_capacity(alloc, MOST_SURVIVORS)?;
     for word in others {
         let Some(fragment) = parse_survivor(alloc, code, word)? else {
             return Ok(None);
@@ -153,15 +150,12 @@ fn parse_survivors(
 fn parse_survivor(alloc: Global, code: Code, word: &[u8]) -> Result<Option<Fragment>, AllocError>
     ensures { IfOk result (λ fragment. option_map survivor_of fragment ≡ survivor code word.now) }
 {
-    let Some(at) = find_byte(word, b'=') else {
+    let Some(at) = find_near_byte(word, b'=') else {
         return Ok(None);
     };
     let Some(place) = code.named(&word[..at]) else {
         return Ok(None);
     };
-    match hex::decode(alloc, &word[at + 1..]) {
-        Ok(bytes) => Ok(Some(Fragment { place, bytes })),
-        Err(FromHexError::OutOfMemory) => Err(AllocError),
-        Err(_) => Ok(None),
-    }
+    let bytes = decode(alloc, &word[at + 1..])?;
+    Ok(bytes.map(|bytes| Fragment { place, bytes }))
 }

@@ -1,5 +1,5 @@
 //! The replies to the lines of an input, and their text.
-ghost use Rattle.std.specs.Prelude.{◌≡◌, ◌<◌, ◌≤◌, ◌+◌, ◌^◌, ◌++◌, ◌∷◌, [], List, OnOk, IfOk, length, string_bytes};
+ghost use Rattle.std.specs.Prelude.{◌≡◌, ◌<◌, ◌≤◌, ◌+◌, ◌^◌, ◌++◌, ◌∷◌, [], List, OnOk, IfOk, length};
 ghost use Rattle.std.specs.List.{list_all};
 ghost use Rattle.lrc_code.specs.Text.{is_space};
 ghost use Rattle.rebuild.specs.LineMode.{AreReplies, input_limit, text_of};
@@ -7,13 +7,13 @@ ghost use Rattle.rebuild.specs.Replies.{Holds};
 ghost use Rattle.rebuild.specs.LineReply.{IsReply, LineReply, number_of, reply_text};
 
 use super::LineCount;
+use super::hexadecimal::append_upper;
 use super::lines::Lines;
 use super::parsing::parse_line;
 use super::refusals::LineRefusal;
 use lrc_code::Outcome;
 use lrc_plan::solve;
 use std::alloc::{AllocError, Global};
-use std::fmt::Write;
 
 // What a line is replied.
 type LineReply = Result<Outcome, LineRefusal>;
@@ -21,7 +21,7 @@ type LineReply = Result<Outcome, LineRefusal>;
 // Replies one after the other: their text, and how many there are of each kind.
 #[derive(Drop)]
 pub(crate) struct Replies {
-    pub(crate) text: String,
+    pub(crate) text: Vec<u8>,
     pub(crate) count: LineCount,
 }
 
@@ -34,7 +34,7 @@ impl Replies {
             refused: 0,
         };
         Replies {
-            text: String::new(alloc),
+            text: Vec::new(alloc),
             count,
         }
     }
@@ -45,7 +45,7 @@ impl Replies {
         ensures { OnOk result ((replies : List LineReply) → Holds self.old replies → Holds self.new (replies ++ reply.now ∷ [])) }
     {
         push_reply(alloc, &mut self.text, reply)?;
-        self.text.push('\n')?;
+        self.text.push(b'\n')?;
         if reply.is_ok() {
             self.count.answered += 1;
         } else {
@@ -86,16 +86,19 @@ fn reply_to_line(alloc: Global, line: &[u8]) -> Result<LineReply, AllocError>
 }
 
 // Adds a reply's text, without its line feed.
-fn push_reply(alloc: Global, text: &mut String, reply: &LineReply) -> Result<(), AllocError>
-    ensures { OnOk result (string_bytes text.new ≡ string_bytes text.old ++ reply_text reply.now) }
+fn push_reply(alloc: Global, text: &mut Vec<u8>, reply: &LineReply) -> Result<(), AllocError>
+    ensures { OnOk result (text.new.items ≡ text.old.items ++ reply_text reply.now) }
 {
     match reply {
         Ok(Outcome::Rebuilt(bytes)) => {
-            text.push_str("rebuilt ")?;
-            text.push_str(&hex::encode_upper(alloc, bytes.as_slice())?)
+            text.extend_from_slice(b"rebuilt ")?;
+            append_upper(text, bytes.as_slice())
         }
-        Ok(Outcome::Contradiction) => text.push_str("contradiction"),
-        Ok(Outcome::Several) => text.push_str("several"),
-        Err(refusal) => write!(text, "refused E{}", refusal.code()),
+        Ok(Outcome::Contradiction) => text.extend_from_slice(b"contradiction"),
+        Ok(Outcome::Several) => text.extend_from_slice(b"several"),
+        Err(refusal) => {
+            let told = format!(in alloc; "refused E{}", refusal.code())?;
+            text.extend_from_slice(told.as_bytes())
+        }
     }
 }

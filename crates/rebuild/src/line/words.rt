@@ -1,7 +1,7 @@
 //! The words of a line.
 ghost use Rattle.std.specs.Prelude.{◌≡◌, ◌==◌, not, position};
 
-use super::lines::find_byte;
+use super::scanning::find_byte;
 
 /// The words of a line, which stand between spaces.
 #[derive(Drop)]
