@@ -87,5 +87,6 @@ scale: build
 
 bench: build
 	scripts/bench.sh $(CPU)
+	scripts/bench-lines.sh $(CPU)
 	scripts/bench-farm.sh $(CPU)
 	scripts/bench-library.sh $(CPU)

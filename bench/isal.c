@@ -1,5 +1,5 @@
-/* Times of ISA-L on the same work. It chooses its instructions when it runs, which may be wider than AVX2. The
- * tables of the coefficients and the lists of vectors are made before the time is taken. */
+/* Times of ISA-L on the same work, in memory as its word says: isal aligned|malloc. It chooses its instructions when it runs,
+ * which may be wider than AVX2. The tables of the coefficients and the lists of vectors are made before the time is taken. */
 #include "stripe.h"
 #include <isa-l.h>
 
@@ -95,11 +95,12 @@ static void check_sums(struct prepared *prepared)
             stop("gf_vect_mad made another sum");
 }
 
-int main(void)
+int main(int words_count, char **words)
 {
     struct repair repairs[MOST_CASES];
     static struct prepared prepared[MOST_CASES], kernels;
     int count = read_repairs(repairs);
+    read_placing(words_count, words);
     make_stripe();
     for (int row = 0; row < MOST_ROWS; row++)
         sums[row] = fragment_memory();

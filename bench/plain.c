@@ -1,4 +1,5 @@
-/* Times of plain loops in C: exclusive or, and products looked up in a table of 256 bytes for each coefficient. */
+/* Times of plain loops in C, in memory as its word says: plain aligned|malloc. They are exclusive or, and products looked up
+ * in a table of 256 bytes for each coefficient. */
 #include "stripe.h"
 
 static unsigned char *sum;
@@ -61,10 +62,11 @@ static void time_repair(void *with, int length)
     add_row(repair, 0, length);
 }
 
-int main(void)
+int main(int words_count, char **words)
 {
     struct repair repairs[MOST_CASES];
     int count = read_repairs(repairs);
+    read_placing(words_count, words);
     make_stripe();
     sum = fragment_memory();
     for (int size = 0; size < SIZES; size++) {

@@ -1,27 +1,47 @@
-/* A careless farm, for its time alone: serve IN OUT THREADS. It rebuilds by ISA-L and makes digests by OpenSSL. Each
- * thread takes the next request, reads its survivors, rebuilds its fragment and tests its checks, digests it and writes
- * it; then the reports are written. It trusts its lists, and takes every request to have one answer. */
-#include "stripe.h"
-#include "places.h"
+/* Two farms in C, for their times alone: serve careful|careless IN OUT THREADS. Both rebuild by ISA-L, test each check
+ * and make digests by OpenSSL.
+ *
+ * The careful one keeps what ours promises of reading and writing: it reads the survivors of a batch of requests in the
+ * lists' order, rebuilds and digests the batch in threads, drops the survivors and goes on; when all fragments and reports
+ * are made it writes them in order. So nothing is written where a read fails.
+ *
+ * In the careless one each thread takes the next request, reads, rebuilds, digests and writes it; then the reports are
+ * written. A fault in its middle leaves any of the files.
+ *
+ * They trust their lists, and take every request to have one answer. */
+#include "rebuild.h"
 #include <fcntl.h>
-#include <isa-l.h>
 #include <openssl/evp.h>
 #include <pthread.h>
 #include <stdatomic.h>
 #include <unistd.h>
 
-enum { MOST_RACKS = 16, MOST_REQUESTS = 4096, CHECK_ROWS = PLACES - DATA, DIGEST = 32 };
+enum { MOST_RACKS = 16, MOST_REQUESTS = 4096, MOST_THREADS = 64, DIGEST = 32, BATCH = 16 << 20 };
 
 struct request {
     char stripe[33];
-    int target, length, count, survivors[PLACES];
+    struct repair_asked asked;
     unsigned char digest[DIGEST];
+    unsigned char *sources[PLACES + 1], *rebuilt;
 };
 
-static struct request *racks[MOST_RACKS];
-static int counts[MOST_RACKS], rack_count, total;
+struct text {
+    char *bytes;
+    size_t length;
+};
+
+static struct request *racks[MOST_RACKS], *in_order[MOST_RACKS * MOST_REQUESTS];
+static int counts[MOST_RACKS], rack_count, total, workers, batch_end;
 static const char *in, *out;
 static atomic_int next;
+
+static void *memory_of(size_t length)
+{
+    void *memory = malloc(length);
+    if (memory == NULL)
+        stop("no memory");
+    return memory;
+}
 
 static int open_file(const char *folder, const char *name, int flags)
 {
@@ -33,12 +53,12 @@ static int open_file(const char *folder, const char *name, int flags)
     return file;
 }
 
-static void read_fragment(const struct request *request, int place, unsigned char *to)
+static void read_fragment(const struct request *request, int survivor, unsigned char *to)
 {
     char name[64];
-    snprintf(name, sizeof name, "%s.%s", request->stripe, place_names[place]);
+    snprintf(name, sizeof name, "%s.%s", request->stripe, place_names[request->asked.survivors[survivor]]);
     int file = open_file(in, name, O_RDONLY);
-    if (read(file, to, request->length) != request->length)
+    if (read(file, to, request->asked.length) != request->asked.length)
         stop("a short fragment");
     close(file);
 }
@@ -50,25 +70,33 @@ static void write_file(const char *name, const void *bytes, size_t length)
         stop("a failed write");
 }
 
+static void write_fragment(int rack, int number, const unsigned char *bytes)
+{
+    const struct request *request = &racks[rack][number];
+    char name[96];
+    snprintf(name, sizeof name, "rack%d-%d.%s.%s", rack, number, request->stripe, place_names[request->asked.target]);
+    write_file(name, bytes, request->asked.length);
+}
+
 static int place_named(const char *name)
 {
-    for (int place = 0; place < PLACES; place++)
-        if (strcmp(name, place_names[place]) == 0)
-            return place;
-    stop("no place");
-    return 0;
+    int place = place_of(name);
+    if (place == -1 || name[2] != 0)
+        stop("no place");
+    return place;
 }
 
 static void read_request(struct request *request, char *line)
 {
+    struct repair_asked *asked = &request->asked;
     char *at = line, *rest;
     strsep(&at, ",");
     snprintf(request->stripe, sizeof request->stripe, "%s", strsep(&at, ","));
-    request->target = place_named(strsep(&at, ","));
-    request->length = atoi(strsep(&at, ","));
+    asked->target = place_named(strsep(&at, ","));
+    asked->length = atoi(strsep(&at, ","));
     at[strcspn(at, "\n")] = 0;
     while ((rest = strsep(&at, " ")) != NULL)
-        request->survivors[request->count++] = place_named(rest);
+        asked->survivors[asked->count++] = place_named(rest);
 }
 
 static int read_list(int rack)
@@ -80,157 +108,165 @@ static int read_list(int rack)
         return 0;
     racks[rack] = calloc(MOST_REQUESTS, sizeof *racks[rack]);
     for (int first = 1; fgets(line, sizeof line, list) != NULL; first = 0)
-        if (!first)
+        if (!first) {
+            in_order[total++] = &racks[rack][counts[rack]];
             read_request(&racks[rack][counts[rack]++], line);
-    total += counts[rack];
+        }
     fclose(list);
     return 1;
 }
 
-/* Subtracts a row from the others and gives it 1 at this place. */
-static void clear_column(unsigned char rows[CHECK_ROWS][PLACES], int row, int place)
+/* Rebuilds a request's fragment into `rebuilt`, and digests it. `checks` is room for the checks. */
+static void answer(struct request *request, unsigned char *rebuilt, unsigned char *checks)
 {
-    int inverse = 1;
-    while (products[inverse][rows[row][place]] != 1)
-        inverse++;
-    for (int p = 0; p < PLACES; p++)
-        rows[row][p] = products[inverse][rows[row][p]];
-    for (int other = 0; other < CHECK_ROWS; other++) {
-        int factor = rows[other][place];
-        for (int p = 0; other != row && p < PLACES; p++)
-            rows[other][p] ^= products[factor][rows[row][p]];
-    }
+    unsigned char *sums[CHECK_ROWS + 1] = {rebuilt};
+    for (int row = 1; row <= CHECK_ROWS; row++)
+        sums[row] = checks + (row - 1) * MOST_LENGTH;
+    if (rebuild(&request->asked, request->sources, sums) != REBUILT)
+        stop("a request that isn't rebuilt");
+    EVP_Digest(rebuilt, request->asked.length, request->digest, NULL, EVP_sha256(), NULL);
 }
 
-/* The coefficients of the target and then of the checks, over the survivors. Gives the number of rows. */
-static int rows_of(const struct request *request, unsigned char *matrix)
+static void in_threads(void *(*work)(void *))
 {
-    unsigned char rows[CHECK_ROWS][PLACES] = {0};
-    int used[CHECK_ROWS] = {0}, survives[PLACES] = {0}, count = 1, value = -1;
-    for (int row = 0; row < CHECK_ROWS; row++) {
-        memcpy(rows[row], parities[row], DATA);
-        rows[row][DATA + row] = 1;
-    }
-    for (int s = 0; s < request->count; s++)
-        survives[request->survivors[s]] = 1;
-    for (int turn = 0; turn <= PLACES; turn++) {
-        int place = turn < PLACES ? turn : request->target;
-        if (survives[place] || (turn < PLACES && place == request->target))
-            continue;
-        for (int row = 0; row < CHECK_ROWS; row++)
-            if (!used[row] && rows[row][place] != 0) {
-                clear_column(rows, row, place);
-                used[row] = 1;
-                value = turn < PLACES ? value : row;
-                break;
-            }
-    }
-    if (value == -1)
-        stop("no value");
-    for (int s = 0; s < request->count; s++)
-        matrix[s] = rows[value][request->survivors[s]];
-    for (int row = 0; row < CHECK_ROWS; row++)
-        if (!used[row]) {
-            for (int s = 0; s < request->count; s++)
-                matrix[count * request->count + s] = rows[row][request->survivors[s]];
-            count++;
-        }
-    return count;
+    pthread_t threads[MOST_THREADS];
+    for (int i = 0; i < workers; i++)
+        if (pthread_create(&threads[i], NULL, work, NULL) != 0)
+            stop("no thread");
+    for (int i = 0; i < workers; i++)
+        pthread_join(threads[i], NULL);
 }
 
-static int is_sum(const struct request *request, const unsigned char *matrix)
-{
-    for (int s = 0; s < request->count; s++)
-        if (matrix[s] != 1)
-            return 0;
-    return 1;
-}
-
-static void rebuild(const struct request *request, unsigned char **sources, unsigned char **sums)
-{
-    unsigned char matrix[PLACES * CHECK_ROWS], tables[32 * PLACES * CHECK_ROWS];
-    int count = rows_of(request, matrix);
-    if (count == 1 && is_sum(request, matrix)) {
-        sources[request->count] = sums[0];
-        if (xor_gen(request->count + 1, request->length, (void **)sources) != 0)
-            stop("xor_gen failed");
-        return;
-    }
-    ec_init_tables(request->count, count, matrix, tables);
-    ec_encode_data(request->length, request->count, count, tables, sources, sums);
-    for (int row = 1; row < count; row++)
-        if (isal_zero_detect(sums[row], request->length) != 0)
-            stop("a check that is not zero");
-}
-
-static void serve_request(int rack, int number, unsigned char *memory)
-{
-    char name[96];
-    struct request *request = &racks[rack][number];
-    unsigned char *sources[PLACES + 1], *sums[CHECK_ROWS];
-    for (int s = 0; s < request->count; s++) {
-        sources[s] = memory + s * MOST_LENGTH;
-        read_fragment(request, request->survivors[s], sources[s]);
-    }
-    for (int row = 0; row < CHECK_ROWS; row++)
-        sums[row] = memory + (PLACES + row) * MOST_LENGTH;
-    rebuild(request, sources, sums);
-    EVP_Digest(sums[0], request->length, request->digest, NULL, EVP_sha256(), NULL);
-    snprintf(name, sizeof name, "rack%d-%d.%s.%s", rack, number, request->stripe, place_names[request->target]);
-    write_file(name, sums[0], request->length);
-}
+/* ---- careless */
 
 static void *serve_requests(void *unused)
 {
-    unsigned char *memory = aligned_alloc(64, (PLACES + CHECK_ROWS) * MOST_LENGTH);
+    unsigned char *memory = aligned_alloc(64, (PLACES + CHECK_ROWS + 1) * MOST_LENGTH);
+    unsigned char *sums = memory + PLACES * MOST_LENGTH;
     for (int taken; (taken = atomic_fetch_add(&next, 1)) < total;) {
+        struct request *request = in_order[taken];
         int rack = 0;
         for (; taken >= counts[rack]; rack++)
             taken -= counts[rack];
-        serve_request(rack, taken, memory);
+        for (int s = 0; s < request->asked.count; s++) {
+            request->sources[s] = memory + s * MOST_LENGTH;
+            read_fragment(request, s, request->sources[s]);
+        }
+        answer(request, sums, sums + MOST_LENGTH);
+        write_fragment(rack, taken, sums);
     }
     free(memory);
     return unused;
 }
 
-static void write_report(int rack)
+/* ---- careful */
+
+static size_t listed_bytes(const struct request *request)
 {
-    char *text;
-    char name[32];
-    size_t length;
-    FILE *report = open_memstream(&text, &length);
+    return (size_t)request->asked.count * request->asked.length;
+}
+
+/* The end of the batch that begins here: about so many listed bytes, and at least one request. */
+static int end_of_batch(int first)
+{
+    size_t bytes = listed_bytes(in_order[first]);
+    int end = first + 1;
+    while (end < total && bytes + listed_bytes(in_order[end]) <= BATCH)
+        bytes += listed_bytes(in_order[end++]);
+    return end;
+}
+
+/* Reads a batch's survivors into memory that each batch uses again, and takes the memory of what is rebuilt. */
+static void read_batch(int first, unsigned char *memory)
+{
+    for (int i = first; i < batch_end; i++) {
+        struct request *request = in_order[i];
+        request->rebuilt = memory_of(request->asked.length);
+        for (int s = 0; s < request->asked.count; s++) {
+            read_fragment(request, s, memory);
+            request->sources[s] = memory;
+            memory += request->asked.length;
+        }
+    }
+}
+
+static void *answer_batch(void *unused)
+{
+    unsigned char *checks = aligned_alloc(64, CHECK_ROWS * MOST_LENGTH);
+    for (int taken; (taken = atomic_fetch_add(&next, 1)) < batch_end;)
+        answer(in_order[taken], in_order[taken]->rebuilt, checks);
+    free(checks);
+    return unused;
+}
+
+static void answer_in_batches(void)
+{
+    unsigned char *memory = aligned_alloc(64, BATCH + PLACES * MOST_LENGTH);
+    for (int first = 0; first < total; first = batch_end) {
+        batch_end = end_of_batch(first);
+        read_batch(first, memory);
+        atomic_store(&next, first);
+        in_threads(answer_batch);
+    }
+    free(memory);
+}
+
+/* ---- reports */
+
+static struct text report_of(int rack)
+{
+    struct text text;
+    FILE *report = open_memstream(&text.bytes, &text.length);
     fputs("number,stripe,target,length,outcome,digest,unread\n", report);
     for (int number = 0; number < counts[rack]; number++) {
         const struct request *request = &racks[rack][number];
-        fprintf(report, "%d,%s,%s,%d,rebuilt,", number, request->stripe, place_names[request->target], request->length);
+        fprintf(report, "%d,%s,%s,%d,rebuilt,", number, request->stripe, place_names[request->asked.target], request->asked.length);
         for (int i = 0; i < DIGEST; i++)
             fprintf(report, "%02x", request->digest[i]);
         fputs(",\n", report);
     }
-    fclose(report);
+    if (fclose(report) != 0)
+        stop("no memory for a report");
+    return text;
+}
+
+static void write_report(int rack, struct text text)
+{
+    char name[32];
     snprintf(name, sizeof name, "rack%d.report.csv", rack);
-    write_file(name, text, length);
-    free(text);
+    write_file(name, text.bytes, text.length);
+    free(text.bytes);
+}
+
+static void write_all(void)
+{
+    struct text reports[MOST_RACKS];
+    for (int rack = 0; rack < rack_count; rack++)
+        reports[rack] = report_of(rack);
+    for (int rack = 0; rack < rack_count; rack++) {
+        for (int number = 0; number < counts[rack]; number++)
+            if (racks[rack][number].rebuilt != NULL)
+                write_fragment(rack, number, racks[rack][number].rebuilt);
+        write_report(rack, reports[rack]);
+    }
 }
 
 int main(int count, char **words)
 {
-    pthread_t threads[64];
-    int workers = count == 4 ? atoi(words[3]) : 0;
-    if (workers < 1 || workers > 64)
-        stop("serve IN OUT THREADS");
-    in = words[1];
-    out = words[2];
-    make_products();
+    workers = count == 5 ? atoi(words[4]) : 0;
+    int careful = count == 5 && strcmp(words[1], "careful") == 0;
+    if (workers < 1 || workers > MOST_THREADS || (!careful && strcmp(words[1], "careless") != 0))
+        stop("serve careful|careless IN OUT THREADS");
+    in = words[2];
+    out = words[3];
+    make_inverses();
     while (rack_count < MOST_RACKS && read_list(rack_count))
         rack_count++;
-    for (int i = 0; i < workers; i++)
-        if (pthread_create(&threads[i], NULL, serve_requests, NULL) != 0)
-            stop("no thread");
-    for (int i = 0; i < workers; i++)
-        pthread_join(threads[i], NULL);
-    for (int rack = 0; rack < rack_count; rack++)
-        write_report(rack);
+    if (careful)
+        answer_in_batches();
+    else
+        in_threads(serve_requests);
+    write_all();
     printf("served %d racks, %d answers\n", rack_count, total);
     return 0;
 }

@@ -22,8 +22,11 @@ struct repair {
 
 static unsigned char products[256][256];
 
-/* x0 x1 x2 y0 y1 y2 px py p0 p1. They stand at multiples of 64 bytes, and not at one offset in their pages. */
+/* x0 x1 x2 y0 y1 y2 px py p0 p1. */
 static unsigned char *fragments[PLACES];
+
+/* Whether fragments stand where malloc puts them; else they stand at multiples of 64 bytes. */
+static int placed_by_malloc;
 
 static void stop(const char *message)
 {
@@ -31,13 +34,14 @@ static void stop(const char *message)
     exit(1);
 }
 
+/* Fragments don't stand at one offset in their pages. */
 static unsigned char *fragment_memory(void)
 {
     static size_t at;
     static _Alignas(64) unsigned char memory[(PLACES + MOST_ROWS + 2) * (MOST_LENGTH + 64)];
-    unsigned char *here = memory + at;
+    unsigned char *here = placed_by_malloc ? malloc(MOST_LENGTH) : memory + at;
     at += MOST_LENGTH + 64;
-    if (at > sizeof memory)
+    if (here == NULL || at > sizeof memory)
         stop("no memory for a fragment");
     return here;
 }
@@ -118,6 +122,14 @@ static int read_repair(struct repair *repair)
                 stop("a coefficient of a lost fragment");
         }
     return 1;
+}
+
+/* What a timing program's word says of its memory. */
+static void read_placing(int count, char **words)
+{
+    placed_by_malloc = count == 2 && strcmp(words[1], "malloc") == 0;
+    if (count != 2 || (!placed_by_malloc && strcmp(words[1], "aligned") != 0))
+        stop("one word is wanted: aligned or malloc");
 }
 
 static int read_repairs(struct repair repairs[MOST_CASES])

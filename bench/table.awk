@@ -1,13 +1,14 @@
-# The table of all programs' times: files are named ours.N, plain.N and isal.N.
+# The table of all programs' times: files are named ours.N, and plain-aligned.N, plain-malloc.N, isal-aligned.N and isal-malloc.N.
 BEGIN {
   count = split("sum scaled_sum group four_lost two_lost one_lost", names, " ")
   split("1 1 3 6 8 9", sources, " ")
-  label["sum"] = "add_into"
-  label["scaled_sum"] = "scale_add_into"
-  label["group"] = "solve, 3 of the group"
-  label["four_lost"] = "solve, 6 survivors"
-  label["two_lost"] = "solve, 8 survivors, 2 checks"
-  label["one_lost"] = "solve, 9 survivors, 3 checks"
+  label["sum"] = "sum of two slices (`add_into`)"
+  label["scaled_sum"] = "scaled sum (`scale_add_into`)"
+  label["group"] = "repair from the 3 others of the group"
+  label["four_lost"] = "repair from 6 survivors"
+  label["two_lost"] = "repair from 8, with 2 checks"
+  label["one_lost"] = "repair from 9, with 3 checks"
+  peers = split("isal-aligned isal-malloc plain-aligned plain-malloc", peer, " ")
 }
 
 $1 == "time" {
@@ -19,22 +20,27 @@ $1 == "time" {
   if (!(key in shortest) || taken < shortest[key]) shortest[key] = taken
 }
 
-# A program's figure, and ours divided by it.
-function figure(program, name, bytes, long,    key) {
+# Bytes in a nanosecond, which are GB/s; 0 where it wasn't timed.
+function speed(program, name, source_count, long,    key) {
   key = program SUBSEP name SUBSEP long
-  return key in shortest ? bytes / shortest[key] : 0
+  return key in shortest ? source_count * long / shortest[key] : 0
 }
 
-function beside(ours, peer) {
-  return peer > 0 ? sprintf("%9.1f %7.2f", peer, ours / peer) : sprintf("%9s %7s", "-", "-")
+# Ours, and ours divided by each peer's.
+function row(i, long,    ours, text, p, theirs) {
+  ours = speed("ours", names[i], sources[i], long)
+  text = sprintf("| %s | %d KiB | %.1f |", label[names[i]], long / 1024, ours)
+  for (p = 1; p <= peers; p++) {
+    theirs = speed(peer[p], names[i], sources[i], long)
+    text = text (theirs > 0 ? sprintf(" %.2f (%.1f) |", ours / theirs, theirs) : " - |")
+  }
+  return text
 }
 
 END {
-  printf "%-28s %8s %8s %9s %7s %9s %7s\n", "", "fragment", "ours", "plain C", "ours/C", "ISA-L", "ours/I"
+  print "| | Fragment | GB/s | of ISA-L, aligned (its GB/s) | of ISA-L, by malloc | of plain C, aligned | of plain C, by malloc |"
+  print "|---|---|---|---|---|---|---|"
   for (i = 1; i <= count; i++)
-    for (long = 4096; long <= 65536; long *= 16) {
-      bytes = sources[i] * long
-      ours = figure("ours", names[i], bytes, long)
-      printf "%-28s %4d KiB %8.1f %s %s\n", label[names[i]], long / 1024, ours, beside(ours, figure("plain", names[i], bytes, long)), beside(ours, figure("isal", names[i], bytes, long))
-    }
+    for (long = 4096; long <= 65536; long *= 16)
+      print row(i, long)
 }

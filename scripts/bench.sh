@@ -47,7 +47,9 @@ fi
 for pass in $(seq "$passes"); do
   "$copy/tree/crates/bench/out/bench" > "$copy/ours.$pass"
   for peer in ${peers[@]+"${peers[@]}"}; do
-    "$copy/$peer" < "$copy/cases" > "$copy/$peer.$pass"
+    for memory in aligned malloc; do
+      "$copy/$peer" "$memory" < "$copy/cases" > "$copy/$peer-$memory.$pass"
+    done
   done
 done
 
@@ -59,7 +61,8 @@ GB/s: 10^9 bytes a second of the fragments that are read: for a kernel the one s
 Ours and plain C are built for $level; ISA-L chooses its instructions when it runs. The shortest of $passes times 40
 repetitions on one thread; $processor, load $load.
 In each call solve makes its plan, takes the memory of its answer and tests its checks. The peers are given the plan's
-coefficients and memory, and test the same checks. ISA-L makes the fragment and the checks in one call, which multiplies
+coefficients and memory, once at multiples of 64 bytes and once where malloc puts it (our memory is malloc's), and test the
+same checks. ISA-L makes the fragment and the checks in one call, which multiplies
 by zeros too (ours and plain C leave those out), and the fragment from 3 of the group by one xor_gen.
 
 END

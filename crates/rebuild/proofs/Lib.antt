@@ -1,4 +1,6 @@
 pub mod Cuts
+pub mod Hexadecimal
+pub mod Scanning
 pub mod Printable
 pub mod Reading
 pub mod Survivors

@@ -6,11 +6,11 @@ use Rattle.std.specs.Str.Lines.{lines}
 use Rattle.lrc_code.specs.Answers.{IsAnswer}
 use Rattle.lrc_code.specs.Requests.{Asked, refusal}
 use Rattle.lrc_code.proofs.CodeLaws.{answer-unique}
-use Rattle.rebuild.specs.declared.line.replies.LineRefusal.{LineRefusal}
-use Rattle.rebuild.specs.declared.line.replies.LineRefusal.TheVariants.{BadLine, Refused}
+use Rattle.rebuild.specs.declared.line.refusals.LineRefusal.{LineRefusal}
+use Rattle.rebuild.specs.declared.line.refusals.LineRefusal.TheVariants.{BadLine, Refused}
 use Rattle.rebuild.specs.Line.{request_of}
 use Rattle.rebuild.specs.LineMode.{AreReplies, is_nonblank}
-use Rattle.rebuild.specs.Reply.{IsReply, Reply, refusal_of}
+use Rattle.rebuild.specs.LineReply.{IsReply, LineReply, refusal_of}
 
 some_once : {A : Type 0} (o : Option A) (x y : A) → o ≡ Some x → o ≡ Some y → x ≡ y
 some_once o x y e f = cc
@@ -24,7 +24,7 @@ not_refused line asked e is none h =
     let wrong : None ≡ Some e = sym none_there ∙ h in
     cc
 
-reply_once : (line : List ℕ) (a b : Reply) → IsReply line a → IsReply line b → a ≡ b
+reply_once : (line : List ℕ) (a b : LineReply) → IsReply line a → IsReply line b → a ≡ b
 reply_once line (Ok o) (Ok p) (x, is, none, answer) (y, is', none', answer') =
     let same : y ≡ x = some_once (request_of line) y x is' is in
     ap Ok (answer-unique x o p answer (let P : Asked → Type 0 = λ r. IsAnswer r p in subst P same answer'))
@@ -32,7 +32,7 @@ reply_once line (Ok o) (Err f) (x, is, none, answer) h = absurd (not_refused lin
 reply_once line (Err e) (Ok p) h (y, is, none, answer) = absurd (not_refused line y e is none h)
 reply_once line (Err e) (Err f) h k = ap Err (some_once (refusal_of line) e f h k)
 
-zip_once : (ls : List (List ℕ)) (a b : List Reply) → AllZip IsReply ls a → AllZip IsReply ls b → a ≡ b
+zip_once : (ls : List (List ℕ)) (a b : List LineReply) → AllZip IsReply ls a → AllZip IsReply ls b → a ≡ b
 zip_once [] [] [] h k = refl
 zip_once [] [] (q ∷ b) h k = absurd k
 zip_once [] (p ∷ a) b h k = absurd h
@@ -40,5 +40,5 @@ zip_once (l ∷ ls) [] b h k = absurd h
 zip_once (l ∷ ls) (p ∷ a) [] h k = absurd k
 zip_once (l ∷ ls) (p ∷ a) (q ∷ b) h k = ap₂ (λ r rs. r ∷ rs) (reply_once l p q h.0 k.0) (zip_once ls a b h.1 k.1)
 
-pub replies-unique : (input : List ℕ) (a b : List Reply) → AreReplies input a → AreReplies input b → a ≡ b
+pub replies-unique : (input : List ℕ) (a b : List LineReply) → AreReplies input a → AreReplies input b → a ≡ b
 replies-unique input a b h k = zip_once (filter is_nonblank (lines input)) a b h k

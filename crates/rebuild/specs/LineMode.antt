@@ -8,7 +8,7 @@ use Rattle.lrc_code.specs.Text.{is_space}
 use Rattle.rebuild.specs.declared.line.LineCount.{LineCount}
 use Rattle.rebuild.specs.declared.line.LineFault.{LineFault}
 use Rattle.rebuild.specs.declared.line.LineFault.TheVariants.{InputTooLong, Device, OutOfMemory}
-use Rattle.rebuild.specs.Reply.{IsReply, Reply, reply_line}
+use Rattle.rebuild.specs.LineReply.{IsReply, LineReply, reply_line}
 
 -- a line that isn't empty and doesn't hold spaces alone
 abbrev pub is_nonblank : List ℕ → Bool
@@ -16,11 +16,11 @@ is_nonblank line = not (list_all is_space line)
 
 -- these are the replies to the lines of an input that aren't blank, in order. The input is cut at each line feed; one
 -- carriage return in front of a line feed is dropped, and a last line without one counts where it isn't empty
-abbrev pub AreReplies : List ℕ → List Reply → Type 0
+abbrev pub AreReplies : List ℕ → List LineReply → Type 0
 AreReplies input replies = AllZip IsReply (filter is_nonblank (lines input)) replies
 
 -- the text of replies
-abbrev pub text_of : List Reply → List ℕ
+abbrev pub text_of : List LineReply → List ℕ
 text_of replies = flat_map reply_line replies
 
 -- ---- reading and writing
@@ -43,7 +43,7 @@ ReadsPastLimit before after = (input : List ℕ) × Consumes before after input 
 pub record Replied (input_before input_after output_before output_after : Option (List ℕ)) (count : LineCount) : Type 0 where
   pub input : List ℕ
   pub whole : IsWholeInput input_before input_after input
-  pub replies : List Reply
+  pub replies : List LineReply
   pub are_replies : AreReplies input replies
   pub written : Appends output_before output_after (text_of replies)
   pub answered : count.answered ≡ count_by is_ok replies

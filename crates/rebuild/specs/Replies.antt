@@ -1,12 +1,12 @@
 -- Replies one after the other.
-use Rattle.std.specs.Prelude.{◌≡◌, List, count_by, string_bytes}
+use Rattle.std.specs.Prelude.{◌≡◌, List, count_by}
 use Rattle.std.specs.Result.{is_err, is_ok}
 use Rattle.rebuild.specs.declared.line.replies.Replies.{Replies}
 use Rattle.rebuild.specs.LineMode.{text_of}
-use Rattle.rebuild.specs.Reply.{Reply}
+use Rattle.rebuild.specs.LineReply.{LineReply}
 
 -- it holds the text of these replies, and counts them
-pub record Holds (r : Replies) (replies : List Reply) : Type 0 where
-  pub text : string_bytes r.text ≡ text_of replies
+pub record Holds (r : Replies) (replies : List LineReply) : Type 0 where
+  pub text : r.text.items ≡ text_of replies
   pub answered : r.count.answered ≡ count_by is_ok replies
   pub refused : r.count.refused ≡ count_by is_err replies

@@ -3,15 +3,19 @@ ghost use Rattle.std.specs.Prelude.{◌≡◌, IfOk, IfErr};
 ghost use Rattle.rebuild.specs.LineMode.{Explains, Replied, fault_number, status_of};
 ghost use Rattle.rebuild.specs.declared.line.LineFault.TheVariants as fault;
 
+use crate::statuses::{DEVICE, DONE, NO_RESOURCES, REFUSED};
 use std::alloc::{AllocError, Global};
 use std::io::{Read, Write};
 use thiserror::Error;
 
+mod hexadecimal;
 mod input;
 pub mod laws;
 mod lines;
 mod parsing;
+mod refusals;
 mod replies;
+mod scanning;
 mod words;
 
 use input::read_input;
@@ -64,6 +68,14 @@ impl LineFault {
 /// Replies to each line of the whole input: reads it all, makes the whole text, and then writes it.
 ///
 /// How much of the text a failed write put out isn't told.
+///
+/// ```rust
+/// let mut input = b"a x0 1 x1=02 x2=03 px=00\n".as_slice();
+/// let mut output = Vec::new(alloc);
+/// let count = line_mode(alloc, &mut input, &mut output)?;
+/// assert_eq!(rt; output.as_slice(), b"rebuilt 01\n".as_slice());
+/// assert_eq!(rt; count, LineCount { answered: 1, refused: 0 });
+/// ```
 pub fn line_mode<R: Read, W: Write>(
     alloc: Global,
     input: &mut R,
@@ -77,7 +89,7 @@ pub fn line_mode<R: Read, W: Write>(
 {
     let bytes = read_input(alloc, input)?;
     let replies = reply_to_lines(alloc, &bytes)?;
-    if output.write_all(replies.text.as_bytes()).is_err() || output.flush().is_err() {
+    if output.write_all(&replies.text).is_err() || output.flush().is_err() {
         return Err(LineFault::Device);
     }
     Ok(replies.count)
@@ -89,10 +101,9 @@ pub fn line_status(outcome: &Result<LineCount, LineFault>) -> u8
     ensures { result ≡ status_of outcome.now }
 {
     match outcome {
-        Ok(count) if count.refused == 0 => 0,
-        Ok(_) => 1,
-        Err(LineFault::InputTooLong) => 1,
-        Err(LineFault::Device) => 3,
-        Err(LineFault::OutOfMemory) => 4,
+        Ok(count) if count.refused == 0 => DONE,
+        Ok(_) | Err(LineFault::InputTooLong) => REFUSED,
+        Err(LineFault::Device) => DEVICE,
+        Err(LineFault::OutOfMemory) => NO_RESOURCES,
     }
 }

@@ -1,36 +1,34 @@
 //! The program `rebuild`: replies to the requests of its standard input, line by line, or serves a folder of request
 //! lists by its command `farm`.
+//!
+//! Each mode has a call that does its work over any reader, writer or shelf, a status that says how that ended, and a
+//! type of faults:
+//!
+//! ```rust
+//! let answered = line_mode(rt.alloc(), &mut rt.stdin(), &mut rt.stdout());
+//! ExitCode::from(line_status(&answered))
+//! ```
 #![tactic(auto)]
 
 pub mod command;
-pub mod farm;
+pub mod farm_faults;
 pub mod line;
+pub mod statuses;
 #[cfg(test)]
 mod tests;
 
 use command::{Words, WordsFault, read_words};
-use farm::{farm_status, fault_line};
 use farm_core::{NoPause, Settings, SettingsFault};
+use farm_faults::{farm_status, fault_line};
 use farm_files::{FolderShelf, ServeFault, Served, serve};
 use line::{line_mode, line_status};
+use statuses::{DEVICE, DONE, NO_RESOURCES, USAGE};
 use std::io::ErrorKind;
 use std::process::ExitCode;
 use std::rt::Files;
 use std::sync::Wait;
 use std::thread::Threads;
 use std::{env, io};
-
-/// The status of success.
-const DONE: u8 = 0;
-
-/// The status of words or settings that the program doesn't take.
-const USAGE: u8 = 2;
-
-/// The status of a failed device.
-const DEVICE: u8 = 3;
-
-/// The status of want of memory.
-const OUT_OF_MEMORY: u8 = 4;
 
 fn main(rt: HostRuntime) -> ExitCode {
     let status = match given_words(&rt) {
@@ -94,7 +92,7 @@ where
         }
         Err(fault) => {
             let Ok(line) = fault_line(rt.alloc(), fault) else {
-                return OUT_OF_MEMORY;
+                return NO_RESOURCES;
             };
             let _ = eprintln!(rt; "{line}");
         }
@@ -133,5 +131,5 @@ fn refuse_words(rt: &HostRuntime, text: &str) -> u8 {
 
 fn tell_out_of_memory(rt: &HostRuntime) -> u8 {
     let _ = eprintln!(rt; "E16");
-    OUT_OF_MEMORY
+    NO_RESOURCES
 }

@@ -4,6 +4,7 @@ use std::alloc::{AllocError, Global};
 use std::process::Abort;
 
 mod devices;
+mod digits;
 mod ends;
 mod limits;
 mod rows;

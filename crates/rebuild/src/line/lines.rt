@@ -1,6 +1,8 @@
 //! The lines of an input.
-ghost use Rattle.std.specs.Prelude.{◌≡◌, ◌==◌, position};
+ghost use Rattle.std.specs.Prelude.{◌≡◌};
 ghost use Rattle.std.specs.Str.Lines.{strip_carriage_return};
+
+use super::scanning::find_byte;
 
 /// The lines of an input: it is cut at each line feed, and one carriage return in front of a line feed is dropped. A
 /// last line without a line feed counts where it isn't empty.
@@ -52,11 +54,4 @@ fn without_return(line: &[u8]) -> &[u8]
         [front @ .., b'\r'] => front,
         _ => line,
     }
-}
-
-/// The first place of a byte.
-pub(crate) fn find_byte(bytes: &[u8], byte: u8) -> Option<usize>
-    ensures { result ≡ position (λ b. b == byte) bytes.now }
-{
-    bytes.iter().position(|b| *b == byte)
 }

@@ -8,15 +8,18 @@ ghost use Rattle.lrc_code.specs.Survivors.{survivor_of, survivors_of};
 ghost use Rattle.lrc_code.specs.Text.{every};
 ghost use Rattle.rebuild.specs.Line.{line_code, request_in, request_of, is_printable, survivor, words};
 ghost use Rattle.rebuild.specs.Parts.{asked_of};
-ghost use Rattle.rebuild.specs.Reply.{refusal_of};
+ghost use Rattle.rebuild.specs.LineReply.{refusal_of};
 
-use super::lines::find_byte;
-use super::replies::LineRefusal;
-use super::words::Words;
-use hex::FromHexError;
+use super::hexadecimal::decode;
+use super::refusals::LineRefusal;
+use super::scanning::{are_printable, find_near_byte};
+use super::words::LineWords;
 use lrc_code::text::parse_number;
 use lrc_code::{Code, Fragment, Place, Request};
 use std::alloc::{AllocError, Global};
+
+/// How many survivors a request has at most; with room for them their list needn't grow.
+const MOST_SURVIVORS: usize = 15;
 
 /// The request that a line writes, or why the line is refused.
 pub(crate) fn parse_line(
@@ -60,7 +63,7 @@ fn parse_parts(alloc: Global, line: &[u8]) -> Result<Option<Parts>, AllocError>
     if !are_printable(line) {
         return Ok(None);
     }
-    let mut words = Words::new(line);
+    let mut words = LineWords::new(line);
     let Some(first) = words.next() else {
         return Ok(None);
     };
@@ -91,7 +94,7 @@ fn parse_request(
     alloc: Global,
     code: Code,
     stripe: &[u8],
-    others: Words<'_>,
+    others: LineWords<'_>,
 ) -> Result<Option<Parts>, AllocError>
     requires { list_all is_printable stripe.now ≡ true }
     ensures { IfOk result (λ parts. option_map asked_of parts ≡ request_in code (stripe.now ∷ words others.entry.rest.now)) }
@@ -116,12 +119,6 @@ fn parse_request(
     }))
 }
 
-fn are_printable(bytes: &[u8]) -> bool
-    ensures { result ≡ list_all is_printable bytes.now }
-{
-    bytes.iter().all(|b| 0x20 <= *b && *b <= 0x7e)
-}
-
 // A copy of printable characters.
 fn copy_text(alloc: Global, text: &[u8]) -> Result<String, AllocError>
     requires { list_all is_printable text.now ≡ true }
@@ -134,12 +131,12 @@ fn copy_text(alloc: Global, text: &[u8]) -> Result<String, AllocError>
 fn parse_survivors(
     alloc: Global,
     code: Code,
-    others: Words<'_>,
+    others: LineWords<'_>,
 ) -> Result<Option<Vec<Fragment>>, AllocError>
     ensures { IfOk result (λ fragments. option_map (λ fs. survivors_of fs.items) fragments
         ≡ every (map (survivor code) (words others.entry.rest.now))) }
 {
-    let mut survivors = Vec::new(alloc);
+    let mut survivors = Vec::with_capacity(alloc, MOST_SURVIVORS)?;
     for word in others {
         let Some(fragment) = parse_survivor(alloc, code, word)? else {
             return Ok(None);
@@ -153,15 +150,12 @@ fn parse_survivors(
 fn parse_survivor(alloc: Global, code: Code, word: &[u8]) -> Result<Option<Fragment>, AllocError>
     ensures { IfOk result (λ fragment. option_map survivor_of fragment ≡ survivor code word.now) }
 {
-    let Some(at) = find_byte(word, b'=') else {
+    let Some(at) = find_near_byte(word, b'=') else {
         return Ok(None);
     };
     let Some(place) = code.named(&word[..at]) else {
         return Ok(None);
     };
-    match hex::decode(alloc, &word[at + 1..]) {
-        Ok(bytes) => Ok(Some(Fragment { place, bytes })),
-        Err(FromHexError::OutOfMemory) => Err(AllocError),
-        Err(_) => Ok(None),
-    }
+    let bytes = decode(alloc, &word[at + 1..])?;
+    Ok(bytes.map(|bytes| Fragment { place, bytes }))
 }

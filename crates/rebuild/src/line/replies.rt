@@ -1,50 +1,27 @@
 //! The replies to the lines of an input, and their text.
-ghost use Rattle.std.specs.Prelude.{◌≡◌, ◌<◌, ◌≤◌, ◌+◌, ◌^◌, ◌++◌, ◌∷◌, [], List, OnOk, IfOk, length, string_bytes};
+ghost use Rattle.std.specs.Prelude.{◌≡◌, ◌<◌, ◌≤◌, ◌+◌, ◌^◌, ◌++◌, ◌∷◌, [], List, OnOk, IfOk, length};
 ghost use Rattle.std.specs.List.{list_all};
 ghost use Rattle.lrc_code.specs.Text.{is_space};
 ghost use Rattle.rebuild.specs.LineMode.{AreReplies, input_limit, text_of};
 ghost use Rattle.rebuild.specs.Replies.{Holds};
-ghost use Rattle.rebuild.specs.Reply.{IsReply, Reply, number_of, reply_text};
+ghost use Rattle.rebuild.specs.LineReply.{IsReply, LineReply, number_of, reply_text};
 
 use super::LineCount;
+use super::hexadecimal::append_upper;
 use super::lines::Lines;
 use super::parsing::parse_line;
-use lrc_code::{Outcome, RequestFault};
+use super::refusals::LineRefusal;
+use lrc_code::Outcome;
 use lrc_plan::solve;
 use std::alloc::{AllocError, Global};
-use std::fmt::Write;
-use thiserror::Error;
-
-/// Why a line is refused.
-#[derive(Clone, Copy, Debug, Error, PartialEq, Eq)]
-pub(crate) enum LineRefusal {
-    /// The line doesn't have the form of a request.
-    #[error("the line does not have the form of a request")]
-    BadLine,
-    /// The line's request is refused.
-    #[error("{0}")]
-    Refused(RequestFault),
-}
-
-impl LineRefusal {
-    /// The refusal's number in the table of refusals.
-    fn code(self) -> u8
-        ensures { result ≡ number_of self }
-    {
-        match self {
-            LineRefusal::BadLine => 22,
-            LineRefusal::Refused(fault) => fault.code(),
-        }
-    }
-}
 
 // What a line is replied.
-type Reply = Result<Outcome, LineRefusal>;
+type LineReply = Result<Outcome, LineRefusal>;
 
 // Replies one after the other: their text, and how many there are of each kind.
 #[derive(Drop)]
 pub(crate) struct Replies {
-    pub(crate) text: String,
+    pub(crate) text: Vec<u8>,
     pub(crate) count: LineCount,
 }
 
@@ -57,18 +34,18 @@ impl Replies {
             refused: 0,
         };
         Replies {
-            text: String::new(alloc),
+            text: Vec::new(alloc),
             count,
         }
     }
 
     // Adds a reply behind the others.
-    fn add(&mut self, alloc: Global, reply: &Reply) -> Result<(), AllocError>
+    fn add(&mut self, alloc: Global, reply: &LineReply) -> Result<(), AllocError>
         requires { self.old.count.answered + self.old.count.refused < 2 ^ 63 }
-        ensures { OnOk result ((replies : List Reply) → Holds self.old replies → Holds self.new (replies ++ reply.now ∷ [])) }
+        ensures { OnOk result ((replies : List LineReply) → Holds self.old replies → Holds self.new (replies ++ reply.now ∷ [])) }
     {
         push_reply(alloc, &mut self.text, reply)?;
-        self.text.push('\n')?;
+        self.text.push(b'\n')?;
         if reply.is_ok() {
             self.count.answered += 1;
         } else {
@@ -81,12 +58,12 @@ impl Replies {
 /// The replies to the lines of an input.
 pub(crate) fn reply_to_lines(alloc: Global, input: &[u8]) -> Result<Replies, AllocError>
     requires { length input.now ≤ input_limit }
-    ensures { IfOk result (λ r. (replies : List Reply) × AreReplies input.now replies × Holds r replies) }
+    ensures { IfOk result (λ r. (replies : List LineReply) × AreReplies input.now replies × Holds r replies) }
 {
     let mut replies = Replies::new(alloc);
     for line in Lines::new(input) {
         if !is_blank(line) {
-            replies.add(alloc, &reply_to(alloc, line)?)?;
+            replies.add(alloc, &reply_to_line(alloc, line)?)?;
         }
     }
     Ok(replies)
@@ -99,7 +76,7 @@ fn is_blank(line: &[u8]) -> bool
 }
 
 // The reply to a line that isn't blank.
-fn reply_to(alloc: Global, line: &[u8]) -> Result<Reply, AllocError>
+fn reply_to_line(alloc: Global, line: &[u8]) -> Result<LineReply, AllocError>
     ensures { IfOk result (IsReply line.now) }
 {
     match parse_line(alloc, line)? {
@@ -109,16 +86,19 @@ fn reply_to(alloc: Global, line: &[u8]) -> Result<Reply, AllocError>
 }
 
 // Adds a reply's text, without its line feed.
-fn push_reply(alloc: Global, text: &mut String, reply: &Reply) -> Result<(), AllocError>
-    ensures { OnOk result (string_bytes text.new ≡ string_bytes text.old ++ reply_text reply.now) }
+fn push_reply(alloc: Global, text: &mut Vec<u8>, reply: &LineReply) -> Result<(), AllocError>
+    ensures { OnOk result (text.new.items ≡ text.old.items ++ reply_text reply.now) }
 {
     match reply {
         Ok(Outcome::Rebuilt(bytes)) => {
-            text.push_str("rebuilt ")?;
-            text.push_str(&hex::encode_upper(alloc, bytes.as_slice())?)
+            text.extend_from_slice(b"rebuilt ")?;
+            append_upper(text, bytes.as_slice())
         }
-        Ok(Outcome::Contradiction) => text.push_str("contradiction"),
-        Ok(Outcome::Several) => text.push_str("several"),
-        Err(refusal) => write!(text, "refused E{}", refusal.code()),
+        Ok(Outcome::Contradiction) => text.extend_from_slice(b"contradiction"),
+        Ok(Outcome::Several) => text.extend_from_slice(b"several"),
+        Err(refusal) => {
+            let told = format!(in alloc; "refused E{}", refusal.code())?;
+            text.extend_from_slice(told.as_bytes())
+        }
     }
 }

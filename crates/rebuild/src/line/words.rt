@@ -1,23 +1,23 @@
 //! The words of a line.
 ghost use Rattle.std.specs.Prelude.{◌≡◌, ◌==◌, not, position};
 
-use super::lines::find_byte;
+use super::scanning::find_byte;
 
 /// The words of a line, which stand between spaces.
 #[derive(Drop)]
-pub(crate) struct Words<'a> {
+pub(crate) struct LineWords<'a> {
     rest: &'a [u8],
 }
 
-impl<'a> Words<'a> {
-    pub(crate) fn new(line: &'a [u8]) -> Words<'a>
+impl<'a> LineWords<'a> {
+    pub(crate) fn new(line: &'a [u8]) -> LineWords<'a>
         ensures { result.rest.now ≡ line.now }
     {
-        Words { rest: line }
+        LineWords { rest: line }
     }
 }
 
-impl<'a> Iterator for Words<'a> {
+impl<'a> Iterator for LineWords<'a> {
     ghost use Rattle.std.specs.Prelude.{length};
     ghost use Rattle.std.specs.Iterator.{YieldsFirstBy, at_most};
     ghost use Rattle.rebuild.specs.Line.{words};

@@ -198,21 +198,26 @@ fn goes_on_after_interruptions(rt: HostRuntime) {
     assert_eq!(rt; run.answer, ALL_ANSWERED);
 }
 
-// A reader whose calls are always interrupted.
+// A reader whose calls are always interrupted, and how many there were.
 #[derive(Drop)]
-struct InterruptedReader;
+struct InterruptedReader {
+    calls: u64,
+}
 
 impl Read for InterruptedReader {
     fn read(&mut self, _buf: &mut [u8]) -> io::Result<usize> {
+        self.calls = self.calls.saturating_add(1);
         Err(io::Error::from(ErrorKind::Interrupted))
     }
 }
 
-/// Line mode ends for a reader that never gives anything.
+/// Line mode ends for a reader that never gives anything, after 16,777,216 reads and no more.
 #[test]
 fn ends_for_an_interrupted_reader(rt: HostRuntime) {
+    let mut input = InterruptedReader { calls: 0 };
     let mut output = Vec::new(rt.alloc());
-    let answer = line_mode(rt.alloc(), &mut InterruptedReader, &mut output);
+    let answer = line_mode(rt.alloc(), &mut input, &mut output);
     assert_eq!(rt; answer, Err(LineFault::Device));
     assert!(rt; output.is_empty());
+    assert_eq!(rt; input.calls, 16_777_216);
 }

@@ -1,5 +1,5 @@
 //! How the command `farm` ends: statuses and fault lines.
-use crate::farm::{farm_status, fault_line};
+use crate::farm_faults::{farm_status, fault_line};
 use farm_files::{ListFault, ServeFault, Served};
 use lrc_code::RequestFault;
 use std::process::Abort;

@@ -2,6 +2,7 @@
 ghost use Rattle.std.specs.Prelude.{◌≡◌, ◌++◌, IfOk, OnOk, string_bytes};
 ghost use Rattle.rebuild.specs.FarmFaults.{fault_text, list_fault_text, list_status, listed_reason, reason_text, status_of};
 
+use crate::statuses::{DEVICE, DONE, NO_RESOURCES, REFUSED};
 use farm_files::{ListFault, ServeFault, Served, list_file};
 use std::alloc::{AllocError, Global};
 use std::fmt::Write;
@@ -12,11 +13,11 @@ pub fn farm_status(outcome: &Result<Served, ServeFault>) -> u8
     ensures { result ≡ status_of outcome.now }
 {
     match outcome {
-        Ok(_) => 0,
+        Ok(_) => DONE,
         Err(ServeFault::List { fault, .. }) => list_status(*fault),
-        Err(ServeFault::BadFeeds | ServeFault::TooManyRacks | ServeFault::NoRacks) => 1,
-        Err(ServeFault::Device) => 3,
-        Err(ServeFault::OutOfMemory | ServeFault::NoThread) => 4,
+        Err(ServeFault::BadFeeds | ServeFault::TooManyRacks | ServeFault::NoRacks) => REFUSED,
+        Err(ServeFault::Device) => DEVICE,
+        Err(ServeFault::OutOfMemory | ServeFault::NoThread) => NO_RESOURCES,
     }
 }
 
@@ -24,8 +25,8 @@ fn list_status(fault: ListFault) -> u8
     ensures { result ≡ list_status fault }
 {
     match fault {
-        ListFault::OutOfMemory => 4,
-        _ => 1,
+        ListFault::OutOfMemory => NO_RESOURCES,
+        _ => REFUSED,
     }
 }
 

@@ -5,7 +5,7 @@ use Rattle.lrc_code.specs.Text.{is_space}
 use Rattle.rebuild.specs.Line.{words}
 use Rattle.rebuild.proofs.Cuts.{take-drop_all, unwrap_or-position}
 use Rattle.rebuild.proofs.WordsMade.{is_other, words_at, words_none}
-use Rattle.rebuild.proofs.line.words.WordsIterator.next.Goals as goal
+use Rattle.rebuild.proofs.line.words.LineWordsIterator.next.Goals as goal
 
 pub returns-in_default-clause-steps : goal.returns-in_default-clause-steps
 returns-in_default-clause-steps c = (words_none c.args.self.now.rest.now (sym c.find_other.ensures ∙ c.in_default.is), refl)
