@@ -24,3 +24,4 @@ pub mod Answered
 pub mod OneFeed
 pub mod FeedRows
 pub mod OneFeedServed
+pub mod Fronts
