@@ -35,6 +35,7 @@ TESTS = [
     ("farm_tests", "collector_takes_its_room"),
     ("farm_files", "nothing_written_before_all_texts_are_made"),
     ("farm_files", "nothing_written_with_two_workers"),
+    ("farm_files", "batches_of_one_request"),
     ("farm_files", "digests_in_three_threads"),
     ("farm_files", "failed_write_without_memory"),
 ]

@@ -24,3 +24,7 @@ pub mod Answered
 pub mod OneFeed
 pub mod FeedRows
 pub mod OneFeedServed
+pub mod AnsweredRacks
+pub mod OneList
+pub mod ListBatches
+pub mod Fronts

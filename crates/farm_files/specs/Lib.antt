@@ -16,3 +16,4 @@ pub mod ServingLaws
 pub mod Faults
 pub mod Parts
 pub mod Causes
+pub mod AnsweredRacks

@@ -1,15 +1,19 @@
 //! A shelf over a folder of the system.
-ghost use Rattle.std.specs.Prelude.{◌≡◌, ℕ, None, IfOk, IfSome, take};
+ghost use Rattle.std.specs.Prelude.{◌≡◌, ◌+◌, ◌<◌, ◌≤◌, ℕ, None, IfOk, IfSome, OnErr, OnOk, drop, length, take};
+ghost use Rattle.std.specs.Io.KnownBytes.{Consumes, IsAtEnd, Keeps};
 ghost use Rattle.farm_files.specs.Folder.{folder_failed};
 
 use crate::shelf::{Shelf, ShelfFault};
 use std::alloc::{AllocError, Global};
 use std::fs;
-use std::io::{ErrorKind, Read};
+use std::io::{self, ErrorKind, Read};
 use std::rt::Files;
 
-// The room that is taken before the first read, if the limit isn't less. A fragment of the greatest length fits it.
+// The room that is taken for the first read, if the limit isn't less. A fragment of the greatest length fits it.
 const FIRST_ROOM: usize = 65_537;
+
+// How often a file is read at most.
+const READ_TURNS: u32 = 16_777_216;
 
 /// A shelf over a folder of the system. Contracts see only how often it failed, since other programs may change the
 /// folder's files.
@@ -40,19 +44,65 @@ impl<R: Files + Clone + Drop> FolderShelf<R> {
     }
 }
 
-// The first bytes of a file, as many as the limit at most.
-fn read_front<F: Read + Drop>(alloc: Global, file: F, limit: usize) -> Result<Vec<u8>, ShelfFault>
+// The first bytes of a file, as many as the limit at most. The room for a fragment is taken and cleared once, so that one of
+// the listed length takes two reads: the first gives its bytes, the second finds its end.
+pub(crate) fn read_front<F: Read + Drop>(
+    alloc: Global,
+    file: F,
+    limit: usize,
+) -> Result<Vec<u8>, ShelfFault>
     ensures { IfOk result (λ bytes. IfSome (F.remaining file) (λ all. bytes.items ≡ take limit all)) }
 {
-    let Ok(mut bytes) = Vec::with_capacity(alloc, limit.min(FIRST_ROOM)) else {
-        return Err(ShelfFault::OutOfMemory);
-    };
-    match file.take(limit as u64).read_to_end(&mut bytes) {
-        Ok(_) => Ok(bytes),
-        Err(e) => match e.kind() {
-            ErrorKind::OutOfMemory => Err(ShelfFault::OutOfMemory),
-            _ => Err(ShelfFault::Device),
-        },
+    let mut file = file;
+    let mut bytes = Vec::new(alloc);
+    let mut got = 0;
+    for _turn in 0..READ_TURNS {
+        if got == limit {
+            return Ok(bytes);
+        }
+        make_room(&mut bytes, got, limit)?;
+        match read_at(&mut file, bytes.as_mut_slice(), got) {
+            Ok(0) => {
+                bytes.truncate(got);
+                return Ok(bytes);
+            }
+            Ok(count) => got += count,
+            Err(e) => match e.kind() {
+                ErrorKind::Interrupted => {}
+                ErrorKind::OutOfMemory => return Err(ShelfFault::OutOfMemory),
+                _ => return Err(ShelfFault::Device),
+            },
+        }
+    }
+    Err(ShelfFault::Device)
+}
+
+// Reads into the room behind the bytes that were read.
+fn read_at<F: Read>(file: &mut F, bytes: &mut [u8], got: usize) -> io::Result<usize>
+    requires { got < length bytes.old }
+    ensures front { take got bytes.new ≡ take got bytes.old }
+    ensures fits { IfOk result (λ n. got + n ≤ length bytes.new) }
+    ensures ok { IfOk result (λ n. Consumes (F.remaining file.old) (F.remaining file.new) (take n (drop got bytes.new))) }
+    ensures end { IfOk result (λ n. n ≡ 0 → IsAtEnd (F.remaining file.new)) }
+    ensures err { OnErr result (Keeps (F.remaining file.old) (F.remaining file.new)) }
+{
+    file.read(&mut bytes[got..])
+}
+
+// Makes room for a read behind the bytes that were read, where it is full.
+fn make_room(bytes: &mut Vec<u8>, got: usize, limit: usize) -> Result<(), ShelfFault>
+    requires got { got ≤ length bytes.old.items }
+    requires limit { (got < limit) × (length bytes.old.items ≤ limit) }
+    ensures front { OnOk result (take got bytes.new.items ≡ take got bytes.old.items) }
+    ensures room { OnOk result ((got < length bytes.new.items) × (length bytes.new.items ≤ limit)) }
+{
+    if got < bytes.len() {
+        return Ok(());
+    }
+    let room = got.saturating_mul(2).max(FIRST_ROOM).min(limit);
+    match bytes.resize(room, 0) {
+        Ok(()) => Ok(()),
+        Err(_) => Err(ShelfFault::OutOfMemory),
     }
 }
 

@@ -2,6 +2,7 @@
 //! one shelf by files on another.
 #![tactic(auto)]
 
+mod batches;
 mod digests;
 mod faults;
 mod folder;

@@ -281,7 +281,7 @@ fn read_request<I: Shelf>(
 
 // The orders of requests with the survivors that were read, and of a close behind them where one is asked for; and for each request the
 // places of the others.
-fn read_requests<I: Shelf>(
+pub(crate) fn read_requests<I: Shelf>(
     alloc: Global,
     input: &mut I,
     requests: &[&Listed],
@@ -377,7 +377,7 @@ pub(crate) fn read_feeds<I: Shelf>(
     input: &mut I,
     lists: &[Vec<Vec<Record>>],
 ) -> Result<(Feeds, Vec<Vec<Vec<Vec<Place>>>>), AllocError>
-    requires room { I.failed input.old < 2 ^ 62 }
+    requires room { I.failed input.old + 262144 * length lists.now < 2 ^ 63 }
     requires racks { length lists.now ≤ 16 }
     requires feeds { All (λ feeds. (0 < length feeds.items) × (length feeds.items ≤ 4)) lists.now }
     requires orders { All (λ feeds. All (λ l. length l.items ≤ 4096) feeds.items) lists.now }
@@ -388,7 +388,7 @@ pub(crate) fn read_feeds<I: Shelf>(
     ensures orders { IfOk result (λ v. map (λ feeds. map (λ os. length (before_close os)) feeds) v.0 ≡ map (λ feeds. map (λ l. length (listed_before_close l.items)) feeds.items) lists.now) }
     ensures places { IfOk result (λ v. map (λ fs. map (λ us. length us.items) fs.items) v.1.items ≡ map (λ feeds. map (λ l. length (listed_before_close l.items)) feeds.items) lists.now) }
     ensures more { I.failed input.old ≤ I.failed input.new }
-    ensures few { I.failed input.new ≤ I.failed input.old + 4194304 }
+    ensures few { I.failed input.new ≤ I.failed input.old + 262144 * length lists.now }
 {
     let mut racks = Vec::new(alloc);
     let mut unread = Vec::new(alloc);

@@ -7,11 +7,12 @@ ghost use Rattle.farm_files.specs.Files.{put_all};
 ghost use Rattle.farm_files.specs.Faults.{CountsServing, Explains, LeavesOutput};
 ghost use Rattle.farm_files.specs.Serving.{Reads, Serves, all_failures, written_files};
 
+use crate::batches::{Answered, MOST_BATCH_BYTES, answer_lists};
 use crate::faults::ServeFault;
-use crate::reading::{read_feeds, read_lists};
+use crate::reading::read_lists;
 use crate::shelf::Shelf;
 use crate::writing::{make_files, write_files};
-use farm_core::{Pause, Settings, run_feeds};
+use farm_core::{Pause, Settings};
 use lrc_code::Outcome;
 use std::alloc::Global;
 use std::sync::Wait;
@@ -55,8 +56,15 @@ pub fn serve<R: Threads + Wait + Sync, I: Shelf, O: Shelf, P: Pause>(
     ensures failures { IfErr result (λ f. CountsServing f (I.failed input.old) (I.failed input.new) (O.failed output.old) (O.failed output.new)) }
 {
     let lists = read_lists(alloc, input)?;
-    let (feeds, unread) = read_feeds(alloc, input, lists.as_slice())?;
-    let answers = run_feeds(rt, alloc, &feeds, settings, pause)?;
+    let Answered { answers, unread } = answer_lists(
+        rt,
+        alloc,
+        input,
+        lists.as_slice(),
+        settings,
+        pause,
+        MOST_BATCH_BYTES,
+    )?;
     let files = make_files(
         rt,
         alloc,

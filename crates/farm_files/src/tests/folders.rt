@@ -1,10 +1,13 @@
 //! One run over real folders, which the test makes where it runs.
+use crate::folder::read_front;
 use crate::tests::shared::{FRAGMENTS, LIST, REPORT};
 use crate::{FolderShelf, ServeFault, Shelf, ShelfFault, serve};
 use farm_core::{NoPause, Settings};
 use std::alloc::{AllocError, Global};
 use std::fs;
+use std::io::{self, Read};
 use std::rt::Files;
+use std::sync::atomic::{AtomicU64, Ordering};
 
 // A folder with the list and its fragments, and an empty one.
 fn make_folders<R: Files>(rt: &R, alloc: Global) -> bool {
@@ -87,4 +90,73 @@ fn a_folder_that_is_absent(rt: HostRuntime) {
         assert_eq!(&rt; shelf.write(rt.alloc(), "a", b"x"), Err(ShelfFault::Device));
         assert!(&rt; shelf.failures() == 1);
     }
+}
+
+// A reader that gives so many bytes, at most so many a call, and counts its calls.
+#[derive(Drop)]
+struct Drip<'a> {
+    left: usize,
+    step: usize,
+    calls: &'a AtomicU64,
+}
+
+impl<'a> Read for Drip<'a> {
+    fn read(&mut self, buf: &mut [u8]) -> io::Result<usize> {
+        self.calls.fetch_add(1, Ordering::SeqCst);
+        let count = self.left.min(self.step).min(buf.len());
+        self.left -= count;
+        Ok(count)
+    }
+}
+
+// How many bytes are read of so many, up to a limit, and in how many calls.
+fn read_drip(
+    alloc: Global,
+    left: usize,
+    step: usize,
+    limit: usize,
+) -> (Result<usize, ShelfFault>, u64) {
+    let calls = AtomicU64::new(0);
+    let file = Drip {
+        left,
+        step,
+        calls: &calls,
+    };
+    let read = match read_front(alloc, file, limit) {
+        Ok(bytes) => Ok(bytes.len()),
+        Err(fault) => Err(fault),
+    };
+    (read, calls.load(Ordering::SeqCst))
+}
+
+// A fragment takes two reads, and one that is longer than listed takes one. A list that outgrows the first room is read on.
+#[test]
+fn two_reads_of_a_fragment(rt: HostRuntime) {
+    let alloc = rt.alloc();
+    assert_eq!(&rt; read_drip(alloc, 65_536, 65_537, 65_537), (Ok(65_536), 2));
+    assert_eq!(&rt; read_drip(alloc, 1, 65_537, 2), (Ok(1), 2));
+    assert_eq!(&rt; read_drip(alloc, 65_537, 65_537, 65_537), (Ok(65_537), 1));
+    assert_eq!(&rt; read_drip(alloc, 5, 65_537, 0), (Ok(0), 0));
+    assert_eq!(&rt;
+        read_drip(alloc, 1_000_000, 65_537, 1_048_577),
+        (Ok(1_000_000), 17)
+    );
+    assert_eq!(&rt;
+        read_drip(alloc, 1_048_577, 1_048_577, 1_048_577),
+        (Ok(1_048_577), 5)
+    );
+}
+
+// A file that gives one byte at a time is read 16,777,216 times and no more.
+#[test]
+fn a_file_that_drips(rt: HostRuntime) {
+    let alloc = rt.alloc();
+    assert_eq!(&rt;
+        read_drip(alloc, 16_777_215, 1, usize::MAX),
+        (Ok(16_777_215), 16_777_216)
+    );
+    assert_eq!(&rt;
+        read_drip(alloc, 16_777_217, 1, usize::MAX),
+        (Err(ShelfFault::Device), 16_777_216)
+    );
 }
