@@ -28,6 +28,8 @@ PLACES = {
 RACKS = 16
 REQUESTS = 4096
 LONGEST = 65536
+# A run holds the survivors of one batch of requests at once, which list so many bytes together.
+BATCH = 16 * 2**20
 REPORT = ["number", "stripe", "target", "length", "outcome", "digest", "unread"]
 OUTCOMES = ["rebuilt", "contradiction", "several"]
 
@@ -117,8 +119,9 @@ def folder_of(store, work, number, racks, header, copy):
         else:
             (folder / name).symlink_to(store / name)
         found += 1
-    held = sum(int(row[3]) * (len(row[4].split()) + 1) for rows in racks for row in rows)
-    return found, len(named) - found, held
+    rebuilt = sum(int(row[3]) for rows in racks for row in rows)
+    listed = sum(int(row[3]) * len(row[4].split()) for rows in racks for row in rows)
+    return found, len(named) - found, rebuilt + min(listed, BATCH)
 
 
 def folders(rows, racks, most):
