@@ -104,8 +104,9 @@ uint32_t lrc_encode_into(uint8_t code, const lrc_bytes *data, size_t count, uint
                          size_t py_length, uint8_t *p0, size_t p0_length, uint8_t *p1, size_t p1_length);
 
 /* Writes the plan for a lost place: bit p of `survivors` says that place p survives. LRC_OK, or LRC_SEVERAL where the
- * survivors do not determine the target; then the checks alone are written. LRC_BAD_ARGUMENT where the code has no such
- * place, or it survives. Bits 16 and higher, and those of places that the code has not, play no part. */
+ * survivors do not determine the target; then the checks alone are written. LRC_BAD_ARGUMENT where the number is
+ * no code's, the code has no such place, or it survives. Bits 16 and higher, and those of places that the code has not, play
+ * no part. */
 uint32_t lrc_plan_into(uint8_t code, uint32_t survivors, uint8_t target, lrc_plan *plan);
 
 /* Writes what a row of a plan gives: the sum of row[p] times the bytes at[p]. With a plan's value these are the target's bytes
@@ -130,7 +131,7 @@ uint32_t lrc_rebuild_many_into(uint8_t code, uint32_t survivors, const lrc_bytes
                                size_t c_length, uint8_t *d, size_t d_length, uint32_t statuses[4]);
 
 /* Whether the survivors are those of a stripe, or with all places of the code, whether they are a stripe: LRC_OK or
- * LRC_CONTRADICTION. LRC_BAD_ARGUMENT where the number is no code's, a bit is set of a place that the code has not, or the
+ * LRC_CONTRADICTION; of no bytes LRC_OK. LRC_BAD_ARGUMENT where the number is no code's, a bit is set of a place that the code has not, or the
  * bytes of one have another length. */
 uint32_t lrc_verify_at(uint8_t code, uint32_t survivors, const lrc_bytes at[LRC_PLACES], size_t length);
 

@@ -1,8 +1,10 @@
-/* What the tests and the bench of the C library share: the codes' equations, products by shifts, and random stripes. */
+/* What the tests and the bench of the C library share: the codes' equations, products by shifts, random bytes, a count of tests. */
 #ifndef STRIPES_H
 #define STRIPES_H
 
 #include <lrc.h>
+#include <stdio.h>
+#include <stdlib.h>
 
 /* The coefficients of each parity, of the data fragments in their order. */
 static const uint8_t narrow_rows[4][12] = {{1, 1, 1, 0, 0, 0}, {0, 0, 0, 1, 1, 1}, {4, 8, 12, 1, 2, 3}, {16, 64, 80, 1, 4, 5}};
@@ -21,6 +23,18 @@ static inline uint8_t random_byte(void)
     static uint32_t state = 1;
     state = state * 1664525u + 1013904223u;
     return (uint8_t)(state >> 24);
+}
+
+static unsigned long tests;
+
+/* Ends the program where something doesn't hold, and counts what does. */
+static inline void test(int holds, const char *what)
+{
+    tests++;
+    if (!holds) {
+        printf("failed: %s\n", what);
+        exit(1);
+    }
 }
 
 /* The product in the field with the polynomial 11D. */

@@ -2,23 +2,11 @@
  * stripes of both codes, and each set of four lost fragments, solved by inverting a matrix with ISA-L. Exits with 0 if all agree. */
 #include "stripes.h"
 #include <isa-l.h>
-#include <stdio.h>
-#include <stdlib.h>
 #include <string.h>
 
 enum { LENGTH = 1024, STRIPES = 20 };
 
 static uint8_t store[LRC_PLACES][LENGTH], outs[4][LENGTH], wanted[4][LENGTH];
-static unsigned long tests;
-
-static void test(int holds, const char *what)
-{
-    tests++;
-    if (!holds) {
-        printf("failed: %s\n", what);
-        exit(1);
-    }
-}
 
 static void products(void)
 {

@@ -2,8 +2,6 @@
  * rebuilds them one by one, together and by plans, and compares; then each function's refusals. Exits with 0 if all is as it
  * must be. */
 #include "stripes.h"
-#include <stdio.h>
-#include <stdlib.h>
 #include <string.h>
 
 /* With SHORT, as under sanitizers and valgrind: shorter fragments, and one of STEP sets of lost ones. */
@@ -15,16 +13,6 @@ enum { MOST = 1000003, STEP = 1 };
 
 static uint8_t store[LRC_PLACES][MOST];
 static uint8_t outs[5][MOST], wanted[MOST];
-static unsigned long tests;
-
-static void test(int holds, const char *what)
-{
-    tests++;
-    if (!holds) {
-        printf("failed: %s\n", what);
-        exit(1);
-    }
-}
 
 /* The bytes of a stripe whose data are random and whose parities are encoded; they are compared with products by shifts. */
 static void make(enum lrc_code code, size_t length, uint8_t *fragments[LRC_PLACES])
