@@ -1,5 +1,5 @@
 -- Searches and tests of bytes.
-use Rattle.std.proofs.Common.{◌≡◌, ◌∙◌, ◌==◌, ℕ, ◌+◌, ◌%◌, ◌<◌, ◌≤◌, max, Bool, true, false, cond, List, ◌∷◌, length, drop, get_or, slice_index, Option, Some, None, refl, sym, ap, arith, inl, inr, position}
+use Rattle.std.proofs.Common.{◌≡◌, ◌∙◌, ℕ, ◌+◌, ◌%◌, ◌<◌, ◌≤◌, max, Bool, true, false, cond, List, length, drop, slice_index, Option, Some, None, refl, sym, ap, arith, position}
 use Rattle.std.specs.Prelude.{◌&&◌, nat_le, nat_lt}
 use Rattle.std.specs.List.{list_all, position_or_len}
 use Rattle.std.proofs.lemmas.List.{drop_all, drop_more}

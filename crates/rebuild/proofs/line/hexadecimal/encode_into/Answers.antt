@@ -1,4 +1,4 @@
-use Rattle.std.proofs.Common.{ℕ, arith, slice_index, refl, ap, ◌∙◌}
+use Rattle.std.proofs.Common.{ℕ, arith, slice_index, ap, ◌∙◌}
 use Rattle.std.proofs.lemmas.Nat.{and_mask}
 use Rattle.hex.specs.Hex.{upper_digits}
 use Rattle.hex.proofs.Pairs.{encode_done, encode_step}
