@@ -64,6 +64,7 @@ uninstall-library:
 # The gate leaves the programs and tests that it proved and built in each crate's out/, and the scripts run those.
 test:
 	scripts/wrong-bodies.sh
+	scripts/architecture.py
 	rt ci
 	scripts/no-compile.sh
 	scripts/refusals.py
