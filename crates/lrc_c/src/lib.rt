@@ -1,5 +1,10 @@
 //! The codes for C: exports over the caller's own buffers. Each tests its arguments, none takes memory, and none ends
-//! the process.
+//! the process. C declares them in `include/lrc.h`:
+//!
+//! ```c
+//! const uint8_t *left[LRC_PLACES] = {0}; /* the survivors by place */
+//! uint32_t status = lrc_rebuild(LRC_6_2_2, left, LRC_X0, out, length);
+//! ```
 #![tactic(auto)]
 
 mod arguments;
