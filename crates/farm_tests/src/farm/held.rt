@@ -118,27 +118,20 @@ fn are_two_locals_and_several(answers: &[Outcome]) -> bool {
     }
 }
 
-// Runs two racks that ask the same, in which two requests of the second have to meet, and whose answers pass this test.
-fn meets<R: Abort + Threads + Wait + Sync>(
+// The answers to two racks that ask the same, where two requests of the second had to meet.
+fn answers_of_met<R: Abort + Threads + Wait + Sync>(
     rt: &R,
     alloc: Global,
     asked: &[Entry],
     settings: Settings,
-    are_right: fn(&[Outcome]) -> bool,
-) -> Result<(), AllocError> {
+) -> Result<Vec<Vec<Outcome>>, AllocError> {
     let racks = racks_of(rt, alloc, &[asked, asked])?;
     let pause = Crossed::new();
     let Ok(answers) = run(rt, alloc, &racks, settings, &pause) else {
         panic!(rt; "no answers");
     };
     assert!(rt; !pause.missed.load(Ordering::SeqCst));
-    match answers.as_slice() {
-        [first, second] => {
-            assert!(rt; are_right(first.as_slice()) && are_right(second.as_slice()));
-        }
-        _ => panic!(rt; "not two racks"),
-    }
-    Ok(())
+    Ok(answers)
 }
 
 #[test]
@@ -147,13 +140,11 @@ fn two_workers_meet(rt: HostRuntime) -> Result<(), AllocError> {
         let Ok(settings) = Settings::new(2, queue) else {
             panic!(rt; "settings out of their limits");
         };
-        meets(
-            &rt,
-            rt.alloc(),
-            &[LOCAL, SEVERAL, GLOBAL],
-            settings,
-            are_local_several_global,
-        )?;
+        let answers = answers_of_met(&rt, rt.alloc(), &[LOCAL, SEVERAL, GLOBAL], settings)?;
+        assert!(rt; answers.len() == 2);
+        for rack in &answers {
+            assert!(rt; are_local_several_global(rack.as_slice()));
+        }
     }
     Ok(())
 }
@@ -163,13 +154,12 @@ fn two_of_sixteen_workers_meet(rt: HostRuntime) -> Result<(), AllocError> {
     let Ok(settings) = Settings::new(16, 1024) else {
         panic!(rt; "settings out of their limits");
     };
-    meets(
-        &rt,
-        rt.alloc(),
-        &[LOCAL, LOCAL, SEVERAL],
-        settings,
-        are_two_locals_and_several,
-    )
+    let answers = answers_of_met(&rt, rt.alloc(), &[LOCAL, LOCAL, SEVERAL], settings)?;
+    assert!(rt; answers.len() == 2);
+    for rack in &answers {
+        assert!(rt; are_two_locals_and_several(rack.as_slice()));
+    }
+    Ok(())
 }
 
 /// As many workers are started as are set: sixteen requests are worked on at once.
