@@ -1,5 +1,5 @@
 -- What is answered of several batches, one behind the other.
-use Rattle.std.proofs.Common.{◌≡◌, ◌≤◌, ◌+◌, ◌-◌, ◌++◌, ◌∙◌, Vec, Global, ℕ, List, [], ◌∷◌, Some, length, take, drop, map, refl, sym, ap, subst, arith}
+use Rattle.std.proofs.Common.{◌≡◌, ◌≤◌, ◌+◌, ◌-◌, ◌++◌, ◌∙◌, Vec, Global, ℕ, List, [], ◌∷◌, length, take, drop, map, refl, sym, ap, arith}
 use Rattle.std.specs.List.{AllZip, slice_range}
 use Rattle.std.proofs.Math.Seq.{take-add}
 use Rattle.std.proofs.lemmas.List.{length-drop, length-map, length-take-le, map-append}
@@ -11,7 +11,7 @@ use Rattle.farm_core.specs.Orders.{before_close}
 use Rattle.farm_core.specs.declared.orders.Order.{Order}
 use Rattle.farm_core.proofs.Works.{zip_append}
 use Rattle.farm_files.specs.AnsweredRacks.{AreAnswered, all_places, all_records, listed_counts}
-use Rattle.farm_files.specs.Files.{Files, Told}
+use Rattle.farm_files.specs.Files.{Told}
 use Rattle.farm_files.specs.Pairs.{zip_with}
 use Rattle.farm_files.specs.Report.{before_close as listed_before_close}
 use Rattle.farm_files.specs.Serving.{AreRackReads, Reads, orders_rack, unread_rack}

@@ -1,7 +1,7 @@
 -- What is answered of the first requests of a rack's only list.
 use Rattle.std.proofs.Common.{◌≡◌, ◌<◌, ◌≤◌, ◌+◌, ◌-◌, ◌*◌, ◌++◌, ◌∙◌, Bor, ℕ, Bool, true, false, cond, List, [], ◌∷◌, Some, length, map, refl, sym, ap, subst, arith}
 use Rattle.std.specs.List.{AllZip, slice_range}
-use Rattle.std.specs.Prelude.{nat_lt, sum_by}
+use Rattle.std.specs.Prelude.{nat_lt}
 use Rattle.std.proofs.lemmas.List.{length-append, length-map, map-append}
 use Rattle.lrc_code.specs.declared.places.Place.{Place}
 use Rattle.lrc_code.specs.declared.outcomes.Outcome.{Outcome}

@@ -1,7 +1,7 @@
 -- A rack with one feed: its only lawful merge.
-use Rattle.std.proofs.Common.{◌≡◌, ◌<◌, ◌++◌, ◌∙◌, ◌⊎◌, get_or, ℕ, zero, suc, List, [], ◌∷◌, All, length, take, map, refl, sym, ap, subst, arith, inl, inr, le_refl}
+use Rattle.std.proofs.Common.{◌≡◌, ◌<◌, ◌∙◌, ◌⊎◌, get_or, ℕ, zero, suc, List, [], ◌∷◌, All, length, take, map, refl, sym, ap, subst, arith, inl, inr, le_refl}
 use Rattle.std.specs.List.{AllZip}
-use Rattle.std.proofs.lemmas.List.{map-append, take_all}
+use Rattle.std.proofs.lemmas.List.{take_all}
 use mathlib.Core.Option.{some, some-ne-none, some-injective}
 use lib.ListN.{get_elem?}
 use Rattle.lrc_code.specs.declared.outcomes.Outcome.{Outcome}

@@ -1,11 +1,11 @@
-use Rattle.std.proofs.Common.{◌≡◌, ◌∙◌, ◌++◌, Vec, Global, ℕ, List, [], ap, arith, map, refl, rules, subst, sym, take}
+use Rattle.std.proofs.Common.{◌≡◌, ◌∙◌, ◌++◌, Vec, Global, ℕ, List, [], ap, arith, map, refl, subst, take}
 use Rattle.std.proofs.lemmas.List.{map-append}
 use Rattle.std.proofs.lemmas.List.Sums.{sum_by-append}
 use Rattle.std.specs.List.{slice_range}
 use Rattle.lrc_code.specs.declared.places.Place.{Place}
 use Rattle.lrc_code.specs.declared.outcomes.Outcome.{Outcome}
 use Rattle.farm_files.specs.AnsweredRacks.{AreAnswered, all_answers, all_places, all_records}
-use Rattle.farm_files.specs.Serving.{Reads, rack_failures}
+use Rattle.farm_files.specs.Serving.{rack_failures}
 use Rattle.farm_files.specs.declared.listing.Record.{Record}
 use Rattle.farm_files.proofs.AnsweredRacks.{answered_append, answered_none, range_length, take_range}
 use Rattle.farm_files.proofs.batches.answer_lists.Goals as goal

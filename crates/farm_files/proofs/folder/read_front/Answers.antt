@@ -1,4 +1,4 @@
-use Rattle.std.proofs.Common.{◌≡◌, ◌≤◌, ◌∙◌, List, ℕ, ap, arith, length, take, rules, sym}
+use Rattle.std.proofs.Common.{◌≡◌, ◌≤◌, ◌∙◌, List, ℕ, ap, arith, length, take, rules}
 use Rattle.std.proofs.lemmas.List.{with_items_is, places}
 use Rattle.farm_files.proofs.Fronts.{front_grows, front_stays}
 use Rattle.farm_files.proofs.folder.read_front.Goals as goal
