@@ -16,4 +16,3 @@ pub use opening::{Lane, LaneError};
 pub use put_end::{EndedPut, PutEnd};
 pub use settling::{Settled, settle};
 pub use take_end::TakeEnd;
-
