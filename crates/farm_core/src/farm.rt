@@ -153,6 +153,11 @@ fn answer_feeds(
 
 /// Each rack's answers, in the order of its requests: for each request before the close of its rack's list, the
 /// answer that the code's equations leave. Fails for want of memory or of a thread alone.
+///
+/// ```
+/// let answers = run(&rt, alloc, &racks, Settings::new(4, 16)?, &NoPause)?;
+/// assert!(rt; matches!(&answers[0][0], Outcome::Rebuilt(_)));
+/// ```
 pub fn run<R: Threads + Wait + Sync, P: Pause>(
     rt: &R,
     alloc: Global,

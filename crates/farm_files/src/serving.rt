@@ -32,6 +32,11 @@ pub struct Served {
 /// All names and bytes are made before the first write, so a fault before it leaves the output untouched; a
 /// fault in a write leaves the files before it whole and those after it untouched. A listed survivor that is absent,
 /// hasn't exactly the listed length or isn't given by the device is left out of its request, and named in the report.
+///
+/// ```
+/// let served = serve(&rt, alloc, &mut input, &mut output, Settings::new(4, 16)?, &NoPause)?;
+/// assert_eq!(rt; (served.racks, served.answers), (1, 1));
+/// ```
 pub fn serve<R: Threads + Wait + Sync, I: Shelf, O: Shelf, P: Pause>(
     rt: &R,
     alloc: Global,

@@ -5,6 +5,13 @@
 //! record of its own end or seat, and what is known of all records together once they come into one thread again: `settle` tells it
 //! of a lane's ends, `Gate::join` of a gate's seats. No contract tells that a call which may wait returns, in which order threads
 //! are served, or which of two senders comes first.
+//!
+//! ```
+//! use farm_lanes::{Gate, Item, Lane};
+//!
+//! let (mut puts, mut takes) = Lane::open(rt.alloc(), 4, 1, 1)?;
+//! let (gate, mut seats, mut rights) = Gate::open(rt.alloc(), 1, 1)?;
+//! ```
 #![tactic(auto)]
 
 pub mod gate;

@@ -1,5 +1,15 @@
 //! The field of 256 elements, GF(2^8) with the polynomial x^8 + x^4 + x^3 + x^2 + 1 (11D): arithmetic on one
 //! element, kernels on slices of bytes, and the field's laws. Only `combined` takes memory.
+//!
+//! ```
+//! use lrc_field::{Gf, add_into, scale_add_into};
+//!
+//! assert_eq!(rt; Gf::new(0x80).mul(Gf::new(0x02)).byte(), 0x1d);
+//! let mut sum = *b"\x01\x02";
+//! add_into(&mut sum, b"\x03\x03");
+//! scale_add_into(&mut sum, Gf::new(0x02), b"\x80\x01");
+//! assert_eq!(rt; sum, *b"\x1f\x03");
+//! ```
 #![tactic(auto)]
 
 mod blocks;

@@ -1,6 +1,22 @@
 //! Plans: trees that give a lost fragment from survivors, what they give, and the answer to a request. The code
 //! is the (6,2,2) code or the (12,2,2) code of Huang et al., "Erasure Coding in Windows Azure Storage", USENIX ATC 2012, sections 2
 //! and 3.
+//!
+//! ```
+//! use lrc_code::{Fragment, Outcome, Place, Request};
+//! use lrc_plan::solve;
+//!
+//! let mut survivors = Vec::new(alloc);
+//! survivors.push(Fragment { place: Place::X1, bytes: vec![in alloc; 2]? })?;
+//! survivors.push(Fragment { place: Place::X2, bytes: vec![in alloc; 3]? })?;
+//! survivors.push(Fragment { place: Place::Px, bytes: vec![in alloc; 0]? })?;
+//! let stripe = String::from_str(alloc, "a")?;
+//! let Ok(request) = Request::new(stripe, Place::X0, 1, survivors) else {
+//!     panic!(rt; "refused");
+//! };
+//! let outcome = solve(alloc, alloc, &request)?;
+//! assert!(rt; matches!(&outcome, Outcome::Rebuilt(bytes) if bytes.as_slice() == b"\x01".as_slice()));
+//! ```
 #![tactic(auto)]
 
 pub mod answer_laws;

@@ -19,6 +19,13 @@ use std::alloc::{AllocError, Allocator, Global};
 /// The answer to a request over all stripes of its code: the target's bytes that every fitting stripe
 /// has, or that no stripe fits, or that two fitting stripes differ at the target. The bytes stand in `alloc`; the
 /// plan is made as rows of coefficients, which take no memory, so `plan_alloc` is asked for none.
+///
+/// ```
+/// let outcome = solve(alloc, alloc, &request)?;
+/// if let Outcome::Rebuilt(bytes) = &outcome {
+///     assert_eq!(rt; bytes.as_slice(), b"\x01".as_slice());
+/// }
+/// ```
 pub fn solve<A: Allocator + Clone>(
     alloc: Global,
     plan_alloc: A,

@@ -29,6 +29,15 @@ impl Gate {
     /// Opens a gate with its seats and its rights. Each seat's budget is `MOST_DRAWS` divided by the number of seats, rounded down.
     ///
     /// It takes all the room that the gate ever needs.
+    ///
+    /// ```
+    /// let (gate, mut seats, mut rights) = Gate::open(rt.alloc(), 1, 1)?;
+    /// let (Some(mut seat), Some(right)) = (seats.pop(), rights.pop()) else {
+    ///     unreachable!();
+    /// };
+    /// assert_eq!(rt; gate.draw(&mut seat), Ok(0));
+    /// assert_eq!(rt; gate.close(&mut seat, right), Ok(1));
+    /// ```
     pub fn open(
         alloc: Global,
         seats: usize,

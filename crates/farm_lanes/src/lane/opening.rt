@@ -41,6 +41,18 @@ impl Lane {
     /// order of the put ends.
     ///
     /// It takes all the room that the ends ever need. The capacity is tested before the numbers of ends.
+    ///
+    /// ```
+    /// let (mut puts, mut takes) = Lane::open(rt.alloc(), 4, 1, 1)?;
+    /// let (Some(mut put), Some(mut take)) = (puts.pop(), takes.pop()) else {
+    ///     unreachable!();
+    /// };
+    /// put.put(&rt, 7);
+    /// let Item::Value { number, value, .. } = take.take(&rt) else {
+    ///     panic!(rt; "an end mark");
+    /// };
+    /// assert_eq!(rt; (number, value), (0, 7));
+    /// ```
     pub fn open<T: Send + Drop>(
         alloc: Global,
         capacity: usize,
