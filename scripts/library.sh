@@ -78,7 +78,7 @@ fi
 
 # ---- installing
 root=$scratch/root
-prefix=/opt/lrc
+prefix=/usr/lrc
 quietly 'make install-library' make -s install-library "DESTDIR=$root" PREFIX=$prefix
 version=$(sed -n 's/^#define LRC_VERSION "\(.*\)"$/\1/p' include/lrc.h)
 (cd "$root$prefix" && find . \( -type f -o -type l \) -printf '%P\n') | LC_ALL=C sort > "$scratch/came"
