@@ -61,8 +61,8 @@ uninstall-library:
 	rm -f "$(PLACE)/include/lrc.h" "$(PLACE)/lib/liblrc.a" "$(PLACE)/lib/pkgconfig/lrc.pc"
 	rm -f "$(PLACE)/lib/liblrc.so" "$(PLACE)/lib/$(SONAME)" "$(PLACE)/lib/liblrc.so.$(LIBRARY_VERSION)"
 
-# The gate leaves the programs and tests that it proved and built in each crate's out/, and the scripts run those. A proof takes up to
-# 3 GB, less than rt allows for, so RT_JOBS has it run one on each processor.
+# The gate leaves the programs and tests that it proved and built in each crate's out/, and the scripts run those. A proof was seen
+# to take 3 GB at most, less than rt allows for, so RT_JOBS has it run one on each processor.
 test:
 	scripts/wrong-bodies.sh
 	scripts/architecture.py

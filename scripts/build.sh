@@ -29,8 +29,8 @@ crate() {
 }
 
 cat <<END
-Proving the program and the ${#crates[@]} crates that it stands on, then building it for $level. The first time this takes about
-a quarter of an hour on four idle cores, most of it in farm_core and farm_files; after a change only what changed is proved again.
+Proving the program and the ${#crates[@]} crates that it stands on, then building it for $level. The first time this takes well
+over ten minutes on four cores, most of it in farm_core and farm_files; after a change only what changed is proved again.
 END
 for name in "${crates[@]}"; do
   crate "$name" check
