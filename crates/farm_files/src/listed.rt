@@ -1,5 +1,5 @@
 //! Requests as they are listed.
-ghost use Rattle.std.specs.Prelude.{◌≡◌, ◌≤◌, length, MatchResult, None, Some, Bool};
+ghost use Rattle.std.specs.Prelude.{◌≡◌, ◌≤◌, length, MatchResult, None, Some, Bool, ◌&&◌};
 ghost use Rattle.std.specs.List.{list_any, list_all};
 ghost use Rattle.std.specs.String.{string_bytes};
 ghost use Rattle.lrc_code.specs.Places.{same_place};
@@ -7,17 +7,19 @@ ghost use Rattle.lrc_code.specs.Code.{has_place as code_has};
 ghost use Rattle.lrc_code.specs.Codes.{tables_of};
 ghost use Rattle.farm_files.specs.Listed.{ListedRequest, is_listed, listed_refusal, stands_twice};
 
-use lrc_code::{Code, Place, RequestFault, is_stripe_name};
+use lrc_code::{Code, Place, RequestFault, first_refusal};
 use std::marker::Model;
 
 /// A request as it is listed, before its fragments are read. None of the first four refusals holds of it.
 #[derive(Debug, Drop)]
 pub struct Listed {
-    code: Code,
-    stripe: String,
-    target: Place,
-    length: u32,
-    survivors: Vec<Place>,
+    pub code: Code,
+    pub stripe: String,
+    pub target: Place,
+    /// The length of the fragments in bytes.
+    pub length: u32,
+    /// The survivors, in the list's order.
+    pub survivors: Vec<Place>,
 }
 
 impl Model for Listed {
@@ -46,6 +48,13 @@ fn has_all(code: Code, places: &[Place]) -> bool
     places.iter().all(|place| code.has(*place))
 }
 
+// Whether the target and all survivors are places of the code.
+fn are_places(code: Code, target: Place, survivors: &[Place]) -> bool
+    ensures { result ≡ (code_has (tables_of code) target && list_all (code_has (tables_of code)) survivors.now) }
+{
+    code.has(target) && has_all(code, survivors)
+}
+
 fn has_repeated(places: &[Place]) -> bool
     ensures { result ≡ stands_twice places.now }
 {
@@ -53,6 +62,26 @@ fn has_repeated(places: &[Place]) -> bool
         [] => false,
         [first, later @ ..] => has_place(*first, later) || has_repeated(later),
     }
+}
+
+// Why a listed request is refused, if it is.
+fn refusal(
+    code: Code,
+    stripe: &str,
+    target: Place,
+    length: u32,
+    survivors: &[Place],
+) -> Option<RequestFault>
+    ensures { result ≡ listed_refusal (record { code = code; stripe = stripe.now; target = target; len = length; survivors = survivors.now }) }
+{
+    first_refusal(
+        stripe,
+        length,
+        are_places(code, target, survivors),
+        has_repeated(survivors),
+        has_place(target, survivors),
+        None,
+    )
 }
 
 impl Listed {
@@ -68,20 +97,8 @@ impl Listed {
             (λ r. (r ≡ record { code = code; stripe = string_bytes stripe; target = target; len = length; survivors = survivors.items }) × (listed_refusal r ≡ None))
             (λ e. listed_refusal (record { code = code; stripe = string_bytes stripe; target = target; len = length; survivors = survivors.items }) ≡ Some e) }
     {
-        if !is_stripe_name(&stripe) {
-            return Err(RequestFault::BadStripe);
-        }
-        if length == 0 || length > 65_536 {
-            return Err(RequestFault::BadLength);
-        }
-        if !(code.has(target) && has_all(code, &survivors)) {
-            return Err(RequestFault::WrongCode);
-        }
-        if has_repeated(&survivors) {
-            return Err(RequestFault::Repeated);
-        }
-        if has_place(target, &survivors) {
-            return Err(RequestFault::NotLost);
+        if let Some(fault) = refusal(code, &stripe, target, length, &survivors) {
+            return Err(fault);
         }
         Ok(Listed {
             code,
