@@ -12,4 +12,5 @@ pub mod Dependences
 pub mod Ranks
 pub mod TermRows
 pub mod RowPlanLaws
+pub mod UncheckedRows
 pub mod AnswerLaws

@@ -1,7 +1,9 @@
 -- The equation of a group, by the places' indexes.
 use Rattle.std.specs.Prelude.{ℕ, ◌&&◌, Option, List, map, if◌then◌else◌}
 use Rattle.lrc_code.specs.declared.places.Place.{Place}
+use Rattle.lrc_code.specs.declared.places.Place.TheVariants.{Px, Py}
 use Rattle.lrc_code.specs.declared.places.Group.{Group}
+use Rattle.lrc_code.specs.declared.places.Group.TheVariants as group
 use Rattle.lrc_code.specs.Places.{group_of, all_places}
 use Rattle.lrc_code.specs.Code.{Code, has_place}
 use Rattle.lrc_plan.specs.Planned.{same_group}
@@ -12,3 +14,8 @@ group_coefficient code g p = if has_place code p && same_group (group_of p) g th
 
 abbrev pub group_row : Code → Option Group → List ℕ
 group_row code g = map (group_coefficient code g) all_places
+
+-- the local parity of the other group
+abbrev pub other_parity : Group → Place
+other_parity group.X = Py
+other_parity group.Y = Px

@@ -1,5 +1,5 @@
 //! Plans as rows of coefficients, which take no memory.
-ghost use Rattle.std.specs.Prelude.{◌≡◌, ◌<◌, true, false, not, is_none, length, slice_index, MatchOption, if◌then◌else◌};
+ghost use Rattle.std.specs.Prelude.{◌≡◌, ◌<◌, true, false, not, is_none, length, slice_index, IfSome, MatchOption, if◌then◌else◌};
 ghost use Rattle.lrc_code.specs.declared.places.Place.{Place};
 ghost use Rattle.lrc_code.specs.Code.{has_place};
 ghost use Rattle.lrc_code.specs.Codes.{tables_of};
@@ -10,11 +10,12 @@ ghost use Rattle.lrc_plan.specs.Rows.{coef_of, pivot_of};
 ghost use Rattle.lrc_plan.specs.ReducedRows.{AreReduced};
 ghost use Rattle.lrc_plan.specs.Planned.{ExtensionsDiffer};
 ghost use Rattle.lrc_plan.specs.ValueRows.{IsTargetRow};
+ghost use Rattle.lrc_plan.specs.GroupRows.{other_parity as other_parity_of};
 ghost use Rattle.lrc_plan.specs.RowPlans.{IsCheckRow, IsValueRow, AreCheckRows, IsRowPlan};
 
 use crate::rows::{PLACES, determines, row_of, row_with_pivot};
 use crate::value::local_row;
-use lrc_code::{Code, Place, PlaceSet, Reduced, reduce_in};
+use lrc_code::{Code, Group, Place, PlaceSet, Reduced, reduce_in};
 use lrc_field::Gf;
 
 /// How a lost fragment is rebuilt from survivors: coefficients by the places' indexes, 00 at places that don't survive.
@@ -34,9 +35,41 @@ pub fn plan_rows(code: Code, survivors: PlaceSet, target: Place) -> RowPlan
     requires place { has_place (tables_of code) target ≡ true }
     ensures { IsRowPlan (tables_of code) (is_in survivors) target result.value result.checks }
 {
+    if let Some(plan) = plan_in_group(code, survivors, target) {
+        return plan;
+    }
     let lost = code.others(survivors);
     let reduced = reduce_in(code, lost);
     rows_from(code, &reduced, survivors, target)
+}
+
+// The plan where the others of the target's group survive, and the other group's parity and both global parities are lost: the sum
+// of these others. There are no checks, since the equations can be solved for the four lost places, whatever the survivors hold.
+fn plan_in_group(code: Code, survivors: PlaceSet, target: Place) -> Option<RowPlan>
+    requires lost { is_in survivors target ≡ false }
+    requires place { has_place (tables_of code) target ≡ true }
+    ensures { IfSome result (λ plan. IsRowPlan (tables_of code) (is_in survivors) target plan.value plan.checks) }
+{
+    let group = target.group()?;
+    let lost = code.others(survivors);
+    if !lost.has(other_parity(group)) || !lost.has(Place::P0) || !lost.has(Place::P1) {
+        return None;
+    }
+    let row = local_row(code, survivors, target)?;
+    Some(RowPlan {
+        value: Some(cut_row(code, row, survivors, target)),
+        checks: [[Gf::new(0); 16]; 4],
+    })
+}
+
+// The local parity of the other group.
+fn other_parity(group: Group) -> Place
+    ensures { result ≡ other_parity_of group }
+{
+    match group {
+        Group::X => Place::Py,
+        Group::Y => Place::Px,
+    }
 }
 
 /// Rows that give 00 at every position, all of them, exactly where the survivors are those of a stripe; survivors that

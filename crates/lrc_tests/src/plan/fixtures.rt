@@ -27,7 +27,7 @@ pub struct Case {
 }
 
 /// Most are over the stripe with x 01 02 03, y 04 05 06, px 00, py 07, p0 04 and p1 6E, worked out by hand.
-pub const CASES: [Case; 15] = [
+pub const CASES: [Case; 17] = [
     Case {
         name: "the three others of the group alone",
         target: Place::X0,
@@ -38,6 +38,35 @@ pub const CASES: [Case; 15] = [
             (Place::Px, b"\x00"),
         ],
         answer: Answer::Rebuilt(b"\x01"),
+    },
+    Case {
+        name: "the three others of the group, and data of the other group that nothing shows to be altered",
+        target: Place::X0,
+        length: 1,
+        survivors: &[
+            (Place::X1, b"\x02"),
+            (Place::X2, b"\x03"),
+            (Place::Px, b"\x00"),
+            (Place::Y0, b"\x05"),
+            (Place::Y1, b"\x05"),
+            (Place::Y2, b"\x06"),
+        ],
+        answer: Answer::Rebuilt(b"\x01"),
+    },
+    Case {
+        name: "the same with the other group's parity, which shows it",
+        target: Place::X0,
+        length: 1,
+        survivors: &[
+            (Place::X1, b"\x02"),
+            (Place::X2, b"\x03"),
+            (Place::Px, b"\x00"),
+            (Place::Y0, b"\x05"),
+            (Place::Y1, b"\x05"),
+            (Place::Y2, b"\x06"),
+            (Place::Py, b"\x07"),
+        ],
+        answer: Answer::Contradiction,
     },
     Case {
         name: "the local parity lost too",

@@ -144,7 +144,7 @@ fn value_trees_give_the_same_bytes_at_any_forks(rt: HostRuntime) -> Result<(), A
             Given::Other => assert!(&rt; false, "{}", case.name),
         }
     }
-    assert!(&rt; rebuilt == 9);
+    assert!(&rt; rebuilt == 10);
     Ok(())
 }
 
