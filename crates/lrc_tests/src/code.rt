@@ -4,7 +4,7 @@ ghost use Rattle.std.specs.Prelude.{◌≡◌, length, IfOk};
 use lrc_code::text::parse_number;
 use lrc_code::{
     Bytes, Code, Fragment, Group, Place, PlaceSet, Request, RequestFault, encode, encode_wide,
-    is_stripe_name, reduce, reduce_in,
+    first_refusal, is_stripe_name, reduce, reduce_in,
 };
 use std::alloc::{AllocError, Global};
 
@@ -132,6 +132,27 @@ fn refusals_in_order(rt: HostRuntime) -> Result<(), AllocError> {
             "{stripe} {length}"
         );
     }
+    Ok(())
+}
+
+// E5 comes of the second survivor too, and the refusals in front of it ask for no bytes.
+#[test]
+fn length_of_each_survivor(rt: HostRuntime) -> Result<(), AllocError> {
+    let alloc = rt.alloc();
+    let mut survivors = Vec::new(alloc);
+    for (place, length) in [(Place::X1, 1usize), (Place::X2, 2)] {
+        survivors.push(Fragment {
+            place,
+            bytes: vec![in alloc; 7u8; length]?,
+        })?;
+    }
+    let made = Request::new(text(alloc, "a")?, Place::X0, 1, survivors);
+    assert_eq!(&rt; made.err().map(|fault| fault.code()), Some(5));
+    assert!(&rt; first_refusal("a", 1, true, false, false, None).is_none());
+    let behind = first_refusal("a", 1, true, false, false, Some(RequestFault::WrongLength));
+    assert_eq!(&rt; behind.map(|fault| fault.code()), Some(5));
+    let first = first_refusal("a", 1, true, true, true, Some(RequestFault::WrongLength));
+    assert_eq!(&rt; first.map(|fault| fault.code()), Some(3));
     Ok(())
 }
 
