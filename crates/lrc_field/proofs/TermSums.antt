@@ -7,7 +7,7 @@ use Rattle.lrc_field.specs.Field.{times}
 use Rattle.lrc_field.specs.declared.combining.Term.{Term}
 use Rattle.lrc_field.specs.declared.blocks.Quad.{Quad}
 use Rattle.lrc_field.specs.Blocks.{AreSet, HasLanes, HasQuad}
-use Rattle.lrc_field.specs.Combined.{IsAddedBelow, product_at, sum_at}
+use Rattle.lrc_field.specs.Combined.{IsAddedBelow, product_at, sum_at, three_at}
 use Rattle.lrc_field.proofs.Shift.{last_or_below}
 use Rattle.lrc_field.proofs.FieldLaws.{times-one, times-zero}
 
@@ -49,6 +49,21 @@ quad_same q f g e h = record {
 pub lanes_added : (s v r : List ℕ) (f g : ℕ → ℕ) → HasLanes r (λ k. bit_xor (get_or s k 0) (get_or v k 0)) → HasLanes s f → HasLanes v g
     → HasLanes r (λ k. bit_xor (f k) (g k))
 lanes_added s v r f g a hf hg = record { long = a.long; each = λ k lt. a.each k lt ∙ ap₂ bit_xor (hf.each k lt) (hg.each k lt) }
+
+-- the sum of three terms of scalar 1
+pub sum_of_three : (ts : List Term) (s t u : Term) (i : ℕ) → length ts ≡ 3 → s ≡ get_or ts 0 s → t ≡ get_or ts 1 t → u ≡ get_or ts 2 u
+    → s.scalar ≡ 1 → t.scalar ≡ 1 → u.scalar ≡ 1 → three_at s.bytes.now t.bytes.now u.bytes.now i ≡ sum_at ts i
+sum_of_three ts s t u i three first second third a b c =
+    ap₂ bit_xor (ap (λ x. times x (get_or s.bytes.now i 0)) (sym a)) (ap₂ bit_xor (ap (λ x. times x (get_or t.bytes.now i 0)) (sym b))
+    (ap (λ x. times x (get_or u.bytes.now i 0)) (sym c)))
+    ∙ sym (xor_assoc (product_at s i) (product_at t i) (product_at u i))
+    ∙ ap (λ x. bit_xor (bit_xor x (product_at t i)) (product_at u i)) one
+    ∙ ap (λ x. bit_xor x (product_at u i)) (sum_at-with ts 1 i t (omega (arith, three)) second)
+    ∙ sum_at-with ts 2 i u (omega (arith, three)) third
+    ∙ sum_at-all ts 3 i (omega (arith, three))
+  where
+    one : product_at s i ≡ sum_at (take 1 ts) i
+    one = sym (xor_zero_l (product_at s i)) ∙ sum_at-with ts 0 i s (omega (arith, three)) first
 
 -- a product with 1, and with 0
 pub one_product : (c x : ℕ) → c ≡ 1 → x < 2 ^ 8 → x ≡ times c x

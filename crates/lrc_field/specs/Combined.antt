@@ -13,6 +13,10 @@ abbrev pub sum_at : List Term → ℕ → ℕ
 sum_at [] i = 0
 sum_at (t ∷ ts) i = bit_xor (product_at t i) (sum_at ts i)
 
+-- the sum of three lists' bytes at a place, each 1 time
+abbrev pub three_at : List ℕ → List ℕ → List ℕ → ℕ → ℕ
+three_at xs ys zs i = bit_xor (times 1 (slice_index xs i)) (bit_xor (times 1 (slice_index ys i)) (times 1 (slice_index zs i)))
+
 -- each term has so many bytes
 abbrev pub HaveLength : ℕ → List Term → Type 0
 HaveLength n ts = All (λ t. length t.bytes.now ≡ n) ts

@@ -2,7 +2,7 @@
 //! are written.
 ghost use Rattle.std.specs.Prelude.{◌≡◌, ◌<◌, ◌≤◌, ◌+◌, ◌^◌, ℕ, Bool, true, false, ◌↔◌, IfOk, OnOk, bit_xor, length, slice_index, slice_index_or, None};
 ghost use Rattle.lrc_field.specs.Blocks.{HasLanes, HasQuad, AreSet};
-ghost use Rattle.lrc_field.specs.Combined.{AreZeroBelow, AreZeroBetween, HaveLength, HaveTables, IsAddedBelow, IsCombined, IsTableOf, Reach, sum_at};
+ghost use Rattle.lrc_field.specs.Combined.{AreZeroBelow, AreZeroBetween, HaveLength, HaveTables, IsAddedBelow, IsCombined, IsTableOf, Reach, sum_at, three_at};
 ghost use Rattle.lrc_field.specs.Field.{times};
 
 use crate::blocks::{self, Quad, Tables};
@@ -136,6 +136,12 @@ fn write_sums(dst: &mut [u8], from: usize, terms: &[Term], tables: &[Option<Tabl
         write_few(dst, from, terms);
         return;
     }
+    if let [first, second, third] = terms {
+        if first.scalar.byte() == 1 && second.scalar.byte() == 1 && third.scalar.byte() == 1 {
+            write_sums_of_three(dst, from, first.bytes, second.bytes, third.bytes);
+            return;
+        }
+    }
     let mut i = 0;
     'quads: while dst.len() - i >= 128 {
         let sums = quad_sums_at(terms, tables, from + i);
@@ -154,6 +160,60 @@ fn write_sums(dst: &mut [u8], from: usize, terms: &[Term], tables: &[Option<Tabl
     let last = dst.len() - 32;
     let sums = sums_at(terms, tables, from + last);
     blocks::put(dst, last, sums);
+}
+
+// The same for three slices as they are, as a group of four has them for one that is lost: no table is looked for.
+fn write_sums_of_three(dst: &mut [u8], from: usize, first: &[u8], second: &[u8], third: &[u8])
+    requires fits { from + length dst.old < 2 ^ 64 }
+    requires most { 32 ≤ length dst.old }
+    requires in_first { from + length dst.old ≤ length first.now }
+    requires in_second { from + length dst.old ≤ length second.now }
+    requires in_third { from + length dst.old ≤ length third.now }
+    ensures len { length dst.new ≡ length dst.old }
+    ensures sums { AreSet (λ k. three_at first.now second.now third.now (from + k)) dst.new (length dst.old) }
+{
+    let mut i = 0;
+    'quads: while dst.len() - i >= 128 {
+        let sums = quad_of_three(first, second, third, from + i);
+        blocks::put_quad(dst, i, sums);
+        i += 128;
+    }
+    'singles: while dst.len() - i >= 32 {
+        let sums = block_of_three(first, second, third, from + i);
+        blocks::put(dst, i, sums);
+        i += 32;
+    }
+    if i == dst.len() {
+        return;
+    }
+    // The last 32, of which some are written already.
+    let rest = dst.len() - 32;
+    let sums = block_of_three(first, second, third, from + rest);
+    blocks::put(dst, rest, sums);
+}
+
+// The sums of three slices at 32 places, from place `i` on.
+#[inline(always)]
+fn block_of_three(first: &[u8], second: &[u8], third: &[u8], i: usize) -> u8x32
+    requires in_first { i + 32 ≤ length first.now }
+    requires in_second { i + 32 ≤ length second.now }
+    requires in_third { i + 32 ≤ length third.now }
+    ensures { HasLanes result (λ k. three_at first.now second.now third.now (i + k)) }
+{
+    let later = blocks::added(blocks::load(second, i), blocks::load(third, i));
+    blocks::added(blocks::load(first, i), later)
+}
+
+// The sums of three slices at 128 places, from place `i` on.
+#[inline(always)]
+fn quad_of_three(first: &[u8], second: &[u8], third: &[u8], i: usize) -> Quad
+    requires in_first { i + 128 ≤ length first.now }
+    requires in_second { i + 128 ≤ length second.now }
+    requires in_third { i + 128 ≤ length third.now }
+    ensures { HasQuad result (λ k. three_at first.now second.now third.now (i + k)) }
+{
+    let later = blocks::added_quad(blocks::load_quad(second, i), blocks::load_quad(third, i));
+    blocks::added_quad(blocks::load_quad(first, i), later)
 }
 
 // The same, one term after the other.
