@@ -8,7 +8,7 @@ use Rattle.farm_lanes.specs.Counting.{once_below}
 use Rattle.farm_core.specs.declared.orders.Order.{Order}
 use Rattle.farm_core.specs.declared.replies.ReplyResult.TheVariants.{Done}
 use Rattle.farm_core.specs.Orders.{before_close}
-use Rattle.farm_core.specs.Replies.{Replied, Entry, entry_of}
+use Rattle.farm_core.specs.Replies.{Replied, Entry, cell_at, entry_of}
 use Rattle.farm_core.specs.RunFeeds.{slot_rack, slot_feed}
 use Rattle.farm_core.specs.Merge.{IsLawfulMerge}
 use mathlib.Core.Option.{some}
@@ -31,7 +31,7 @@ HasRooms racks table = map (λ (row : List (Option Entry)). length row) table �
 
 -- the reply that came to this number of this rack
 abbrev pub held_at : Held → ℕ → ℕ → Option Entry
-held_at b rack number = slice_index_or (slice_index_or b.table rack []) number None
+held_at b rack number = cell_at b.table rack number
 
 -- the feeds of this rack may draw this number
 abbrev pub HasRoom : List (List (List Order)) → ℕ → ℕ → Type 0

@@ -35,9 +35,13 @@ pub record Collected : Type 0 where
   pub racks : List (List Order)
   pub table : List (List (Option Entry))
 
+-- what is in the cell of this rack and number
+abbrev pub cell_at : List (List (Option Entry)) → ℕ → ℕ → Option Entry
+cell_at table rack number = slice_index_or (slice_index_or table rack []) number None
+
 -- the reply that came to this request of this rack
 abbrev pub reply_at : Collected → ℕ → ℕ → Option Entry
-reply_at c rack number = slice_index_or (slice_index_or c.table rack []) number None
+reply_at c rack number = cell_at c.table rack number
 
 -- no reply has come
 abbrev pub IsNothingYet : List (List Order) → Collected → Type 0
@@ -106,10 +110,6 @@ IsLeastGap table rack number =
 -- no row has a gap
 abbrev pub HasNoGaps : List (List (Option Entry)) → Type 0
 HasNoGaps table = (r : ℕ) → HasNoGap (slice_index_or table r [])
-
--- what is in the cell of this rack and number
-abbrev pub cell_at : List (List (Option Entry)) → ℕ → ℕ → Option Entry
-cell_at table rack number = slice_index_or (slice_index_or table rack []) number None
 
 -- there is a cell for this rack and number
 abbrev pub HasCell : List (List (Option Entry)) → ℕ → ℕ → Type 0
