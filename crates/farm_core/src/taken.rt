@@ -146,6 +146,7 @@ pub fn room_for<'a>(
     requires { AreGates (lists_of lists) gates.now seats.items }
     ensures racks { IfOk result (λ r. r.desk.board.racks ≡ lists_of lists.entry) }
     ensures ready { IfOk result IsReady }
+    ensures workers { IfOk result (λ r. (r.desk.workers ≡ settings.workers) × (length r.workers.items ≡ settings.workers)) }
 {
     let workers = settings.workers();
     let board = Board::new(alloc, lists)?;

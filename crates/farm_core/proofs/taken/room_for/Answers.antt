@@ -1,7 +1,11 @@
-use Rattle.std.proofs.Common.{[], ◌∷◌, ◌++◌, ◌∙◌, refl, sym, subst, arith}
+use Rattle.std.proofs.Common.{[], ◌∷◌, ◌++◌, ◌∙◌, refl, sym, subst, ap, arith, length}
 use Rattle.std.proofs.lemmas.List.{length_push}
-use Rattle.farm_lanes.specs.LaneEnds.{IsUnusedPut, IsUnusedTake}
+use Rattle.farm_lanes.specs.LaneEnds.{IsUnusedPut, IsUnusedTake, PutView}
+use Rattle.std.specs.Prelude.{List}
 use Rattle.farm_core.specs.RunFeeds.{lists_of}
+use Rattle.farm_core.specs.Replies.{Replied}
+use Rattle.farm_core.specs.declared.threads.given.WorkerEnds.{WorkerEnds}
+use Rattle.farm_core.proofs.Merged.{map_length}
 use Rattle.farm_core.proofs.Rooms.{front_unused}
 use Rattle.farm_core.proofs.Readies.{is_ready}
 use Rattle.farm_core.proofs.taken.room_for.Goals as goal
@@ -35,3 +39,12 @@ returns-clause-ready c =
     (omega (arith, c.workers-workers.ensures, c.args.settings.workers_fit)) (omega (arith, c.workers-workers.ensures, c.args.settings.workers_most))
     c.in_ok-ends.ensures.replies c.in_ok-ends.ensures.jobs c.in_ok-racks.ensures.ends c.in_ok-racks.ensures.racks
     (c.in_ok-space.ensures.0 ∙ c.racks.ensures.count) c.in_ok-space.ensures.1
+
+pub returns-clause-workers : goal.returns-clause-workers
+returns-clause-workers c =
+    let ends = c.in_ok-ends in
+    let pairs = map_length (λ (e : WorkerEnds). e.replies) ends.ends.items in
+    let put = ap (λ (l : List (PutView Replied)). length l) ends.ensures.replies in (
+      c.workers-workers.ensures.same,
+      sym pairs ∙ put ∙ c.in_ok-reply_puts.ensures.put_ends.count ∙ c.workers-workers.ensures.same,
+    )
