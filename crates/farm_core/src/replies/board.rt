@@ -123,7 +123,7 @@ pub struct HandedIn<'a> {
     pub fault: Option<CollectFault<'a>>,
 }
 
-// Hands in a reply, unless one was refused before.
+/// Hands in a reply, unless one was refused before.
 pub fn hand_in<'a>(
     board: &mut Board<'a>,
     fault: Option<CollectFault<'a>>,

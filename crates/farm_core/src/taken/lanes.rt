@@ -29,7 +29,7 @@ fn open_lane<T: Send + Drop>(
     }
 }
 
-// The ends of a new request lane: the put ends of so many feeders, the one for the stops, and the workers' take ends.
+/// The ends of a new request lane: the put ends of so many feeders, the one for the stops, and the workers' take ends.
 pub fn request_lane<'a>(
     alloc: Global,
     capacity: usize,
@@ -47,7 +47,7 @@ pub fn request_lane<'a>(
     Ok((puts, stops, takes))
 }
 
-// The ends of a new reply lane: the workers' put ends, and the collector's take end.
+/// The ends of a new reply lane: the workers' put ends, and the collector's take end.
 pub fn reply_lane<'a>(
     alloc: Global,
     capacity: usize,
@@ -64,7 +64,7 @@ pub fn reply_lane<'a>(
     Ok((puts, last))
 }
 
-// A pair of ends for each worker.
+/// A pair of ends for each worker.
 pub fn worker_ends<'a>(
     alloc: Global,
     takes: Vec<TakeEnd<Job<'a>>>,

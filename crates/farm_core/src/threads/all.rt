@@ -84,7 +84,7 @@ pub fn start_racks<'s, 'a: 's, E, R: Threads + Wait + Sync, P: Pause>(
     left
 }
 
-/// The same for the feeders of racks.
+/// Ends the put ends of the feeders of racks, as `end_feeders` does.
 pub fn end_racks<'a, R: Wait>(
     rt: &R,
     racks: Vec<RackRoom<'a>>,
@@ -169,7 +169,7 @@ fn join_left<'a, R: Threads>(rt: &R, left: Option<Vec<FeederHandle<'a>>>) {
     }
 }
 
-// Puts so many jobs that say to stop, and ends.
+/// Puts so many jobs that say to stop, and ends.
 pub fn put_stops<'a, R: Wait>(rt: &R, stops: PutEnd<Job<'a>>, count: usize) -> EndedPut<Job<'a>>
     requires unused { IsUnusedPut stops }
     requires few { count ≤ worker_limit }

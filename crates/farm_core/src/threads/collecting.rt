@@ -95,7 +95,7 @@ fn clear_with<'a, R: Wait, P: Pause>(shared: &Shared<R, P>, desk: Desk<'a>) -> C
     )
 }
 
-// Starts the collector's thread. Where no thread can be made, its desk is left as it was.
+/// Starts the collector's thread. Where no thread can be made, its desk is left as it was.
 pub fn start_collector<'s, 'a: 's, E, R: Wait + Sync, P: Pause>(
     shared: &'s Shared<'s, R, P>,
     scope: &Scope<'s, E>,

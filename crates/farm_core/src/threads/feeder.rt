@@ -161,8 +161,8 @@ fn start_feeder<'s, 'a: 's, E, R: Threads + Wait + Sync, P: Pause>(
     }
 }
 
-// Starts the feeders of a rack, in order. After a refusal no further one is started, and the ends of the others are ended here:
-// the workers take their marks. Says whether none was refused.
+/// Starts the feeders of a rack, in order. After a refusal no further one is started, and the ends of the others are ended here:
+/// the workers take their marks. Says whether none was refused.
 pub fn start_feeders<'s, 'a: 's, E, R: Threads + Wait + Sync, P: Pause>(
     shared: &'s Shared<'s, R, P>,
     scope: &Scope<'s, E>,
@@ -190,7 +190,7 @@ pub fn start_feeders<'s, 'a: 's, E, R: Threads + Wait + Sync, P: Pause>(
     all
 }
 
-// Joins the feeders of a rack, and puts what they left in order. Says whether each has fed.
+/// Joins the feeders of a rack, and puts what they left in order. Says whether each has fed.
 pub fn join_feeders<'a, R: Threads>(
     rt: &R,
     handles: Vec<FeederHandle<'a>>,

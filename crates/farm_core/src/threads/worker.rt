@@ -46,7 +46,7 @@ fn answer_in_arena(alloc: Global, request: &Request) -> Result<Outcome, AllocErr
     Ok(outcome)
 }
 
-// The reply to a request.
+/// The reply to a request.
 pub(crate) fn reply_to<'a, P: Pause>(
     alloc: Global,
     rack: usize,
@@ -169,8 +169,8 @@ fn start_worker<'s, 'a: 's, E, R: Threads + Wait + Sync, P: Pause>(
     }
 }
 
-// Starts a worker for each pair of ends, in order. After a refusal no further one is started, and the others end here; of the
-// last of these the end is given back by which it was to take.
+/// Starts a worker for each pair of ends, in order. After a refusal no further one is started, and the others end here; of the
+/// last of these the end is given back by which it was to take.
 pub fn start_workers<'s, 'a: 's, E, R: Threads + Wait + Sync, P: Pause>(
     shared: &'s Shared<'s, R, P>,
     scope: &Scope<'s, E>,
@@ -198,7 +198,7 @@ pub fn start_workers<'s, 'a: 's, E, R: Threads + Wait + Sync, P: Pause>(
     left
 }
 
-// Joins the workers, and puts their ends in order.
+/// Joins the workers, and puts their ends in order.
 pub fn join_workers<'a, R: Threads>(
     rt: &R,
     handles: Vec<Worker<'a>>,
@@ -223,7 +223,7 @@ pub fn take_mark<'a, R: Wait>(rt: &R, taker: &mut Option<TakeEnd<Job<'a>>>) {
     }
 }
 
-// Ends a worker's reply end and takes its mark. The end that the worker was to take by is given back.
+/// Ends a worker's reply end and takes its mark. The end that the worker was to take by is given back.
 pub fn end_worker<'a, R: Wait>(
     rt: &R,
     ends: WorkerEnds<'a>,
