@@ -18,15 +18,12 @@ use Rattle.farm_lanes.proofs.Lists.{at_below, at_snoc_or, at_either, at_map, sum
 use Rattle.farm_lanes.proofs.Numbers.{times-cons, same_test, other_test}
 use Rattle.farm_lanes.proofs.Sums.{total_none}
 use Rattle.farm_core.specs.declared.orders.Order.{Order}
-use Rattle.farm_core.specs.declared.jobs.Job.{Job}
-use Rattle.farm_core.specs.declared.jobs.Job.TheVariants.{Solve, Stop}
-use Rattle.farm_core.specs.Jobs.{IsOfFeed}
-use Rattle.farm_core.specs.Slots.{slot_rack, slot_feed}
-use Rattle.farm_core.specs.Drawn.{Draws, drawn_numbers, AreDrawn, IsDrawnBy}
-use Rattle.farm_core.specs.Joint.{draws_of, HasDrawn}
-use Rattle.farm_core.specs.Put.{AsksNothing, HasPutStops}
-use Rattle.farm_core.specs.Settled.{job_weight, IsSoJob, IsSoItem}
-use Rattle.farm_core.specs.Cleared.{IsDrawnAt, HavePut}
+use Rattle.farm_core.specs.declared.threads.worker.Job.{Job}
+use Rattle.farm_core.specs.declared.threads.worker.Job.TheVariants.{Solve, Stop}
+use Rattle.farm_core.specs.Jobs.{IsOfFeed, AsksNothing, HasPutStops, job_weight, IsSoJob, IsSoItem}
+use Rattle.farm_core.specs.RunFeeds.{slot_rack, slot_feed}
+use Rattle.farm_core.specs.Feed.{Draws, drawn_numbers, AreDrawn, IsDrawnBy, draws_of, HasDrawn}
+use Rattle.farm_core.specs.Settled.{IsDrawnAt, HavePut}
 use Rattle.farm_core.proofs.Settled.{Every, jobs_to, weigh_jobs, job_items}
 use Rattle.farm_core.proofs.Joints.{same_sums}
 

@@ -12,17 +12,14 @@ use Rattle.farm_lanes.specs.LaneEnds.{PutView, TakeView, take_end, with_taken, A
 use Rattle.farm_lanes.specs.LaneRecord.{values}
 use Rattle.farm_lanes.specs.LaneSettled.{IsSettled}
 use Rattle.farm_core.specs.declared.orders.Order.{Order}
-use Rattle.farm_core.specs.declared.jobs.Job.{Job}
+use Rattle.farm_core.specs.declared.threads.worker.Job.{Job}
 use Rattle.farm_core.specs.Replies.{Replied}
-use Rattle.farm_core.specs.declared.reply.CollectFault.{CollectFault}
-use Rattle.farm_core.specs.Boards.{Held}
-use Rattle.farm_core.specs.Held.{HasHeld}
-use Rattle.farm_core.specs.Jobs.{AreReplies}
-use Rattle.farm_core.specs.Settled.{HasAnswered}
-use Rattle.farm_core.specs.Cleared.{HasCleared, HasMore, took_on, TookLeft, TookReplies, HasOneEach, HasJoined}
+use Rattle.farm_core.specs.declared.replies.CollectFault.{CollectFault}
+use Rattle.farm_core.specs.Boards.{Held, HasHeld}
+use Rattle.farm_core.specs.Jobs.{AreReplies, HasAnswered}
+use Rattle.farm_core.specs.Settled.{HasCleared, HasMore, took_on, TookLeft, TookReplies, HasOneEach, HasJoined, IsDrawnAt}
 use Rattle.farm_core.proofs.Works.{taken_more, replies_append}
 use Rattle.farm_core.proofs.Settled.{Ran, one_each, each_is_so}
-use Rattle.farm_core.specs.Cleared.{IsDrawnAt}
 
 pub nothing_more : (c : Held) (fault : Option CollectFault) → HasMore c fault [] c fault
 nothing_more c fault racks xs h = subst (λ l. HasHeld racks c fault l) (sym (append-nil xs)) h

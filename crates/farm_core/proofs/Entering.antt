@@ -3,15 +3,12 @@ use Rattle.std.proofs.Common.{ℕ, ◌≡◌, ◌<◌, List, [], length, get_or,
 use Rattle.std.specs.Prelude.{Result, Ok, Err, OnOk, IfErr}
 use Rattle.std.proofs.Math.Seq.{map-set_same}
 use Rattle.farm_core.specs.declared.orders.Order.{Order}
-use Rattle.farm_core.specs.declared.reply.CollectFault.{CollectFault}
-use Rattle.farm_core.specs.declared.reply.CollectFault.TheVariants.{Stranger, Double}
-use Rattle.farm_core.specs.Boards.{HasRooms}
-use Rattle.farm_core.specs.Cells.{IsEntered, IsNotEntered}
-use Rattle.farm_core.specs.Faults.{IsRefused}
-use Rattle.farm_core.specs.Held.{IsNotHeld}
-use Rattle.farm_core.specs.Replies.{Replied, Entry}
-use Rattle.farm_core.specs.Rows.{HasShape}
-use Rattle.farm_core.specs.Slots.{slot_rack}
+use Rattle.farm_core.specs.declared.replies.CollectFault.{CollectFault}
+use Rattle.farm_core.specs.declared.replies.CollectFault.TheVariants.{Stranger, Double}
+use Rattle.farm_core.specs.Boards.{HasRooms, IsNotHeld}
+use Rattle.farm_core.specs.Replies.{IsEntered, Replied, Entry, HasShape}
+use Rattle.farm_core.specs.Faults.{IsNotEntered, IsRefused}
+use Rattle.farm_core.specs.RunFeeds.{slot_rack}
 use Rattle.farm_core.proofs.BoardRows.{rooms_at}
 use Rattle.farm_core.proofs.Rows.{shape_at}
 use Rattle.farm_core.proofs.Tables.{row_is, added}

@@ -6,13 +6,11 @@ use Rattle.std.proofs.lemmas.Bool.{cases_eq}
 use Rattle.farm_lanes.proofs.Lists.{at_front, at_back}
 use Rattle.farm_lanes.proofs.Numbers.{once_le, once_lt}
 use Rattle.farm_core.specs.declared.orders.Order.{Order}
-use Rattle.farm_core.specs.declared.reply.CollectFault.{CollectFault}
-use Rattle.farm_core.specs.declared.reply.CollectFault.TheVariants.{Stranger, Double}
-use Rattle.farm_core.specs.Replies.{Replied, Entry}
-use Rattle.farm_core.specs.Faults.{entry_of}
-use Rattle.farm_core.specs.Slots.{slot_rack}
-use Rattle.farm_core.specs.Boards.{Held, held_at, HoldsNothing, HasRoom, IsHeldToo, replies_to, AreOneEach}
-use Rattle.farm_core.specs.Held.{HoldsAll, IsNotHeld, WasNotHeld, HasHeld}
+use Rattle.farm_core.specs.declared.replies.CollectFault.{CollectFault}
+use Rattle.farm_core.specs.declared.replies.CollectFault.TheVariants.{Stranger, Double}
+use Rattle.farm_core.specs.Replies.{Replied, Entry, entry_of}
+use Rattle.farm_core.specs.RunFeeds.{slot_rack}
+use Rattle.farm_core.specs.Boards.{Held, held_at, HoldsNothing, HasRoom, IsHeldToo, replies_to, AreOneEach, HoldsAll, IsNotHeld, WasNotHeld, HasHeld}
 use Rattle.farm_core.proofs.Progress.{no_some, here}
 use Rattle.farm_core.proofs.Settled.{replies_to-append}
 

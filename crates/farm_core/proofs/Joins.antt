@@ -9,12 +9,12 @@ use Rattle.farm_lanes.proofs.Lists.{at_snoc_or, at_below}
 use Rattle.farm_lanes.specs.LaneEnds.{PutView, TakeView}
 use Rattle.farm_lanes.specs.declared.gate.record.SeatRecord.{SeatRecord}
 use Rattle.std.specs.Prelude.{Option, Some, None}
-use Rattle.farm_core.specs.declared.jobs.Job.{Job}
-use Rattle.farm_core.specs.declared.jobs.Worked.{Worked}
+use Rattle.farm_core.specs.declared.threads.worker.Job.{Job}
+use Rattle.farm_core.specs.declared.threads.worker.Worked.{Worked}
 use Rattle.farm_core.specs.Replies.{Replied}
-use Rattle.farm_core.specs.declared.threads.WorkOf.{WorkOf}
-use Rattle.farm_core.specs.Work.{HasWorked}
-use Rattle.farm_core.specs.declared.threads.FeedOf.{FeedOf}
+use Rattle.farm_core.specs.declared.threads.worker.WorkOf.{WorkOf}
+use Rattle.farm_core.specs.Jobs.{HasWorked}
+use Rattle.farm_core.specs.declared.threads.feeder.FeedOf.{FeedOf}
 use Rattle.farm_core.specs.Threads.{WorkersJoined, FeedersJoined, AreOfGate, AreRackFeeders, feeders_of}
 use Rattle.farm_lanes.specs.GateView.{GateName}
 use Rattle.farm_lanes.proofs.Lists.{at_map, at_front, at_back, sum_map}
@@ -23,15 +23,13 @@ use Rattle.atomic_table.specs.Seated.{TableId}
 use Rattle.std.specs.List.{sum_by}
 use Rattle.std.proofs.lemmas.List.Sums.{sum_by-cons}
 use Rattle.farm_core.specs.declared.orders.Order.{Order}
-use Rattle.farm_core.specs.declared.ends.Feeder.{Feeder}
-use Rattle.farm_core.specs.declared.feeding.Fed.{Fed}
-use Rattle.farm_core.specs.declared.rack_feeders.RackFeeders.{RackFeeders}
-use Rattle.farm_core.specs.Feed.{HasFed, IsRightLeft}
-use Rattle.farm_core.specs.Left.{LeftBy}
-use Rattle.farm_core.specs.Slots.{slot_of}
-use Rattle.farm_core.specs.Joint.{IsOfGate, AreFed, HasDrawn}
-use Rattle.farm_core.specs.Cleared.{HavePut}
-use Rattle.farm_core.specs.RacksJoined.{AreAllFeeders, HavePutRacks}
+use Rattle.farm_core.specs.declared.threads.given.Feeder.{Feeder}
+use Rattle.farm_core.specs.declared.threads.feeder.Fed.{Fed}
+use Rattle.farm_core.specs.declared.threads.rack_feeders.RackFeeders.{RackFeeders}
+use Rattle.farm_core.specs.Feed.{HasFed, IsRightLeft, LeftBy, IsOfGate, AreFed, HasDrawn}
+use Rattle.farm_core.specs.RunFeeds.{slot_of}
+use Rattle.farm_core.specs.Settled.{HavePut}
+use Rattle.farm_core.specs.Ready.{AreAllFeeders, HavePutRacks}
 use Rattle.farm_core.proofs.Settled.{there}
 use Rattle.farm_core.proofs.Merged.{map_length}
 use Rattle.farm_core.proofs.AllRacks.{puts_none, puts_more}

@@ -17,14 +17,13 @@ use Rattle.farm_lanes.specs.Lists.{Each}
 use Rattle.farm_core.specs.declared.orders.Order.{Order}
 use Rattle.farm_core.specs.Orders.{before_close}
 use Rattle.farm_core.specs.Replies.{Replied, Entry}
-use Rattle.farm_core.specs.Slots.{slot_feed}
-use Rattle.farm_core.specs.Drawn.{Draws, drawn_numbers, AreDrawn, IsDrawnBy}
+use Rattle.farm_core.specs.RunFeeds.{slot_feed}
+use Rattle.farm_core.specs.Feed.{Draws, drawn_numbers, AreDrawn, IsDrawnBy}
 use Rattle.farm_core.specs.Expected.{AreAnswers, AreExpected}
 use Rattle.farm_core.specs.Merge.{IsLawfulMerge, IsFedAnswer, AreAllMergedAnswers}
-use Rattle.farm_core.specs.Boards.{Held, held_at, HasRoom, HasRooms, most_served, AreOneEach, filled, merge_of, AreMergedRows, IsOutcomeOf}
-use Rattle.farm_core.specs.Held.{HoldsAll}
-use Rattle.farm_core.specs.Settled.{IsSoReply}
-use Rattle.farm_core.specs.Cleared.{AreAllDrawn, IsDrawnAt}
+use Rattle.farm_core.specs.Boards.{Held, held_at, HasRoom, HasRooms, most_served, AreOneEach, filled, merge_of, AreMergedRows, IsOutcomeOf, HoldsAll}
+use Rattle.farm_core.specs.Jobs.{IsSoReply}
+use Rattle.farm_core.specs.Settled.{AreAllDrawn, IsDrawnAt}
 use Rattle.farm_core.proofs.Settled.{there}
 use Rattle.farm_core.proofs.Progress.{no_some}
 use Rattle.farm_core.proofs.Merges.{drawn_is_lawful, merge_of_one}

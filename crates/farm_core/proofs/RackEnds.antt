@@ -6,15 +6,15 @@ use mathlib.Core.Option.{some}
 use lib.ListN.{get_elem?}
 use Rattle.std.specs.declared.thread.PromisedHandle.{PromisedHandle}
 use Rattle.farm_lanes.specs.LaneEnds.{PutView}
-use Rattle.farm_core.specs.declared.jobs.Job.{Job}
-use Rattle.farm_core.specs.declared.ends.Feeder.{Feeder}
-use Rattle.farm_core.specs.declared.feeding.Fed.{Fed}
-use Rattle.farm_core.specs.declared.threads.FeedOf.{FeedOf}
-use Rattle.farm_core.specs.declared.rack_feeders.RackFeeders.{RackFeeders}
-use Rattle.farm_core.specs.declared.rack_feeders.RackRoom.{RackRoom}
-use Rattle.farm_core.specs.Left.{LeftBy}
+use Rattle.farm_core.specs.declared.threads.worker.Job.{Job}
+use Rattle.farm_core.specs.declared.threads.given.Feeder.{Feeder}
+use Rattle.farm_core.specs.declared.threads.feeder.Fed.{Fed}
+use Rattle.farm_core.specs.declared.threads.feeder.FeedOf.{FeedOf}
+use Rattle.farm_core.specs.declared.threads.rack_feeders.RackFeeders.{RackFeeders}
+use Rattle.farm_core.specs.declared.threads.rack_feeders.RackRoom.{RackRoom}
+use Rattle.farm_core.specs.Feed.{LeftBy}
 use Rattle.farm_core.specs.Threads.{FeedersJoined, feeders_of}
-use Rattle.farm_core.specs.RacksJoined.{Given, rooms_of, started_of, all_given, ends_given, as_new, AreEndsOf}
+use Rattle.farm_core.specs.Ready.{Given, rooms_of, started_of, all_given, ends_given, as_new, AreEndsOf}
 
 abbrev FeederHandle : Type 0
 FeederHandle = PromisedHandle (Option Fed) FeedOf

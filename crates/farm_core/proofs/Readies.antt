@@ -7,14 +7,13 @@ use Rattle.farm_lanes.proofs.Opens.{popped_put, popped_take}
 use Rattle.farm_lanes.specs.LaneEnds.{LaneName, PutView, TakeView, new_take, AreNewPutEnds, AreNewEnds}
 use Rattle.farm_lanes.specs.Lists.{Each}
 use Rattle.farm_core.specs.declared.orders.Order.{Order}
-use Rattle.farm_core.specs.declared.jobs.Job.{Job}
-use Rattle.farm_core.specs.declared.ends.WorkerEnds.{WorkerEnds}
-use Rattle.farm_core.specs.declared.rack_feeders.RackRoom.{RackRoom}
-use Rattle.farm_core.specs.declared.room.Room.{Room}
+use Rattle.farm_core.specs.declared.threads.worker.Job.{Job}
+use Rattle.farm_core.specs.declared.threads.given.WorkerEnds.{WorkerEnds}
+use Rattle.farm_core.specs.declared.threads.rack_feeders.RackRoom.{RackRoom}
+use Rattle.farm_core.specs.declared.taken.Room.{Room}
 use Rattle.farm_core.specs.Boards.{HoldsNothing}
 use Rattle.farm_core.specs.Replies.{Replied}
-use Rattle.farm_core.specs.RacksJoined.{AreAllGiven, ends_given, rooms_of}
-use Rattle.farm_core.specs.Ready.{IsReady}
+use Rattle.farm_core.specs.Ready.{AreAllGiven, ends_given, rooms_of, IsReady}
 use Rattle.farm_core.proofs.Merged.{map_length}
 use Rattle.farm_core.proofs.Starts.{mapped_length}
 

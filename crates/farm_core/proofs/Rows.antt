@@ -5,15 +5,12 @@ use Rattle.std.specs.List.{AllZip}
 use Rattle.std.proofs.Math.ListN.{get_or-map}
 use Rattle.std.proofs.Math.Seq.{map-set_same}
 use Rattle.farm_core.specs.Orders.{before_close, served}
-use Rattle.farm_core.specs.Replies.{Entry}
-use Rattle.farm_core.specs.Rows.{entries, Answers, HasShape, IsGap}
-use Rattle.farm_core.specs.Faults.{entry_of}
+use Rattle.farm_core.specs.Replies.{Entry, entries, Answers, HasShape, IsGap, entry_of, Replied}
 use Rattle.farm_core.specs.Boards.{filled}
 use Rattle.lrc_code.specs.Answers.{IsAnswer}
-use Rattle.farm_core.specs.declared.reply.ReplyResult.TheVariants.{Done}
+use Rattle.farm_core.specs.declared.replies.ReplyResult.TheVariants.{Done}
 use Rattle.std.proofs.lemmas.List.{map-append}
 use Rattle.farm_core.specs.declared.orders.Order.{Order}
-use Rattle.farm_core.specs.Replies.{Replied}
 use Rattle.lrc_code.specs.declared.outcomes.Outcome.{Outcome}
 
 pub replicate_push : {X : Type 0} (n : ℕ) (x : X) → replicate n x ++ x ∷ [] ≡ replicate (n + 1) x

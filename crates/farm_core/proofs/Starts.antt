@@ -8,20 +8,18 @@ use Rattle.farm_lanes.proofs.Lists.{at_map, at_snoc_or}
 use Rattle.farm_lanes.specs.LaneEnds.{PutView, TakeView, new_put}
 use Rattle.farm_lanes.specs.LaneRecord.{values}
 use Rattle.farm_core.specs.declared.orders.Order.{Order}
-use Rattle.farm_core.specs.declared.jobs.Job.{Job}
-use Rattle.farm_core.specs.declared.jobs.Worked.{Worked}
-use Rattle.farm_core.specs.declared.rack_feeders.RackFeeders.{RackFeeders}
-use Rattle.farm_core.specs.declared.room.Room.{Room}
-use Rattle.farm_core.specs.declared.threads.WorkOf.{WorkOf}
-use Rattle.farm_core.specs.declared.reply.CollectFault.{CollectFault}
+use Rattle.farm_core.specs.declared.threads.worker.Job.{Job}
+use Rattle.farm_core.specs.declared.threads.worker.Worked.{Worked}
+use Rattle.farm_core.specs.declared.threads.rack_feeders.RackFeeders.{RackFeeders}
+use Rattle.farm_core.specs.declared.taken.Room.{Room}
+use Rattle.farm_core.specs.declared.threads.worker.WorkOf.{WorkOf}
+use Rattle.farm_core.specs.declared.replies.CollectFault.{CollectFault}
 use Rattle.farm_core.specs.Replies.{Replied}
-use Rattle.farm_core.specs.Boards.{Held}
-use Rattle.farm_core.specs.Held.{HasHeld}
-use Rattle.farm_core.specs.Put.{HasPutStops}
-use Rattle.farm_core.specs.Cleared.{HasCleared, HasJoined, HavePut}
+use Rattle.farm_core.specs.Boards.{Held, HasHeld}
+use Rattle.farm_core.specs.Jobs.{HasPutStops}
+use Rattle.farm_core.specs.Settled.{HasCleared, HasJoined, HavePut}
 use Rattle.farm_core.specs.Threads.{ends_of, feeders_of, WorkersJoined}
-use Rattle.farm_core.specs.RacksJoined.{Given, AreAllFeeders, AreAllGiven, AreEndsOf, HavePutRacks, all_given, as_new, ends_given, rooms_of, started_of}
-use Rattle.farm_core.specs.Ready.{IsReady}
+use Rattle.farm_core.specs.Ready.{Given, AreAllFeeders, AreAllGiven, AreEndsOf, HavePutRacks, all_given, as_new, ends_given, rooms_of, started_of, IsReady}
 use Rattle.farm_core.proofs.AllRacks.{puts_stops}
 use Rattle.farm_core.proofs.Clears.{collected_racks}
 use Rattle.farm_core.proofs.Merged.{map_length}

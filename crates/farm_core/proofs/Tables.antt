@@ -5,10 +5,9 @@ use Rattle.std.proofs.lemmas.List.{get_or_default, get_or_past, length-replicate
 use Rattle.std.proofs.lemmas.Bool.{cases_eq}
 use Rattle.farm_core.specs.Orders.{before_close, served, IsServed}
 use Rattle.farm_core.specs.Expected.{AreAnswers, AreExpected}
-use Rattle.farm_core.specs.Replies.{Entry, IsAdded, IsMissing, IsLeastMissing, IsComplete}
-use Rattle.farm_core.specs.Rows.{Answers, HasShape, IsGap, HasNoGaps, IsLeastGap}
+use Rattle.farm_core.specs.Replies.{Entry, IsAdded, IsMissing, IsLeastMissing, IsComplete, Answers, HasShape, IsGap, HasNoGaps, IsLeastGap}
 use Rattle.farm_core.specs.declared.orders.Order.{Order}
-use Rattle.farm_core.specs.declared.reply.ReplyResult.TheVariants.{Starved}
+use Rattle.farm_core.specs.declared.replies.ReplyResult.TheVariants.{Starved}
 use Rattle.lrc_code.specs.Requests.{Asked}
 use Rattle.lrc_code.specs.declared.outcomes.Outcome.{Outcome}
 use Rattle.lrc_code.specs.Answers.{IsAnswer}

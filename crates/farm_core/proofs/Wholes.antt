@@ -9,14 +9,12 @@ use Rattle.farm_lanes.proofs.Values.{values-append}
 use Rattle.farm_lanes.specs.declared.lane.item.Item.TheVariants.{End}
 use Rattle.farm_lanes.specs.LaneRecord.{values}
 use Rattle.farm_lanes.specs.LaneEnds.{LaneName, PutView, TakeView, new_put, new_take}
-use Rattle.farm_core.specs.declared.ends.WorkerEnds.{WorkerEnds}
-use Rattle.farm_core.specs.declared.jobs.Job.{Job}
-use Rattle.farm_core.specs.declared.jobs.Worked.{Worked}
+use Rattle.farm_core.specs.declared.threads.given.WorkerEnds.{WorkerEnds}
+use Rattle.farm_core.specs.declared.threads.worker.Job.{Job}
+use Rattle.farm_core.specs.declared.threads.worker.Worked.{Worked}
 use Rattle.farm_core.specs.Replies.{Replied}
-use Rattle.farm_core.specs.declared.threads.WorkOf.{WorkOf}
-use Rattle.farm_core.specs.Jobs.{AreReplies}
-use Rattle.farm_core.specs.Work.{HasWorked}
-use Rattle.farm_core.specs.Settled.{HasAnswered}
+use Rattle.farm_core.specs.declared.threads.worker.WorkOf.{WorkOf}
+use Rattle.farm_core.specs.Jobs.{AreReplies, HasWorked, HasAnswered}
 use Rattle.farm_core.specs.Threads.{WorkersJoined, AreWorkerEnds, ends_of}
 use Rattle.farm_core.proofs.Settled.{there}
 use Rattle.farm_core.proofs.Joins.{answered_all}

@@ -1,16 +1,20 @@
--- What a farm holds of the replies to the requests of some racks' feeds.
-use Rattle.std.specs.Prelude.{ℕ, ◌≡◌, ◌+◌, ◌<◌, ◌==◌, ◌&&◌, if◌then◌else◌, List, [], ◌∷◌, length, map, slice_index_or, Option, Some, None}
+-- What a farm holds of the replies to the requests of some racks' feeds, and the refusal that it keeps.
+use Rattle.std.specs.Prelude.{ℕ, ◌≡◌, ◌+◌, ◌<◌, ◌==◌, ◌&&◌, if◌then◌else◌, List, [], ◌∷◌, length, map, slice_index_or, Option, Some, None, ◌++◌, IsSome}
 use Rattle.std.specs.List.{sum_by, AllZip}
 use Rattle.lrc_code.specs.declared.outcomes.Outcome.{Outcome}
 use Rattle.lrc_code.specs.Answers.{IsAnswer}
 use Rattle.lrc_code.specs.Requests.{Asked}
 use Rattle.farm_lanes.specs.Counting.{once_below}
 use Rattle.farm_core.specs.declared.orders.Order.{Order}
-use Rattle.farm_core.specs.declared.reply.ReplyResult.TheVariants.{Done}
+use Rattle.farm_core.specs.declared.replies.ReplyResult.TheVariants.{Done}
 use Rattle.farm_core.specs.Orders.{before_close}
-use Rattle.farm_core.specs.Replies.{Replied, Entry}
-use Rattle.farm_core.specs.Slots.{slot_rack, slot_feed}
+use Rattle.farm_core.specs.Replies.{Replied, Entry, cell_at, entry_of}
+use Rattle.farm_core.specs.RunFeeds.{slot_rack, slot_feed}
 use Rattle.farm_core.specs.Merge.{IsLawfulMerge}
+use mathlib.Core.Option.{some}
+use lib.ListN.{get_elem?}
+use Rattle.farm_core.specs.declared.replies.CollectFault.{CollectFault}
+use Rattle.farm_core.specs.declared.replies.CollectFault.TheVariants.{Stranger, Double}
 
 -- how many requests stand in front of the closes of a rack's feeds; so many may be answered
 abbrev pub most_served : List (List Order) → ℕ
@@ -27,7 +31,7 @@ HasRooms racks table = map (λ (row : List (Option Entry)). length row) table �
 
 -- the reply that came to this number of this rack
 abbrev pub held_at : Held → ℕ → ℕ → Option Entry
-held_at b rack number = slice_index_or (slice_index_or b.table rack []) number None
+held_at b rack number = cell_at b.table rack number
 
 -- the feeds of this rack may draw this number
 abbrev pub HasRoom : List (List (List Order)) → ℕ → ℕ → Type 0
@@ -70,3 +74,33 @@ AreMergedRows racks table = AllZip (λ feeds row. IsLawfulMerge feeds (merge_of 
 -- the outcome with the feed of its slot is what this entry says, and answers its request
 abbrev pub IsOutcomeOf : Entry → ℕ × Outcome → Type 0
 IsOutcomeOf e answer = (answer.0 ≡ slot_feed e.rack) × IsAnswer e.request answer.1 × (e.result ≡ Done answer.1)
+
+-- this entry is that of a reply among these, by this number of this rack
+abbrev pub IsAmong : List Replied → ℕ → ℕ → Entry → Type 0
+IsAmong xs rack number e = (i : ℕ) × (x : Replied) × (get_elem? xs i ≡ some x) × (slot_rack x.rack ≡ rack) × (x.number ≡ number) × (entry_of x ≡ e)
+
+-- just these replies are held
+pub record HoldsAll (b : Held) (racks : List (List (List Order))) (xs : List Replied) : Type 0 where
+  pub racks_is : b.racks ≡ racks
+  pub none : (r k : ℕ) → replies_to r k xs ≡ 0 → held_at b r k ≡ None
+  pub some : (r k : ℕ) → 0 < replies_to r k xs → IsSome (held_at b r k)
+  pub among : (r k : ℕ) (e : Entry) → held_at b r k ≡ Some e → IsAmong xs r k e
+
+-- the reply is by a number that no feed of its rack may draw, or the second by its number; it is handed back
+abbrev pub IsNotHeld : Held → Replied → CollectFault → Type 0
+IsNotHeld b reply (Stranger back) = (back ≡ reply) × (HasRoom b.racks (slot_rack reply.rack) reply.number → ⊥)
+IsNotHeld b reply (Double back) = (back ≡ reply) × HasRoom b.racks (slot_rack reply.rack) reply.number × IsSome (held_at b (slot_rack reply.rack) reply.number)
+
+-- of these replies one was refused, and those in front of it are held
+pub record WasNotHeld (racks : List (List (List Order))) (b : Held) (fault : CollectFault) (xs : List Replied) : Type 0 where
+  pub done : List Replied
+  pub reply : Replied
+  pub rest : List Replied
+  pub is : xs ≡ done ++ reply ∷ rest
+  pub gathered : HoldsAll b racks done
+  pub refused : IsNotHeld b reply fault
+
+-- what is held of these replies, with the first refusal
+abbrev pub HasHeld : List (List (List Order)) → Held → Option CollectFault → List Replied → Type 0
+HasHeld racks b None xs = HoldsAll b racks xs
+HasHeld racks b (Some fault) xs = WasNotHeld racks b fault xs

@@ -1,15 +1,11 @@
--- What a collector refuses.
-use Rattle.std.specs.Prelude.{◌≡◌, IsSome}
-use Rattle.farm_core.specs.Replies.{Replied}
-use Rattle.farm_core.specs.declared.reply.CollectFault.{CollectFault}
-use Rattle.farm_core.specs.declared.reply.CollectFault.TheVariants.{Stranger, Double}
-use Rattle.farm_core.specs.declared.reply.FinishFault.{FinishFault}
-use Rattle.farm_core.specs.declared.reply.FinishFault.TheVariants.{Missing, OutOfMemory}
+-- Why a reply is refused, and what a collector misses.
+use Rattle.std.specs.Prelude.{◌≡◌, IsSome, ℕ, List, Option}
+use Rattle.farm_core.specs.Replies.{Replied, Collected, Entry, reply_at, IsLeastMissing, IsComplete, HasCell, cell_at}
+use Rattle.farm_core.specs.declared.replies.CollectFault.{CollectFault}
+use Rattle.farm_core.specs.declared.replies.CollectFault.TheVariants.{Stranger, Double}
+use Rattle.farm_core.specs.declared.replies.FinishFault.{FinishFault}
+use Rattle.farm_core.specs.declared.replies.FinishFault.TheVariants.{Missing, OutOfMemory}
 use Rattle.farm_core.specs.Orders.{IsServed}
-use Rattle.farm_core.specs.Replies.{Collected, Entry, reply_at, IsLeastMissing, IsComplete}
-
-abbrev pub entry_of : Replied → Entry
-entry_of reply = record { rack = reply.rack; request = reply.request; result = reply.result }
 
 -- it is to no request that is served, or the second to its request; it is handed back
 abbrev pub IsRefused : Collected → Replied → CollectFault → Type 0
@@ -20,3 +16,8 @@ IsRefused c reply (Double back) = (back ≡ reply) × IsServed c.racks reply.rac
 abbrev pub IsUnfinished : Collected → FinishFault → Type 0
 IsUnfinished c (Missing rack number) = IsLeastMissing c rack number
 IsUnfinished c OutOfMemory = IsComplete c
+
+-- for this reply there is no cell at this rack, or there is an entry in it already; it is handed back
+abbrev pub IsNotEntered : List (List (Option Entry)) → ℕ → Replied → CollectFault → Type 0
+IsNotEntered table rack reply (Stranger back) = (back ≡ reply) × (HasCell table rack reply.number → ⊥)
+IsNotEntered table rack reply (Double back) = (back ≡ reply) × HasCell table rack reply.number × IsSome (cell_at table rack reply.number)

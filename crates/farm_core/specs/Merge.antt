@@ -1,5 +1,5 @@
--- What a rack answers that is fed by several lists.
-use Rattle.std.specs.Prelude.{◌≡◌, ℕ, ◌<◌, ◌==◌, ◌⊎◌, if◌then◌else◌, List, [], ◌∷◌, length, take}
+-- What a rack answers that is fed by several lists, with laws of merges.
+use Rattle.std.specs.Prelude.{◌≡◌, ℕ, ◌<◌, ◌==◌, ◌⊎◌, if◌then◌else◌, List, [], ◌∷◌, length, take, map}
 use Rattle.std.specs.List.{All, AllZip}
 use mathlib.Core.Option.{some}
 use lib.ListN.{get_elem?}
@@ -9,6 +9,7 @@ use Rattle.lrc_code.specs.Requests.{Asked}
 use Rattle.farm_lanes.specs.Lists.{EachAt}
 use Rattle.farm_core.specs.declared.orders.Order.{Order}
 use Rattle.farm_core.specs.Orders.{before_close, HasClose}
+use Rattle.farm_core.specs.Expected.{AreAnswers}
 
 -- the requests of this feed among requests that each have their feed's number, in order
 abbrev pub of_feed : ℕ → List (ℕ × Asked) → List Asked
@@ -43,3 +44,11 @@ AreMergedAnswers feeds answers = (merge : List (ℕ × Asked)) × IsLawfulMerge 
 -- for each rack in order, the answers to a lawful merge of its feeds
 abbrev pub AreAllMergedAnswers : List (List (List Order)) → List (List (ℕ × Outcome)) → Type 0
 AreAllMergedAnswers racks answers = AllZip AreMergedAnswers racks answers
+
+-- a merge of one feed is what stands in front of its close
+abbrev pub MergeOfOneIsIt : Type 0
+MergeOfOneIsIt = (list : List Order) (merge : List (ℕ × Asked)) → IsLawfulMerge (list ∷ []) merge → map (λ x. x.1) merge ≡ before_close list
+
+-- so the answers of a rack with one feed are the answers to its list
+abbrev pub AnswersOfOneAreIts : Type 0
+AnswersOfOneAreIts = (list : List Order) (answers : List (ℕ × Outcome)) → AreMergedAnswers (list ∷ []) answers → AreAnswers (before_close list) (map (λ x. x.1) answers)

@@ -1,11 +1,12 @@
--- Replies, and what a collector holds of them.
-use Rattle.std.specs.Prelude.{ℕ, ◌≡◌, ◌<◌, ◌⊎◌, ⊤, List, [], slice_index_or, Option, Some, None}
+-- Replies to requests, the cells of a table that they are put in, and what a collector holds of them.
+use Rattle.std.specs.Prelude.{ℕ, ◌≡◌, ◌<◌, ◌⊎◌, ⊤, List, [], slice_index_or, Option, Some, None, map, length, option_map}
 use Rattle.lrc_code.specs.Requests.{Asked}
 use Rattle.lrc_code.specs.Answers.{IsAnswer}
 use Rattle.farm_core.specs.declared.orders.Order.{Order}
-use Rattle.farm_core.specs.declared.reply.ReplyResult.{ReplyResult}
-use Rattle.farm_core.specs.declared.reply.ReplyResult.TheVariants.{Done, Starved}
-use Rattle.farm_core.specs.Orders.{served, IsServed}
+use Rattle.farm_core.specs.declared.replies.ReplyResult.{ReplyResult}
+use Rattle.farm_core.specs.declared.replies.ReplyResult.TheVariants.{Done, Starved}
+use Rattle.farm_core.specs.Orders.{served, IsServed, before_close}
+use Rattle.lrc_code.specs.declared.outcomes.Outcome.{Outcome}
 
 -- what a reply may say of a request: its answer, or that memory was wanting
 abbrev pub IsRight : Asked → ReplyResult → Type 0
@@ -25,14 +26,22 @@ pub record Entry : Type 0 where
   pub request : Asked
   pub result : ReplyResult
 
+-- what is kept of a reply besides its number
+abbrev pub entry_of : Replied → Entry
+entry_of reply = record { rack = reply.rack; request = reply.request; result = reply.result }
+
 -- the racks, and for each request that is served the reply to it, if one came
 pub record Collected : Type 0 where
   pub racks : List (List Order)
   pub table : List (List (Option Entry))
 
+-- what is in the cell of this rack and number
+abbrev pub cell_at : List (List (Option Entry)) → ℕ → ℕ → Option Entry
+cell_at table rack number = slice_index_or (slice_index_or table rack []) number None
+
 -- the reply that came to this request of this rack
 abbrev pub reply_at : Collected → ℕ → ℕ → Option Entry
-reply_at c rack number = slice_index_or (slice_index_or c.table rack []) number None
+reply_at c rack number = cell_at c.table rack number
 
 -- no reply has come
 abbrev pub IsNothingYet : List (List Order) → Collected → Type 0
@@ -67,3 +76,48 @@ IsInPlace c = (rack number : ℕ) (e : Entry) (d : Asked) → reply_at c rack nu
 -- no reply said that memory was missing
 abbrev pub NoneStarved : Collected → Type 0
 NoneStarved c = (rack number : ℕ) (e : Entry) → reply_at c rack number ≡ Some e → e.result ≡ Starved → ⊥
+
+-- a row's entries
+abbrev pub entries : List (Option Replied) → List (Option Entry)
+entries cells = map (option_map entry_of) cells
+
+-- this outcome answers the request of this entry, which says so
+abbrev pub Answers : Option Entry → Outcome → Type 0
+Answers None outcome = ⊥
+Answers (Some e) outcome = IsAnswer e.request outcome × (e.result ≡ Done outcome)
+
+-- there is a row for each rack, with a cell for each request that is served
+abbrev pub HasShape : List (List Order) → List (List (Option Entry)) → Type 0
+HasShape racks table = map (λ (row : List (Option Entry)). length row) table ≡ map (λ orders. length (before_close orders)) racks
+
+-- no reply is there
+abbrev pub IsGap : List (Option Entry) → ℕ → Type 0
+IsGap row k = (k < length row) × (slice_index_or row k None ≡ None)
+
+abbrev pub IsFirstGap : List (Option Entry) → ℕ → Type 0
+IsFirstGap row k = IsGap row k × ((j : ℕ) → j < k → IsGap row j → ⊥)
+
+abbrev pub HasNoGap : List (Option Entry) → Type 0
+HasNoGap row = (j : ℕ) → IsGap row j → ⊥
+
+-- the first gap of all rows, in the order of rows and places
+abbrev pub IsLeastGap : List (List (Option Entry)) → ℕ → ℕ → Type 0
+IsLeastGap table rack number =
+    (rack < length table)
+    × IsFirstGap (slice_index_or table rack []) number
+    × ((r : ℕ) → r < rack → HasNoGap (slice_index_or table r []))
+
+-- no row has a gap
+abbrev pub HasNoGaps : List (List (Option Entry)) → Type 0
+HasNoGaps table = (r : ℕ) → HasNoGap (slice_index_or table r [])
+
+-- there is a cell for this rack and number
+abbrev pub HasCell : List (List (Option Entry)) → ℕ → ℕ → Type 0
+HasCell table rack number = number < length (slice_index_or table rack [])
+
+-- the second table has this entry too, and else what the first has, in as many cells
+abbrev pub IsEntered : List (List (Option Entry)) → ℕ → ℕ → Entry → List (List (Option Entry)) → Type 0
+IsEntered table rack number entry more =
+    (map (λ (row : List (Option Entry)). length row) more ≡ map (λ (row : List (Option Entry)). length row) table)
+    × (cell_at more rack number ≡ Some entry)
+    × ((r k : ℕ) → ((r ≡ rack) × (k ≡ number) → ⊥) → cell_at more r k ≡ cell_at table r k)

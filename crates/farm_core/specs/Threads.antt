@@ -4,21 +4,21 @@ use mathlib.Core.Option.{some}
 use lib.ListN.{get_elem?}
 use Rattle.std.specs.declared.thread.PromisedHandle.{PromisedHandle}
 use Rattle.farm_lanes.specs.LaneEnds.{LaneName, PutView, TakeView, new_put, new_take}
-use Rattle.farm_core.specs.declared.jobs.Job.{Job}
-use Rattle.farm_core.specs.declared.jobs.Worked.{Worked}
+use Rattle.farm_core.specs.declared.threads.worker.Job.{Job}
+use Rattle.farm_core.specs.declared.threads.worker.Worked.{Worked}
 use Rattle.farm_core.specs.Replies.{Replied}
-use Rattle.farm_core.specs.declared.threads.WorkOf.{WorkOf}
-use Rattle.farm_core.specs.declared.ends.WorkerEnds.{WorkerEnds}
-use Rattle.farm_core.specs.declared.ends.Feeder.{Feeder}
+use Rattle.farm_core.specs.declared.threads.worker.WorkOf.{WorkOf}
+use Rattle.farm_core.specs.declared.threads.given.WorkerEnds.{WorkerEnds}
+use Rattle.farm_core.specs.declared.threads.given.Feeder.{Feeder}
 use Rattle.std.specs.List.{sum_by}
 use Rattle.farm_lanes.specs.GateView.{GateName}
 use Rattle.farm_lanes.specs.Lists.{Each}
-use Rattle.farm_core.specs.declared.feeding.Fed.{Fed}
-use Rattle.farm_core.specs.Left.{LeftBy}
+use Rattle.farm_core.specs.declared.threads.feeder.Fed.{Fed}
+use Rattle.farm_core.specs.Feed.{LeftBy}
 use Rattle.farm_core.specs.declared.orders.Order.{Order}
 use Rattle.farm_lanes.specs.Lists.{EachAt}
-use Rattle.farm_core.specs.declared.threads.FeedOf.{FeedOf}
-use Rattle.farm_core.specs.Work.{HasWorked}
+use Rattle.farm_core.specs.declared.threads.feeder.FeedOf.{FeedOf}
+use Rattle.farm_core.specs.Jobs.{HasWorked}
 
 -- the ends that these workers were given
 abbrev pub ends_of : List (PromisedHandle Worked WorkOf) → List WorkerEnds

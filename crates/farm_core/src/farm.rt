@@ -4,47 +4,29 @@ ghost use Rattle.farm_core.specs.Expected.{AreExpected};
 ghost use Rattle.farm_core.specs.Merge.{AreAllMergedAnswers};
 ghost use Rattle.farm_core.specs.Boards.{AreMergedRows};
 ghost use Rattle.farm_core.specs.FedLists.{one_each};
-ghost use Rattle.farm_core.specs.RunLists.{lists_of};
-ghost use Rattle.farm_core.specs.Gates.{AreGates};
-ghost use Rattle.farm_core.specs.Ready.{IsReady};
+ghost use Rattle.farm_core.specs.RunFeeds.{lists_of};
+ghost use Rattle.farm_core.specs.Ready.{AreGates, IsReady};
 
-use crate::board::Board;
-use crate::ending::{Refusals, end_all};
+use crate::error::FarmError;
 use crate::feeds::Feeds;
-use crate::lists::Lists;
+use crate::feeds::lists::Lists;
+use crate::feeds::slots::SlotPause;
 use crate::orders::Racks;
 use crate::pause::Pause;
-use crate::room::{RackSeats, Room, gates_for, room_for};
+use crate::replies::board::Board;
 use crate::settings::Settings;
-use crate::settling::{Cleared, settle_all};
-use crate::shared::Shared;
-use crate::slots::SlotPause;
-use crate::space::Space;
-use crate::started::{Started, Starts, join_all, start_all};
-use crate::threads::start_collector;
+use crate::settling::settle_all;
+use crate::taken::gates::{RackSeats, gates_for};
+use crate::taken::space::Space;
+use crate::taken::{Room, room_for};
+use crate::threads::all::{Started, Starts, end_all, join_all, start_all};
+use crate::threads::collecting::{Cleared, start_collector};
+use crate::threads::{Refusals, Shared};
 use farm_lanes::Gate;
 use lrc_code::Outcome;
-use std::alloc::{AllocError, Global};
+use std::alloc::Global;
 use std::sync::Wait;
 use std::thread::{self, Scope, Threads};
-use thiserror::Error;
-
-/// Why a farm gives no answers.
-#[derive(Debug, Drop, Error)]
-pub enum FarmError {
-    /// E16: memory was wanting.
-    #[error("out of memory")]
-    OutOfMemory,
-    /// E17: a thread was refused.
-    #[error("a thread was refused")]
-    NoThread,
-}
-
-impl From<AllocError> for FarmError {
-    fn from(_error: AllocError) -> FarmError {
-        FarmError::OutOfMemory
-    }
-}
 
 // Starts the threads, stops and joins them, and gives the board.
 fn run_in<'s, 'a: 's, E, R: Threads + Wait + Sync, P: Pause>(

@@ -1,7 +1,9 @@
 //! The feeds of racks.
 ghost use Rattle.std.specs.Prelude.{◌≡◌, IfOk, IfErr, map};
-ghost use Rattle.farm_core.specs.FedLists.{AreFeeds};
-ghost use Rattle.farm_core.specs.FedFaults.{IsBadFeeds};
+ghost use Rattle.farm_core.specs.FedLists.{AreFeeds, IsBadFeeds};
+
+pub mod lists;
+pub mod slots;
 
 use crate::limits::{MOST_FEEDS, MOST_RACKS};
 use crate::orders::RackList;

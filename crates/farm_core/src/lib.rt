@@ -15,39 +15,26 @@
 //! ```
 #![tactic(auto)]
 
-mod board;
-mod closing;
-mod collector;
-mod ending;
-mod ends;
+mod error;
 mod farm;
-mod feeding;
 mod feeds;
-mod jobs;
 pub mod limits;
-mod lists;
 pub mod merge_laws;
 mod orders;
 mod pause;
-mod rack_feeders;
-mod reply;
-mod room;
-mod row;
+mod replies;
 mod settings;
 mod settling;
-mod shared;
-mod slots;
-mod space;
-mod started;
-mod taking;
+mod taken;
 mod threads;
 
-pub use collector::Collector;
-pub use farm::{FarmError, run, run_feeds};
-pub use feeding::{Fed, feed};
+pub use error::FarmError;
+pub use farm::{run, run_feeds};
 pub use feeds::{Feeds, FeedsFault};
-pub use jobs::{Job, Worked, work};
 pub use orders::{Order, RackList, Racks, TooManyOrders, TooManyRacks};
 pub use pause::{NoPause, Pause};
-pub use reply::{CollectFault, FinishFault, Reply, ReplyResult};
+pub use replies::collector::Collector;
+pub use replies::{CollectFault, FinishFault, Reply, ReplyResult};
 pub use settings::{Settings, SettingsFault};
+pub use threads::feeder::{Fed, feed};
+pub use threads::worker::{Job, Worked, work};

@@ -1,5 +1,5 @@
 //! Laws of merges of feeds: each function's contract is one, over the definitions alone.
-ghost use Rattle.farm_core.specs.MergeLaws.{MergeOfOneIsIt, AnswersOfOneAreIts};
+ghost use Rattle.farm_core.specs.Merge.{MergeOfOneIsIt, AnswersOfOneAreIts};
 
 /// A merge of one feed is what stands in front of its close.
 pub fn merge_of_one_is_it()

@@ -1,64 +1,16 @@
-//! The collector's thread, and what is done once all threads were joined.
-ghost use Rattle.std.specs.Prelude.{◌≡◌, ◌≤◌, ◌<◌, ℕ, List, [], ◌∷◌, length, vec_len, vec_capacity};
+//! What follows the joins: what is left in the lanes is taken, the lanes are settled, and the board is given.
+ghost use Rattle.std.specs.Prelude.{◌≡◌, ◌≤◌, ◌<◌, [], length, vec_capacity};
 ghost use Rattle.std.specs.List.{sum_by};
-ghost use Rattle.farm_lanes.specs.LaneEnds.{IsUnusedTake};
-ghost use Rattle.farm_core.specs.Boards.{HoldsNothing, AreMergedRows};
-ghost use Rattle.farm_core.specs.declared.orders.Order.{Order};
-ghost use Rattle.farm_core.specs.Cleared.{HasCleared, TookLeft, TookReplies, HasOneEach, HasJoined};
+ghost use Rattle.farm_core.specs.Boards.{AreMergedRows};
+ghost use Rattle.farm_core.specs.Settled.{TookLeft, TookReplies, HasOneEach, HasJoined};
 
-use crate::board::Board;
-use crate::jobs::{Job, reply_to};
 use crate::pause::Pause;
-use crate::reply::Reply;
-use crate::taking::{HandedIn, hand_in};
+use crate::replies::Reply;
+use crate::replies::board::{Board, HandedIn, hand_in};
+use crate::threads::worker::{Job, reply_to};
 use farm_lanes::{EndedPut, Item, TakeEnd, settle};
 use std::alloc::Global;
 use std::sync::Wait;
-
-/// A board, the end that its replies come from, and how many workers will end.
-#[derive(Drop)]
-pub struct Desk<'a> {
-    pub board: Board<'a>,
-    pub replies: TakeEnd<Reply<'a>>,
-    pub workers: usize,
-}
-
-/// What the collector's thread gives back.
-#[derive(Drop)]
-pub struct Cleared<'a> {
-    pub all: HandedIn<'a>,
-    pub replies: TakeEnd<Reply<'a>>,
-}
-
-/// Puts the replies on the board until every worker's end has come.
-pub fn clear<'a, R: Wait>(rt: &R, desk: Desk<'a>) -> Cleared<'a>
-    requires empty { HoldsNothing desk.board.racks desk.board }
-    requires unused { IsUnusedTake desk.replies }
-    ensures { HasCleared desk.entry.board.racks desk.entry.replies result.all.board result.all.fault result.replies }
-{
-    let Desk {
-        board,
-        replies,
-        workers,
-    } = desk;
-    let mut board = board;
-    let mut replies = replies;
-    let mut fault = None;
-    let mut ended = 0;
-    for _ in rt.forever() {
-        if ended >= workers {
-            break;
-        }
-        match replies.take(rt) {
-            Item::Value { value, .. } => fault = hand_in(&mut board, fault, value),
-            Item::End { .. } => ended += 1,
-        }
-    }
-    Cleared {
-        all: HandedIn { board, fault },
-        replies,
-    }
-}
 
 // Takes so many items of the request lane, and replies to the jobs among them.
 fn take_left<'a, R: Wait, P: Pause>(

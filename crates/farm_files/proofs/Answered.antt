@@ -5,8 +5,8 @@ use Rattle.std.specs.Prelude.{IfSome, sum_by}
 use Rattle.std.proofs.lemmas.List.Sums.{sum_by-cons}
 use Rattle.lrc_code.specs.declared.places.Place.{Place}
 use Rattle.lrc_code.specs.declared.outcomes.Outcome.{Outcome}
-use Rattle.farm_core.specs.declared.farm.FarmError.{FarmError}
-use Rattle.farm_core.specs.declared.farm.FarmError.TheVariants as farm
+use Rattle.farm_core.specs.declared.error.FarmError.{FarmError}
+use Rattle.farm_core.specs.declared.error.FarmError.TheVariants as farm
 use Rattle.farm_files.specs.Files.{CountsFailure, Files, Told}
 use Rattle.farm_files.specs.Report.{before_close as listed_before_close}
 use Rattle.farm_files.specs.Serving.{AreLists, Reads, unread_all, written_files}

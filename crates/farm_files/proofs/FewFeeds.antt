@@ -5,8 +5,7 @@ use Rattle.std.proofs.lemmas.List.{length-map}
 use Rattle.std.proofs.lemmas.List.Elements.{recursion_from_All}
 use mathlib.Core.Option.{some, some-injective, some-ne-none}
 use lib.ListN.{get_elem?}
-use Rattle.farm_core.specs.FedFaults.{IsBadFeeds}
-use Rattle.farm_core.specs.FedLists.{IsFewFeeds}
+use Rattle.farm_core.specs.FedLists.{IsBadFeeds, IsFewFeeds}
 use Rattle.farm_core.specs.declared.feeds.FeedsFault.{FeedsFault}
 use Rattle.farm_core.specs.declared.feeds.FeedsFault.TheVariants as fault
 use Rattle.farm_core.specs.Orders.{before_close}

@@ -1,6 +1,6 @@
 -- The faults of the farm and of a shelf, as serving's.
-use Rattle.farm_core.specs.declared.farm.FarmError.{FarmError}
-use Rattle.farm_core.specs.declared.farm.FarmError.TheVariants as farm
+use Rattle.farm_core.specs.declared.error.FarmError.{FarmError}
+use Rattle.farm_core.specs.declared.error.FarmError.TheVariants as farm
 use Rattle.farm_files.specs.declared.shelf.ShelfFault.{ShelfFault}
 use Rattle.farm_files.specs.declared.shelf.ShelfFault.TheVariants as shelf
 use Rattle.farm_files.specs.declared.faults.ServeFault.{ServeFault}

@@ -3,7 +3,7 @@ use Rattle.std.specs.List.{AllZip}
 use Rattle.lrc_code.specs.declared.outcomes.Outcome.{Outcome}
 use Rattle.farm_core.specs.declared.orders.Order.{Order}
 use Rattle.farm_core.specs.Replies.{Entry}
-use Rattle.farm_core.specs.Slots.{slot_feed}
+use Rattle.farm_core.specs.RunFeeds.{slot_feed}
 use Rattle.farm_core.specs.Boards.{filled, IsOutcomeOf, AreMergedRows}
 use Rattle.farm_core.proofs.Merged.{expected_answers, zip_map}
 use Rattle.farm_core.proofs.farm.answer_racks.Goals as goal

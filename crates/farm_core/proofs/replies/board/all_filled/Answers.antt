@@ -1,0 +1,22 @@
+use Rattle.std.proofs.Common.{rules, ◌∙◌, List, [], ◌∷◌, ◌++◌, vec_items, ap, sym, subst, append_assoc, Option, Vec, Global}
+use Rattle.std.specs.List.{AllZip}
+use Rattle.farm_core.specs.Replies.{Entry}
+use Rattle.farm_core.specs.RunFeeds.{slot_feed}
+use Rattle.farm_core.specs.Boards.{filled, IsOutcomeOf}
+use Rattle.lrc_code.specs.declared.outcomes.Outcome.{Outcome}
+use Rattle.farm_core.proofs.Rows.{all_zip_push}
+use Rattle.farm_core.proofs.replies.board.all_filled.Goals as goal
+
+AnswersRow : List (Option Entry) → Vec Outcome Global → Type 0
+AnswersRow row answers = AllZip (λ (e : Entry) (o : Outcome). IsOutcomeOf e (slot_feed e.rack, o)) (filled row) (vec_items answers)
+
+pub loop-row-preserved : goal.loop-row-preserved
+unfolding AnswersRow
+loop-row-preserved c =
+    let was = c.loop-row.invariant in let done = c.loop-row.yielded in let step = c.in-Some.ensures.steps.0 in (
+      rw append_assoc (was.0 ∙ ap (λ (t : List (List (Option Entry))). done ++ t) step),
+      subst (λ (vs : List (Vec Outcome Global)). AllZip AnswersRow (done ++ c.in-Some.row ∷ []) vs) (sym c.push_reserved.ensures.items)
+          (all_zip_push AnswersRow done (vec_items c.loop-row.all) c.in-Some.row c.in_ok-filled.field-0 was.1 c.in_ok-filled.ensures),
+      search rules,
+      search rules,
+    )

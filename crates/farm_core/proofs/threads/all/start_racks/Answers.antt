@@ -1,0 +1,23 @@
+use Rattle.std.proofs.Common.{arith, ◌≡◌, ◌∙◌, List, length, sym, ap, subst}
+use Rattle.std.specs.declared.thread.PromisedHandle.{PromisedHandle}
+use Rattle.std.specs.Prelude.{Option}
+use mathlib.Core.Option.{some}
+use lib.ListN.{get_elem?}
+use Rattle.farm_lanes.proofs.Lists.{at_map}
+use Rattle.farm_core.specs.declared.threads.given.Feeder.{Feeder}
+use Rattle.farm_core.specs.declared.threads.feeder.Fed.{Fed}
+use Rattle.farm_core.specs.declared.threads.feeder.FeedOf.{FeedOf}
+use Rattle.farm_core.specs.Threads.{feeders_of}
+use Rattle.farm_core.proofs.Merged.{map_length}
+use Rattle.farm_core.proofs.threads.all.start_racks.Goals as goal
+
+pub invariant_of-push_reserved : goal.invariant_of-push_reserved
+invariant_of-push_reserved g c =
+    let rack = c.in-Some.rack in let hs = c.start_feeders.new.handles.items in
+    let given : feeders_of hs ≡ rack.feeders.items = c.start_feeders.ensures.all c.if-start_feeders.true in
+    let long : length hs ≡ length rack.feeders.items = sym (map_length (λ (h : PromisedHandle (Option Fed) FeedOf). h.promise.0.value) hs) ∙ ap (λ (l : List Feeder). length l) given in
+    let a = c.start_feeders.new.handles.ok in let b = rack.feeders.ok in record {
+      own = λ k h at. rack.own k h.promise.0.value (subst (λ (l : List Feeder). get_elem? l k ≡ some h.promise.0.value) given (at_map (λ (h : PromisedHandle (Option Fed) FeedOf). h.promise.0.value) hs k h at));
+      some = (let e = rack.some.0 in omega arith, let e = rack.some.1 in omega arith);
+      room = (rack.room.2, let e = rack.room.3 in omega arith, rack.room.4, let e = rack.room.5 in omega arith);
+    }

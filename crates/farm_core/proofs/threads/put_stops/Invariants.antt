@@ -1,7 +1,0 @@
-use Rattle.std.proofs.Common.{◌≡◌, length}
-use Rattle.farm_core.specs.Put.{HasPutStops}
-use Rattle.farm_core.proofs.threads.put_stops.Given as goal
-
--- nothing was put so far that asks for a reply
-abbrev pub invariant-loop : goal.invariant-loop
-invariant-loop g l = HasPutStops l.fn.stops l.stops × (length l.stops.put ≡ l.counter)

@@ -1,0 +1,174 @@
+//! What a run takes before its first thread starts.
+ghost use Rattle.std.specs.Prelude.{◌≡◌, ◌+◌, ◌≤◌, ◌<◌, ◌++◌, IfOk, length, map, vec_len};
+ghost use Rattle.std.specs.Vec.Iter.{into_iter_items, into_iter_len};
+ghost use Rattle.farm_lanes.specs.Lists.{Each};
+ghost use Rattle.farm_lanes.specs.LaneEnds.{IsUnusedPut};
+ghost use Rattle.farm_core.specs.declared.threads.worker.Job.{Job};
+ghost use Rattle.farm_core.specs.FedLists.{all_feeds_of};
+ghost use Rattle.farm_core.specs.RunFeeds.{lists_of};
+ghost use Rattle.farm_core.specs.Ready.{IsNewGate, AreGates, AreAllGiven, ends_given, rooms_of, IsReady};
+ghost use Rattle.farm_core.specs.Limits.{all_feeds_limit, feed_limit, rack_limit};
+ghost use Rattle.farm_core.specs.Threads.{AreRackFeeders};
+
+pub mod gates;
+pub mod lanes;
+pub mod space;
+
+use crate::feeds::lists::Lists;
+use crate::orders::RackList;
+use crate::replies::board::Board;
+use crate::settings::Settings;
+use crate::taken::gates::RackSeats;
+use crate::taken::lanes::{reply_lane, request_lane, worker_ends};
+use crate::taken::space::{Space, space_for};
+use crate::threads::collecting::Desk;
+use crate::threads::given::{Feeder, WorkerEnds};
+use crate::threads::rack_feeders::RackRoom;
+use crate::threads::worker::Job;
+use farm_lanes::{Gate, PutEnd};
+use std::alloc::{AllocError, Global};
+use std::vec::IntoIter;
+
+/// What the threads are given, and room for what they give back.
+#[derive(Drop)]
+pub struct Room<'a> {
+    pub desk: Desk<'a>,
+    pub workers: Vec<WorkerEnds<'a>>,
+    pub racks: Vec<RackRoom<'a>>,
+    pub stops: PutEnd<Job<'a>>,
+    pub space: Space<'a>,
+}
+
+// The feeders of a rack, which share its gate.
+fn rack_room<'a>(
+    alloc: Global,
+    gate: &'a Gate,
+    rack: usize,
+    lists: &'a [RackList],
+    own: RackSeats,
+    puts: &mut IntoIter<PutEnd<Job<'a>>>,
+) -> Result<RackRoom<'a>, AllocError>
+    requires rack { rack < rack_limit }
+    requires few { (0 < length lists.now) × (length lists.now ≤ feed_limit) }
+    requires new { IsNewGate (length lists.now) gate.now own }
+    requires enough { length lists.now ≤ into_iter_len puts.old }
+    requires unused { Each IsUnusedPut (into_iter_items puts.old) }
+    ensures gate { IfOk result (λ r. r.gate.now ≡ gate.now) }
+    ensures feeders { IfOk result (λ r. AreRackFeeders gate.now rack lists.now r.feeders.items) }
+    ensures ends { IfOk result (λ r. into_iter_items puts.old ≡ map (λ f. f.jobs) r.feeders.items ++ into_iter_items puts.new) }
+    ensures left { IfOk result (λ r. into_iter_len puts.new + length lists.now ≡ into_iter_len puts.old) }
+{
+    let RackSeats {
+        mut seats,
+        mut rights,
+    } = own;
+    let count = lists.len();
+    let mut feeders = Vec::with_capacity(alloc, count)?;
+    for feed in 0..count {
+        let Some(seat) = seats.pop() else {
+            unreachable!();
+        };
+        let Some(right) = rights.pop() else {
+            unreachable!();
+        };
+        let Some(jobs) = puts.next() else {
+            unreachable!();
+        };
+        feeders.push_reserved(Feeder {
+            gate,
+            seat,
+            right,
+            rack,
+            feed,
+            list: &lists[feed],
+            jobs,
+        });
+    }
+    Ok(RackRoom {
+        gate,
+        feeders,
+        handles: Vec::with_capacity(alloc, count)?,
+        feds: Vec::with_capacity(alloc, count)?,
+        rights: Vec::with_capacity(alloc, count)?,
+    })
+}
+
+// The feeders of all racks.
+fn racks_for<'a>(
+    alloc: Global,
+    lists: Lists<'a>,
+    gates: &'a [Gate],
+    seats: Vec<RackSeats>,
+    puts: Vec<PutEnd<Job<'a>>>,
+) -> Result<Vec<RackRoom<'a>>, AllocError>
+    requires gates { AreGates (lists_of lists) gates.now seats.items }
+    requires count { vec_len puts ≡ all_feeds_of (lists_of lists) }
+    requires unused { Each IsUnusedPut puts.items }
+    ensures racks { IfOk result (λ v. AreAllGiven (lists_of lists.entry) (rooms_of v.items)) }
+    ensures ends { IfOk result (λ v. ends_given (rooms_of v.items) ≡ puts.entry.items) }
+{
+    let mut racks = Vec::with_capacity(alloc, lists.racks())?;
+    let mut puts = puts.into_iter();
+    for own in seats {
+        let rack = racks.len();
+        racks.push_reserved(rack_room(
+            alloc,
+            &gates[rack],
+            rack,
+            lists.feeds(rack),
+            own,
+            &mut puts,
+        )?);
+    }
+    Ok(racks)
+}
+
+// How many feeds all racks have.
+fn all_feeds(lists: Lists) -> usize
+    ensures all { result ≡ all_feeds_of (lists_of lists.entry) }
+    ensures few { result ≤ all_feeds_limit }
+{
+    let mut count = 0;
+    for rack in 0..lists.racks() {
+        count += lists.feeds(rack).len();
+    }
+    count
+}
+
+/// All that a run needs but the threads: the board, both lanes, and the feeders.
+pub fn room_for<'a>(
+    alloc: Global,
+    lists: Lists<'a>,
+    gates: &'a [Gate],
+    seats: Vec<RackSeats>,
+    settings: Settings,
+) -> Result<Room<'a>, AllocError>
+    requires { AreGates (lists_of lists) gates.now seats.items }
+    ensures racks { IfOk result (λ r. r.desk.board.racks ≡ lists_of lists.entry) }
+    ensures ready { IfOk result IsReady }
+    ensures workers { IfOk result (λ r. (r.desk.workers ≡ settings.workers) × (length r.workers.items ≡ settings.workers)) }
+{
+    let workers = settings.workers();
+    let board = Board::new(alloc, lists)?;
+    let (job_puts, stops, job_takes) = request_lane(
+        alloc,
+        settings.queue(),
+        all_feeds(lists),
+        workers,
+    )?;
+    let (reply_puts, replies) = reply_lane(alloc, settings.queue(), workers)?;
+    let ends = worker_ends(alloc, job_takes, reply_puts)?;
+    let racks = racks_for(alloc, lists, gates, seats, job_puts)?;
+    let space = space_for(alloc, lists.racks(), workers)?;
+    Ok(Room {
+        desk: Desk {
+            board,
+            replies,
+            workers,
+        },
+        workers: ends,
+        racks,
+        stops,
+        space,
+    })
+}

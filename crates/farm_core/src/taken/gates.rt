@@ -1,0 +1,44 @@
+//! The gates of racks.
+ghost use Rattle.std.specs.Prelude.{IfOk};
+ghost use Rattle.farm_lanes.specs.GateView.{IsRightCount, IsSeatCount};
+ghost use Rattle.farm_core.specs.RunFeeds.{lists_of};
+ghost use Rattle.farm_core.specs.Ready.{IsNewGate, AreGates};
+
+use crate::feeds::lists::Lists;
+use farm_lanes::{Gate, GateError, Right, Seat};
+use std::alloc::{AllocError, Global};
+
+// A new gate, with one seat and one right for each of so many feeds. Within the limits of gates only memory can be refused.
+fn open_gate(alloc: Global, feeds: usize) -> Result<(Gate, RackSeats), AllocError>
+    requires count { IsSeatCount feeds × IsRightCount feeds }
+    ensures { IfOk result (λ r. IsNewGate feeds r.0 r.1) }
+{
+    match Gate::open(alloc, feeds, feeds) {
+        Ok((gate, seats, rights)) => Ok((gate, RackSeats { seats, rights })),
+        Err(GateError::OutOfMemory) => Err(AllocError),
+        Err(GateError::NoSeats) => unreachable!(),
+    }
+}
+
+/// The seats and the rights of a rack's gate.
+#[derive(Drop)]
+pub struct RackSeats {
+    pub seats: Vec<Seat>,
+    pub rights: Vec<Right>,
+}
+
+/// A gate for each rack, with one seat and one right for each of its feeds.
+pub fn gates_for(alloc: Global, lists: Lists) -> Result<(Vec<Gate>, Vec<RackSeats>), AllocError>
+    ensures { IfOk result (λ r. AreGates (lists_of lists.entry) r.0.items r.1.items) }
+{
+    let racks = lists.racks();
+    let mut gates = Vec::with_capacity(alloc, racks)?;
+    let mut all = Vec::with_capacity(alloc, racks)?;
+    for rack in 0..racks {
+        let feeds = lists.feeds(rack).len();
+        let (gate, own) = open_gate(alloc, feeds)?;
+        gates.push_reserved(gate);
+        all.push_reserved(own);
+    }
+    Ok((gates, all))
+}

@@ -1,0 +1,91 @@
+//! What is done with a rack's gate once all its feeders were joined: their seats become one, and the rights that came back are spent.
+ghost use Rattle.std.specs.Prelude.{◌≡◌, ◌+◌, ◌<◌, ◌≤◌, ◌++◌, ◌∷◌, ℕ, List, [], length, map, false, vec_len, vec_capacity};
+ghost use Rattle.farm_lanes.specs.GateRecord.{IsSound};
+ghost use Rattle.farm_lanes.specs.Lists.{Each};
+ghost use Rattle.farm_core.specs.declared.orders.Order.{Order};
+ghost use Rattle.farm_core.specs.declared.threads.feeder.Fed.{Fed as TheFed};
+ghost use Rattle.farm_core.specs.Feed.{right_back, IsJoint, IsOfGate, AreFed, HasDrawn};
+
+use crate::threads::feeder::Fed;
+use crate::threads::worker::Job;
+use farm_lanes::{EndedPut, Gate, Right, Seat};
+
+// Reads the gate, so that the seat's record is known to be sound.
+fn look(gate: &Gate, seat: Seat) -> Seat
+    requires own { seat.gate ≡ gate.now.id }
+    requires within { seat.has.draws ≤ seat.has.share }
+    ensures gate { result.gate ≡ gate.now.id }
+    ensures same { IsJoint result.has (seat.has ∷ []) }
+    ensures sound { IsSound gate.now.size result.has }
+{
+    let (seat, none) = gate.split(seat, 0);
+    gate.join(seat, none)
+}
+
+// Spends rights. Where they are all rights of the gate, the seat was told of no closing.
+fn spend_all(gate: &Gate, seat: Seat, rights: Vec<Right>)
+    requires own { (seat.gate ≡ gate.now.id) × Each (λ r. r ≡ gate.now.id) rights.items }
+    requires sound { IsSound gate.now.size seat.has }
+    ensures { seat.has.used ≡ 0 → length seat.has.made ≡ 0 → length rights.items ≡ gate.now.size.rights → seat.has.knows ≡ false }
+{
+    let mut seat = seat;
+    for right in rights {
+        let _closed = gate.close(&mut seat, right);
+    }
+}
+
+// Puts a right that came back to the others.
+fn keep(rights: &mut Vec<Right>, right: Option<Right>)
+    requires { vec_len rights.old < vec_capacity rights.old }
+    ensures rights { rights.new.items ≡ rights.old.items ++ right_back right }
+    ensures capacity { vec_capacity rights.new ≡ vec_capacity rights.old }
+    ensures one { vec_len rights.new ≤ vec_len rights.old + 1 }
+{
+    if let Some(right) = right {
+        rights.push_reserved(right);
+    }
+}
+
+/// Joins what a rack's feeders gave back: the put ends in order. What they drew is a lawful merge of their lists.
+pub fn close_rack<'a>(
+    gate: &Gate,
+    feds: Vec<Fed<'a>>,
+    rights: Vec<Right>,
+    put_ends: &mut Vec<EndedPut<Job<'a>>>,
+)
+    requires some { 0 < length feds.items }
+    requires own { Each (IsOfGate gate.now.id) feds.items }
+    requires rights { (rights.items ≡ []) × (vec_len feds ≤ vec_capacity rights) }
+    requires room { vec_len put_ends.old + vec_len feds ≤ vec_capacity put_ends.old }
+    ensures capacity { vec_capacity put_ends.new ≡ vec_capacity put_ends.old }
+    ensures len { vec_len put_ends.new ≡ vec_len put_ends.old + vec_len feds.entry }
+    ensures ends { put_ends.new.items ≡ put_ends.old.items ++ map (λ (f : TheFed). f.jobs) feds.entry.items }
+    ensures drawn { (rack : ℕ) (lists : List (List Order)) → AreFed gate.now rack lists feds.entry.items → HasDrawn rack lists (map (λ (f : TheFed). f.jobs) feds.entry.items) }
+{
+    let mut feds = feds;
+    let mut rights = rights;
+    let Some(last) = feds.pop() else {
+        unreachable!();
+    };
+    let Fed {
+        seat,
+        right: last_right,
+        jobs: last_jobs,
+        ..
+    } = last;
+    let mut joined = look(gate, seat);
+    for fed in feds {
+        let Fed {
+            seat,
+            right,
+            jobs,
+            ..
+        } = fed;
+        joined = gate.join(joined, seat);
+        keep(&mut rights, right);
+        put_ends.push_reserved(jobs);
+    }
+    keep(&mut rights, last_right);
+    put_ends.push_reserved(last_jobs);
+    spend_all(gate, joined, rights);
+}

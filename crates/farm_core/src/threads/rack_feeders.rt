@@ -1,0 +1,34 @@
+//! The threads of a rack's feeders.
+ghost use Rattle.std.specs.Prelude.{◌≡◌, ◌<◌, ◌≤◌, [], vec_len, vec_capacity};
+ghost use Rattle.farm_lanes.specs.Lists.{Each};
+ghost use Rattle.farm_core.specs.Limits.{feed_limit};
+ghost use Rattle.farm_core.specs.Threads.{AreOfGate};
+
+use crate::threads::feeder::{Fed, FeederHandle};
+use crate::threads::given::Feeder;
+use farm_lanes::{Gate, Right};
+
+/// The threads of a rack's feeders, with their gate, and room for what they give back.
+#[derive(Drop)]
+pub struct RackFeeders<'a> {
+    pub gate: &'a Gate,
+    pub handles: Vec<FeederHandle<'a>>,
+    pub feds: Vec<Fed<'a>>,
+    pub rights: Vec<Right>,
+    pub ghost own: { AreOfGate gate.now handles.items },
+    pub ghost some: { (0 < vec_len handles) × (vec_len handles ≤ feed_limit) },
+    pub ghost room: { (feds.items ≡ []) × (vec_len handles ≤ vec_capacity feds) × (rights.items ≡ []) × (vec_len handles ≤ vec_capacity rights) },
+}
+
+/// A rack's feeders before their threads start, with their gate, and room for what they give back.
+#[derive(Drop)]
+pub struct RackRoom<'a> {
+    pub gate: &'a Gate,
+    pub feeders: Vec<Feeder<'a>>,
+    pub handles: Vec<FeederHandle<'a>>,
+    pub feds: Vec<Fed<'a>>,
+    pub rights: Vec<Right>,
+    pub ghost own: { Each (λ f. f.gate.now ≡ gate.now) feeders.items },
+    pub ghost some: { (0 < vec_len feeders) × (vec_len feeders ≤ feed_limit) },
+    pub ghost room: { (handles.items ≡ []) × (vec_len feeders ≤ vec_capacity handles) × (feds.items ≡ []) × (vec_len feeders ≤ vec_capacity feds) × (rights.items ≡ []) × (vec_len feeders ≤ vec_capacity rights) },
+}
