@@ -99,6 +99,7 @@ fn product(c: Gf, byte: u8) -> u8
     }
 }
 
+#[inline(always)]
 fn no_tables() -> [Option<Tables>; 16]
     ensures { (k : ℕ) → slice_index_or result k None ≡ None }
 {
@@ -108,19 +109,18 @@ fn no_tables() -> [Option<Tables>; 16]
     ]
 }
 
-// Tables of the scalars that need them.
-fn tables_of(terms: &[Term]) -> [Option<Tables>; 16]
-    requires { length terms.now ≤ 16 }
-    ensures { HaveTables terms.now result }
+// Puts in tables of the scalars that need them. They are made in their place, since they are a thousand bytes.
+fn fill_tables(tables: &mut [Option<Tables>; 16], terms: &[Term])
+    requires few { length terms.now ≤ 16 }
+    requires none { (k : ℕ) → slice_index_or tables.old k None ≡ None }
+    ensures { HaveTables terms.now tables.new }
 {
-    let mut tables = no_tables();
     for j in 0..terms.len() {
         let term = &terms[j];
         if term.scalar.byte() > 1 {
             tables[j] = Some(Tables::new(term.scalar));
         }
     }
-    tables
 }
 
 // Writes over each byte the sum at its place, counted from place `from` on.
@@ -165,13 +165,16 @@ fn write_sums(dst: &mut [u8], from: usize, terms: &[Term], tables: &[Option<Tabl
 // The same for three slices as they are, as a group of four has them for one that is lost: no table is looked for.
 fn write_sums_of_three(dst: &mut [u8], from: usize, first: &[u8], second: &[u8], third: &[u8])
     requires fits { from + length dst.old < 2 ^ 64 }
-    requires most { 32 ≤ length dst.old }
     requires in_first { from + length dst.old ≤ length first.now }
     requires in_second { from + length dst.old ≤ length second.now }
     requires in_third { from + length dst.old ≤ length third.now }
     ensures len { length dst.new ≡ length dst.old }
     ensures sums { AreSet (λ k. three_at first.now second.now third.now (from + k)) dst.new (length dst.old) }
 {
+    if dst.len() < 32 {
+        write_few_of_three(dst, from, first, second, third);
+        return;
+    }
     let mut i = 0;
     'quads: while dst.len() - i >= 128 {
         let sums = quad_of_three(first, second, third, from + i);
@@ -190,6 +193,26 @@ fn write_sums_of_three(dst: &mut [u8], from: usize, first: &[u8], second: &[u8],
     let rest = dst.len() - 32;
     let sums = block_of_three(first, second, third, from + rest);
     blocks::put(dst, rest, sums);
+}
+
+// The same, byte by byte.
+fn write_few_of_three(dst: &mut [u8], from: usize, first: &[u8], second: &[u8], third: &[u8])
+    requires fits { from + length dst.old < 2 ^ 64 }
+    requires in_first { from + length dst.old ≤ length first.now }
+    requires in_second { from + length dst.old ≤ length second.now }
+    requires in_third { from + length dst.old ≤ length third.now }
+    ensures len { length dst.new ≡ length dst.old }
+    ensures sums { AreSet (λ k. three_at first.now second.now third.now (from + k)) dst.new (length dst.old) }
+{
+    for k in 0..dst.len() {
+        dst[k] = sum_of_three(first[from + k], second[from + k], third[from + k]);
+    }
+}
+
+fn sum_of_three(first: u8, second: u8, third: u8) -> u8
+    ensures { result ≡ bit_xor (times 1 first) (bit_xor (times 1 second) (times 1 third)) }
+{
+    first ^ (second ^ third)
 }
 
 // The sums of three slices at 32 places, from place `i` on.
@@ -262,7 +285,8 @@ pub fn combine_into(dst: &mut [u8], from: usize, terms: &[Term])
         write_few(dst, from, terms);
         return;
     }
-    let tables = tables_of(terms);
+    let mut tables = no_tables();
+    fill_tables(&mut tables, terms);
     write_sums(dst, from, terms, &tables);
 }
 
@@ -280,12 +304,74 @@ pub fn combined<A: Allocator>(
     if len < 32 {
         return few_combined(alloc, len, terms);
     }
-    let tables = tables_of(terms);
+    if let [first, second, third] = terms {
+        if first.scalar.byte() == 1 && second.scalar.byte() == 1 && third.scalar.byte() == 1 {
+            return combined_of_three(alloc, len, first.bytes, second.bytes, third.bytes);
+        }
+    }
+    combined_by_tables(alloc, len, terms)
+}
+
+// The same by tables of the scalars.
+fn combined_by_tables<A: Allocator>(
+    alloc: A,
+    len: usize,
+    terms: &[Term],
+) -> Result<Vec<u8, A>, AllocError>
+    requires few { length terms.now ≤ 16 }
+    requires lengths { HaveLength len terms.now }
+    ensures { IfOk result (λ v. IsCombined len terms.now v.items) }
+{
+    let mut tables = no_tables();
+    fill_tables(&mut tables, terms);
     let mut bytes = Vec::with_capacity(alloc, len)?;
     'parts: while bytes.len() < len {
         append_part(&mut bytes, len, terms, &tables)?;
     }
     Ok(bytes)
+}
+
+// The same of three slices as they are.
+fn combined_of_three<A: Allocator>(
+    alloc: A,
+    len: usize,
+    first: &[u8],
+    second: &[u8],
+    third: &[u8],
+) -> Result<Vec<u8, A>, AllocError>
+    requires in_first { length first.now ≡ len }
+    requires in_second { length second.now ≡ len }
+    requires in_third { length third.now ≡ len }
+    ensures { IfOk result (λ v. (length v.items ≡ len) × AreSet (three_at first.now second.now third.now) v.items len) }
+{
+    let mut bytes = Vec::with_capacity(alloc, len)?;
+    'parts: while bytes.len() < len {
+        append_part_of_three(&mut bytes, len, first, second, third)?;
+    }
+    Ok(bytes)
+}
+
+// Appends the sums of three slices at up to 4,096 further places.
+fn append_part_of_three<A: Allocator>(
+    bytes: &mut Vec<u8, A>,
+    len: usize,
+    first: &[u8],
+    second: &[u8],
+    third: &[u8],
+) -> Result<(), AllocError>
+    requires in_first { length first.now ≡ len }
+    requires in_second { length second.now ≡ len }
+    requires in_third { length third.now ≡ len }
+    requires more { length bytes.old.items < len }
+    ensures longer { OnOk result (length bytes.old.items < length bytes.new.items) }
+    ensures within { OnOk result (length bytes.new.items ≤ len) }
+    ensures set { AreSet (three_at first.now second.now third.now) bytes.old.items (length bytes.old.items) → OnOk result (AreSet (three_at first.now second.now third.now) bytes.new.items (length bytes.new.items)) }
+{
+    let from = bytes.len();
+    let part = (len - from).min(4096);
+    bytes.resize(from + part, 0)?;
+    write_sums_of_three(bytes.slice_mut(from..), from, first, second, third);
+    Ok(())
 }
 
 // The same of few places, which need no tables.
@@ -351,7 +437,8 @@ pub fn sums_are_zero_between(from: usize, to: usize, terms: &[Term]) -> bool
     if from >= to {
         return true;
     }
-    let tables = tables_of(terms);
+    let mut tables = no_tables();
+    fill_tables(&mut tables, terms);
     let mut part = [0u8; 1024];
     let mut at = from;
     'parts: while at < to {

@@ -1,12 +1,12 @@
 use Rattle.std.proofs.Common.{◌≤◌, ◌-◌, length}
 use Rattle.lrc_field.specs.Blocks.{AreSet}
-use Rattle.lrc_field.specs.Combined.{sum_at}
-use Rattle.lrc_field.proofs.combining.combined.Given as goal
+use Rattle.lrc_field.specs.Combined.{three_at}
+use Rattle.lrc_field.proofs.combining.combined_of_three.Given as goal
 
 abbrev pub invariant-parts : goal.invariant-parts
 invariant-parts g l = record {
   within : length l.bytes.items ≤ l.len;
-  set : AreSet (sum_at l.terms) l.bytes.items (length l.bytes.items);
+  set : AreSet (three_at l.first l.second l.third) l.bytes.items (length l.bytes.items);
 }
 
 abbrev pub decreases-parts : goal.decreases-parts

@@ -1,7 +1,7 @@
 use Rattle.std.proofs.Common.{◌≡◌, ◌<◌, ◌≤◌, ℕ, length, get_or, None}
 use Rattle.lrc_field.specs.declared.combining.Term.{Term}
 use Rattle.lrc_field.specs.Combined.{IsTableOf}
-use Rattle.lrc_field.proofs.combining.tables_of.Given as goal
+use Rattle.lrc_field.proofs.combining.fill_tables.Given as goal
 
 abbrev pub invariant-loop-j : goal.invariant-loop-j
 invariant-loop-j l = record {
