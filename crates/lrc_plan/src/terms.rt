@@ -30,10 +30,19 @@ pub(crate) fn is_zero(row: &[Gf; 16], request: &Request, sources: &Sources<'_>) 
     ensures yes { result ≡ true → IsZeroRow request.now row.now }
     ensures no { result ≡ false → ¬ IsZeroRow request.now row.now }
 {
-    let length = request.length() as usize;
     if is_blank(row) {
         return true;
     }
+    is_zero_sum(row, request, sources)
+}
+
+// The same of a row that isn't blank. A call of its own, since its list of terms costs more than the look at a blank row.
+fn is_zero_sum(row: &[Gf; 16], request: &Request, sources: &Sources<'_>) -> bool
+    requires { AreSources request.now.survivors sources.now }
+    ensures yes { result ≡ true → IsZeroRow request.now row.now }
+    ensures no { result ≡ false → ¬ IsZeroRow request.now row.now }
+{
+    let length = request.length() as usize;
     let (terms, count) = terms_of(row, request, sources);
     sums_are_zero(length, &terms[..count])
 }
