@@ -10,17 +10,21 @@ use Rattle.lrc_code.specs.declared.places.Place.{Place}
 use Rattle.lrc_code.specs.declared.outcomes.Outcome.{Outcome}
 use Rattle.lrc_code.specs.declared.outcomes.Outcome.TheVariants as outcome
 use Rattle.lrc_code.specs.Places.{name_of}
+use Rattle.farm_core.specs.Orders.{requests_before_close}
 use Rattle.farm_files.specs.Listed.{ListedRequest}
 use Rattle.farm_files.specs.declared.report.ReportShape.{ReportShape}
 use Rattle.farm_files.specs.declared.report.ReportRow.{ReportRow}
 use Rattle.farm_files.specs.declared.listing.Record.{Record}
 use Rattle.farm_files.specs.declared.listing.Record.TheVariants as rec
 
+-- the request that a record lists
+abbrev pub listed_by : Record → Option ListedRequest
+listed_by (rec.Rebuild r) = Some r
+listed_by rec.Close = None
+
 -- the requests in front of the first close
 abbrev pub before_close : List Record → List ListedRequest
-before_close [] = []
-before_close (rec.Close ∷ rest) = []
-before_close (rec.Rebuild r ∷ rest) = r ∷ before_close rest
+before_close list = requests_before_close listed_by list
 
 abbrev pub outcome_name : Outcome → List ℕ
 outcome_name (outcome.Rebuilt f) = codes "rebuilt"
