@@ -1,7 +1,10 @@
 //! Products, inverses and kernels against values from outside: known vectors, and a product by shifts.
 ghost use Rattle.std.specs.Prelude.{◌≡◌};
 
-use lrc_field::{Gf, Term, add_into, combined, scale_add_into, sums_are_zero};
+use lrc_field::{
+    Gf, Term, add_into, combine_into, combined, scale_add_into, sums_are_zero,
+    sums_are_zero_between,
+};
 use std::alloc::{AllocError, Global};
 
 // The product by shifts: for each bit of b the shifted a, reduced at each shift.
@@ -156,6 +159,66 @@ fn sums_of_terms(rt: HostRuntime) -> Result<(), AllocError> {
         assert_eq!(&rt; sums_are_zero(len, &terms), len == 0, "{len} sums");
         let twice = [term_of(0x07, &first), term_of(0x07, &first)];
         assert!(&rt; sums_are_zero(len, &twice), "{len} sums of equals");
+    }
+    Ok(())
+}
+
+// Lengths of windows: around the blocks of 32 and of 128 bytes and the parts of 1,024 and of 4,096.
+const WINDOWS: [usize; 14] = [
+    0, 1, 31, 32, 33, 127, 128, 129, 160, 1023, 1025, 4095, 4096, 4097,
+];
+
+// Bytes of each source, more than any window needs.
+const SOURCE: usize = 4_200;
+
+#[test]
+fn sums_of_terms_in_windows(rt: HostRuntime) -> Result<(), AllocError> {
+    let first = some_bytes(rt.alloc(), SOURCE, 5)?;
+    let second = some_bytes(rt.alloc(), SOURCE, 11)?;
+    let third = some_bytes(rt.alloc(), SOURCE, 17)?;
+    assert!(&rt; first.len() == SOURCE && second.len() == SOURCE && third.len() == SOURCE);
+    for [a, b, c] in [[0x01, 0x01, 0x01], [0x01, 0x53, 0x00]] {
+        let terms = [term_of(a, &first), term_of(b, &second), term_of(c, &third)];
+        for from in [0usize, 1, 33, 100] {
+            for len in WINDOWS {
+                let mut dst = some_bytes(rt.alloc(), len, 23)?;
+                assert!(&rt; dst.len() == len && from <= 100 && len <= 4_097);
+                combine_into(&mut dst, from, &terms);
+                assert!(&rt; dst.len() == len);
+                for i in 0..len {
+                    let place = from + i;
+                    let sum = product_by_shifts(a, first[place])
+                        ^ product_by_shifts(b, second[place])
+                        ^ product_by_shifts(c, third[place]);
+                    assert_eq!(&rt; dst[i], sum, "byte {i} of {len} from {from}, scalar {b}");
+                }
+            }
+        }
+    }
+    Ok(())
+}
+
+#[test]
+fn zero_sums_in_windows(rt: HostRuntime) -> Result<(), AllocError> {
+    let first = some_bytes(rt.alloc(), SOURCE, 5)?;
+    for changed in [0usize, 31, 32, 127, 128, 1_023, 1_024, 4_095, 4_096, 4_199] {
+        let mut second = first.clone()?;
+        assert!(&rt; first.len() == SOURCE && second.len() == SOURCE && changed < SOURCE);
+        second[changed] ^= 0x40;
+        assert!(&rt; second.len() == SOURCE);
+        for scalar in [0x01, 0x53] {
+            let terms = [term_of(scalar, &first), term_of(scalar, &second)];
+            for from in [0usize, 1, 33, 100, 1_024] {
+                for to in [0usize, 32, 128, 133, 1_024, 1_025, 4_096, 4_097, 4_200] {
+                    assert!(&rt; to <= SOURCE);
+                    assert_eq!(&rt;
+                        sums_are_zero_between(from, to, &terms),
+                        changed < from || to <= changed,
+                        "{from} to {to}, changed at {changed}"
+                    );
+                }
+            }
+        }
     }
     Ok(())
 }
