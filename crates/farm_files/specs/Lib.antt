@@ -17,3 +17,4 @@ pub mod Faults
 pub mod Parts
 pub mod Causes
 pub mod AnsweredRacks
+pub mod Ahead

@@ -177,7 +177,7 @@ fn answer_racks<R: Threads + Wait + Sync, I: Shelf, P: Pause>(
     if let Some(list) = only_list(racks) {
         return answer_list(rt, alloc, input, list, settings, pause, most);
     }
-    let (feeds, unread) = read_feeds(alloc, input, racks)?;
+    let (feeds, unread) = read_feeds(rt, alloc, input, racks, settings.workers())?;
     let answers = run_feeds(rt, alloc, &feeds, settings, pause)?;
     Ok(Answered { answers, unread })
 }
@@ -223,7 +223,15 @@ fn answer_list<R: Threads + Wait + Sync, I: Shelf, P: Pause>(
     loop {
         let end = end_of_requests(requests.as_slice(), first, most);
         let closes = has_close_at(list, count, end);
-        let (orders, mut places) = read_requests(alloc, input, &requests[first..end], closes)?;
+        let part = &requests[first..end];
+        let (orders, mut places) = read_requests(
+            rt,
+            alloc,
+            input,
+            part,
+            closes,
+            settings.workers(),
+        )?;
         let batch = BatchPause {
             pause,
             rack: 0,

@@ -5,12 +5,16 @@ ghost use Rattle.farm_files.specs.Folder.{folder_failed};
 
 use crate::shelf::{Shelf, ShelfFault};
 use std::alloc::{AllocError, Global};
-use std::fs;
 use std::io::{self, ErrorKind, Read};
 use std::rt::Files;
+use std::thread::Threads;
+use std::{fs, mem, thread};
 
 // The room that is taken for the first read, if the limit isn't less. A fragment of the greatest length fits it.
 const FIRST_ROOM: usize = 65_537;
+
+// How many files are open at once at most, while they are read ahead.
+const MOST_OPEN: usize = 128;
 
 // How often a file is read at most.
 const READ_TURNS: u32 = 16_777_216;
@@ -22,6 +26,19 @@ pub struct FolderShelf<R: Drop> {
     rt: R,
     path: String,
     failed: u64,
+    // The files that were read ahead, the next one last.
+    ahead: Vec<ReadAhead>,
+}
+
+// A file that is to be read ahead: its path and limit, the room for its bytes, the file while it is open, and what was read: none
+// where it isn't there. A read ahead that fails tells nothing, and is made again by the read that it was for.
+#[derive(Drop)]
+struct ReadAhead {
+    path: String,
+    limit: usize,
+    room: Vec<u8>,
+    file: Option<fs::File>,
+    read: Option<Option<Vec<u8>>>,
 }
 
 impl<R: Files + Clone + Drop> FolderShelf<R> {
@@ -35,6 +52,7 @@ impl<R: Files + Clone + Drop> FolderShelf<R> {
             rt: rt.clone()?,
             path,
             failed: 0,
+            ahead: Vec::new(alloc),
         })
     }
 
@@ -42,19 +60,85 @@ impl<R: Files + Clone + Drop> FolderShelf<R> {
         let path = &self.path;
         format!(in alloc; "{path}/{name}")
     }
+
+    // The paths of files that are to be read ahead, the first one last, with room for the bytes of a fragment of each. One
+    // thread takes all of it: the system's allocator makes threads that take and return it at once wait for each other.
+    fn make_rooms(
+        &self,
+        alloc: Global,
+        files: &[(String, usize)],
+    ) -> Result<Vec<ReadAhead>, AllocError> {
+        let mut ahead = Vec::new(alloc);
+        for (name, limit) in files.iter().rev() {
+            ahead.push(ReadAhead {
+                path: self.full_path(alloc, name.as_str())?,
+                limit: *limit,
+                room: Vec::with_capacity(alloc, FIRST_ROOM.min(*limit))?,
+                file: None,
+                read: None,
+            })?;
+        }
+        Ok(ahead)
+    }
 }
 
-// The first bytes of a file, as many as the limit at most. The room for a fragment is taken and cleared once, so that one of
-// the listed length takes two reads: the first gives its bytes, the second finds its end.
+// Opens files, one after the other. This is no work for the threads: no proof speaks of a type parameter's files in several threads.
+fn open_each<R: Files<File = fs::File>>(rt: &R, files: &mut [ReadAhead]) {
+    for file in files.iter_mut() {
+        match fs::open(rt, file.path.as_str()) {
+            Ok(opened) => file.file = Some(opened),
+            Err(e) => {
+                if e.kind() == ErrorKind::NotFound {
+                    file.read = Some(None);
+                }
+            }
+        }
+    }
+}
+
+// Reads the files that are open, in at most so many threads. A thread that is refused leaves its part to the others.
+fn read_opened<R: Threads + Sync>(rt: &R, alloc: Global, files: &mut [ReadAhead], threads: usize) {
+    let size = files.len().div_ceil(threads.max(1)).max(1);
+    let part = |_start: usize, chunk: &mut [ReadAhead]| read_each(alloc, chunk);
+    thread::for_each_chunk_mut(rt, files, size, &part);
+}
+
+// Reads the files that are open, one after the other, each into its room, and closes them.
+fn read_each(alloc: Global, files: &mut [ReadAhead]) {
+    for file in files.iter_mut() {
+        let Some(opened) = file.file.take() else {
+            continue;
+        };
+        let room = mem::replace(&mut file.room, Vec::new(alloc));
+        if let Ok(bytes) = read_front(room, opened, file.limit) {
+            file.read = Some(Some(bytes));
+        }
+    }
+}
+
+// What was read ahead of a file, where it is the next one that was read ahead. A read of another file ends the reading ahead,
+// since what comes then isn't known.
+fn take_ahead(ahead: &mut Vec<ReadAhead>, path: &str, limit: usize) -> Option<Option<Vec<u8>>> {
+    let next = ahead.pop()?;
+    if next.path.as_str() == path && next.limit == limit {
+        return next.read;
+    }
+    ahead.clear();
+    None
+}
+
+// The first bytes of a file, as many as the limit at most, in this room. The room for a fragment is taken and cleared once, so
+// that one of the listed length takes two reads: the first gives its bytes, the second finds its end.
 pub(crate) fn read_front<F: Read + Drop>(
-    alloc: Global,
+    room: Vec<u8>,
     file: F,
     limit: usize,
 ) -> Result<Vec<u8>, ShelfFault>
     ensures { IfOk result (λ bytes. IfSome (F.remaining file) (λ all. bytes.items ≡ take limit all)) }
 {
     let mut file = file;
-    let mut bytes = Vec::new(alloc);
+    let mut bytes = room;
+    bytes.clear();
     let mut got = 0;
     for _turn in 0..READ_TURNS {
         if got == limit {
@@ -106,7 +190,7 @@ fn make_room(bytes: &mut Vec<u8>, got: usize, limit: usize) -> Result<(), ShelfF
     }
 }
 
-impl<R: Files + Clone + Drop> Shelf for FolderShelf<R> {
+impl<R: Files<File = fs::File> + Clone + Drop> Shelf for FolderShelf<R> {
     ghost files = { λ s. None };
 
     ghost failed = { λ s. folder_failed s };
@@ -124,8 +208,11 @@ impl<R: Files + Clone + Drop> Shelf for FolderShelf<R> {
         let Ok(path) = self.full_path(alloc, name) else {
             return Err(ShelfFault::OutOfMemory);
         };
+        if let Some(read) = take_ahead(&mut self.ahead, path.as_str(), limit) {
+            return Ok(read);
+        }
         let read = match fs::open(&self.rt, path.as_str()) {
-            Ok(file) => read_front(alloc, file, limit),
+            Ok(file) => read_front(Vec::new(alloc), file, limit),
             Err(e) => {
                 if e.kind() == ErrorKind::NotFound {
                     return Ok(None);
@@ -143,7 +230,26 @@ impl<R: Files + Clone + Drop> Shelf for FolderShelf<R> {
         }
     }
 
+    fn read_ahead<H: Threads + Sync>(
+        &mut self,
+        rt: &H,
+        alloc: Global,
+        files: &[(String, usize)],
+        threads: usize,
+    ) -> Result<(), AllocError> {
+        self.ahead.clear();
+        let mut ahead = self.make_rooms(alloc, files)?;
+        for files in ahead.chunks_mut(MOST_OPEN) {
+            open_each(&self.rt, files);
+            read_opened(rt, alloc, files, threads);
+        }
+        self.ahead = ahead;
+        Ok(())
+    }
+
     fn write(&mut self, alloc: Global, name: &str, bytes: &[u8]) -> Result<(), ShelfFault> {
+        // What was read ahead may be of this file.
+        self.ahead.clear();
         let Ok(path) = self.full_path(alloc, name) else {
             return Err(ShelfFault::OutOfMemory);
         };

@@ -1,6 +1,6 @@
 //! Reading the lists and the fragments.
 ghost use Rattle.std.specs.Prelude.{◌≡◌, ◌+◌, ◌*◌, ◌++◌, ◌∷◌, [], OnOk, ◌<◌, ◌≤◌, ◌^◌, ℕ, List, Bool, Option, Some, None, Ok, Err, IfOk, IfErr, IfSome, MatchResult, if◌then◌else◌, is_some, length, map, option_map};
-ghost use Rattle.std.specs.List.{All, AllZip, filter_map};
+ghost use Rattle.std.specs.List.{All, AllZip, filter_map, flat_map};
 ghost use Rattle.farm_core.specs.Orders.{before_close};
 ghost use Rattle.farm_core.specs.declared.orders.Order.TheVariants.{Rebuild, Close};
 ghost use Rattle.farm_files.specs.Report.{before_close as listed_before_close};
@@ -10,6 +10,7 @@ ghost use Rattle.farm_files.specs.declared.listing.Record.{Record};
 ghost use Rattle.farm_files.specs.Files.{Files};
 ghost use Rattle.farm_files.specs.declared.faults.ServeFault.TheVariants as serving_fault;
 ghost use Rattle.farm_files.specs.Names.{list_name};
+ghost use Rattle.farm_files.specs.Ahead.{fragment_reads, named_limit};
 ghost use Rattle.farm_files.specs.Serving.{AreAllReads, AreLists, AreRackReads, AreReads, HaveFeeds, Reads, all_failures, asked, asked_feed, failures, feed_failures, fragment, orders_all, orders_feed, orders_rack, rack_failures, survivor, unread, unread_all, unread_feed, unread_rack};
 ghost use Rattle.farm_files.specs.Parts.{ArePart};
 ghost use Rattle.farm_files.specs.Faults.{CountsFault, Explains, IsListFault, IsRackFault, IsReadFault, serve_fault};
@@ -23,6 +24,7 @@ use crate::shelf::{Shelf, ShelfFault};
 use farm_core::{Feeds, Order, RackList};
 use lrc_code::{Fragment, Place, Request};
 use std::alloc::{AllocError, Global};
+use std::thread::Threads;
 
 const RACK_LIMIT: usize = 16;
 
@@ -279,13 +281,42 @@ fn read_request<I: Shelf>(
     Ok((request, unread))
 }
 
+// The names of the files of the requests' listed survivors, each with the limit that it is read up to, in the order of the reads.
+fn fragment_files(alloc: Global, requests: &[&Listed]) -> Result<Vec<(String, usize)>, AllocError>
+    ensures { IfOk result (λ v. map named_limit v.items ≡ flat_map (λ r. fragment_reads r.now) requests.now) }
+{
+    let mut files = Vec::new(alloc);
+    for index in 0..requests.len() {
+        push_fragment_files(alloc, &mut files, requests[index])?;
+    }
+    Ok(files)
+}
+
+fn push_fragment_files(
+    alloc: Global,
+    files: &mut Vec<(String, usize)>,
+    listed: &Listed,
+) -> Result<(), AllocError>
+    ensures { OnOk result (map named_limit files.new.items ≡ map named_limit files.old.items ++ fragment_reads listed.now) }
+{
+    let limit = listed.length() as usize + 1;
+    let places = listed.survivors();
+    for index in 0..places.len() {
+        let name = fragment_file(alloc, listed.stripe(), places[index])?;
+        files.push((name, limit))?;
+    }
+    Ok(())
+}
+
 // The orders of requests with the survivors that were read, and of a close behind them where one is asked for; and for each request the
 // places of the others.
-pub(crate) fn read_requests<I: Shelf>(
+pub(crate) fn read_requests<R: Threads + Sync, I: Shelf>(
+    rt: &R,
     alloc: Global,
     input: &mut I,
     requests: &[&Listed],
     closes: bool,
+    threads: usize,
 ) -> Result<(RackList, Vec<Vec<Place>>), AllocError>
     requires room { I.failed input.old + 16 * length requests.now < 2 ^ 63 }
     requires orders { length requests.now + (if closes then 1 else 0) ≤ 4096 }
@@ -297,6 +328,8 @@ pub(crate) fn read_requests<I: Shelf>(
     ensures more { I.failed input.old ≤ I.failed input.new }
     ensures few { I.failed input.new ≤ I.failed input.old + 16 * length requests.now }
 {
+    let files = fragment_files(alloc, requests)?;
+    input.read_ahead(rt, alloc, files.as_slice(), threads)?;
     let mut orders = Vec::new(alloc);
     let mut unread = Vec::new(alloc);
     for index in 0..requests.len() {
@@ -322,10 +355,12 @@ fn push_close(orders: &mut Vec<Order>, closes: bool) -> Result<(), AllocError>
 }
 
 // The orders of a feed's list up to its first close, with the survivors that were read, and for each request the places of the others.
-fn read_feed<I: Shelf>(
+fn read_feed<R: Threads + Sync, I: Shelf>(
+    rt: &R,
     alloc: Global,
     input: &mut I,
     list: &[Record],
+    threads: usize,
 ) -> Result<(RackList, Vec<Vec<Place>>), AllocError>
     requires room { I.failed input.old + 65536 < 2 ^ 63 }
     requires orders { length list.now ≤ 4096 }
@@ -339,15 +374,17 @@ fn read_feed<I: Shelf>(
     let requests = requests_before_close(alloc, list)?;
     // A record that isn't among the requests before the close is the close or behind it.
     let closes = requests.len() < list.len();
-    let read = read_requests(alloc, input, requests.as_slice(), closes)?;
+    let read = read_requests(rt, alloc, input, requests.as_slice(), closes, threads)?;
     Ok(read)
 }
 
 // The same of each feed of a rack.
-fn read_rack<I: Shelf>(
+fn read_rack<R: Threads + Sync, I: Shelf>(
+    rt: &R,
     alloc: Global,
     input: &mut I,
     lists: &[Vec<Record>],
+    threads: usize,
 ) -> Result<(Vec<RackList>, Vec<Vec<Vec<Place>>>), AllocError>
     requires room { I.failed input.old + 262144 < 2 ^ 63 }
     requires feeds { length lists.now ≤ 4 }
@@ -364,7 +401,7 @@ fn read_rack<I: Shelf>(
     let mut feeds = Vec::new(alloc);
     let mut unread = Vec::new(alloc);
     for feed in 0..lists.len() {
-        let (list, places) = read_feed(alloc, input, lists[feed].as_slice())?;
+        let (list, places) = read_feed(rt, alloc, input, lists[feed].as_slice(), threads)?;
         feeds.push(list)?;
         unread.push(places)?;
     }
@@ -372,10 +409,12 @@ fn read_rack<I: Shelf>(
 }
 
 // The feeds of all racks with the survivors that were read, and for each request the places of the others.
-pub(crate) fn read_feeds<I: Shelf>(
+pub(crate) fn read_feeds<R: Threads + Sync, I: Shelf>(
+    rt: &R,
     alloc: Global,
     input: &mut I,
     lists: &[Vec<Vec<Record>>],
+    threads: usize,
 ) -> Result<(Feeds, Vec<Vec<Vec<Vec<Place>>>>), AllocError>
     requires room { I.failed input.old + 262144 * length lists.now < 2 ^ 63 }
     requires racks { length lists.now ≤ 16 }
@@ -393,7 +432,7 @@ pub(crate) fn read_feeds<I: Shelf>(
     let mut racks = Vec::new(alloc);
     let mut unread = Vec::new(alloc);
     for rack in 0..lists.len() {
-        let (feeds, places) = read_rack(alloc, input, lists[rack].as_slice())?;
+        let (feeds, places) = read_rack(rt, alloc, input, lists[rack].as_slice(), threads)?;
         racks.push(feeds)?;
         unread.push(places)?;
     }

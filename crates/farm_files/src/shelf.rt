@@ -1,8 +1,10 @@
 //! Shelves: named files on a device that may fail.
 ghost use Rattle.std.specs.Prelude.{◌≡◌, ℕ, List, ◌<◌, ◌^◌, Option, None, IfOk, IfSome, take, option_map};
+ghost use Rattle.std.specs.Thread.{IsSync};
 ghost use Rattle.farm_files.specs.Files.{CountsFailure, Told, Writes};
 
-use std::alloc::Global;
+use std::alloc::{AllocError, Global};
+use std::thread::Threads;
 use thiserror::Error;
 
 /// Why a call of a shelf failed.
@@ -39,6 +41,23 @@ pub trait Shelf {
         ensures bytes { IfOk result (λ v. IfSome (files self.old) (λ there. option_map (λ b. b.items) v ≡ option_map (take limit) (there name.now))) }
         ensures same { files self.new ≡ files self.old }
         ensures failure { CountsFailure result (failed self.old) (failed self.new) };
+
+    /// Tells the shelf the names and limits of the files that are read next, in this order, so that it may read them ahead in at most
+    /// so many threads. It answers no read and counts no failure: the calls of `read` do both. A shelf that doesn't say
+    /// otherwise reads nothing ahead.
+    fn read_ahead<H: Threads + Sync>(
+        &mut self,
+        _rt: &H,
+        _alloc: Global,
+        _files: &[(String, usize)],
+        _threads: usize,
+    ) -> Result<(), AllocError>
+        requires { IsSync H.row }
+        ensures same { files self.new ≡ files self.old }
+        ensures failure { failed self.new ≡ failed self.old }
+    {
+        Ok(())
+    }
 
     /// Replaces a whole file. After a failure of the device nothing is known of this file, and the others are as they
     /// were; want of memory changes no file.

@@ -1,4 +1,5 @@
 //! Lists, reports, shelves and serving, with the bytes and digests of the formats.
+mod ahead;
 mod batches;
 mod devices;
 mod digests;

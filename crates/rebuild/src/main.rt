@@ -23,6 +23,7 @@ use farm_faults::{farm_status, fault_line};
 use farm_files::{FolderShelf, ServeFault, Served, serve};
 use line::{line_mode, line_status};
 use statuses::{DEVICE, DONE, NO_RESOURCES, USAGE};
+use std::fs::File;
 use std::io::ErrorKind;
 use std::process::ExitCode;
 use std::rt::Files;
@@ -81,7 +82,7 @@ fn answer_lines(rt: &HostRuntime) -> u8 {
 // Serves one folder into another, tells how that ended, and gives the exit status.
 fn answer_farm<R>(rt: &R, input: &str, output: &str, settings: Settings) -> u8
 where
-    R: Threads + Wait + Sync + Files + Clone + Drop + Print + Eprint + AllocGlobal,
+    R: Threads + Wait + Sync + Files<File = File> + Clone + Drop + Print + Eprint + AllocGlobal,
 {
     let served = serve_folders(rt, input, output, settings);
     match &served {
@@ -107,7 +108,7 @@ fn serve_folders<R>(
     settings: Settings,
 ) -> Result<Served, ServeFault>
 where
-    R: Threads + Wait + Sync + Files + Clone + Drop + AllocGlobal,
+    R: Threads + Wait + Sync + Files<File = File> + Clone + Drop + AllocGlobal,
 {
     let alloc = rt.alloc();
     let mut input = FolderShelf::open(rt, alloc, input)?;

@@ -122,7 +122,7 @@ fn read_drip(
         step,
         calls: &calls,
     };
-    let read = match read_front(alloc, file, limit) {
+    let read = match read_front(Vec::new(alloc), file, limit) {
         Ok(bytes) => Ok(bytes.len()),
         Err(fault) => Err(fault),
     };

@@ -27,14 +27,14 @@ loop-unread-init g c = (
 )
 
 pub read_requests-requires-clause-room : goal.read_requests-requires-clause-room
-read_requests-requires-clause-room g c =
+read_requests-requires-clause-room g c κs within =
     let (reads, so, within, same, failed, few) = c.loop-unread.invariant in
     let most = fails_few _ _ _ c.in_ok-requests.requests.items c.as_slice.result.now c.deref.result.now c.args.list.now c.loop-unread.first c.end_of_requests-end.result
     c.in_ok-requests.ensures c.as_slice.ensures.value c.deref.ensures.value c.end_of_requests-end.ensures.within c.requires.orders few (le_refl _) in
     omega (arith, most, c.requires.room)
 
 pub read_requests-requires-clause-orders : goal.read_requests-requires-clause-orders
-read_requests-requires-clause-orders g c =
+read_requests-requires-clause-orders g c κs within =
     let sized = batch_sized c.in_ok-requests.requests.items c.as_slice.result.now c.deref.result.now c.args.list.now c.loop-unread.first c.end_of_requests-end.result
     c.in_ok-requests.ensures c.as_slice.ensures.value c.deref.ensures.value c.end_of_requests-end.ensures.within c.requires.orders in
     orders_of_batch_few c.loop-unread.first c.end_of_requests-end.result _ (length c.args.list.now) c.has_close_at-closes.result sized.0 sized.1 c.has_close_at-closes.ensures c.requires.orders

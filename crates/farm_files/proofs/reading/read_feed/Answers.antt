@@ -21,10 +21,10 @@ few g c =
     omega (arith, len, length-map c.as_slice.result.now (λ (r : Bor ListedRequest). r.now), served_few c.args.list.now, c.requires.orders)
 
 pub read_requests-requires-clause-room : goal.read_requests-requires-clause-room
-read_requests-requires-clause-room g c = omega (arith, few g c, c.requires.room)
+read_requests-requires-clause-room g c κs within = omega (arith, few g c, c.requires.room)
 
 pub read_requests-requires-clause-orders : goal.read_requests-requires-clause-orders
-read_requests-requires-clause-orders g c =
+read_requests-requires-clause-orders g c κs within =
     let same = ap (λ (rs : List ListedRequest). length rs) (the_listed g c) in
     let size = length-map c.as_slice.result.now (λ (r : Bor ListedRequest). r.now) in
     let items = ap (λ (rs : List (Bor ListedRequest)). length rs) c.as_slice.ensures.value in

@@ -61,9 +61,9 @@ pub loop-index-init : goal.loop-index-init
 loop-index-init g c = (
   [],
   tt,
-  refl,
-  omega arith,
-  omega arith,
+  c.in_ok-read_ahead.ensures.same,
+  omega (arith, c.in_ok-read_ahead.ensures.failure),
+  omega (arith, c.in_ok-read_ahead.ensures.failure),
   ([], c.new-orders.ensures.items, refl),
   ap length c.new-unread.ensures.items,
   λ there e. (c.new-orders.ensures.items, ap (map (λ (u : Vec Place Global). u.items)) c.new-unread.ensures.items),
