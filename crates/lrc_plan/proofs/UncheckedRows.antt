@@ -1,12 +1,13 @@
 -- Where the equations can be solved for four lost places, no check is left.
-use Rattle.std.proofs.Common.{◌≡◌, ◌<◌, ℕ, zero, suc, Bool, true, List, [], ◌∷◌, Option, Some, None, refl, sym, ◌∙◌, ap, subst, arith, lit<, replicate}
+use Rattle.std.proofs.Common.{◌≡◌, ◌<◌, ℕ, zero, suc, Bool, true, List, [], ◌∷◌, Option, Some, None, refl, sym, ◌∙◌, ap, subst, arith, lit<, replicate, map, All}
 use Rattle.std.specs.Prelude.{not, ◌&&◌, slice_index, slice_index_or}
 use Rattle.lrc_code.specs.declared.places.Group.{Group}
 use Rattle.lrc_code.specs.declared.places.Group.TheVariants as group
 use Rattle.lrc_code.specs.declared.places.Place.{Place}
 use Rattle.lrc_code.specs.declared.places.Place.TheVariants.{X0, X1, X2, X3, X4, X5, Y0, Y1, Y2, Y3, Y4, Y5, Px, Py, P0, P1}
 use Rattle.lrc_code.specs.declared.codes.Code.{Code as CodeName}
-use Rattle.lrc_code.specs.Places.{index_of, group_of}
+use Rattle.lrc_code.specs.Places.{index_of, group_of, all_places}
+use Rattle.lrc_code.specs.Requests.{Asked}
 use Rattle.lrc_code.specs.Sets.{is_in}
 use Rattle.lrc_code.specs.Code.{has_place}
 use Rattle.lrc_code.specs.Codes.{tables_of}
@@ -16,6 +17,10 @@ use Rattle.lrc_plan.specs.Rows.{coef_of, pivot_of}
 use Rattle.lrc_plan.specs.GroupRows.{other_parity}
 use Rattle.lrc_plan.specs.RowPlans.{AreCheckRows, IsCheckRow}
 use Rattle.lrc_plan.proofs.ReductionRows.{reduction_of, reduced_rows}
+use Rattle.std.proofs.lemmas.List.Elements.{All-from_recursion}
+use Rattle.lrc_plan.specs.Evaluation.{byte_at}
+use Rattle.lrc_plan.specs.Terms.{IsZeroRow}
+use Rattle.lrc_plan.proofs.TermRows.{blank_sum}
 use Rattle.lrc_plan.proofs.RowPlanLaws.{are_check_rows}
 
 -- a row of 0 as a check of a row with a pivot
@@ -74,3 +79,10 @@ no_checks code survives lost g t others here of lt lo l0 l1 n none =
     let row = λ (i : ℕ) (h : i < 4). zero_row (coef_of r) (pivot_of r) i (pivot_at g t i h).0 zeros (pivot_at g t i h).1 zeros_at in
     subst (λ m. AreCheckRows (tables_of code) survives (replicate 4 (replicate 16 m))) (sym none)
     (are_check_rows (tables_of code) survives (coef_of r) (pivot_of r) red zeros zeros zeros zeros (row 0 (lit< tt)) (row 1 (lit< tt)) (row 2 (lit< tt)) (row 3 (lit< tt)))
+
+-- rows of 0 are 0 at every position
+zero_sum : (r : Asked) → IsZeroRow r (replicate 16 0)
+zero_sum r = λ i h. blank_sum (replicate 16 0) (map (byte_at r i) all_places) refl
+
+pub zero_rows : (r : Asked) → All (IsZeroRow r) (replicate 4 (replicate 16 0))
+zero_rows r = All-from_recursion (IsZeroRow r) (replicate 4 (replicate 16 0)) (zero_sum r, (zero_sum r, (zero_sum r, (zero_sum r, tt))))

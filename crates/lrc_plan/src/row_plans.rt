@@ -1,5 +1,5 @@
 //! Plans as rows of coefficients, which take no memory.
-ghost use Rattle.std.specs.Prelude.{◌≡◌, ◌<◌, true, false, not, is_none, length, slice_index, IfSome, MatchOption, if◌then◌else◌};
+ghost use Rattle.std.specs.Prelude.{◌≡◌, ◌<◌, true, false, not, is_none, length, slice_index, IfSome, MatchOption, Some, replicate, if◌then◌else◌};
 ghost use Rattle.lrc_code.specs.declared.places.Place.{Place};
 ghost use Rattle.lrc_code.specs.Code.{has_place};
 ghost use Rattle.lrc_code.specs.Codes.{tables_of};
@@ -43,12 +43,25 @@ pub fn plan_rows(code: Code, survivors: PlaceSet, target: Place) -> RowPlan
     rows_from(code, &reduced, survivors, target)
 }
 
-// The plan where the others of the target's group survive, and the other group's parity and both global parities are lost: the sum
-// of these others. There are no checks, since the equations can be solved for the four lost places, whatever the survivors hold.
+// The same where there is such a row.
 fn plan_in_group(code: Code, survivors: PlaceSet, target: Place) -> Option<RowPlan>
     requires lost { is_in survivors target ≡ false }
     requires place { has_place (tables_of code) target ≡ true }
     ensures { IfSome result (λ plan. IsRowPlan (tables_of code) (is_in survivors) target plan.value plan.checks) }
+{
+    let row = row_in_group(code, survivors, target)?;
+    Some(RowPlan {
+        value: Some(row),
+        checks: [[Gf::new(0); 16]; 4],
+    })
+}
+
+// The sum of the others of the target's group, where they survive, and the other group's parity and both global parities are lost.
+// There are no checks, since the equations can be solved for the four lost places, whatever the survivors hold.
+pub(crate) fn row_in_group(code: Code, survivors: PlaceSet, target: Place) -> Option<[Gf; 16]>
+    requires lost { is_in survivors target ≡ false }
+    requires place { has_place (tables_of code) target ≡ true }
+    ensures { IfSome result (λ row. IsRowPlan (tables_of code) (is_in survivors) target (Some row) (replicate 4 (replicate 16 0))) }
 {
     let group = target.group()?;
     let lost = code.others(survivors);
@@ -56,10 +69,7 @@ fn plan_in_group(code: Code, survivors: PlaceSet, target: Place) -> Option<RowPl
         return None;
     }
     let row = local_row(code, survivors, target)?;
-    Some(RowPlan {
-        value: Some(cut_row(code, row, survivors, target)),
-        checks: [[Gf::new(0); 16]; 4],
-    })
+    Some(cut_row(code, row, survivors, target))
 }
 
 // The local parity of the other group.

@@ -1,5 +1,5 @@
 //! Answers to requests.
-ghost use Rattle.std.specs.Prelude.{◌≡◌, true, false, IfOk, All};
+ghost use Rattle.std.specs.Prelude.{◌≡◌, true, false, IfOk, All, Some, replicate};
 ghost use Rattle.lrc_code.specs.declared.places.Place.{Place};
 ghost use Rattle.lrc_code.specs.Codes.{tables_of};
 ghost use Rattle.lrc_code.specs.Answers.{IsAnswer};
@@ -9,7 +9,7 @@ ghost use Rattle.lrc_plan.specs.RowPlans.{IsRowPlan};
 ghost use Rattle.lrc_plan.specs.Solved.{outcome_of};
 ghost use Rattle.lrc_plan.specs.Terms.{IsZeroRow};
 
-use crate::row_plans::{RowPlan, plan_rows};
+use crate::row_plans::{RowPlan, plan_rows, row_in_group};
 use crate::solved::Solved;
 use crate::terms::{is_zero, row_sums};
 use lrc_code::{Bytes, Outcome, PlaceSet, Request, Sources};
@@ -45,12 +45,33 @@ pub fn solve<A: Allocator + Clone>(
 pub(crate) fn solve_in<B: Allocator>(alloc: B, request: &Request) -> Result<Solved<B>, AllocError>
     ensures { IfOk result (λ s. IsAnswer request.now (outcome_of s)) }
 {
+    let code = request.code();
     let survivors = request.survivors();
     let target = request.target();
     let _ = request.length();
-    let plan = plan_rows(request.code(), survivors, target);
+    if let Some(row) = row_in_group(code, survivors, target) {
+        return rebuilt(alloc, survivors, &row, request);
+    }
+    let plan = plan_rows(code, survivors, target);
     let solved = apply(alloc, survivors, &plan, request)?;
     Ok(solved)
+}
+
+// What a row answers where there are no checks.
+fn rebuilt<B: Allocator>(
+    alloc: B,
+    survivors: PlaceSet,
+    row: &[Gf; 16],
+    request: &Request,
+) -> Result<Solved<B>, AllocError>
+    requires survivors { (p : Place) → is_in survivors p ≡ is_among p request.now.survivors }
+    requires plan { IsRowPlan (tables_of request.now.code) (is_in survivors) request.now.target (Some row.now) (replicate 4 (replicate 16 0)) }
+    ensures { IfOk result (λ s. IsAnswer request.now (outcome_of s)) }
+{
+    let _ = request.length();
+    let sources = request.sources();
+    let bytes = row_sums(alloc, row, request, &sources)?;
+    Ok(Solved::Rebuilt(bytes))
 }
 
 // What the plan answers. The checks need no memory, and the value needs that of its bytes.

@@ -1,5 +1,5 @@
 //! Rows of coefficients as sums of scaled fragments, which are made in one pass.
-ghost use Rattle.std.specs.Prelude.{◌≡◌, ◌==◌, ◌<◌, ◌≤◌, true, false, take, IfOk};
+ghost use Rattle.std.specs.Prelude.{◌≡◌, ◌==◌, ◌<◌, ◌≤◌, true, false, length, take, IfOk};
 ghost use Rattle.std.specs.List.{list_all};
 ghost use Rattle.lrc_code.specs.Requests.{AreSources};
 ghost use Rattle.lrc_plan.specs.Terms.{AreRowSums, AreTerms, IsTermAt, IsZeroRow};
@@ -19,7 +19,8 @@ pub(crate) fn row_sums<B: Allocator>(
     ensures { IfOk result (λ v. AreRowSums request.now row.now v.items) }
 {
     let length = request.length() as usize;
-    let (terms, count) = terms_of(row, request, sources);
+    let mut terms = no_terms();
+    let count = fill_terms(&mut terms, row, request, sources);
     let bytes = combined(alloc, length, &terms[..count])?;
     Ok(bytes)
 }
@@ -43,7 +44,8 @@ fn is_zero_sum(row: &[Gf; 16], request: &Request, sources: &Sources<'_>) -> bool
     ensures no { result ≡ false → ¬ IsZeroRow request.now row.now }
 {
     let length = request.length() as usize;
-    let (terms, count) = terms_of(row, request, sources);
+    let mut terms = no_terms();
+    let count = fill_terms(&mut terms, row, request, sources);
     sums_are_zero(length, &terms[..count])
 }
 
@@ -54,30 +56,19 @@ fn is_blank(row: &[Gf; 16]) -> bool
     row.iter().all(|c| c.byte() == 0)
 }
 
-// The survivors' bytes with the row's coefficients that aren't 00, and how many there are.
-fn terms_of<'a>(row: &[Gf; 16], request: &Request, sources: &Sources<'a>) -> ([Term<'a>; 16], usize)
-    requires { AreSources request.now.survivors sources.now }
-    ensures count { result.1 ≤ 16 }
-    ensures terms { AreTerms request.now row.now (take result.1 result.0) }
+// Puts in the survivors' bytes with the row's coefficients that aren't 00, and tells how many there are. They are put in their place,
+// since they are hundreds of bytes.
+fn fill_terms<'a>(
+    terms: &mut [Term<'a>; 16],
+    row: &[Gf; 16],
+    request: &Request,
+    sources: &Sources<'a>,
+) -> usize
+    requires long { length terms.old ≡ 16 }
+    requires sources { AreSources request.now.survivors sources.now }
+    ensures count { result ≤ 16 }
+    ensures terms { AreTerms request.now row.now (take result terms.new) }
 {
-    let mut terms = [
-        no_term(),
-        no_term(),
-        no_term(),
-        no_term(),
-        no_term(),
-        no_term(),
-        no_term(),
-        no_term(),
-        no_term(),
-        no_term(),
-        no_term(),
-        no_term(),
-        no_term(),
-        no_term(),
-        no_term(),
-        no_term(),
-    ];
     let mut count = 0;
     for k in 0..16 {
         if let Some(term) = term_at(request, sources, k, row[k]) {
@@ -85,7 +76,7 @@ fn terms_of<'a>(row: &[Gf; 16], request: &Request, sources: &Sources<'a>) -> ([T
             count += 1;
         }
     }
-    (terms, count)
+    count
 }
 
 // The survivor's bytes at the place of an index, with a scalar. None only where their products are 00.
@@ -105,7 +96,28 @@ fn term_at<'a>(request: &Request, sources: &Sources<'a>, k: usize, scalar: Gf) -
     Some(Term { scalar, bytes })
 }
 
-// A place of the array that nothing reads.
+// Places that nothing reads.
+fn no_terms<'a>() -> [Term<'a>; 16] {
+    [
+        no_term(),
+        no_term(),
+        no_term(),
+        no_term(),
+        no_term(),
+        no_term(),
+        no_term(),
+        no_term(),
+        no_term(),
+        no_term(),
+        no_term(),
+        no_term(),
+        no_term(),
+        no_term(),
+        no_term(),
+        no_term(),
+    ]
+}
+
 fn no_term<'a>() -> Term<'a> {
     Term {
         scalar: Gf::new(0),

@@ -3,7 +3,7 @@ use Rattle.lrc_field.specs.Combined.{sum_at, HaveLength}
 use Rattle.lrc_code.specs.Code.{combination}
 use Rattle.lrc_code.specs.Places.{all_places}
 use Rattle.lrc_plan.specs.Evaluation.{byte_at}
-use Rattle.lrc_plan.proofs.terms.terms_of.Given as goal
+use Rattle.lrc_plan.proofs.terms.fill_terms.Given as goal
 
 abbrev pub invariant-loop-k : goal.invariant-loop-k
 invariant-loop-k l = record {

@@ -5,8 +5,8 @@ use Rattle.lrc_field.specs.Combined.{product_at}
 use Rattle.lrc_plan.specs.Terms.{survivor_product}
 use Rattle.lrc_plan.specs.Evaluation.{byte_at}
 use Rattle.lrc_plan.proofs.TermRows.{combination-more, combination-all, sums-more, lengths-more}
-use Rattle.lrc_plan.proofs.terms.terms_of.Goals as goal
-use Rattle.lrc_plan.proofs.terms.terms_of.Goals.{in-Some, in_default}
+use Rattle.lrc_plan.proofs.terms.fill_terms.Goals as goal
+use Rattle.lrc_plan.proofs.terms.fill_terms.Goals.{in-Some, in_default}
 
 pub loop-k-preserved : goal.loop-k-preserved
 loop-k-preserved c =

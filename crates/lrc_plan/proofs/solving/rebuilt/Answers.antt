@@ -1,0 +1,11 @@
+use Rattle.std.proofs.Common.{replicate}
+use Rattle.lrc_code.specs.Sets.{is_in}
+use Rattle.lrc_plan.proofs.FittingStripes.{rebuilt}
+use Rattle.lrc_plan.proofs.UncheckedRows.{zero_rows}
+use Rattle.lrc_plan.proofs.solving.rebuilt.Goals as goal
+
+pub returns : goal.returns
+returns g c =
+    let r = c.args.request.now in
+    rebuilt r c.length.ensures.accepted c.length.ensures.bytes (is_in c.args.survivors) c.requires.survivors (replicate 4 (replicate 16 0))
+    c.requires.plan.of_survivors (zero_rows r) _ _ c.requires.plan.of_target c.in_ok-bytes.ensures
