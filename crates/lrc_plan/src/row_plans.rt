@@ -43,7 +43,7 @@ pub fn plan_rows(code: Code, survivors: PlaceSet, target: Place) -> RowPlan
     rows_from(code, &reduced, survivors, target)
 }
 
-// The same where there is such a row.
+// The plan of a repair inside the target's group that leaves no checks, where `row_in_group` gives its row.
 fn plan_in_group(code: Code, survivors: PlaceSet, target: Place) -> Option<RowPlan>
     requires lost { is_in survivors target ≡ false }
     requires place { has_place (tables_of code) target ≡ true }
