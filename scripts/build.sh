@@ -5,7 +5,7 @@
 set -euo pipefail
 cd "$(dirname "$0")/.."
 level=$1
-crates=(lrc_field lrc_code lrc_plan farm_lanes farm_core sha256_lanes farm_files)
+crates=(lrc_field lrc_code lrc_plan farm_lanes farm_core sha256_lanes farm_lists farm_shelves farm_files line_mode)
 scratch=$(mktemp -d)
 trap 'rm -rf "$scratch"' EXIT
 
@@ -30,7 +30,7 @@ crate() {
 
 cat <<END
 Proving the program and the ${#crates[@]} crates that it stands on, then building it for $level. The first time this takes well
-over ten minutes on four cores, most of it in farm_core and farm_files; after a change only what changed is proved again.
+over ten minutes on four cores, most of it in farm_core; after a change only what changed is proved again.
 END
 for name in "${crates[@]}"; do
   crate "$name" check

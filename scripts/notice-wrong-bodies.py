@@ -21,6 +21,9 @@ TESTS = {
     "farm_lanes": "farm_tests",
     "farm_core": "farm_tests",
     "sha256_lanes": "farm_tests",
+    "farm_lists": "files_tests",
+    "farm_shelves": "files_tests",
+    "farm_files": "files_tests",
 }
 
 # Tests that a wrong body keeps from ending are stopped after so many seconds, and have noticed it.

@@ -33,11 +33,11 @@ TESTS = [
     ("farm_tests", "two_workers_and_a_queue_of_one"),
     ("farm_tests", "six_feeds_with_two_workers"),
     ("farm_tests", "collector_takes_its_room"),
-    ("farm_files", "nothing_written_before_all_texts_are_made"),
-    ("farm_files", "nothing_written_with_two_workers"),
-    ("farm_files", "batches_of_one_request"),
-    ("farm_files", "digests_in_three_threads"),
-    ("farm_files", "failed_write_without_memory"),
+    ("files_tests", "nothing_written_before_all_texts_are_made"),
+    ("files_tests", "nothing_written_with_two_workers"),
+    ("files_tests", "batches_of_one_request"),
+    ("files_tests", "digests_in_three_threads"),
+    ("files_tests", "failed_write_without_memory"),
 ]
 
 # Limits of address space, in KiB: from where the program is hardly loaded to where all of its threads have room.

@@ -1,19 +1,10 @@
 -- What stands in front of a list's close.
-use Rattle.std.specs.Prelude.{ℕ, ◌<◌, List, [], ◌∷◌, length, slice_index_or, Option, Some, None}
+use Rattle.std.specs.Prelude.{ℕ, ◌<◌, List, [], length, slice_index_or, Option, Some, None}
 use Rattle.std.specs.List.{Contains}
+use Rattle.lrc_code.specs.Lists.{requests_before_close}
 use Rattle.lrc_code.specs.Requests.{Asked}
 use Rattle.farm_core.specs.declared.orders.Order.{Order}
 use Rattle.farm_core.specs.declared.orders.Order.TheVariants.{Rebuild, Close}
-
--- the request of a list's first member, and those behind it; nothing where that member is a close
-abbrev pub unless_close : {R : Type 0} → Option R → List R → List R
-unless_close None rest = []
-unless_close (Some request) rest = request ∷ rest
-
--- the requests in front of the first close, or all of them, in a list of anything that asks for a request or, with none, is a close
-abbrev pub requests_before_close : {T R : Type 0} → (T → Option R) → List T → List R
-requests_before_close asked [] = []
-requests_before_close asked (x ∷ xs) = unless_close (asked x) (requests_before_close asked xs)
 
 -- the request that an order asks for
 abbrev pub asked_by : Order → Option Asked

@@ -7,15 +7,15 @@ use Rattle.lrc_code.specs.declared.places.Place.{Place}
 use Rattle.lrc_code.specs.declared.outcomes.Outcome.{Outcome}
 use Rattle.farm_core.specs.declared.error.FarmError.{FarmError}
 use Rattle.farm_core.specs.declared.error.FarmError.TheVariants as farm
-use Rattle.farm_files.specs.Files.{CountsFailure, Files, Told}
-use Rattle.farm_files.specs.Report.{before_close as listed_before_close}
+use Rattle.farm_shelves.specs.Files.{CountsFailure, Files, Told}
+use Rattle.farm_lists.specs.Report.{listed_before_close}
 use Rattle.farm_files.specs.Serving.{AreLists, Reads, unread_all, written_files}
-use Rattle.farm_files.specs.Written.{files_from}
+use Rattle.farm_lists.specs.Written.{files_from}
 use Rattle.farm_files.specs.Faults.{Explains, LeavesOutput, StopsServing}
 use Rattle.farm_files.specs.Causes.{of_farm, of_shelf}
-use Rattle.farm_files.specs.declared.listing.Record.{Record}
-use Rattle.farm_files.specs.declared.shelf.ShelfFault.{ShelfFault}
-use Rattle.farm_files.specs.declared.shelf.ShelfFault.TheVariants as shelf
+use Rattle.farm_lists.specs.declared.lists.listing.Record.{Record}
+use Rattle.farm_shelves.specs.declared.shelf.ShelfFault.{ShelfFault}
+use Rattle.farm_shelves.specs.declared.shelf.ShelfFault.TheVariants as shelf
 
 abbrev pub Lists : Type 0
 Lists = Vec (Vec Record Global) Global

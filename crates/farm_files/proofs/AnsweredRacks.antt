@@ -11,11 +11,11 @@ use Rattle.farm_core.specs.Orders.{before_close}
 use Rattle.farm_core.specs.declared.orders.Order.{Order}
 use Rattle.farm_core.proofs.Works.{zip_append}
 use Rattle.farm_files.specs.AnsweredRacks.{AreAnswered, all_places, all_records, listed_counts}
-use Rattle.farm_files.specs.Files.{Told}
+use Rattle.farm_shelves.specs.Files.{Told}
 use Rattle.farm_files.specs.Pairs.{zip_with}
-use Rattle.farm_files.specs.Report.{before_close as listed_before_close}
+use Rattle.farm_lists.specs.Report.{listed_before_close}
 use Rattle.farm_files.specs.Serving.{AreRackReads, Reads, orders_rack, unread_rack}
-use Rattle.farm_files.specs.declared.listing.Record.{Record}
+use Rattle.farm_lists.specs.declared.lists.listing.Record.{Record}
 
 -- the front of a list, and a range behind it
 pub take_range : {A : Type 0} (xs : List A) (a b : ℕ) → a ≤ b → take b xs ≡ take a xs ++ slice_range xs a b

@@ -9,9 +9,9 @@ use Rattle.std.proofs.lemmas.List.Elements.{All-from_recursion, recursion_from_A
 use Rattle.std.proofs.lemmas.List.Sums.{sum_by-cons}
 use Rattle.lrc_code.specs.declared.outcomes.Outcome.{Outcome}
 use Rattle.farm_core.specs.declared.orders.Order.{Order}
-use Rattle.farm_files.specs.Report.{before_close as listed_before_close}
-use Rattle.farm_files.specs.Rows.{FitsFeeds}
-use Rattle.farm_files.specs.declared.listing.Record.{Record}
+use Rattle.farm_lists.specs.Report.{listed_before_close}
+use Rattle.farm_lists.specs.Rows.{FitsFeeds}
+use Rattle.farm_lists.specs.declared.lists.listing.Record.{Record}
 use Rattle.farm_files.proofs.Fits.{request_counts}
 use Rattle.farm_files.proofs.ReadRequests.{served_few}
 

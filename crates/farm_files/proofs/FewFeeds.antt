@@ -11,8 +11,8 @@ use Rattle.farm_core.specs.declared.feeds.FeedsFault.TheVariants as fault
 use Rattle.farm_core.specs.Orders.{before_close}
 use Rattle.farm_core.specs.declared.orders.Order.{Order}
 use Rattle.farm_core.specs.declared.orders.RackList.{RackList}
-use Rattle.farm_files.specs.Report.{before_close as listed_before_close}
-use Rattle.farm_files.specs.declared.listing.Record.{Record}
+use Rattle.farm_lists.specs.Report.{listed_before_close}
+use Rattle.farm_lists.specs.declared.lists.listing.Record.{Record}
 
 abbrev Lists : Type 0
 Lists = Vec (Vec Record Global) Global

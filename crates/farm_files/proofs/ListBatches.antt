@@ -12,11 +12,11 @@ use Rattle.farm_core.specs.declared.orders.Order.{Order}
 use Rattle.farm_core.specs.declared.orders.Order.TheVariants.{Rebuild}
 use Rattle.farm_core.proofs.Works.{zip_append}
 use Rattle.farm_files.specs.AnsweredRacks.{AreAnswered}
-use Rattle.farm_files.specs.Files.{Files, Told}
-use Rattle.farm_files.specs.Listed.{ListedRequest}
-use Rattle.farm_files.specs.Report.{before_close as listed_before_close}
+use Rattle.farm_shelves.specs.Files.{Files, Told}
+use Rattle.farm_lists.specs.Listed.{ListedRequest}
+use Rattle.farm_lists.specs.Report.{listed_before_close}
 use Rattle.farm_files.specs.Serving.{AreReads, Reads, asked, asked_feed, close_of, unread, unread_feed}
-use Rattle.farm_files.specs.declared.listing.Record.{Record}
+use Rattle.farm_lists.specs.declared.lists.listing.Record.{Record}
 use Rattle.farm_files.proofs.AnsweredRacks.{both_values, range_length}
 use Rattle.farm_files.proofs.OneList.{merged_of_only, of_only, only_answers}
 use Rattle.farm_files.proofs.ReadRequests.{all_served, close_told, close_where, served_few}

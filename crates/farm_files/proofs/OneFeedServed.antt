@@ -10,15 +10,15 @@ use Rattle.farm_core.specs.Orders.{before_close}
 use Rattle.farm_core.specs.declared.orders.Order.{Order}
 use Rattle.farm_core.specs.declared.orders.Order.TheVariants.{Rebuild}
 use Rattle.farm_core.proofs.Merges.{answers_of_one}
-use Rattle.farm_files.specs.Files.{Files}
+use Rattle.farm_shelves.specs.Files.{Files}
 use Rattle.farm_files.specs.Pairs.{zip_with}
-use Rattle.farm_files.specs.Report.{before_close as listed_before_close}
+use Rattle.farm_lists.specs.Report.{listed_before_close}
 use Rattle.farm_files.specs.Serving.{AreAllReads, AreReads, Reads, asked, asked_feed, orders_all, orders_feed, unread, unread_all, unread_feed, unread_rack}
 use Rattle.farm_files.specs.ServingLaws.{RacksOfOneFeedAreServedAsLists, asked_lists}
-use Rattle.farm_files.specs.Written.{files_from}
-use Rattle.farm_files.specs.declared.listing.Record.{Record}
-use Rattle.farm_files.proofs.MakingAll.{all_zip-length}
-use Rattle.farm_files.proofs.OneFeed.{files_of_one_feed}
+use Rattle.farm_lists.specs.Written.{files_from}
+use Rattle.farm_lists.specs.declared.lists.listing.Record.{Record}
+use Rattle.farm_lists.proofs.MakingAll.{all_zip-length}
+use Rattle.farm_lists.proofs.OneFeed.{files_of_one_feed}
 use Rattle.farm_files.proofs.ReadRequests.{all_served, close_told}
 
 -- as the only feed of a rack

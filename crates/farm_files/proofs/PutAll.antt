@@ -1,10 +1,10 @@
 -- Files put one after the other.
 use Rattle.std.proofs.Common.{◌≡◌, ◌<◌, ◌+◌, ◌++◌, ◌∙◌, ℕ, List, [], ◌∷◌, Some, None, length, take, map, get_or, refl, ap, sym, option_map, string_bytes, arith}
 use Rattle.std.proofs.lemmas.List.{take_more, get_or-map, length-map}
-use Rattle.farm_files.specs.Files.{Files, Told, put, put_all}
+use Rattle.farm_shelves.specs.Files.{Files, Told, put, put_all}
 use Rattle.std.specs.Cow.{cow_slice_items}
-use Rattle.farm_files.specs.Named.{named}
-use Rattle.farm_files.specs.declared.writing.NamedFile.{NamedFile}
+use Rattle.farm_lists.specs.Named.{named}
+use Rattle.farm_lists.specs.declared.files.NamedFile.{NamedFile}
 
 put_all-append : (old : Files) (fs gs : List (List ℕ × List ℕ)) → put_all old (fs ++ gs) ≡ put_all (put_all old fs) gs
 put_all-append old [] gs = refl

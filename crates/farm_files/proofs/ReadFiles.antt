@@ -4,16 +4,16 @@ use Rattle.std.specs.Prelude.{◌==◌, ◌⊎◌, IfSome, nat_lt, option_and_th
 use Rattle.std.proofs.lemmas.List.{take_all, length-take}
 use Rattle.std.proofs.lemmas.Bool.Decides.{eqb_tells}
 use Rattle.lrc_code.specs.declared.places.Place.{Place}
-use Rattle.farm_files.specs.Listed.{ListedRequest}
-use Rattle.farm_files.specs.Listing.{list_of}
-use Rattle.farm_files.specs.declared.listing.Record.{Record}
-use Rattle.farm_files.specs.declared.listing.ListFault.{ListFault}
-use Rattle.farm_files.proofs.Orders.{too_long}
-use Rattle.farm_files.specs.Files.{Files, Told}
-use Rattle.farm_files.specs.declared.listing.ListFault.TheVariants as list_fault
-use Rattle.farm_files.specs.Listing.{IsFaultOf}
+use Rattle.farm_lists.specs.Listed.{ListedRequest}
+use Rattle.farm_lists.specs.Listing.{list_of}
+use Rattle.farm_lists.specs.declared.lists.listing.Record.{Record}
+use Rattle.farm_lists.specs.declared.lists.listing.ListFault.{ListFault}
+use Rattle.farm_lists.proofs.Orders.{too_long}
+use Rattle.farm_shelves.specs.Files.{Files, Told}
+use Rattle.farm_lists.specs.declared.lists.listing.ListFault.TheVariants as list_fault
+use Rattle.farm_lists.specs.Listing.{IsFaultOf}
 use Rattle.farm_files.specs.Faults.{IsListFault, serve_fault}
-use Rattle.farm_files.specs.Names.{fragment_name, list_name}
+use Rattle.farm_lists.specs.Names.{fragment_name, list_name}
 use Rattle.farm_files.specs.Serving.{fragment}
 
 -- what is known of the files that are told

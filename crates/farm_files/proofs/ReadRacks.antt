@@ -3,10 +3,10 @@ use Rattle.std.proofs.Common.{◌≡◌, ◌<◌, ◌≤◌, ◌+◌, ◌++◌, 
 use Rattle.std.specs.Prelude.{is_some}
 use Rattle.std.proofs.lemmas.Bool.{false≢true}
 use Rattle.std.proofs.lemmas.List.{length-map, map-append}
-use Rattle.farm_files.specs.Listing.{list_of}
-use Rattle.farm_files.specs.declared.listing.Record.{Record}
-use Rattle.farm_files.specs.Files.{Files, Told}
-use Rattle.farm_files.specs.Names.{list_name}
+use Rattle.farm_lists.specs.Listing.{list_of}
+use Rattle.farm_lists.specs.declared.lists.listing.Record.{Record}
+use Rattle.farm_shelves.specs.Files.{Files, Told}
+use Rattle.farm_lists.specs.Names.{list_name}
 use Rattle.farm_files.specs.Serving.{AreFeeds, AreLists, HaveFeeds, HaveLists}
 use Rattle.farm_files.specs.Faults.{Explains, HasFifthFeed, IsListFault, IsRackFault, RefusesFeed}
 use Rattle.farm_files.specs.declared.faults.ServeFault.{ServeFault}

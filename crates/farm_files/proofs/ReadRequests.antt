@@ -7,11 +7,11 @@ use Rattle.lrc_code.specs.Requests.{Asked}
 use Rattle.farm_core.specs.Orders.{before_close}
 use Rattle.farm_core.specs.declared.orders.Order.{Order}
 use Rattle.farm_core.specs.declared.orders.Order.TheVariants.{Rebuild, Close}
-use Rattle.farm_files.specs.Listed.{ListedRequest}
-use Rattle.farm_files.specs.Report.{before_close as listed_before_close}
-use Rattle.farm_files.specs.declared.listing.Record.{Record}
-use Rattle.farm_files.specs.declared.listing.Record.TheVariants as rec
-use Rattle.farm_files.specs.Files.{Files}
+use Rattle.farm_lists.specs.Listed.{ListedRequest}
+use Rattle.farm_lists.specs.Report.{listed_before_close}
+use Rattle.farm_lists.specs.declared.lists.listing.Record.{Record}
+use Rattle.farm_lists.specs.declared.lists.listing.Record.TheVariants as rec
+use Rattle.farm_shelves.specs.Files.{Files}
 use Rattle.farm_files.specs.Serving.{AreReads, Reads, asked, asked_feed, close_of}
 use Rattle.farm_files.proofs.Pairs.{values_more}
 

@@ -7,8 +7,8 @@ use Rattle.std.proofs.lemmas.List.Elements.{filter-append, filter_map-append}
 use Rattle.std.proofs.lemmas.List.Sums.{sum_by-append}
 use Rattle.lrc_code.specs.declared.places.Place.{Place}
 use Rattle.lrc_code.specs.Requests.{Survivor}
-use Rattle.farm_files.specs.Listed.{ListedRequest}
-use Rattle.farm_files.specs.Files.{Files}
+use Rattle.farm_lists.specs.Listed.{ListedRequest}
+use Rattle.farm_shelves.specs.Files.{Files}
 use Rattle.farm_files.specs.Serving.{Reads, failures, fragment, survivor, unread}
 
 pub places_more : (reads : Reads) (places : List Place) (i : ℕ) (d : Place) (m : Bool) → i < length places → map (λ q. q.0) reads ≡ take i places

@@ -2,8 +2,8 @@
 use Rattle.std.specs.Prelude.{◌+◌, ℕ, List, map}
 use Rattle.std.specs.String.{string_bytes}
 use Rattle.std.proofs.Common.{String, Global}
-use Rattle.farm_files.specs.Listed.{ListedRequest}
-use Rattle.farm_files.specs.Names.{fragment_name}
+use Rattle.farm_lists.specs.Listed.{ListedRequest}
+use Rattle.farm_lists.specs.Names.{fragment_name}
 
 -- a file's name and limit
 abbrev pub named_limit : String Global × ℕ → List ℕ × ℕ

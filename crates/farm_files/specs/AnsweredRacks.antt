@@ -6,10 +6,10 @@ use Rattle.lrc_code.specs.declared.outcomes.Outcome.{Outcome}
 use Rattle.farm_core.specs.Merge.{AreAllMergedAnswers}
 use Rattle.farm_core.specs.Orders.{before_close}
 use Rattle.farm_core.specs.declared.orders.Order.{Order}
-use Rattle.farm_files.specs.Files.{Files, Told}
-use Rattle.farm_files.specs.Report.{before_close as listed_before_close}
+use Rattle.farm_shelves.specs.Files.{Files, Told}
+use Rattle.farm_lists.specs.Report.{listed_before_close}
 use Rattle.farm_files.specs.Serving.{AreAllReads, Reads, orders_all, unread_all}
-use Rattle.farm_files.specs.declared.listing.Record.{Record}
+use Rattle.farm_lists.specs.declared.lists.listing.Record.{Record}
 
 -- the lists of racks, feed by feed
 abbrev pub all_records : List (Vec (Vec Record Global) Global) → List (List (List Record))

@@ -1,8 +1,8 @@
 -- The faults of the farm and of a shelf, as serving's.
 use Rattle.farm_core.specs.declared.error.FarmError.{FarmError}
 use Rattle.farm_core.specs.declared.error.FarmError.TheVariants as farm
-use Rattle.farm_files.specs.declared.shelf.ShelfFault.{ShelfFault}
-use Rattle.farm_files.specs.declared.shelf.ShelfFault.TheVariants as shelf
+use Rattle.farm_shelves.specs.declared.shelf.ShelfFault.{ShelfFault}
+use Rattle.farm_shelves.specs.declared.shelf.ShelfFault.TheVariants as shelf
 use Rattle.farm_files.specs.declared.faults.ServeFault.{ServeFault}
 use Rattle.farm_files.specs.declared.faults.ServeFault.TheVariants as fault
 

@@ -1,16 +1,16 @@
 -- Why serving ends, and what it leaves.
 use Rattle.std.specs.Prelude.{◌≡◌, ◌+◌, ◌<◌, ◌⊎◌, ℕ, List, length, Some, None, IfSome, Err, option_map}
 use Rattle.lrc_code.specs.declared.outcomes.Outcome.{Outcome}
-use Rattle.farm_files.specs.Listing.{list_of}
-use Rattle.farm_files.specs.declared.listing.Record.{Record}
-use Rattle.farm_files.specs.declared.listing.ListFault.{ListFault}
-use Rattle.farm_files.specs.declared.listing.ListFault.TheVariants as list_fault
-use Rattle.farm_files.specs.Files.{Files, StopsWriting, Told}
-use Rattle.farm_files.specs.declared.shelf.ShelfFault.{ShelfFault}
-use Rattle.farm_files.specs.declared.shelf.ShelfFault.TheVariants as shelf_fault
+use Rattle.farm_lists.specs.Listing.{list_of}
+use Rattle.farm_lists.specs.declared.lists.listing.Record.{Record}
+use Rattle.farm_lists.specs.declared.lists.listing.ListFault.{ListFault}
+use Rattle.farm_lists.specs.declared.lists.listing.ListFault.TheVariants as list_fault
+use Rattle.farm_shelves.specs.Files.{Files, StopsWriting, Told}
+use Rattle.farm_shelves.specs.declared.shelf.ShelfFault.{ShelfFault}
+use Rattle.farm_shelves.specs.declared.shelf.ShelfFault.TheVariants as shelf_fault
 use Rattle.farm_files.specs.declared.faults.ServeFault.{ServeFault}
 use Rattle.farm_files.specs.declared.faults.ServeFault.TheVariants as fault
-use Rattle.farm_files.specs.Names.{list_name}
+use Rattle.farm_lists.specs.Names.{list_name}
 use Rattle.farm_files.specs.Serving.{AreLists, HaveFeeds, HaveLists, Reads, Serves, written_files}
 
 -- some first feeds of the rack have lists, and the list of the feed behind them is refused

@@ -9,14 +9,14 @@ use Rattle.farm_core.specs.declared.orders.Order.{Order}
 use Rattle.farm_core.specs.declared.orders.Order.TheVariants.{Rebuild, Close}
 use Rattle.farm_core.specs.Merge.{AreAllMergedAnswers}
 use Rattle.farm_files.specs.Pairs.{zip_with}
-use Rattle.farm_files.specs.Listed.{ListedRequest}
-use Rattle.farm_files.specs.Listing.{list_of}
-use Rattle.farm_files.specs.Report.{before_close}
-use Rattle.farm_files.specs.declared.listing.Record.{Record}
-use Rattle.farm_files.specs.declared.listing.Record.TheVariants as rec
-use Rattle.farm_files.specs.Files.{Files}
-use Rattle.farm_files.specs.Names.{fragment_name, list_name}
-use Rattle.farm_files.specs.Written.{files_from}
+use Rattle.farm_lists.specs.Listed.{ListedRequest}
+use Rattle.farm_lists.specs.Listing.{list_of}
+use Rattle.farm_lists.specs.Report.{listed_before_close}
+use Rattle.farm_lists.specs.declared.lists.listing.Record.{Record}
+use Rattle.farm_lists.specs.declared.lists.listing.Record.TheVariants as rec
+use Rattle.farm_shelves.specs.Files.{Files}
+use Rattle.farm_lists.specs.Names.{fragment_name, list_name}
+use Rattle.farm_lists.specs.Written.{files_from}
 
 -- ---- the lists
 
@@ -88,18 +88,18 @@ close_of (rec.Rebuild r ∷ rest) = close_of rest
 
 -- the orders of a feed: its requests before its close, with the survivors that were read, and its close, where it has one
 abbrev pub orders_feed : Files → List Record → List Reads → List Order
-orders_feed there list reads = map Rebuild (asked_feed there (before_close list) reads) ++ close_of list
+orders_feed there list reads = map Rebuild (asked_feed there (listed_before_close list) reads) ++ close_of list
 
 -- ---- the feeds of a rack
 
 abbrev pub AreRackReads : List (List Record) → List (List Reads) → Type 0
-AreRackReads feeds reads = AllZip (λ list feed. AllZip AreReads (before_close list) feed) feeds reads
+AreRackReads feeds reads = AllZip (λ list feed. AllZip AreReads (listed_before_close list) feed) feeds reads
 
 abbrev pub orders_rack : Files → List (List Record) → List (List Reads) → List (List Order)
 orders_rack there feeds reads = zip_with (orders_feed there) feeds reads
 
 abbrev pub unread_rack : Files → List (List Record) → List (List Reads) → List (List (List Place))
-unread_rack there feeds reads = zip_with (λ list feed. unread_feed there (before_close list) feed) feeds reads
+unread_rack there feeds reads = zip_with (λ list feed. unread_feed there (listed_before_close list) feed) feeds reads
 
 abbrev pub rack_failures : List (List Reads) → ℕ
 rack_failures reads = sum_by feed_failures reads

@@ -3,16 +3,16 @@ use Rattle.std.specs.Prelude.{◌≡◌, ℕ, List, [], ◌∷◌, map}
 use Rattle.lrc_code.specs.declared.outcomes.Outcome.{Outcome}
 use Rattle.lrc_code.specs.Requests.{Asked}
 use Rattle.farm_core.specs.Expected.{AreAllAnswers}
-use Rattle.farm_files.specs.Files.{Files}
+use Rattle.farm_shelves.specs.Files.{Files}
 use Rattle.farm_files.specs.Pairs.{zip_with}
-use Rattle.farm_files.specs.Report.{before_close}
-use Rattle.farm_files.specs.ReportLaws.{lists_files}
+use Rattle.farm_lists.specs.Report.{listed_before_close}
+use Rattle.farm_lists.specs.ReportLaws.{lists_files}
 use Rattle.farm_files.specs.Serving.{Reads, Serves, asked_feed, unread_rack, written_files}
-use Rattle.farm_files.specs.declared.listing.Record.{Record}
+use Rattle.farm_lists.specs.declared.lists.listing.Record.{Record}
 
 -- of each list the requests before its close, with the survivors that were read
 abbrev pub asked_lists : Files → List (List Record) → List (List Reads) → List (List Asked)
-asked_lists there lists reads = zip_with (λ list feed. asked_feed there (before_close list) feed) lists reads
+asked_lists there lists reads = zip_with (λ list feed. asked_feed there (listed_before_close list) feed) lists reads
 
 -- Where each rack is fed by one list, its answers are those to the requests before that list's close, all of them and in order, and the
 -- files that are written are those of the lists.

@@ -5,25 +5,23 @@ ghost use Rattle.farm_core.specs.Merge.{AreMergedAnswers};
 ghost use Rattle.farm_files.specs.AnsweredRacks.{AreAnswered, all_answers, all_places, all_records};
 ghost use Rattle.farm_files.specs.Serving.{Reads, all_failures, feed_failures};
 
-use crate::listed::Listed;
-use crate::listing::Record;
 use crate::reading::{read_feeds, read_requests};
-use crate::report::requests_before_close;
-use crate::shelf::Shelf;
 use farm_core::{FarmError, Feeds, Pause, RackList, Settings, run_feeds};
+use farm_lists::{Listed, Record, requests_before_close};
+use farm_shelves::Shelf;
 use lrc_code::{Outcome, Place};
 use std::alloc::{AllocError, Global};
 use std::sync::Wait;
 use std::thread::Threads;
 
 /// The most bytes of survivors that the lists of a batch name together, unless it is a single request, or a single rack with several feeds.
-pub(crate) const MOST_BATCH_BYTES: u64 = 16_777_216;
+pub const MOST_BATCH_BYTES: u64 = 16_777_216;
 
 /// Of each rack the answers, each with its feed's number, and of each request, feed by feed, the places of the survivors that weren't read.
 #[derive(Drop)]
-pub(crate) struct Answered {
-    pub(crate) answers: Vec<Vec<(usize, Outcome)>>,
-    pub(crate) unread: Vec<Vec<Vec<Vec<Place>>>>,
+pub struct Answered {
+    pub answers: Vec<Vec<(usize, Outcome)>>,
+    pub unread: Vec<Vec<Vec<Vec<Place>>>>,
 }
 
 // Tells a pause the numbers that the racks and requests of a batch have among those of all lists.
@@ -117,7 +115,7 @@ fn end_of_requests(requests: &[&Listed], first: usize, most: u64) -> usize
 
 /// The answers to the lists of all racks, and what was left out of their requests. A batch is racks that list at most so many
 /// bytes together; a rack of one list that lists more is cut between its requests.
-pub(crate) fn answer_lists<R: Threads + Wait + Sync, I: Shelf, P: Pause>(
+pub fn answer_lists<R: Threads + Wait + Sync, I: Shelf, P: Pause>(
     rt: &R,
     alloc: Global,
     input: &mut I,

@@ -3,9 +3,9 @@ ghost use Rattle.std.specs.Prelude.{◌≡◌};
 ghost use Rattle.farm_files.specs.declared.faults.ServeFault.TheVariants as fault;
 ghost use Rattle.farm_files.specs.Causes.{of_farm, of_shelf};
 
-use crate::listing::ListFault;
-use crate::shelf::ShelfFault;
 use farm_core::FarmError;
+use farm_lists::ListFault;
+use farm_shelves::ShelfFault;
 use std::alloc::AllocError;
 use std::fmt;
 use thiserror::Error;

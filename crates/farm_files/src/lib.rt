@@ -18,31 +18,18 @@
 #![tactic(auto)]
 
 mod batches;
-mod digests;
 mod faults;
-mod folder;
-mod listed;
-mod listing;
-mod memory;
-mod names;
 mod reading;
-mod report;
-pub mod report_laws;
-mod rows;
 mod serving;
 pub mod serving_laws;
-mod shelf;
-#[cfg(test)]
-mod tests;
-mod text;
 mod writing;
 
+pub use batches::{Answered, MOST_BATCH_BYTES, answer_lists};
+pub use farm_lists::{
+    ListFault, Listed, Record, ReportRow, ReportShape, list_file, merged_report_text, read_list,
+    report_laws, report_text,
+};
+pub use farm_shelves::{FolderShelf, MemoryShelf, Shelf, ShelfFault};
 pub use faults::ServeFault;
-pub use folder::FolderShelf;
-pub use listed::Listed;
-pub use listing::{ListFault, Record, read_list};
-pub use memory::MemoryShelf;
-pub use names::list_file;
-pub use report::{ReportRow, ReportShape, merged_report_text, report_text};
+pub use reading::read_lists;
 pub use serving::{Served, serve};
-pub use shelf::{Shelf, ShelfFault};

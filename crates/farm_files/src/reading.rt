@@ -3,25 +3,24 @@ ghost use Rattle.std.specs.Prelude.{◌≡◌, ◌+◌, ◌*◌, ◌++◌, ◌�
 ghost use Rattle.std.specs.List.{All, AllZip, filter_map, flat_map};
 ghost use Rattle.farm_core.specs.Orders.{before_close};
 ghost use Rattle.farm_core.specs.declared.orders.Order.TheVariants.{Rebuild, Close};
-ghost use Rattle.farm_files.specs.Report.{before_close as listed_before_close};
+ghost use Rattle.farm_lists.specs.Report.{listed_before_close};
 ghost use Rattle.lrc_code.specs.Survivors.{survivors_of};
-ghost use Rattle.farm_files.specs.Listing.{list_of};
-ghost use Rattle.farm_files.specs.declared.listing.Record.{Record};
-ghost use Rattle.farm_files.specs.Files.{Files};
+ghost use Rattle.farm_lists.specs.Listing.{list_of};
+ghost use Rattle.farm_lists.specs.declared.lists.listing.Record.{Record};
+ghost use Rattle.farm_shelves.specs.Files.{Files};
 ghost use Rattle.farm_files.specs.declared.faults.ServeFault.TheVariants as serving_fault;
-ghost use Rattle.farm_files.specs.Names.{list_name};
+ghost use Rattle.farm_lists.specs.Names.{list_name};
 ghost use Rattle.farm_files.specs.Ahead.{fragment_reads, named_limit};
 ghost use Rattle.farm_files.specs.Serving.{AreAllReads, AreLists, AreRackReads, AreReads, HaveFeeds, Reads, all_failures, asked, asked_feed, failures, feed_failures, fragment, orders_all, orders_feed, orders_rack, rack_failures, survivor, unread, unread_all, unread_feed, unread_rack};
-ghost use Rattle.farm_files.specs.Parts.{ArePart};
+ghost use Rattle.farm_lists.specs.Parts.{ArePart};
 ghost use Rattle.farm_files.specs.Faults.{CountsFault, Explains, IsListFault, IsRackFault, IsReadFault, serve_fault};
 
 use crate::faults::ServeFault;
-use crate::listed::Listed;
-use crate::listing::{ListFault, Record, read_list};
-use crate::names::{fragment_file, list_file};
-use crate::report::requests_before_close;
-use crate::shelf::{Shelf, ShelfFault};
 use farm_core::{Feeds, Order, RackList};
+use farm_lists::{
+    ListFault, Listed, Record, fragment_file, list_file, read_list, requests_before_close,
+};
+use farm_shelves::{Shelf, ShelfFault};
 use lrc_code::{Fragment, Place, Request};
 use std::alloc::{AllocError, Global};
 use std::thread::Threads;
@@ -188,8 +187,8 @@ fn read_rack_lists<I: Shelf>(
     Ok(feeds)
 }
 
-// The lists of all racks, feed by feed: of each rack its feeds, up to one that is absent, and then those of the next rack.
-pub(crate) fn read_lists<I: Shelf>(
+/// The lists of all racks, feed by feed: of each rack its feeds, up to one that is absent, and then those of the next rack.
+pub fn read_lists<I: Shelf>(
     alloc: Global,
     input: &mut I,
 ) -> Result<Vec<Vec<Vec<Record>>>, ServeFault>

@@ -2,17 +2,18 @@
 ghost use Rattle.std.specs.Prelude.{◌≡◌, ℕ, List, ◌<◌, ◌+◌, ◌≤◌, ◌^◌, IfOk, IfErr, IfSome, length, map, option_map, sum_by};
 ghost use Rattle.std.specs.List.{All};
 ghost use Rattle.lrc_code.specs.declared.outcomes.Outcome.{Outcome};
-ghost use Rattle.farm_files.specs.declared.listing.Record.{Record};
-ghost use Rattle.farm_files.specs.Files.{put_all};
+ghost use Rattle.farm_lists.specs.declared.lists.listing.Record.{Record};
+ghost use Rattle.farm_shelves.specs.Files.{put_all};
 ghost use Rattle.farm_files.specs.Faults.{CountsServing, Explains, LeavesOutput};
 ghost use Rattle.farm_files.specs.Serving.{Reads, Serves, all_failures, written_files};
 
 use crate::batches::{Answered, MOST_BATCH_BYTES, answer_lists};
 use crate::faults::ServeFault;
 use crate::reading::read_lists;
-use crate::shelf::Shelf;
-use crate::writing::{make_files, write_files};
+use crate::writing::write_files;
 use farm_core::{Pause, Settings};
+use farm_lists::make_files;
+use farm_shelves::Shelf;
 use lrc_code::Outcome;
 use std::alloc::Global;
 use std::sync::Wait;

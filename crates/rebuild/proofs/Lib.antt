@@ -1,10 +1,1 @@
-pub mod Cuts
-pub mod Hexadecimal
-pub mod Scanning
-pub mod Printable
-pub mod Reading
-pub mod Survivors
-pub mod WordsMade
-pub mod Answering
-pub mod Unique
 pub mod CommandLine

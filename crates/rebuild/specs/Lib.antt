@@ -1,8 +1,2 @@
-pub mod Line
-pub mod Parts
-pub mod LineReply
-pub mod Replies
-pub mod LineMode
-pub mod Laws
 pub mod FarmFaults
 pub mod Command

@@ -12,8 +12,6 @@
 
 pub mod command;
 pub mod farm_faults;
-pub mod line;
-pub mod statuses;
 #[cfg(test)]
 mod tests;
 
@@ -21,8 +19,8 @@ use command::{Words, WordsFault, read_words};
 use farm_core::{NoPause, Settings, SettingsFault};
 use farm_faults::{farm_status, fault_line};
 use farm_files::{FolderShelf, ServeFault, Served, serve};
-use line::{line_mode, line_status};
-use statuses::{DEVICE, DONE, NO_RESOURCES, USAGE};
+use line_mode::statuses::{DEVICE, DONE, NO_RESOURCES, USAGE};
+use line_mode::{line_mode, line_status};
 use std::fs::File;
 use std::io::ErrorKind;
 use std::process::ExitCode;

@@ -3,8 +3,8 @@ use Rattle.std.specs.List.{slice_range}
 use Rattle.std.proofs.lemmas.List.{length-map, map-append, take_all}
 use Rattle.std.proofs.lemmas.List.Sums.{sum_by-append}
 use Rattle.lrc_code.specs.declared.places.Place.{Place}
-use Rattle.farm_files.specs.Listed.{ListedRequest}
-use Rattle.farm_files.specs.Report.{before_close as listed_before_close}
+use Rattle.farm_lists.specs.Listed.{ListedRequest}
+use Rattle.farm_lists.specs.Report.{listed_before_close}
 use Rattle.farm_files.specs.Serving.{failures}
 use Rattle.farm_files.proofs.AnsweredRacks.{take_range}
 use Rattle.farm_files.proofs.ListBatches.{AreSoFar, all_so_far, batch_sized, fails_few, more_so_far, none_so_far, orders_of_batch_few}

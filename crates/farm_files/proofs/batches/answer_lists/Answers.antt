@@ -6,7 +6,7 @@ use Rattle.lrc_code.specs.declared.places.Place.{Place}
 use Rattle.lrc_code.specs.declared.outcomes.Outcome.{Outcome}
 use Rattle.farm_files.specs.AnsweredRacks.{AreAnswered, all_answers, all_places, all_records}
 use Rattle.farm_files.specs.Serving.{rack_failures}
-use Rattle.farm_files.specs.declared.listing.Record.{Record}
+use Rattle.farm_lists.specs.declared.lists.listing.Record.{Record}
 use Rattle.farm_files.proofs.AnsweredRacks.{answered_append, answered_none, range_length, take_range}
 use Rattle.farm_files.proofs.batches.answer_lists.Goals as goal
 

@@ -1,6 +1,6 @@
 use Rattle.std.proofs.Common.{◌≡◌, ◌++◌, ◌+◌, take, map}
 use Rattle.farm_files.specs.Ahead.{named_limit}
-use Rattle.farm_files.specs.Names.{fragment_name}
+use Rattle.farm_lists.specs.Names.{fragment_name}
 use Rattle.farm_files.proofs.reading.push_fragment_files.Given as goal
 
 abbrev pub invariant-loop-index : goal.invariant-loop-index

@@ -4,8 +4,8 @@ use Rattle.farm_core.specs.declared.orders.Order.TheVariants.{Rebuild}
 use Rattle.std.proofs.Common.{◌≡◌, ◌∙◌, ◌≤◌, ◌++◌, Bor, sym, List, length, map, ap, subst, arith}
 use Rattle.std.specs.List.{AllZip}
 use Rattle.std.proofs.lemmas.List.{length-map}
-use Rattle.farm_files.specs.Listed.{ListedRequest}
-use Rattle.farm_files.specs.Report.{before_close as listed_before_close}
+use Rattle.farm_lists.specs.Listed.{ListedRequest}
+use Rattle.farm_lists.specs.Report.{listed_before_close}
 use Rattle.farm_files.specs.Serving.{AreReads, asked_feed, unread_feed}
 use Rattle.farm_files.proofs.ReadRequests.{close_counted, close_where, counted_few, served_few}
 use Rattle.farm_files.proofs.reading.read_feed.Goals as goal

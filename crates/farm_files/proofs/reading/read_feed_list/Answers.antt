@@ -1,5 +1,5 @@
 use Rattle.std.proofs.Common.{◌∙◌, Some, None, sym, ap}
-use Rattle.farm_files.specs.Listing.{list_of}
+use Rattle.farm_lists.specs.Listing.{list_of}
 use Rattle.farm_files.proofs.ReadFiles.{list_absent, list_read, list_refused, told_bytes}
 use Rattle.farm_files.proofs.reading.read_feed_list.Goals as goal
 

@@ -4,9 +4,9 @@ use Rattle.farm_core.specs.Orders.{before_close}
 use Rattle.farm_core.specs.declared.orders.Order.{Order}
 use Rattle.farm_core.specs.declared.orders.RackList.{RackList}
 use Rattle.farm_core.proofs.Rows.{all_zip_push}
-use Rattle.farm_files.specs.Report.{before_close as listed_before_close}
+use Rattle.farm_lists.specs.Report.{listed_before_close}
 use Rattle.farm_files.specs.Serving.{AreRackReads, orders_rack, rack_failures, unread_rack}
-use Rattle.farm_files.specs.declared.listing.Record.{Record}
+use Rattle.farm_lists.specs.declared.lists.listing.Record.{Record}
 use Rattle.farm_files.proofs.FewFeeds.{few_feeds, never_bad}
 use Rattle.farm_files.proofs.Pairs.{front_images, front_more, images_more, sum_push}
 use Rattle.std.proofs.lemmas.List.{take_all, length-map}

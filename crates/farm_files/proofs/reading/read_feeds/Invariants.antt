@@ -1,7 +1,7 @@
 use Rattle.std.proofs.Common.{◌≡◌, ◌≤◌, ◌+◌, ◌*◌, List, Some, take, map, length}
 use Rattle.farm_core.specs.Orders.{before_close}
-use Rattle.farm_files.specs.Files.{Files}
-use Rattle.farm_files.specs.Report.{before_close as listed_before_close}
+use Rattle.farm_shelves.specs.Files.{Files}
+use Rattle.farm_lists.specs.Report.{listed_before_close}
 use Rattle.farm_files.specs.Serving.{AreAllReads, Reads, all_failures, orders_all, unread_all}
 use Rattle.farm_files.proofs.reading.read_feeds.Given as goal
 

@@ -1,6 +1,6 @@
 use Rattle.std.proofs.Common.{◌≡◌, ◌<◌, ◌≤◌, Vec, Global, All, Some, map, length}
-use Rattle.farm_files.specs.declared.listing.Record.{Record}
-use Rattle.farm_files.specs.Files.{Files}
+use Rattle.farm_lists.specs.declared.lists.listing.Record.{Record}
+use Rattle.farm_shelves.specs.Files.{Files}
 use Rattle.farm_files.specs.Serving.{HaveLists}
 use Rattle.farm_files.proofs.reading.read_lists.Given as goal
 

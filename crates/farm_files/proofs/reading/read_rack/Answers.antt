@@ -4,9 +4,9 @@ use Rattle.lrc_code.specs.declared.places.Place.{Place}
 use Rattle.farm_core.specs.Orders.{before_close}
 use Rattle.farm_core.specs.declared.orders.Order.{Order}
 use Rattle.farm_core.proofs.Rows.{all_zip_push}
-use Rattle.farm_files.specs.Report.{before_close as listed_before_close}
+use Rattle.farm_lists.specs.Report.{listed_before_close}
 use Rattle.farm_files.specs.Serving.{AreReads, Reads, feed_failures, orders_feed, unread_feed}
-use Rattle.farm_files.specs.declared.listing.Record.{Record}
+use Rattle.farm_lists.specs.declared.lists.listing.Record.{Record}
 use Rattle.farm_files.proofs.Pairs.{front_images, front_more, images_more, sum_push, values_more}
 use Rattle.farm_files.proofs.reading.read_rack.Goals as goal
 

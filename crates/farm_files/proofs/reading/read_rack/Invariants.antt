@@ -1,7 +1,7 @@
 use Rattle.std.proofs.Common.{◌≡◌, ◌≤◌, ◌+◌, ◌*◌, List, Some, take, map, length}
 use Rattle.farm_core.specs.Orders.{before_close}
-use Rattle.farm_files.specs.Files.{Files}
-use Rattle.farm_files.specs.Report.{before_close as listed_before_close}
+use Rattle.farm_shelves.specs.Files.{Files}
+use Rattle.farm_lists.specs.Report.{listed_before_close}
 use Rattle.farm_files.specs.Serving.{AreRackReads, Reads, orders_rack, rack_failures, unread_rack}
 use Rattle.farm_files.proofs.reading.read_rack.Given as goal
 

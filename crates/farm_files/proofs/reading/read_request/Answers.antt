@@ -1,7 +1,7 @@
 use Rattle.std.proofs.Common.{◌∙◌}
 use Rattle.std.specs.String.{string_bytes}
 use Rattle.lrc_code.specs.Survivors.{survivors_of}
-use Rattle.farm_files.proofs.Parts.{never_refused}
+use Rattle.farm_lists.proofs.Parts.{never_refused}
 use Rattle.farm_files.proofs.reading.read_request.Goals as goal
 
 pub unreachable-requires : goal.unreachable-requires

@@ -4,7 +4,7 @@ use Rattle.std.proofs.Common.{Vec, Global}
 use Rattle.lrc_code.specs.declared.places.Place.{Place}
 use Rattle.lrc_code.specs.Requests.{Asked}
 use Rattle.farm_core.specs.Orders.{before_close}
-use Rattle.farm_files.specs.Listed.{ListedRequest}
+use Rattle.farm_lists.specs.Listed.{ListedRequest}
 use Rattle.farm_files.specs.Serving.{AreReads, failures, unread}
 use Rattle.farm_files.proofs.Pairs.{images_more, sum_push}
 use Rattle.farm_files.proofs.ReadRequests.{all_served, close_where, orders_few, orders_more, orders_push, reads_push, taken}

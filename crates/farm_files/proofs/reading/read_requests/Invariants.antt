@@ -2,7 +2,7 @@ use Rattle.std.proofs.Common.{◌≡◌, ◌≤◌, ◌+◌, ◌*◌, List, Some
 use Rattle.std.specs.List.{AllZip}
 use Rattle.lrc_code.specs.Requests.{Asked}
 use Rattle.farm_core.specs.declared.orders.Order.TheVariants.{Rebuild}
-use Rattle.farm_files.specs.Files.{Files}
+use Rattle.farm_shelves.specs.Files.{Files}
 use Rattle.farm_files.specs.Serving.{AreReads, Reads, asked_feed, feed_failures, unread_feed}
 use Rattle.farm_files.proofs.reading.read_requests.Given as goal
 

@@ -1,9 +1,9 @@
 use Rattle.std.proofs.Common.{◌≡◌, ◌≤◌, ◌+◌, Some, take, map}
 use Rattle.std.specs.List.{filter_map}
 use Rattle.lrc_code.specs.Survivors.{survivors_of}
-use Rattle.farm_files.specs.Files.{Files}
+use Rattle.farm_shelves.specs.Files.{Files}
 use Rattle.farm_files.specs.Serving.{Reads, failures, survivor, unread}
-use Rattle.farm_files.specs.Parts.{ArePart}
+use Rattle.farm_lists.specs.Parts.{ArePart}
 use Rattle.farm_files.proofs.reading.read_survivors.Given as goal
 
 abbrev pub invariant-loop-index : goal.invariant-loop-index

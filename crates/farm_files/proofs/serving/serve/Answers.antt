@@ -6,18 +6,18 @@ use Rattle.std.proofs.lemmas.Result.{err_from_is_err_and}
 use Rattle.lrc_code.specs.declared.outcomes.Outcome.{Outcome}
 use Rattle.farm_core.specs.Merge.{AreAllMergedAnswers}
 use Rattle.farm_core.specs.declared.orders.Order.{Order}
-use Rattle.farm_files.specs.declared.listing.Record.{Record}
+use Rattle.farm_lists.specs.declared.lists.listing.Record.{Record}
 use Rattle.farm_files.specs.Causes.{of_farm}
 use Rattle.farm_files.specs.Faults.{Explains}
-use Rattle.farm_files.specs.Files.{Files, StopsWriting, put_all}
-use Rattle.farm_files.specs.Named.{named}
-use Rattle.farm_files.specs.Report.{before_close as listed_before_close}
+use Rattle.farm_shelves.specs.Files.{Files, StopsWriting, put_all}
+use Rattle.farm_lists.specs.Named.{named}
+use Rattle.farm_lists.specs.Report.{listed_before_close}
 use Rattle.farm_files.specs.Serving.{AreAllReads, Reads, Serves, orders_all, unread_all, written_files}
 use Rattle.farm_files.proofs.AnsweredRacks.{counts_same, places_same}
 use Rattle.farm_files.proofs.Answered.{Answers, Lists, RackUnread, farm_explains, records, total_is, unread_sized, where_told, write_leaves, written_is}
 use Rattle.farm_files.proofs.FewAnswers.{FitLists, all_few, fit_lists}
 use Rattle.farm_files.proofs.Fits.{all_answers_fit}
-use Rattle.farm_files.proofs.MakingAll.{all_zip-length}
+use Rattle.farm_lists.proofs.MakingAll.{all_zip-length}
 use Rattle.farm_files.proofs.serving.serve.Goals as goal
 use Rattle.farm_files.proofs.serving.serve.Goals.{After-as_slice-4, After-as_slice-5, After-as_slice-6}
 use Rattle.farm_files.proofs.serving.serve.Given.{Over}

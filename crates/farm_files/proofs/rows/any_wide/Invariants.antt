@@ -1,7 +1,0 @@
-use Rattle.std.proofs.Common.{◌≡◌, take, map, false}
-use Rattle.std.specs.List.{list_any}
-use Rattle.farm_files.specs.Report.{is_wide}
-use Rattle.farm_files.proofs.rows.any_wide.Given as goal
-
-abbrev pub invariant-loop-index : goal.invariant-loop-index
-invariant-loop-index l = list_any (λ rs. list_any is_wide rs) (take l.index (map (λ rs. map (λ r. r.now) rs.items) l.requests)) ≡ false

@@ -1,0 +1,10 @@
+pub mod Listed
+pub mod Listing
+pub mod Views
+pub mod Report
+pub mod Rows
+pub mod Names
+pub mod Named
+pub mod Written
+pub mod ReportLaws
+pub mod Parts

@@ -1,0 +1,127 @@
+//! The files of racks: the rebuilt fragments, each under its name, and the reports.
+ghost use Rattle.std.specs.Prelude.{◌≡◌, ◌++◌, ◌<◌, IfOk, OnOk, length, map};
+ghost use Rattle.std.specs.List.{AllZip};
+ghost use Rattle.farm_lists.specs.Report.{listed_before_close, fragment_digest, row_of};
+ghost use Rattle.farm_lists.specs.Rows.{FitsFeeds};
+ghost use Rattle.farm_lists.specs.Named.{named};
+ghost use Rattle.farm_lists.specs.Written.{answered_files, files_from, rack_files, rebuilt_file};
+
+use crate::lists::listing::Record;
+use crate::lists::requests::requests_of_feeds;
+use crate::names;
+use crate::reports::digests::digests_of_racks;
+use crate::reports::report::{ReportRow, ReportShape, merged_report_on};
+use crate::reports::rows::{rack_rows, rack_shape};
+use lrc_code::{Outcome, Place};
+use std::alloc::{AllocError, Global};
+use std::borrow::CowSlice;
+use std::thread::Threads;
+
+/// A file that is to be written: a rebuilt fragment, borrowed from the answers, or a report of its own.
+#[derive(Drop)]
+pub struct NamedFile<'a> {
+    pub name: String,
+    pub bytes: CowSlice<'a, u8>,
+}
+
+// Adds the fragment of a row's request, where it was rebuilt.
+fn push_rebuilt<'a>(
+    alloc: Global,
+    files: &mut Vec<NamedFile<'a>>,
+    rack: usize,
+    number: usize,
+    row: &ReportRow<'a>,
+) -> Result<(), AllocError>
+    ensures { OnOk result (map named files.new.items ≡ map named files.old.items ++ rebuilt_file rack number row.now.listed.now row.now.outcome.now) }
+{
+    match row.outcome {
+        Outcome::Rebuilt(bytes) => {
+            let listed = row.listed;
+            let name = names::rebuilt_file(alloc, rack, number, listed.stripe(), listed.target())?;
+            let bytes = CowSlice::Borrowed(bytes.as_slice());
+            files.push(NamedFile { name, bytes })?;
+            Ok(())
+        }
+        Outcome::Contradiction => Ok(()),
+        Outcome::Several => Ok(()),
+    }
+}
+
+// Adds the rebuilt fragments of a rack's rows, then its report.
+fn push_rows<'a>(
+    alloc: Global,
+    files: &mut Vec<NamedFile<'a>>,
+    rack: usize,
+    shape: ReportShape,
+    rows: &[ReportRow<'a>],
+    digests: &[Option<[u8; 32]>],
+) -> Result<(), AllocError>
+    requires { digests.now ≡ map (λ r. fragment_digest r.outcome.now) rows.now }
+    ensures { OnOk result (map named files.new.items ≡ map named files.old.items ++ rack_files rack shape (map row_of rows.now)) }
+{
+    let report = merged_report_on(alloc, shape, rows, digests)?;
+    for number in 0..rows.len() {
+        push_rebuilt(alloc, files, rack, number, &rows[number])?;
+    }
+    let name = names::report_file(alloc, rack)?;
+    let bytes = CowSlice::Owned(report);
+    files.push(NamedFile { name, bytes })?;
+    Ok(())
+}
+
+// Adds the files of a rack with these lists, one for each feed.
+fn push_rack<'a>(
+    alloc: Global,
+    files: &mut Vec<NamedFile<'a>>,
+    rack: usize,
+    feeds: &'a [Vec<Record>],
+    answers: &'a [(usize, Outcome)],
+    digests: &[Option<[u8; 32]>],
+    unread: &'a [Vec<Vec<Place>>],
+) -> Result<(), AllocError>
+    requires answers { FitsFeeds (map (λ f. length (listed_before_close f.items)) feeds.now) (map (λ a. a.0) answers.now) }
+    requires digests { digests.now ≡ map (λ a. fragment_digest a.1) answers.now }
+    requires unread { AllZip (λ f us. length us.items ≡ length (listed_before_close f.items)) feeds.now unread.now }
+    ensures { OnOk result (map named files.new.items ≡ map named files.old.items ++ answered_files rack (map (λ f. listed_before_close f.items) feeds.now) answers.now (map (λ us. map (λ u. u.items) us.items) unread.now)) }
+{
+    let requests = requests_of_feeds(alloc, feeds)?;
+    let shape = rack_shape(requests.as_slice());
+    let rows = rack_rows(alloc, requests.as_slice(), answers, unread)?;
+    push_rows(alloc, files, rack, shape, rows.as_slice(), digests)
+}
+
+/// The files of all racks, in the order in which they are written: for each rack the rebuilt fragments in the order of its
+/// numbers, then its report. The lists and what was left out of their requests stand feed by feed. The digests are made in
+/// at most this many threads.
+pub fn make_files<'a, R: Threads + Sync>(
+    rt: &R,
+    alloc: Global,
+    threads: usize,
+    lists: &'a [Vec<Vec<Record>>],
+    answers: &'a [Vec<(usize, Outcome)>],
+    unread: &'a [Vec<Vec<Vec<Place>>>],
+) -> Result<Vec<NamedFile<'a>>, AllocError>
+    requires threads { 0 < threads }
+    requires answers { AllZip (λ l os. FitsFeeds (map (λ f. length (listed_before_close f.items)) l.items) (map (λ a. a.0) os.items)) lists.now answers.now }
+    requires unread { AllZip (λ l us. AllZip (λ f u. length u.items ≡ length (listed_before_close f.items)) l.items us.items) lists.now unread.now }
+    ensures { IfOk result (λ v. map named v.items ≡ files_from 0 (map (λ l. map (λ f. f.items) l.items) lists.now) (map (λ os. os.items) answers.now) (map (λ us. map (λ u. map (λ ps. ps.items) u.items) us.items) unread.now)) }
+{
+    let digests = digests_of_racks(rt, alloc, answers, threads)?;
+    let mut digests_left = digests.as_slice();
+    let mut files = Vec::new(alloc);
+    for rack in 0..lists.len() {
+        let outcomes = answers[rack].as_slice();
+        let (rack_digests, behind) = digests_left.split_at(outcomes.len());
+        digests_left = behind;
+        push_rack(
+            alloc,
+            &mut files,
+            rack,
+            lists[rack].as_slice(),
+            outcomes,
+            rack_digests,
+            unread[rack].as_slice(),
+        )?;
+    }
+    Ok(files)
+}

@@ -1,0 +1,5 @@
+//! Lists of requests.
+
+pub(crate) mod listed;
+pub(crate) mod listing;
+pub(crate) mod requests;

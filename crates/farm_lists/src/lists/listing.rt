@@ -1,0 +1,361 @@
+//! Request lists, by csv's own reading.
+ghost use Rattle.std.specs.Prelude.{◌≡◌, ◌==◌, ◌&&◌, ℕ, List, ◌≤◌, Ok, Err, OnOk, ◌++◌, ◌∷◌, [], IfOk, IfErr, IfSome, IfNone, codes, length, map, option_map};
+ghost use Rattle.std.specs.List.{slice_split};
+ghost use Rattle.std.specs.Cmp.Lexicographic.{pointwise};
+ghost use Rattle.std.specs.Str.{bytes_eq};
+ghost use Rattle.csv.specs.Records.{fields_of};
+ghost use Rattle.lrc_code.specs.Text.{every, is_space, place_named};
+ghost use Rattle.lrc_code.specs.Codes.{tables_of};
+ghost use Rattle.farm_lists.specs.Listing.{IsFaultOf, IsNotFive, IsNotSix, IsRecordFault, SoFar, Stops, close_at, coded_header, header, list_of, listed, order_at, order_in, places, rebuild_at};
+ghost use Rattle.farm_lists.specs.Views.{IsOrderFault, IsRebuildFault, five, six};
+
+use crate::lists::listed::Listed;
+use csv::{ByteRecord, ReaderBuilder};
+use lrc_code::text::parse_number;
+use lrc_code::{Code, Place, RequestFault};
+use std::alloc::{AllocError, Global};
+use thiserror::Error;
+
+/// A record of a list.
+#[derive(Debug, Drop)]
+pub enum Record {
+    /// To rebuild a fragment.
+    Rebuild(Listed),
+    /// To answer no record after this one.
+    Close,
+}
+
+/// Why a list is refused: its first fault. Records are numbered from 1 after the header.
+#[derive(Clone, Copy, Debug, Error, PartialEq, Eq)]
+pub enum ListFault {
+    /// E25: the list has more than 1,048,576 bytes.
+    #[error("the list has more than 1048576 bytes")]
+    InputTooLong,
+    /// E19: the first record isn't the header, or there is none.
+    #[error("the first record is not the header")]
+    BadHeader,
+    /// E20: a record that has neither the form of a rebuild nor that of a close.
+    #[error("record {number} is neither a rebuild nor a close")]
+    BadRecord { number: usize },
+    /// E21: a record whose request is refused.
+    #[error("the request of record {number} is refused: {fault}")]
+    Refused { number: usize, fault: RequestFault },
+    /// E26: there are more than 4,096 records.
+    #[error("the list has more than 4096 orders")]
+    TooManyOrders,
+    /// E16: memory was wanting.
+    #[error("out of memory")]
+    OutOfMemory,
+}
+
+// The most bytes of a list.
+const LIST_LIMIT: usize = 1_048_576;
+
+// The most records of a list behind its header.
+const ORDER_LIMIT: usize = 4096;
+
+/// The records of a list, or its first fault. They are read as `csv` reads with its default settings, but that no record is
+/// taken as a header and records may differ in their number of fields.
+pub fn read_list(alloc: Global, bytes: &[u8]) -> Result<Vec<Record>, ListFault>
+    ensures read { IfOk result (λ v. list_of bytes.now ≡ Ok v.items) }
+    ensures few { IfOk result (λ v. length v.items ≤ 4096) }
+    ensures fault { IfErr result (λ f. IsFaultOf f (list_of bytes.now)) }
+{
+    if bytes.len() > LIST_LIMIT {
+        return Err(ListFault::InputTooLong);
+    }
+    let rdr = ReaderBuilder::new()
+        .has_headers(false)
+        .flexible(true)
+        .from_reader(alloc, bytes);
+    let mut list = Vec::new(alloc);
+    let mut number = 0usize;
+    let mut coded = false;
+    for row in rdr.into_byte_records() {
+        let Ok(row) = row else {
+            return Err(ListFault::OutOfMemory);
+        };
+        take_row(alloc, &mut list, number, &mut coded, &row)?;
+        number += 1;
+    }
+    if number == 0 {
+        return Err(ListFault::BadHeader);
+    }
+    Ok(list)
+}
+
+// Takes one more record: the header, which tells whether records name their codes, or an order.
+fn take_row(
+    alloc: Global,
+    list: &mut Vec<Record>,
+    number: usize,
+    coded: &mut bool,
+    row: &ByteRecord,
+) -> Result<(), ListFault>
+    ensures ok { OnOk result ((number ≤ 4096) × ((rows : List (List (List ℕ))) → length rows ≡ number → SoFar coded.old rows list.old.items → SoFar coded.new (rows ++ fields_of row.now ∷ []) list.new.items)) }
+    ensures err { IfErr result (λ f. (rows : List (List (List ℕ))) → length rows ≡ number → SoFar coded.old rows list.old.items → Stops f (rows ++ fields_of row.now ∷ [])) }
+{
+    if number == 0 {
+        let short = is_header(row);
+        *coded = !short;
+        return if short || (!short && is_coded_header(row)) {
+            Ok(())
+        } else {
+            Err(ListFault::BadHeader)
+        };
+    }
+    if number > ORDER_LIMIT {
+        return Err(ListFault::TooManyOrders);
+    }
+    let order = order_of(alloc, *coded, number, row)?;
+    match list.push(order) {
+        Ok(()) => Ok(()),
+        Err(_) => Err(ListFault::OutOfMemory),
+    }
+}
+
+// The fields of a record of five.
+#[derive(Clone, Copy)]
+struct Fields<'a> {
+    order: &'a [u8],
+    stripe: &'a [u8],
+    target: &'a [u8],
+    length: &'a [u8],
+    survivors: &'a [u8],
+}
+
+fn five_fields(row: &ByteRecord) -> Option<Fields<'_>>
+    ensures five { IfSome result (λ f. fields_of row.now ≡ five f) }
+    ensures other { IfNone result (IsNotFive (fields_of row.now)) }
+{
+    let Some(order) = row.get(0) else {
+        return None;
+    };
+    let Some(stripe) = row.get(1) else {
+        return None;
+    };
+    let Some(target) = row.get(2) else {
+        return None;
+    };
+    let Some(length) = row.get(3) else {
+        return None;
+    };
+    let Some(survivors) = row.get(4) else {
+        return None;
+    };
+    match row.get(5) {
+        Some(_) => None,
+        None => Some(Fields {
+            order,
+            stripe,
+            target,
+            length,
+            survivors,
+        }),
+    }
+}
+
+// A record of six fields: the first five, and the last.
+#[derive(Clone, Copy)]
+struct CodedFields<'a> {
+    fields: Fields<'a>,
+    code: &'a [u8],
+}
+
+fn six_fields(row: &ByteRecord) -> Option<CodedFields<'_>>
+    ensures six { IfSome result (λ f. fields_of row.now ≡ six f) }
+    ensures other { IfNone result (IsNotSix (fields_of row.now)) }
+{
+    let Some(order) = row.get(0) else {
+        return None;
+    };
+    let Some(stripe) = row.get(1) else {
+        return None;
+    };
+    let Some(target) = row.get(2) else {
+        return None;
+    };
+    let Some(length) = row.get(3) else {
+        return None;
+    };
+    let Some(survivors) = row.get(4) else {
+        return None;
+    };
+    let Some(code) = row.get(5) else {
+        return None;
+    };
+    match row.get(6) {
+        Some(_) => None,
+        None => Some(CodedFields {
+            fields: Fields {
+                order,
+                stripe,
+                target,
+                length,
+                survivors,
+            },
+            code,
+        }),
+    }
+}
+
+fn is_coded_header(row: &ByteRecord) -> bool
+    ensures { result ≡ pointwise bytes_eq (fields_of row.now) coded_header }
+{
+    match six_fields(row) {
+        Some(f) => {
+            f.fields.order == b"order".as_slice()
+                && f.fields.stripe == b"stripe".as_slice()
+                && f.fields.target == b"target".as_slice()
+                && f.fields.length == b"length".as_slice()
+                && f.fields.survivors == b"survivors".as_slice()
+                && f.code == b"code".as_slice()
+        }
+        None => false,
+    }
+}
+
+fn is_header(row: &ByteRecord) -> bool
+    ensures { result ≡ pointwise bytes_eq (fields_of row.now) header }
+{
+    match five_fields(row) {
+        Some(f) => {
+            f.order == b"order".as_slice()
+                && f.stripe == b"stripe".as_slice()
+                && f.target == b"target".as_slice()
+                && f.length == b"length".as_slice()
+                && f.survivors == b"survivors".as_slice()
+        }
+        None => false,
+    }
+}
+
+// The order of record `number`, by its fields.
+fn order_of(
+    alloc: Global,
+    coded: bool,
+    number: usize,
+    row: &ByteRecord,
+) -> Result<Record, ListFault>
+    ensures ok { IfOk result (λ o. order_at coded number (fields_of row.now) ≡ Ok o) }
+    ensures err { IfErr result (λ f. IsRecordFault f coded number (fields_of row.now)) }
+{
+    if coded {
+        let Some(f) = six_fields(row) else {
+            return Err(ListFault::BadRecord { number });
+        };
+        return order_in(
+            alloc,
+            Code::parse(f.code),
+            f.code.is_empty(),
+            number,
+            &f.fields,
+        );
+    }
+    let Some(fields) = five_fields(row) else {
+        return Err(ListFault::BadRecord { number });
+    };
+    order_in(alloc, Some(Code::Narrow), true, number, &fields)
+}
+
+// The order of record `number`, by five fields, over this code, where one is named, with or without something behind.
+fn order_in(
+    alloc: Global,
+    code: Option<Code>,
+    blank: bool,
+    number: usize,
+    fields: &Fields<'_>,
+) -> Result<Record, ListFault>
+    ensures ok { IfOk result (λ o. order_in code blank number fields.now.order.now fields.now.stripe.now fields.now.target.now fields.now.length.now fields.now.survivors.now ≡ Ok o) }
+    ensures err { IfErr result (λ f. IsOrderFault f number (order_in code blank number fields.now.order.now fields.now.stripe.now fields.now.target.now fields.now.length.now fields.now.survivors.now)) }
+{
+    if fields.order == b"rebuild".as_slice() {
+        let Some(code) = code else {
+            return Err(ListFault::BadRecord { number });
+        };
+        return rebuild_of(alloc, code, number, fields);
+    }
+    if is_close(blank, fields) {
+        Ok(Record::Close)
+    } else {
+        Err(ListFault::BadRecord { number })
+    }
+}
+
+fn is_close(blank: bool, fields: &Fields<'_>) -> bool
+    ensures { result ≡ (bytes_eq fields.now.order.now (codes "close") && (length fields.now.stripe.now == 0 && (length fields.now.target.now == 0 && (length fields.now.length.now == 0 && (length fields.now.survivors.now == 0 && blank))))) }
+{
+    fields.order == b"close".as_slice()
+        && fields.stripe.is_empty()
+        && fields.target.is_empty()
+        && fields.length.is_empty()
+        && fields.survivors.is_empty()
+        && blank
+}
+
+// The order of record `number`, which is to list a request.
+fn rebuild_of(
+    alloc: Global,
+    code: Code,
+    number: usize,
+    fields: &Fields<'_>,
+) -> Result<Record, ListFault>
+    ensures ok { IfOk result (λ o. rebuild_at number (listed code fields.now.stripe.now fields.now.target.now fields.now.length.now fields.now.survivors.now) ≡ Ok o) }
+    ensures err { IfErr result (λ f. IsRebuildFault f number (listed code fields.now.stripe.now fields.now.target.now fields.now.length.now fields.now.survivors.now)) }
+{
+    let Some(target) = code.named(fields.target) else {
+        return Err(ListFault::BadRecord { number });
+    };
+    let Some(length) = parse_number(fields.length) else {
+        return Err(ListFault::BadRecord { number });
+    };
+    let survivors = match parse_places(alloc, code, fields.survivors) {
+        Ok(Some(survivors)) => survivors,
+        Ok(None) => return Err(ListFault::BadRecord { number }),
+        Err(_) => return Err(ListFault::OutOfMemory),
+    };
+    let Ok(stripe) = Vec::from_slice(alloc, fields.stripe) else {
+        return Err(ListFault::OutOfMemory);
+    };
+    let Ok(stripe) = String::from_utf8(stripe) else {
+        return Err(ListFault::Refused {
+            number,
+            fault: RequestFault::BadStripe,
+        });
+    };
+    match Listed::new(code, stripe, target, length, survivors) {
+        Ok(listed) => Ok(Record::Rebuild(listed)),
+        Err(fault) => Err(ListFault::Refused { number, fault }),
+    }
+}
+
+// The places that names with one space between two give.
+fn parse_places(alloc: Global, code: Code, text: &[u8]) -> Result<Option<Vec<Place>>, AllocError>
+    ensures { IfOk result (λ v. option_map (λ s. s.items) v ≡ places code text.now) }
+{
+    if text.is_empty() {
+        return Ok(Some(Vec::new(alloc)));
+    }
+    let names = split_at_spaces(alloc, text)?;
+    parse_names(alloc, code, names.as_slice())
+}
+
+// The parts between the spaces of a text.
+fn split_at_spaces(alloc: Global, text: &[u8]) -> Result<Vec<&[u8]>, AllocError>
+    ensures { IfOk result (λ v. map (λ w. w.now) v.items ≡ slice_split is_space text.now) }
+{
+    text.split(|b| *b == b' ').collect(alloc)
+}
+
+fn parse_names(alloc: Global, code: Code, names: &[&[u8]]) -> Result<Option<Vec<Place>>, AllocError>
+    ensures { IfOk result (λ v. option_map (λ s. s.items) v ≡ every (map (λ n. place_named (tables_of code) n.now) names.now)) }
+{
+    let mut places = Vec::new(alloc);
+    for name in names {
+        match code.named(name) {
+            Some(place) => places.push(place)?,
+            None => return Ok(None),
+        }
+    }
+    Ok(Some(places))
+}

@@ -1,0 +1,19 @@
+//! Shelves of named files on a device that may fail: a folder of the system, and a shelf in memory.
+//!
+//! ```
+//! use farm_shelves::{MemoryShelf, Shelf};
+//!
+//! let mut shelf = MemoryShelf::new(alloc);
+//! shelf.write(alloc, "a", b"abc")?;
+//! assert!(rt; shelf.read(alloc, "a", 2)?.is_some_and(|bytes| bytes.as_slice() == b"ab"));
+//! assert_eq!(rt; shelf.failures(), 0);
+//! ```
+#![tactic(auto)]
+
+mod folder;
+mod memory;
+mod shelf;
+
+pub use folder::{FolderShelf, read_front};
+pub use memory::MemoryShelf;
+pub use shelf::{Shelf, ShelfFault};

@@ -1,0 +1,68 @@
+//! Shelves: named files on a device that may fail.
+ghost use Rattle.std.specs.Prelude.{◌≡◌, ℕ, List, ◌<◌, ◌^◌, Option, None, IfOk, IfSome, take, option_map};
+ghost use Rattle.std.specs.Thread.{IsSync};
+ghost use Rattle.farm_shelves.specs.Files.{CountsFailure, Told, Writes};
+
+use std::alloc::{AllocError, Global};
+use std::thread::Threads;
+use thiserror::Error;
+
+/// Why a call of a shelf failed.
+#[derive(Clone, Copy, Debug, Error, PartialEq, Eq)]
+pub enum ShelfFault {
+    /// E24: the device failed in that call.
+    #[error("the device failed")]
+    Device,
+    /// E16: memory was wanting.
+    #[error("out of memory")]
+    OutOfMemory,
+}
+
+/// Named files on a device that may fail.
+pub trait Shelf {
+    /// The files, where the shelf tells them.
+    ghost files: { Self → Told } = { λ _. None };
+
+    /// How often the device failed.
+    ghost failed: { Self → ℕ };
+
+    /// How often the device failed so far.
+    fn failures(&self) -> u64
+        ensures { result ≡ failed self.now };
+
+    /// The first bytes of a file, as many as the limit at most; none where there is no such file. Changes no file.
+    fn read(
+        &mut self,
+        alloc: Global,
+        name: &str,
+        limit: usize,
+    ) -> Result<Option<Vec<u8>>, ShelfFault>
+        requires { failed self.old < 2 ^ 63 }
+        ensures bytes { IfOk result (λ v. IfSome (files self.old) (λ there. option_map (λ b. b.items) v ≡ option_map (take limit) (there name.now))) }
+        ensures same { files self.new ≡ files self.old }
+        ensures failure { CountsFailure result (failed self.old) (failed self.new) };
+
+    /// Tells the shelf the names and limits of the files that are read next, in this order, so that it may read them ahead in at most
+    /// so many threads. It answers no read and counts no failure: the calls of `read` do both. A shelf that doesn't say
+    /// otherwise reads nothing ahead.
+    fn read_ahead<H: Threads + Sync>(
+        &mut self,
+        _rt: &H,
+        _alloc: Global,
+        _files: &[(String, usize)],
+        _threads: usize,
+    ) -> Result<(), AllocError>
+        requires { IsSync H.row }
+        ensures same { files self.new ≡ files self.old }
+        ensures failure { failed self.new ≡ failed self.old }
+    {
+        Ok(())
+    }
+
+    /// Replaces a whole file. After a failure of the device nothing is known of this file, and the others are as they
+    /// were; want of memory changes no file.
+    fn write(&mut self, alloc: Global, name: &str, bytes: &[u8]) -> Result<(), ShelfFault>
+        requires { failed self.old < 2 ^ 63 }
+        ensures written { Writes result name.now bytes.now (files self.old) (files self.new) }
+        ensures failure { CountsFailure result (failed self.old) (failed self.new) };
+}

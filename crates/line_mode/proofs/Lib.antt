@@ -1,0 +1,9 @@
+pub mod Cuts
+pub mod Digits
+pub mod Searches
+pub mod Printable
+pub mod Reading
+pub mod Survivors
+pub mod WordsMade
+pub mod Answering
+pub mod Unique

@@ -1,0 +1,29 @@
+//! Why a line is refused, and the refusals' numbers.
+ghost use Rattle.std.specs.Prelude.{◌≡◌};
+ghost use Rattle.line_mode.specs.LineReply.{number_of};
+
+use lrc_code::RequestFault;
+use thiserror::Error;
+
+/// Why a line is refused.
+#[derive(Clone, Copy, Debug, Error, PartialEq, Eq)]
+pub(crate) enum LineRefusal {
+    /// The line doesn't have the form of a request.
+    #[error("the line does not have the form of a request")]
+    BadLine,
+    /// The line's request is refused.
+    #[error("{0}")]
+    Refused(RequestFault),
+}
+
+impl LineRefusal {
+    /// The refusal's number in the table of refusals.
+    pub(crate) fn code(self) -> u8
+        ensures { result ≡ number_of self }
+    {
+        match self {
+            LineRefusal::BadLine => 22,
+            LineRefusal::Refused(fault) => fault.code(),
+        }
+    }
+}

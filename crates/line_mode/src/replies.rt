@@ -1,0 +1,104 @@
+//! The replies to the lines of an input, and their text.
+ghost use Rattle.std.specs.Prelude.{◌≡◌, ◌<◌, ◌≤◌, ◌+◌, ◌^◌, ◌++◌, ◌∷◌, [], List, OnOk, IfOk, length};
+ghost use Rattle.std.specs.List.{list_all};
+ghost use Rattle.lrc_code.specs.Text.{is_space};
+ghost use Rattle.line_mode.specs.LineMode.{AreReplies, input_limit, text_of};
+ghost use Rattle.line_mode.specs.Replies.{Holds};
+ghost use Rattle.line_mode.specs.LineReply.{IsReply, LineReply, number_of, reply_text};
+
+use crate::hexadecimal::append_upper;
+use crate::line::LineCount;
+use crate::lines::Lines;
+use crate::parsing::parse_line;
+use crate::refusals::LineRefusal;
+use lrc_code::Outcome;
+use lrc_plan::solve;
+use std::alloc::{AllocError, Global};
+
+// What a line is replied.
+type LineReply = Result<Outcome, LineRefusal>;
+
+// Replies one after the other: their text, and how many there are of each kind.
+#[derive(Drop)]
+pub(crate) struct Replies {
+    pub(crate) text: Vec<u8>,
+    pub(crate) count: LineCount,
+}
+
+impl Replies {
+    fn new(alloc: Global) -> Replies
+        ensures { Holds result [] }
+    {
+        let count = LineCount {
+            answered: 0,
+            refused: 0,
+        };
+        Replies {
+            text: Vec::new(alloc),
+            count,
+        }
+    }
+
+    // Adds a reply behind the others.
+    fn add(&mut self, alloc: Global, reply: &LineReply) -> Result<(), AllocError>
+        requires { self.old.count.answered + self.old.count.refused < 2 ^ 63 }
+        ensures { OnOk result ((replies : List LineReply) → Holds self.old replies → Holds self.new (replies ++ reply.now ∷ [])) }
+    {
+        push_reply(alloc, &mut self.text, reply)?;
+        self.text.push(b'\n')?;
+        if reply.is_ok() {
+            self.count.answered += 1;
+        } else {
+            self.count.refused += 1;
+        }
+        Ok(())
+    }
+}
+
+/// The replies to the lines of an input.
+pub(crate) fn reply_to_lines(alloc: Global, input: &[u8]) -> Result<Replies, AllocError>
+    requires { length input.now ≤ input_limit }
+    ensures { IfOk result (λ r. (replies : List LineReply) × AreReplies input.now replies × Holds r replies) }
+{
+    let mut replies = Replies::new(alloc);
+    for line in Lines::new(input) {
+        if !is_blank(line) {
+            replies.add(alloc, &reply_to_line(alloc, line)?)?;
+        }
+    }
+    Ok(replies)
+}
+
+fn is_blank(line: &[u8]) -> bool
+    ensures { result ≡ list_all is_space line.now }
+{
+    line.iter().all(|b| *b == b' ')
+}
+
+// The reply to a line that isn't blank.
+fn reply_to_line(alloc: Global, line: &[u8]) -> Result<LineReply, AllocError>
+    ensures { IfOk result (IsReply line.now) }
+{
+    match parse_line(alloc, line)? {
+        Ok(request) => Ok(Ok(solve(alloc, alloc, &request)?)),
+        Err(refusal) => Ok(Err(refusal)),
+    }
+}
+
+// Adds a reply's text, without its line feed.
+fn push_reply(alloc: Global, text: &mut Vec<u8>, reply: &LineReply) -> Result<(), AllocError>
+    ensures { OnOk result (text.new.items ≡ text.old.items ++ reply_text reply.now) }
+{
+    match reply {
+        Ok(Outcome::Rebuilt(bytes)) => {
+            text.extend_from_slice(b"rebuilt ")?;
+            append_upper(text, bytes.as_slice())
+        }
+        Ok(Outcome::Contradiction) => text.extend_from_slice(b"contradiction"),
+        Ok(Outcome::Several) => text.extend_from_slice(b"several"),
+        Err(refusal) => {
+            let told = format!(in alloc; "refused E{}", refusal.code())?;
+            text.extend_from_slice(told.as_bytes())
+        }
+    }
+}

@@ -1,0 +1,223 @@
+//! Readers and writers that give and take little, or fail.
+use line_mode::{LineCount, LineFault, line_mode, line_status};
+use std::io;
+use std::io::{ErrorKind, Read, Write};
+
+/// The input of the program's stored run, whose ten lines are all answered.
+const TEN_LINES: &[u8] = b"a x0 1 x1=02 x2=03 px=00\n\
+a y0 1 x0=01 x1=02 x2=03 y1=05 y2=06 px=00 p0=04 p1=6E\n\
+a x0 1 x2=03 y2=06 px=00 py=07 p0=04 p1=6E\n\
+a p1 1 x0=01 x1=02 x2=03 y0=04 y1=05 y2=06\n\
+e p0 1 x0=80 x1=00 x2=00 y0=00 y1=00 y2=00\n\
+a x0 1 x1=02 x2=03 y0=04 y1=05 y2=06 px=01 py=07 p0=04 p1=6E\n\
+a x0 1 x1=02 x2=03 px=01\n\
+a x0 1 y0=04 y1=05 y2=06 py=08\n\
+a y0 1 x0=01 x1=02 x2=03 px=00 p0=04 p1=6E\n\
+a x0 1\n";
+
+const TEN_REPLIES: &[u8] = b"rebuilt 01\n\
+rebuilt 04\n\
+rebuilt 01\n\
+rebuilt 6E\n\
+rebuilt 3A\n\
+contradiction\n\
+rebuilt 00\n\
+contradiction\n\
+several\n\
+several\n";
+
+// Whether each call of a device works, or which one fails, and how.
+#[derive(Clone, Copy)]
+enum Calls {
+    AllWork,
+    OneFails(u64, ErrorKind),
+}
+
+// A reader that gives at most so many bytes at each call, and fails at one call.
+#[derive(Drop)]
+struct PieceReader<'a> {
+    rest: &'a [u8],
+    most: usize,
+    calls: u64,
+    rule: Calls,
+}
+
+// Counts a call, and fails where it is the one that does.
+fn count_call(calls: &mut u64, rule: Calls) -> io::Result<()> {
+    let number = *calls;
+    *calls = number.saturating_add(1);
+    match rule {
+        Calls::OneFails(at, kind) if at == number => Err(io::Error::from(kind)),
+        _ => Ok(()),
+    }
+}
+
+impl Read for PieceReader<'_> {
+    fn read(&mut self, buf: &mut [u8]) -> io::Result<usize> {
+        count_call(&mut self.calls, self.rule)?;
+        let n = buf.len().min(self.rest.len()).min(self.most);
+        buf[..n].copy_from_slice(&self.rest[..n]);
+        self.rest = &self.rest[n..];
+        Ok(n)
+    }
+}
+
+// A writer that takes at most so many bytes at each call, and fails at one call; a flush counts as a call. How much was
+// flushed is kept.
+#[derive(Drop)]
+struct PieceWriter {
+    text: Vec<u8>,
+    flushed: usize,
+    most: usize,
+    calls: u64,
+    rule: Calls,
+}
+
+impl Write for PieceWriter {
+    fn write(&mut self, buf: &[u8]) -> io::Result<usize> {
+        count_call(&mut self.calls, self.rule)?;
+        let n = buf.len().min(self.most);
+        self.text.extend_from_slice(&buf[..n])?;
+        Ok(n)
+    }
+
+    fn flush(&mut self) -> io::Result<()> {
+        count_call(&mut self.calls, self.rule)?;
+        self.flushed = self.text.len();
+        Ok(())
+    }
+}
+
+// What a run of line mode over the ten lines left.
+#[derive(Drop)]
+struct Run {
+    text: Vec<u8>,
+    flushed: usize,
+    answer: Result<LineCount, LineFault>,
+    reads: u64,
+    writes: u64,
+}
+
+// Line mode over the ten lines, by devices that move so many bytes at a call.
+fn run_ten(rt: &impl AllocGlobal, most: usize, reading: Calls, writing: Calls) -> Run {
+    let mut input = PieceReader {
+        rest: TEN_LINES,
+        most,
+        calls: 0,
+        rule: reading,
+    };
+    let mut output = PieceWriter {
+        text: Vec::new(rt.alloc()),
+        flushed: 0,
+        most,
+        calls: 0,
+        rule: writing,
+    };
+    let answer = line_mode(rt.alloc(), &mut input, &mut output);
+    Run {
+        text: output.text,
+        flushed: output.flushed,
+        answer,
+        reads: input.calls,
+        writes: output.calls,
+    }
+}
+
+const ALL_ANSWERED: Result<LineCount, LineFault> = Ok(LineCount {
+    answered: 10,
+    refused: 0,
+});
+
+#[test]
+fn takes_small_pieces(rt: HostRuntime) {
+    for most in [1usize, 2, 7, 100, 1000] {
+        let run = run_ten(&rt, most, Calls::AllWork, Calls::AllWork);
+        assert_eq!(rt; run.text.as_slice(), TEN_REPLIES);
+        assert_eq!(rt; run.flushed, TEN_REPLIES.len());
+        assert_eq!(rt; run.answer, ALL_ANSWERED);
+    }
+}
+
+/// A read that fails, whichever it is, ends line mode and leaves the writer alone.
+#[test]
+fn ends_at_failed_reads(rt: HostRuntime) {
+    for most in [1usize, 100, 1000] {
+        let whole = run_ten(&rt, most, Calls::AllWork, Calls::AllWork);
+        assert!(rt; 1 < whole.reads);
+        for k in 0..whole.reads {
+            let run = run_ten(
+                &rt,
+                most,
+                Calls::OneFails(k, ErrorKind::Other),
+                Calls::AllWork,
+            );
+            assert_eq!(rt; run.answer, Err(LineFault::Device));
+            assert_eq!(rt; line_status(&run.answer), 3);
+            assert!(rt; run.text.is_empty());
+            assert_eq!(rt; run.writes, 0);
+        }
+    }
+}
+
+/// A write or a flush that fails, whichever it is, ends line mode.
+#[test]
+fn ends_at_failed_writes(rt: HostRuntime) {
+    for most in [1usize, 10, 1000] {
+        let whole = run_ten(&rt, most, Calls::AllWork, Calls::AllWork);
+        assert!(rt; 1 < whole.writes);
+        for k in 0..whole.writes {
+            let run = run_ten(
+                &rt,
+                most,
+                Calls::AllWork,
+                Calls::OneFails(k, ErrorKind::Other),
+            );
+            assert_eq!(rt; run.answer, Err(LineFault::Device));
+            assert_eq!(rt; line_status(&run.answer), 3);
+            assert!(rt; TEN_REPLIES.starts_with(&run.text));
+        }
+    }
+}
+
+/// A read or a write that is interrupted is made again.
+#[test]
+fn goes_on_after_interruptions(rt: HostRuntime) {
+    for k in 0..3u64 {
+        let interrupted = Calls::OneFails(k, ErrorKind::Interrupted);
+        let run = run_ten(&rt, 200, interrupted, Calls::AllWork);
+        assert_eq!(rt; run.text.as_slice(), TEN_REPLIES);
+        assert_eq!(rt; run.answer, ALL_ANSWERED);
+    }
+    let run = run_ten(
+        &rt,
+        1000,
+        Calls::AllWork,
+        Calls::OneFails(0, ErrorKind::Interrupted),
+    );
+    assert_eq!(rt; run.text.as_slice(), TEN_REPLIES);
+    assert_eq!(rt; run.answer, ALL_ANSWERED);
+}
+
+// A reader whose calls are always interrupted, and how many there were.
+#[derive(Drop)]
+struct InterruptedReader {
+    calls: u64,
+}
+
+impl Read for InterruptedReader {
+    fn read(&mut self, _buf: &mut [u8]) -> io::Result<usize> {
+        self.calls = self.calls.saturating_add(1);
+        Err(io::Error::from(ErrorKind::Interrupted))
+    }
+}
+
+/// Line mode ends for a reader that never gives anything, after 16,777,216 reads and no more.
+#[test]
+fn ends_for_an_interrupted_reader(rt: HostRuntime) {
+    let mut input = InterruptedReader { calls: 0 };
+    let mut output = Vec::new(rt.alloc());
+    let answer = line_mode(rt.alloc(), &mut input, &mut output);
+    assert_eq!(rt; answer, Err(LineFault::Device));
+    assert!(rt; output.is_empty());
+    assert_eq!(rt; input.calls, 16_777_216);
+}

@@ -1,5 +1,0 @@
-use Rattle.rebuild.proofs.Printable.{IsUtf8-printable, ok_unless}
-use Rattle.rebuild.proofs.line.parsing.copy_text.Goals as goal
-
-pub unwrap-requires : goal.unwrap-requires
-unwrap-requires c = ok_unless _ _ _ c.from_utf8.result c.from_utf8.ensures.cases (IsUtf8-printable c.args.text.now c.requires)

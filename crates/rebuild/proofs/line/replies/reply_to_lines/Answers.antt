@@ -1,8 +1,0 @@
-use Rattle.std.specs.Str.Lines.{lines}
-use Rattle.rebuild.proofs.Answering.{completes-all}
-use Rattle.rebuild.proofs.line.replies.reply_to_lines.Goals as goal
-
-pub returns : goal.returns
-returns c =
-    let (replies, whole, holds, room) = c.loop-line.invariant in
-    (replies, completes-all (lines c.args.input.now) _ replies c.in-None.ensures.steps.0 whole, holds)

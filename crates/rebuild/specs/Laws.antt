@@ -1,8 +1,0 @@
--- What holds of the definitions of line mode alone.
-use Rattle.std.specs.Prelude.{◌≡◌, ℕ, List}
-use Rattle.rebuild.specs.LineMode.{AreReplies}
-use Rattle.rebuild.specs.LineReply.{LineReply}
-
--- an input has at most one list of replies
-abbrev pub RepliesAreUnique : Type 0
-RepliesAreUnique = (input : List ℕ) (a b : List LineReply) → AreReplies input a → AreReplies input b → a ≡ b
