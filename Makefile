@@ -61,24 +61,21 @@ uninstall-library:
 	rm -f "$(PLACE)/include/lrc.h" "$(PLACE)/lib/liblrc.a" "$(PLACE)/lib/pkgconfig/lrc.pc"
 	rm -f "$(PLACE)/lib/liblrc.so" "$(PLACE)/lib/$(SONAME)" "$(PLACE)/lib/liblrc.so.$(LIBRARY_VERSION)"
 
-# The gate leaves the programs and tests that it proved and built in each crate's out/, and the scripts run those. A proof was seen
-# to take 3 GB at most, less than rt allows for, so RT_JOBS has it run one on each processor.
+# What the gate runs behind the proofs, over the programs and tests that they leave in each crate's out/. No two of these share a file
+# that one of them writes, so several run at once.
+BEHIND := library.sh refusals.py no-compile.sh reference-lines.sh ends.sh demo.sh examples.py manual.sh completions.sh install.sh \
+  version.sh split-lists-test.py
+
+# A proof was seen to take 3 GB at most, less than rt allows for, so RT_JOBS has it run one on each processor.
 test:
 	scripts/wrong-bodies.sh
 	scripts/architecture.py
 	RT_JOBS=$(shell nproc) rt ci
-	scripts/no-compile.sh
-	scripts/refusals.py
-	scripts/reference-lines.sh
-	scripts/ends.sh
-	scripts/demo.sh
-	scripts/examples.py
-	scripts/manual.sh
-	scripts/completions.sh
-	scripts/install.sh
-	scripts/version.sh
-	scripts/split-lists-test.py
-	scripts/library.sh
+	@$(MAKE) --no-print-directory --output-sync=target -j$(shell nproc) $(BEHIND)
+
+.PHONY: $(BEHIND)
+$(BEHIND):
+	scripts/$@
 
 wrong-bodies:
 	scripts/try-wrong-bodies.sh

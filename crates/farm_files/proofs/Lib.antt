@@ -7,7 +7,7 @@ pub mod FewFeeds
 pub mod ReadRacks
 pub mod Fits
 pub mod FewAnswers
-pub mod Answered
+pub mod ServeEnds
 pub mod OneFeedServed
 pub mod AnsweredRacks
 pub mod OneList

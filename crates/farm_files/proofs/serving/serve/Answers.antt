@@ -14,7 +14,7 @@ use Rattle.farm_lists.specs.Named.{named}
 use Rattle.farm_lists.specs.Report.{listed_before_close}
 use Rattle.farm_files.specs.Serving.{AreAllReads, Reads, Serves, orders_all, unread_all, written_files}
 use Rattle.farm_files.proofs.AnsweredRacks.{counts_same, places_same}
-use Rattle.farm_files.proofs.Answered.{Answers, Lists, RackUnread, farm_explains, records, total_is, unread_sized, where_told, write_leaves, written_is}
+use Rattle.farm_files.proofs.ServeEnds.{Answers, Lists, RackUnread, farm_explains, records, total_is, unread_sized, where_told, write_leaves, written_is}
 use Rattle.farm_files.proofs.FewAnswers.{FitLists, all_few, fit_lists}
 use Rattle.farm_files.proofs.Fits.{all_answers_fit}
 use Rattle.farm_lists.proofs.MakingAll.{all_zip-length}
