@@ -1,3 +1,4 @@
+pub mod Limits
 pub mod Pairs
 pub mod Serving
 pub mod ServingLaws

@@ -7,6 +7,7 @@ use Rattle.lrc_code.specs.declared.outcomes.Outcome.{Outcome}
 use Rattle.lrc_code.specs.Requests.{Asked, Survivor}
 use Rattle.farm_core.specs.declared.orders.Order.{Order}
 use Rattle.farm_core.specs.declared.orders.Order.TheVariants.{Rebuild, Close}
+use Rattle.farm_core.specs.Limits.{feed_limit, rack_limit}
 use Rattle.farm_core.specs.Merge.{AreAllMergedAnswers}
 use Rattle.farm_files.specs.Pairs.{zip_with}
 use Rattle.farm_lists.specs.Listed.{ListedRequest}
@@ -27,7 +28,7 @@ HaveFeeds there rack f (l ∷ ls) = (option_map list_of (there (list_name rack f
 
 -- these are the lists of all feeds of a rack
 abbrev pub AreFeeds : Files → ℕ → List (List Record) → Type 0
-AreFeeds there rack feeds = HaveFeeds there rack 0 feeds × (there (list_name rack (length feeds)) ≡ None) × (0 < length feeds) × (length feeds ≤ 4)
+AreFeeds there rack feeds = HaveFeeds there rack 0 feeds × (there (list_name rack (length feeds)) ≡ None) × (0 < length feeds) × (length feeds ≤ feed_limit)
 
 -- the racks from the k-th on have these lists, feed by feed
 abbrev pub HaveLists : Files → ℕ → List (List (List Record)) → Type 0
@@ -36,7 +37,7 @@ HaveLists there k (feeds ∷ racks) = AreFeeds there k feeds × HaveLists there 
 
 -- these are the lists of all racks, feed by feed
 abbrev pub AreLists : Files → List (List (List Record)) → Type 0
-AreLists there racks = HaveLists there 0 racks × (there (list_name (length racks) 0) ≡ None) × (0 < length racks) × (length racks ≤ 16)
+AreLists there racks = HaveLists there 0 racks × (there (list_name (length racks) 0) ≡ None) × (0 < length racks) × (length racks ≤ rack_limit)
 
 -- ---- the fragments
 

@@ -1,6 +1,8 @@
 //! Answering the lists batch by batch: the survivors of one batch alone are in memory.
 ghost use Rattle.std.specs.Prelude.{◌≡◌, ◌∷◌, [], ◌+◌, ◌*◌, ◌<◌, ◌≤◌, ◌^◌, List, IfOk, IfSome, length, map, true};
 ghost use Rattle.std.specs.List.{All};
+ghost use Rattle.farm_core.specs.Limits.{feed_limit, order_limit, rack_limit};
+ghost use Rattle.farm_files.specs.Limits.{all_survivors, feed_survivors, rack_survivors};
 ghost use Rattle.farm_core.specs.Merge.{AreMergedAnswers};
 ghost use Rattle.farm_files.specs.AnsweredRacks.{AreAnswered, all_answers, all_places, all_records};
 ghost use Rattle.farm_files.specs.Serving.{Reads, all_failures, feed_failures};
@@ -125,14 +127,14 @@ pub fn answer_lists<R: Threads + Wait + Sync, I: Shelf, P: Pause>(
     most: u64,
 ) -> Result<Answered, FarmError>
     requires room { I.failed input.old < 2 ^ 62 }
-    requires racks { length lists.now ≤ 16 }
-    requires feeds { All (λ feeds. (0 < length feeds.items) × (length feeds.items ≤ 4)) lists.now }
-    requires orders { All (λ feeds. All (λ l. length l.items ≤ 4096) feeds.items) lists.now }
+    requires racks { length lists.now ≤ rack_limit }
+    requires feeds { All (λ feeds. (0 < length feeds.items) × (length feeds.items ≤ feed_limit)) lists.now }
+    requires orders { All (λ feeds. All (λ l. length l.items ≤ order_limit) feeds.items) lists.now }
     ensures same { I.files input.new ≡ I.files input.old }
     ensures answered { IfOk result (λ v. (reads : List (List (List Reads))) × AreAnswered (I.files input.old) (all_records lists.now) reads (all_answers v.answers.items) (all_places v.unread.items)
         × (I.failed input.new ≡ I.failed input.old + all_failures reads)) }
     ensures more { I.failed input.old ≤ I.failed input.new }
-    ensures few { I.failed input.new ≤ I.failed input.old + 4194304 }
+    ensures few { I.failed input.new ≤ I.failed input.old + all_survivors }
 {
     let mut answers = Vec::new(alloc);
     let mut unread = Vec::new(alloc);
@@ -162,15 +164,15 @@ fn answer_racks<R: Threads + Wait + Sync, I: Shelf, P: Pause>(
     pause: &P,
     most: u64,
 ) -> Result<Answered, FarmError>
-    requires room { I.failed input.old + 262144 * length racks.now < 2 ^ 63 }
-    requires racks { length racks.now ≤ 16 }
-    requires feeds { All (λ feeds. (0 < length feeds.items) × (length feeds.items ≤ 4)) racks.now }
-    requires orders { All (λ feeds. All (λ l. length l.items ≤ 4096) feeds.items) racks.now }
+    requires room { I.failed input.old + rack_survivors * length racks.now < 2 ^ 63 }
+    requires racks { length racks.now ≤ rack_limit }
+    requires feeds { All (λ feeds. (0 < length feeds.items) × (length feeds.items ≤ feed_limit)) racks.now }
+    requires orders { All (λ feeds. All (λ l. length l.items ≤ order_limit) feeds.items) racks.now }
     ensures same { I.files input.new ≡ I.files input.old }
     ensures answered { IfOk result (λ v. (reads : List (List (List Reads))) × AreAnswered (I.files input.old) (all_records racks.now) reads (all_answers v.answers.items) (all_places v.unread.items)
         × (I.failed input.new ≡ I.failed input.old + all_failures reads)) }
     ensures more { I.failed input.old ≤ I.failed input.new }
-    ensures few { I.failed input.new ≤ I.failed input.old + 262144 * length racks.now }
+    ensures few { I.failed input.new ≤ I.failed input.old + rack_survivors * length racks.now }
 {
     if let Some(list) = only_list(racks) {
         return answer_list(rt, alloc, input, list, settings, pause, most);
@@ -182,9 +184,9 @@ fn answer_racks<R: Threads + Wait + Sync, I: Shelf, P: Pause>(
 
 // The list of a single rack with one feed.
 fn only_list(racks: &[Vec<Vec<Record>>]) -> Option<&[Record]>
-    requires { All (λ feeds. All (λ l. length l.items ≤ 4096) feeds.items) racks.now }
+    requires { All (λ feeds. All (λ l. length l.items ≤ order_limit) feeds.items) racks.now }
     ensures list { IfSome result (λ list. (all_records racks.now ≡ (list.now ∷ []) ∷ []) × (length racks.now ≡ 1)) }
-    ensures few { IfSome result (λ list. length list.now ≤ 4096) }
+    ensures few { IfSome result (λ list. length list.now ≤ order_limit) }
 {
     match racks {
         [feeds] => match feeds.as_slice() {
@@ -205,13 +207,13 @@ fn answer_list<R: Threads + Wait + Sync, I: Shelf, P: Pause>(
     pause: &P,
     most: u64,
 ) -> Result<Answered, FarmError>
-    requires room { I.failed input.old + 65536 < 2 ^ 63 }
-    requires orders { length list.now ≤ 4096 }
+    requires room { I.failed input.old + feed_survivors < 2 ^ 63 }
+    requires orders { length list.now ≤ order_limit }
     ensures same { I.files input.new ≡ I.files input.old }
     ensures answered { IfOk result (λ v. (reads : List Reads) × AreAnswered (I.files input.old) ((list.now ∷ []) ∷ []) ((reads ∷ []) ∷ []) (all_answers v.answers.items) (all_places v.unread.items)
         × (I.failed input.new ≡ I.failed input.old + feed_failures reads)) }
     ensures more { I.failed input.old ≤ I.failed input.new }
-    ensures few { I.failed input.new ≤ I.failed input.old + 65536 }
+    ensures few { I.failed input.new ≤ I.failed input.old + feed_survivors }
 {
     let requests = requests_before_close(alloc, list)?;
     let count = requests.len();

@@ -1,6 +1,9 @@
 //! Reading the lists and the fragments.
 ghost use Rattle.std.specs.Prelude.{◌≡◌, ◌+◌, ◌*◌, ◌++◌, ◌∷◌, [], OnOk, ◌<◌, ◌≤◌, ◌^◌, ℕ, List, Bool, Option, Some, None, Ok, Err, IfOk, IfErr, IfSome, MatchResult, if◌then◌else◌, is_some, length, map, option_map};
 ghost use Rattle.std.specs.List.{All, AllZip, filter_map, flat_map};
+ghost use Rattle.farm_core.specs.Limits.{feed_limit, order_limit, rack_limit};
+ghost use Rattle.farm_files.specs.Limits.{feed_survivors, rack_survivors};
+ghost use Rattle.farm_lists.specs.Listed.{survivor_limit};
 ghost use Rattle.farm_core.specs.Orders.{before_close};
 ghost use Rattle.farm_core.specs.declared.orders.Order.TheVariants.{Rebuild, Close};
 ghost use Rattle.farm_lists.specs.Report.{listed_before_close};
@@ -16,21 +19,19 @@ ghost use Rattle.farm_lists.specs.Parts.{ArePart};
 ghost use Rattle.farm_files.specs.Faults.{CountsFault, Explains, IsListFault, IsRackFault, IsReadFault, serve_fault};
 
 use crate::faults::ServeFault;
+use farm_core::limits::{MOST_FEEDS, MOST_RACKS};
 use farm_core::{Feeds, Order, RackList};
 use farm_lists::{
-    ListFault, Listed, Record, fragment_file, list_file, read_list, requests_before_close,
+    ListFault, Listed, MOST_LIST_BYTES, Record, fragment_file, list_file, read_list,
+    requests_before_close,
 };
 use farm_shelves::{Shelf, ShelfFault};
 use lrc_code::{Fragment, Place, Request};
 use std::alloc::{AllocError, Global};
 use std::thread::Threads;
 
-const RACK_LIMIT: usize = 16;
-
-const FEED_LIMIT: usize = 4;
-
 // One byte more than a list may have.
-const LIST_ROOM: usize = 1_048_577;
+const LIST_ROOM: usize = MOST_LIST_BYTES + 1;
 
 // The list of a rack's feed, where it is there.
 fn read_feed_list<I: Shelf>(
@@ -41,7 +42,7 @@ fn read_feed_list<I: Shelf>(
 ) -> Result<Option<Vec<Record>>, ServeFault>
     requires { I.failed input.old < 2 ^ 63 }
     ensures same { I.files input.new ≡ I.files input.old }
-    ensures few { IfOk result (λ list. IfSome list (λ l. length l.items ≤ 4096)) }
+    ensures few { IfOk result (λ list. IfSome list (λ l. length l.items ≤ order_limit)) }
     ensures list { IfOk result (λ list. (there : Files) → I.files input.old ≡ Some there → option_map list_of (there (list_name rack feed)) ≡ option_map (λ v. Ok v.items) list) }
     ensures calm { IfOk result (λ list. I.failed input.new ≡ I.failed input.old) }
     ensures fault { IfErr result (λ f. IsListFault f rack feed (I.files input.old) (I.failed input.old) (I.failed input.new)) }
@@ -138,13 +139,13 @@ fn read_survivors<I: Shelf>(
     input: &mut I,
     listed: &Listed,
 ) -> Result<(Vec<Fragment>, Vec<Place>), AllocError>
-    requires { I.failed input.old + 16 < 2 ^ 63 }
+    requires { I.failed input.old + survivor_limit < 2 ^ 63 }
     ensures same { I.files input.new ≡ I.files input.old }
     ensures read { IfOk result (λ v. (reads : Reads) × AreReads listed.now reads × (I.failed input.new ≡ I.failed input.old + failures reads)
         × ((there : Files) → I.files input.old ≡ Some there → (survivors_of v.0.items ≡ filter_map (survivor there listed.now) reads) × (v.1.items ≡ unread there listed.now reads))) }
     ensures part { IfOk result (λ v. ArePart listed.now.len listed.now.survivors (survivors_of v.0.items)) }
     ensures more { I.failed input.old ≤ I.failed input.new }
-    ensures few { I.failed input.new ≤ I.failed input.old + 16 }
+    ensures few { I.failed input.new ≤ I.failed input.old + survivor_limit }
 {
     let mut fragments = Vec::new(alloc);
     let mut unread = Vec::new(alloc);
@@ -168,20 +169,20 @@ fn read_rack_lists<I: Shelf>(
     requires { I.failed input.old < 2 ^ 63 }
     ensures same { I.files input.new ≡ I.files input.old }
     ensures lists { IfOk result (λ v. (there : Files) → I.files input.old ≡ Some there → HaveFeeds there rack 0 (map (λ l. l.items) v.items) × (there (list_name rack (length v.items)) ≡ None)) }
-    ensures feeds { IfOk result (λ v. length v.items ≤ 4) }
-    ensures orders { IfOk result (λ v. All (λ l. length l.items ≤ 4096) v.items) }
+    ensures feeds { IfOk result (λ v. length v.items ≤ feed_limit) }
+    ensures orders { IfOk result (λ v. All (λ l. length l.items ≤ order_limit) v.items) }
     ensures calm { IfOk result (λ v. I.failed input.new ≡ I.failed input.old) }
     ensures why { IfErr result (λ f. (there : Files) → I.files input.old ≡ Some there → IsRackFault f rack there) }
     ensures fault { IfErr result (λ f. CountsFault f (I.failed input.old) (I.failed input.new)) }
 {
     let mut feeds = Vec::new(alloc);
-    for feed in 0..FEED_LIMIT {
+    for feed in 0..MOST_FEEDS {
         match read_feed_list(alloc, input, rack, feed)? {
             Some(list) => push_list(&mut feeds, list)?,
             None => return Ok(feeds),
         }
     }
-    if has_list(alloc, input, rack, FEED_LIMIT)? {
+    if has_list(alloc, input, rack, MOST_FEEDS)? {
         return Err(ServeFault::BadFeeds);
     }
     Ok(feeds)
@@ -195,15 +196,15 @@ pub fn read_lists<I: Shelf>(
     requires { I.failed input.old < 2 ^ 62 }
     ensures same { I.files input.new ≡ I.files input.old }
     ensures lists { IfOk result (λ v. (there : Files) → I.files input.old ≡ Some there → AreLists there (map (λ feeds. map (λ l. l.items) feeds.items) v.items)) }
-    ensures racks { IfOk result (λ v. length v.items ≤ 16) }
-    ensures feeds { IfOk result (λ v. All (λ feeds. (0 < length feeds.items) × (length feeds.items ≤ 4)) v.items) }
-    ensures orders { IfOk result (λ v. All (λ feeds. All (λ l. length l.items ≤ 4096) feeds.items) v.items) }
+    ensures racks { IfOk result (λ v. length v.items ≤ rack_limit) }
+    ensures feeds { IfOk result (λ v. All (λ feeds. (0 < length feeds.items) × (length feeds.items ≤ feed_limit)) v.items) }
+    ensures orders { IfOk result (λ v. All (λ feeds. All (λ l. length l.items ≤ order_limit) feeds.items) v.items) }
     ensures calm { IfOk result (λ v. I.failed input.new ≡ I.failed input.old) }
     ensures why { IfErr result (λ f. (there : Files) → I.files input.old ≡ Some there → Explains f there) }
     ensures fault { IfErr result (λ f. CountsFault f (I.failed input.old) (I.failed input.new)) }
 {
     let mut racks = Vec::new(alloc);
-    for rack in 0..RACK_LIMIT {
+    for rack in 0..MOST_RACKS {
         let feeds = read_rack_lists(alloc, input, rack)?;
         if feeds.is_empty() {
             if rack == 0 {
@@ -213,7 +214,7 @@ pub fn read_lists<I: Shelf>(
         }
         push_list(&mut racks, feeds)?;
     }
-    if has_list(alloc, input, RACK_LIMIT, 0)? {
+    if has_list(alloc, input, MOST_RACKS, 0)? {
         return Err(ServeFault::TooManyRacks);
     }
     Ok(racks)
@@ -259,12 +260,12 @@ fn read_request<I: Shelf>(
     input: &mut I,
     listed: &Listed,
 ) -> Result<(Request, Vec<Place>), AllocError>
-    requires { I.failed input.old + 16 < 2 ^ 63 }
+    requires { I.failed input.old + survivor_limit < 2 ^ 63 }
     ensures same { I.files input.new ≡ I.files input.old }
     ensures read { IfOk result (λ v. (reads : Reads) × AreReads listed.now reads × (I.failed input.new ≡ I.failed input.old + failures reads)
         × ((there : Files) → I.files input.old ≡ Some there → (v.0 ≡ asked there listed.now reads) × (v.1.items ≡ unread there listed.now reads))) }
     ensures more { I.failed input.old ≤ I.failed input.new }
-    ensures few { I.failed input.new ≤ I.failed input.old + 16 }
+    ensures few { I.failed input.new ≤ I.failed input.old + survivor_limit }
 {
     let (fragments, unread) = read_survivors(alloc, input, listed)?;
     let stripe = String::from_str(alloc, listed.stripe())?;
@@ -317,15 +318,15 @@ pub(crate) fn read_requests<R: Threads + Sync, I: Shelf>(
     closes: bool,
     threads: usize,
 ) -> Result<(RackList, Vec<Vec<Place>>), AllocError>
-    requires room { I.failed input.old + 16 * length requests.now < 2 ^ 63 }
-    requires orders { length requests.now + (if closes then 1 else 0) ≤ 4096 }
+    requires room { I.failed input.old + survivor_limit * length requests.now < 2 ^ 63 }
+    requires orders { length requests.now + (if closes then 1 else 0) ≤ order_limit }
     ensures same { I.files input.new ≡ I.files input.old }
     ensures read { IfOk result (λ v. (reads : List Reads) × AllZip AreReads (map (λ r. r.now) requests.now) reads × (I.failed input.new ≡ I.failed input.old + feed_failures reads)
         × ((there : Files) → I.files input.old ≡ Some there → (v.0 ≡ map Rebuild (asked_feed there (map (λ r. r.now) requests.now) reads) ++ (if closes then Close ∷ [] else []))
         × (map (λ u. u.items) v.1.items ≡ unread_feed there (map (λ r. r.now) requests.now) reads))) }
     ensures sizes { IfOk result (λ v. (length (before_close v.0) ≡ length requests.now) × (length v.1.items ≡ length requests.now)) }
     ensures more { I.failed input.old ≤ I.failed input.new }
-    ensures few { I.failed input.new ≤ I.failed input.old + 16 * length requests.now }
+    ensures few { I.failed input.new ≤ I.failed input.old + survivor_limit * length requests.now }
 {
     let files = fragment_files(alloc, requests)?;
     input.read_ahead(rt, alloc, files.as_slice(), threads)?;
@@ -361,14 +362,14 @@ fn read_feed<R: Threads + Sync, I: Shelf>(
     list: &[Record],
     threads: usize,
 ) -> Result<(RackList, Vec<Vec<Place>>), AllocError>
-    requires room { I.failed input.old + 65536 < 2 ^ 63 }
-    requires orders { length list.now ≤ 4096 }
+    requires room { I.failed input.old + feed_survivors < 2 ^ 63 }
+    requires orders { length list.now ≤ order_limit }
     ensures same { I.files input.new ≡ I.files input.old }
     ensures read { IfOk result (λ v. (reads : List Reads) × AllZip AreReads (listed_before_close list.now) reads × (I.failed input.new ≡ I.failed input.old + feed_failures reads)
         × ((there : Files) → I.files input.old ≡ Some there → (v.0 ≡ orders_feed there list.now reads) × (map (λ u. u.items) v.1.items ≡ unread_feed there (listed_before_close list.now) reads))) }
     ensures sizes { IfOk result (λ v. (length (before_close v.0) ≡ length (listed_before_close list.now)) × (length v.1.items ≡ length (listed_before_close list.now))) }
     ensures more { I.failed input.old ≤ I.failed input.new }
-    ensures few { I.failed input.new ≤ I.failed input.old + 65536 }
+    ensures few { I.failed input.new ≤ I.failed input.old + feed_survivors }
 {
     let requests = requests_before_close(alloc, list)?;
     // A record that isn't among the requests before the close is the close or behind it.
@@ -385,9 +386,9 @@ fn read_rack<R: Threads + Sync, I: Shelf>(
     lists: &[Vec<Record>],
     threads: usize,
 ) -> Result<(Vec<RackList>, Vec<Vec<Vec<Place>>>), AllocError>
-    requires room { I.failed input.old + 262144 < 2 ^ 63 }
-    requires feeds { length lists.now ≤ 4 }
-    requires orders { All (λ l. length l.items ≤ 4096) lists.now }
+    requires room { I.failed input.old + rack_survivors < 2 ^ 63 }
+    requires feeds { length lists.now ≤ feed_limit }
+    requires orders { All (λ l. length l.items ≤ order_limit) lists.now }
     ensures same { I.files input.new ≡ I.files input.old }
     ensures read { IfOk result (λ v. (reads : List (List Reads)) × AreRackReads (map (λ l. l.items) lists.now) reads × (I.failed input.new ≡ I.failed input.old + rack_failures reads)
         × ((there : Files) → I.files input.old ≡ Some there → (v.0.items ≡ orders_rack there (map (λ l. l.items) lists.now) reads)
@@ -395,7 +396,7 @@ fn read_rack<R: Threads + Sync, I: Shelf>(
     ensures orders { IfOk result (λ v. map (λ os. length (before_close os)) v.0.items ≡ map (λ l. length (listed_before_close l.items)) lists.now) }
     ensures places { IfOk result (λ v. map (λ us. length us.items) v.1.items ≡ map (λ l. length (listed_before_close l.items)) lists.now) }
     ensures more { I.failed input.old ≤ I.failed input.new }
-    ensures few { I.failed input.new ≤ I.failed input.old + 262144 }
+    ensures few { I.failed input.new ≤ I.failed input.old + rack_survivors }
 {
     let mut feeds = Vec::new(alloc);
     let mut unread = Vec::new(alloc);
@@ -415,10 +416,10 @@ pub(crate) fn read_feeds<R: Threads + Sync, I: Shelf>(
     lists: &[Vec<Vec<Record>>],
     threads: usize,
 ) -> Result<(Feeds, Vec<Vec<Vec<Vec<Place>>>>), AllocError>
-    requires room { I.failed input.old + 262144 * length lists.now < 2 ^ 63 }
-    requires racks { length lists.now ≤ 16 }
-    requires feeds { All (λ feeds. (0 < length feeds.items) × (length feeds.items ≤ 4)) lists.now }
-    requires orders { All (λ feeds. All (λ l. length l.items ≤ 4096) feeds.items) lists.now }
+    requires room { I.failed input.old + rack_survivors * length lists.now < 2 ^ 63 }
+    requires racks { length lists.now ≤ rack_limit }
+    requires feeds { All (λ feeds. (0 < length feeds.items) × (length feeds.items ≤ feed_limit)) lists.now }
+    requires orders { All (λ feeds. All (λ l. length l.items ≤ order_limit) feeds.items) lists.now }
     ensures same { I.files input.new ≡ I.files input.old }
     ensures read { IfOk result (λ v. (reads : List (List (List Reads))) × AreAllReads (map (λ feeds. map (λ l. l.items) feeds.items) lists.now) reads × (I.failed input.new ≡ I.failed input.old + all_failures reads)
         × ((there : Files) → I.files input.old ≡ Some there → (v.0 ≡ orders_all there (map (λ feeds. map (λ l. l.items) feeds.items) lists.now) reads)
@@ -426,7 +427,7 @@ pub(crate) fn read_feeds<R: Threads + Sync, I: Shelf>(
     ensures orders { IfOk result (λ v. map (λ feeds. map (λ os. length (before_close os)) feeds) v.0 ≡ map (λ feeds. map (λ l. length (listed_before_close l.items)) feeds.items) lists.now) }
     ensures places { IfOk result (λ v. map (λ fs. map (λ us. length us.items) fs.items) v.1.items ≡ map (λ feeds. map (λ l. length (listed_before_close l.items)) feeds.items) lists.now) }
     ensures more { I.failed input.old ≤ I.failed input.new }
-    ensures few { I.failed input.new ≤ I.failed input.old + 262144 * length lists.now }
+    ensures few { I.failed input.new ≤ I.failed input.old + rack_survivors * length lists.now }
 {
     let mut racks = Vec::new(alloc);
     let mut unread = Vec::new(alloc);

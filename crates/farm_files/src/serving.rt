@@ -2,6 +2,8 @@
 ghost use Rattle.std.specs.Prelude.{◌≡◌, ℕ, List, ◌<◌, ◌+◌, ◌≤◌, ◌^◌, IfOk, IfErr, IfSome, length, map, option_map, sum_by};
 ghost use Rattle.std.specs.List.{All};
 ghost use Rattle.lrc_code.specs.declared.outcomes.Outcome.{Outcome};
+ghost use Rattle.farm_core.specs.Limits.{rack_limit};
+ghost use Rattle.farm_files.specs.Limits.{rack_answers};
 ghost use Rattle.farm_lists.specs.declared.lists.listing.Record.{Record};
 ghost use Rattle.farm_shelves.specs.Files.{put_all};
 ghost use Rattle.farm_files.specs.Faults.{CountsServing, Explains, LeavesOutput};
@@ -88,8 +90,8 @@ pub fn serve<R: Threads + Wait + Sync, I: Shelf, O: Shelf, P: Pause>(
 
 // The number of answers over all racks.
 fn count_answers(answers: &[Vec<(usize, Outcome)>]) -> u64
-    requires racks { length answers.now ≤ 16 }
-    requires few { All (λ a. length a.items ≤ 16384) answers.now }
+    requires racks { length answers.now ≤ rack_limit }
+    requires few { All (λ a. length a.items ≤ rack_answers) answers.now }
     ensures { result ≡ sum_by (λ a. length a.items) answers.now }
 {
     let mut count = 0;

@@ -17,6 +17,7 @@ use Rattle.farm_lists.specs.declared.lists.listing.Record.TheVariants as rec
 use Rattle.farm_lists.specs.declared.lists.listing.ListFault.{ListFault}
 use Rattle.farm_lists.specs.declared.lists.listing.ListFault.TheVariants as fault
 
+-- how many bytes a list may have, and how many records behind its header
 abbrev pub list_limit : ℕ
 list_limit = 1048576
 

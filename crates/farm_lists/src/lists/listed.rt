@@ -5,7 +5,7 @@ ghost use Rattle.std.specs.String.{string_bytes};
 ghost use Rattle.lrc_code.specs.Places.{same_place};
 ghost use Rattle.lrc_code.specs.Code.{has_place as code_has};
 ghost use Rattle.lrc_code.specs.Codes.{tables_of};
-ghost use Rattle.farm_lists.specs.Listed.{ListedRequest, is_listed, listed_refusal, stands_twice};
+ghost use Rattle.farm_lists.specs.Listed.{ListedRequest, is_listed, listed_refusal, stands_twice, survivor_limit};
 
 use lrc_code::{Code, Place, RequestFault, first_refusal};
 use std::marker::Model;
@@ -142,7 +142,7 @@ impl Listed {
     /// The survivors, in the list's order.
     pub fn survivors(&self) -> &[Place]
         ensures value { result.now ≡ self.now.survivors }
-        ensures few { length self.now.survivors ≤ 16 }
+        ensures few { length self.now.survivors ≤ survivor_limit }
     {
         self.survivors.as_slice()
     }

@@ -6,7 +6,7 @@ ghost use Rattle.std.specs.Str.{bytes_eq};
 ghost use Rattle.csv.specs.Records.{fields_of};
 ghost use Rattle.lrc_code.specs.Text.{every, is_space, place_named};
 ghost use Rattle.lrc_code.specs.Codes.{tables_of};
-ghost use Rattle.farm_lists.specs.Listing.{IsFaultOf, IsNotFive, IsNotSix, IsRecordFault, SoFar, Stops, close_at, coded_header, header, list_of, listed, order_at, order_in, places, rebuild_at};
+ghost use Rattle.farm_lists.specs.Listing.{IsFaultOf, IsNotFive, IsNotSix, IsRecordFault, SoFar, Stops, close_at, coded_header, header, list_of, listed, order_at, order_in, order_limit, places, rebuild_at};
 ghost use Rattle.farm_lists.specs.Views.{IsOrderFault, IsRebuildFault, five, six};
 
 use crate::lists::listed::Listed;
@@ -48,20 +48,20 @@ pub enum ListFault {
     OutOfMemory,
 }
 
-// The most bytes of a list.
-const LIST_LIMIT: usize = 1_048_576;
+/// The most bytes of a list. `specs/Listing.antt` has it for contracts.
+pub const MOST_LIST_BYTES: usize = 1_048_576;
 
-// The most records of a list behind its header.
-const ORDER_LIMIT: usize = 4096;
+/// The most records of a list behind its header, as many as a farm takes of a feed.
+pub const MOST_RECORDS: usize = 4096;
 
 /// The records of a list, or its first fault. They are read as `csv` reads with its default settings, but that no record is
 /// taken as a header and records may differ in their number of fields.
 pub fn read_list(alloc: Global, bytes: &[u8]) -> Result<Vec<Record>, ListFault>
     ensures read { IfOk result (λ v. list_of bytes.now ≡ Ok v.items) }
-    ensures few { IfOk result (λ v. length v.items ≤ 4096) }
+    ensures few { IfOk result (λ v. length v.items ≤ order_limit) }
     ensures fault { IfErr result (λ f. IsFaultOf f (list_of bytes.now)) }
 {
-    if bytes.len() > LIST_LIMIT {
+    if bytes.len() > MOST_LIST_BYTES {
         return Err(ListFault::InputTooLong);
     }
     let rdr = ReaderBuilder::new()
@@ -92,7 +92,7 @@ fn take_row(
     coded: &mut bool,
     row: &ByteRecord,
 ) -> Result<(), ListFault>
-    ensures ok { OnOk result ((number ≤ 4096) × ((rows : List (List (List ℕ))) → length rows ≡ number → SoFar coded.old rows list.old.items → SoFar coded.new (rows ++ fields_of row.now ∷ []) list.new.items)) }
+    ensures ok { OnOk result ((number ≤ order_limit) × ((rows : List (List (List ℕ))) → length rows ≡ number → SoFar coded.old rows list.old.items → SoFar coded.new (rows ++ fields_of row.now ∷ []) list.new.items)) }
     ensures err { IfErr result (λ f. (rows : List (List (List ℕ))) → length rows ≡ number → SoFar coded.old rows list.old.items → Stops f (rows ++ fields_of row.now ∷ [])) }
 {
     if number == 0 {
@@ -104,7 +104,7 @@ fn take_row(
             Err(ListFault::BadHeader)
         };
     }
-    if number > ORDER_LIMIT {
+    if number > MOST_RECORDS {
         return Err(ListFault::TooManyOrders);
     }
     let order = order_of(alloc, *coded, number, row)?;

@@ -29,7 +29,7 @@ loop-row-init c =
       (sym fr.state, refl),
       refl,
       refl,
-      c.if-bytes-gt-LIST_LIMIT.false,
+      c.if-bytes-gt-MOST_LIST_BYTES.false,
       omega arith,
     )
 
@@ -76,5 +76,5 @@ returns c =
     let read = lists_all c.args.bytes.now rows small (c.loop-row.row-iterator.rdr.state, y, reached, rows-end (λ (s : Bor (List ℕ)). Some s.now) c.loop-row.row-iterator.rdr c.next.new.self.rdr [] default_config y config source s) ∙ listed_all c.loop-row.coded rows c.loop-row.list.items c.loop-row.number (sym number) c.if-number-eq0.false so in
     record { read = read; few = list_few c.args.bytes.now c.loop-row.list.items read; fault = tt }
 
-pub returns-then-bytes-gt-LIST_LIMIT-clause-fault : goal.returns-then-bytes-gt-LIST_LIMIT-clause-fault
-returns-then-bytes-gt-LIST_LIMIT-clause-fault c = too_long c.args.bytes.now c.if-bytes-gt-LIST_LIMIT.true
+pub returns-then-bytes-gt-MOST_LIST_BYTES-clause-fault : goal.returns-then-bytes-gt-MOST_LIST_BYTES-clause-fault
+returns-then-bytes-gt-MOST_LIST_BYTES-clause-fault c = too_long c.args.bytes.now c.if-bytes-gt-MOST_LIST_BYTES.true

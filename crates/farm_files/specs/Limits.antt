@@ -1,0 +1,16 @@
+-- How many survivors lists name together, and how many answers there are, at most.
+use Rattle.std.specs.Prelude.{ℕ}
+
+-- the survivors of a feed, of a rack, and of all racks
+abbrev pub feed_survivors : ℕ
+feed_survivors = 65536
+
+abbrev pub rack_survivors : ℕ
+rack_survivors = 262144
+
+abbrev pub all_survivors : ℕ
+all_survivors = 4194304
+
+-- the answers to a rack
+abbrev pub rack_answers : ℕ
+rack_answers = 16384
