@@ -13,6 +13,7 @@ use crate::reports::digests::digests_of_racks;
 use crate::reports::report::{ReportRow, ReportShape, merged_report_on};
 use crate::reports::rows::{rack_rows, rack_shape};
 use lrc_code::{Outcome, Place};
+use sha256_lanes::Digest;
 use std::alloc::{AllocError, Global};
 use std::borrow::CowSlice;
 use std::thread::Threads;
@@ -54,7 +55,7 @@ fn push_rows<'a>(
     rack: usize,
     shape: ReportShape,
     rows: &[ReportRow<'a>],
-    digests: &[Option<[u8; 32]>],
+    digests: &[Option<Digest>],
 ) -> Result<(), AllocError>
     requires { digests.now ≡ map (λ r. fragment_digest r.outcome.now) rows.now }
     ensures { OnOk result (map named files.new.items ≡ map named files.old.items ++ rack_files rack shape (map row_of rows.now)) }
@@ -76,7 +77,7 @@ fn push_rack<'a>(
     rack: usize,
     feeds: &'a [Vec<Record>],
     answers: &'a [(usize, Outcome)],
-    digests: &[Option<[u8; 32]>],
+    digests: &[Option<Digest>],
     unread: &'a [Vec<Vec<Place>>],
 ) -> Result<(), AllocError>
     requires answers { FitsFeeds (map (λ f. length (listed_before_close f.items)) feeds.now) (map (λ a. a.0) answers.now) }

@@ -9,6 +9,9 @@ use crate::consts::INITIAL_HASH;
 use crate::tail::{tail, tail_blocks};
 use std::simd::u32x8;
 
+/// A SHA-256 digest.
+pub type Digest = [u8; 32];
+
 fn initial_state() -> [u32x8; 8]
     ensures { (l : ℕ) → l < 8 → lane l result ≡ initial_hash_256 }
 {
@@ -90,7 +93,7 @@ fn hash_value(state: &[u32x8; 8], l: usize) -> [u32; 8]
 }
 
 // A hash value as bytes, high first.
-fn bytes_of(h: [u32; 8]) -> [u8; 32]
+fn bytes_of(h: [u32; 8]) -> Digest
     ensures { result ≡ digest_bytes h 8 }
 {
     let [a0, a1, a2, a3] = h[0].to_be_bytes();
@@ -108,7 +111,7 @@ fn bytes_of(h: [u32; 8]) -> [u8; 32]
 }
 
 // The digest of message `l`.
-fn digest(state: &[u32x8; 8], l: usize) -> [u8; 32]
+fn digest(state: &[u32x8; 8], l: usize) -> Digest
     requires { l < 8 }
     ensures { result ≡ digest_bytes (lane l state.now) 8 }
 {
@@ -130,7 +133,7 @@ pub fn are_of_one_length(messages: &[&[u8]; 8]) -> bool
 
 /// The SHA-256 digests (FIPS 180-4) of eight messages of one length, in their order: 32 bytes each, the first byte of the hash
 /// value first. The length is any; messages of several lengths are for `digests`.
-pub fn digests_of_eight(messages: &[&[u8]; 8]) -> [[u8; 32]; 8]
+pub fn digests_of_eight(messages: &[&[u8]; 8]) -> [Digest; 8]
     requires { AreOfOneLength messages.now }
     ensures { result ≡ map (λ m. sha256 m.now) messages.now }
 {

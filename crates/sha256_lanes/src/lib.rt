@@ -19,5 +19,5 @@ mod many;
 mod rounds;
 mod tail;
 
-pub use digest::{are_of_one_length, digests_of_eight};
+pub use digest::{Digest, are_of_one_length, digests_of_eight};
 pub use many::digests;

@@ -4,13 +4,13 @@ ghost use Rattle.std.specs.Prelude.{◌≡◌, ℕ, ◌<◌, ◌≤◌, length, 
 ghost use Rattle.sha2.specs.Sha256.{sha256};
 ghost use Rattle.sha256_lanes.specs.Lanes.{AreDigestsBelow};
 
-use crate::digest::{are_of_one_length, digests_of_eight};
-use sha2::{Digest, Sha256};
+use crate::digest::{Digest, are_of_one_length, digests_of_eight};
+use sha2::{Digest as _, Sha256};
 use std::convert::AsSlice;
 
 // Writes the digests of the next messages from `at` on, of eight where so many are left and have one length, else of one.
 // Returns the index of the first message behind them.
-fn next_digests<T: AsSlice<u8>>(messages: &[T], at: usize, out: &mut [[u8; 32]]) -> usize
+fn next_digests<T: AsSlice<u8>>(messages: &[T], at: usize, out: &mut [Digest]) -> usize
     requires within { at < length messages.now }
     requires room { length out.old ≡ length messages.now }
     ensures forward { at < result }
@@ -48,7 +48,7 @@ fn next_digests<T: AsSlice<u8>>(messages: &[T], at: usize, out: &mut [[u8; 32]])
 /// let mut found = [[0; 32]; 3];
 /// sha256_lanes::digests(&messages, &mut found);
 /// ```
-pub fn digests<T: AsSlice<u8>>(messages: &[T], out: &mut [[u8; 32]])
+pub fn digests<T: AsSlice<u8>>(messages: &[T], out: &mut [Digest])
     requires { length out.old ≡ length messages.now }
     ensures { out.new ≡ map (λ m. sha256 (T.items m)) messages.now }
 {

@@ -6,13 +6,14 @@ ghost use Rattle.farm_lists.specs.Report.{fragment_digest, rebuilt_fragment};
 
 use crate::reports::report::ReportRow;
 use lrc_code::Outcome;
-use sha2::{Digest, Sha256};
+use sha2::{Digest as _, Sha256};
+use sha256_lanes::Digest;
 use std::alloc::{AllocError, Global};
 use std::thread;
 use std::thread::Threads;
 
 /// The SHA-256 digest of an outcome's fragment, where it was rebuilt. Takes no memory.
-pub(crate) fn digest_of(outcome: &Outcome) -> Option<[u8; 32]>
+pub(crate) fn digest_of(outcome: &Outcome) -> Option<Digest>
     ensures { result ≡ fragment_digest outcome.now }
 {
     match outcome {
@@ -26,7 +27,7 @@ pub(crate) fn digest_of(outcome: &Outcome) -> Option<[u8; 32]>
 pub(crate) fn digests_of(
     alloc: Global,
     rows: &[ReportRow],
-) -> Result<Vec<Option<[u8; 32]>>, AllocError>
+) -> Result<Vec<Option<Digest>>, AllocError>
     ensures { IfOk result (λ v. v.items ≡ map (λ r. fragment_digest r.outcome.now) rows.now) }
 {
     let mut digests = Vec::new(alloc);
@@ -43,7 +44,7 @@ pub fn digests_of_racks<R: Threads + Sync>(
     alloc: Global,
     racks: &[Vec<(usize, Outcome)>],
     threads: usize,
-) -> Result<Vec<Option<[u8; 32]>>, AllocError>
+) -> Result<Vec<Option<Digest>>, AllocError>
     requires { 0 < threads }
     ensures { IfOk result (λ v. v.items ≡ flat_map (λ rack. map (λ a. fragment_digest a.1) rack.items) racks.now) }
 {
@@ -122,7 +123,7 @@ fn chunk_size(count: usize, threads: usize) -> usize
 fn make_digests<R: Threads + Sync>(
     rt: &R,
     fragments: &[&[u8]],
-    digests: &mut [[u8; 32]],
+    digests: &mut [Digest],
     threads: usize,
 )
     requires threads { 0 < threads }
@@ -130,7 +131,7 @@ fn make_digests<R: Threads + Sync>(
     ensures { digests.new ≡ map (λ f. sha256 f.now) fragments.now }
 {
     let size = chunk_size(digests.len(), threads);
-    let part = |start: usize, chunk: &mut [[u8; 32]]|
+    let part = |start: usize, chunk: &mut [Digest]|
         requires { start + length chunk.now ≤ length fragments.now }
         ensures { (k : ℕ) → k < length chunk.entry.now → slice_index_or chunk.exit.now k [] ≡ slice_index_or (map (λ f. sha256 f.now) fragments.entry.now) (start + k) [] }
     { digests_from(fragments, start, chunk) };
@@ -138,7 +139,7 @@ fn make_digests<R: Threads + Sync>(
 }
 
 // Makes the digests of the fragments from one on, as many as there are places.
-fn digests_from(fragments: &[&[u8]], start: usize, digests: &mut [[u8; 32]])
+fn digests_from(fragments: &[&[u8]], start: usize, digests: &mut [Digest])
     requires { start + length digests.old ≤ length fragments.now }
     ensures { (k : ℕ) → k < length digests.old → slice_index_or digests.new k [] ≡ slice_index_or (map (λ f. sha256 f.now) fragments.now) (start + k) [] }
 {
@@ -149,8 +150,8 @@ fn digests_from(fragments: &[&[u8]], start: usize, digests: &mut [[u8; 32]])
 fn hand_out(
     alloc: Global,
     outcomes: &[&Outcome],
-    digests: &[[u8; 32]],
-) -> Result<Vec<Option<[u8; 32]>>, AllocError>
+    digests: &[Digest],
+) -> Result<Vec<Option<Digest>>, AllocError>
     requires { digests.now ≡ map sha256 (flat_map (λ o. rebuilt_fragment o.now) outcomes.now) }
     ensures { IfOk result (λ v. v.items ≡ map (λ o. fragment_digest o.now) outcomes.now) }
 {
@@ -165,7 +166,7 @@ fn hand_out(
 }
 
 // The digest of an outcome, the first of those left where it is a rebuilt fragment, and those left behind it.
-fn first_digest<'a>(outcome: &Outcome, left: &'a [[u8; 32]]) -> (Option<[u8; 32]>, &'a [[u8; 32]])
+fn first_digest<'a>(outcome: &Outcome, left: &'a [Digest]) -> (Option<Digest>, &'a [Digest])
     ensures digest { (rest : List (List ℕ)) → left.now ≡ map sha256 (rebuilt_fragment outcome.now ++ rest) → result.0 ≡ fragment_digest outcome.now }
     ensures behind { (rest : List (List ℕ)) → left.now ≡ map sha256 (rebuilt_fragment outcome.now ++ rest) → result.1.now ≡ map sha256 rest }
 {

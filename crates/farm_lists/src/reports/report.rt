@@ -11,6 +11,7 @@ use crate::lists::requests::requests_before_close;
 use crate::reports::digests::digests_of;
 use csv::{Error, WriterBuilder};
 use lrc_code::{Code, Outcome, Place};
+use sha256_lanes::Digest;
 use std::alloc::{AllocError, Global};
 
 /// Which fields a report has beside the seven of every report.
@@ -73,7 +74,7 @@ pub(crate) fn merged_report_on(
     alloc: Global,
     shape: ReportShape,
     rows: &[ReportRow],
-    digests: &[Option<[u8; 32]>],
+    digests: &[Option<Digest>],
 ) -> Result<Vec<u8>, AllocError>
     requires { digests.now ≡ map (λ r. fragment_digest r.outcome.now) rows.now }
     ensures { IfOk result (λ v. v.items ≡ merged_report shape (map row_of rows.now)) }
@@ -156,7 +157,7 @@ fn push_row(
     shape: ReportShape,
     number: usize,
     row: &ReportRow,
-    digest: Option<[u8; 32]>,
+    digest: Option<Digest>,
 ) -> Result<(), AllocError>
     requires { digest ≡ fragment_digest row.now.outcome.now }
     ensures { OnOk result (text.new.items ≡ text.old.items ++ report_line (report_fields shape number (row_of row.now))) }
@@ -237,7 +238,7 @@ fn outcome_word(outcome: &Outcome) -> &'static [u8]
 }
 
 // A digest in hexadecimal; nothing where there is none.
-fn hexadecimal(alloc: Global, digest: Option<[u8; 32]>) -> Result<String, AllocError>
+fn hexadecimal(alloc: Global, digest: Option<Digest>) -> Result<String, AllocError>
     ensures { IfOk result (λ s. string_bytes s ≡ digest_text digest) }
 {
     match digest {
