@@ -1,7 +1,7 @@
 //! A law of answers.
 ghost use Rattle.lrc_plan.specs.AnswerLaws.{HasOneAnswer};
 
-use crate::row_plans::plan_rows;
+use crate::plans::row_plans::plan_rows;
 use crate::solving::are_zero;
 use lrc_code::Request;
 

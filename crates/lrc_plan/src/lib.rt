@@ -20,27 +20,16 @@
 #![tactic(auto)]
 
 pub mod answer_laws;
-mod both_branches;
-mod checks;
-mod copying;
-mod evaluation;
-mod grafting;
-mod planning;
 mod plans;
-mod products;
-mod row_plans;
-mod rows;
 mod solved;
 mod solving;
-mod terms;
 mod tree;
-mod value;
 
-pub use both_branches::evaluate_both;
-pub use evaluation::evaluate;
-pub use grafting::GraftRefused;
-pub use planning::{plan, plan_in};
 pub use plans::Plan;
-pub use row_plans::{RowPlan, check_rows, plan_rows};
+pub use plans::planning::{plan, plan_in};
+pub use plans::row_plans::{RowPlan, check_rows, plan_rows};
 pub use solving::solve;
 pub use tree::Tree;
+pub use tree::both_branches::evaluate_both;
+pub use tree::evaluation::evaluate;
+pub use tree::grafting::GraftRefused;

@@ -9,9 +9,11 @@ ghost use Rattle.lrc_plan.specs.RowPlans.{IsRowPlan};
 ghost use Rattle.lrc_plan.specs.Solved.{outcome_of};
 ghost use Rattle.lrc_plan.specs.Terms.{IsZeroRow};
 
-use crate::row_plans::{RowPlan, plan_rows, row_in_group};
+pub mod terms;
+
+use crate::plans::row_plans::{RowPlan, plan_rows, row_in_group};
 use crate::solved::Solved;
-use crate::terms::{is_zero, row_sums};
+use crate::solving::terms::{is_zero, row_sums};
 use lrc_code::{Bytes, Outcome, PlaceSet, Request, Sources};
 use lrc_field::Gf;
 use std::alloc::{AllocError, Allocator, Global};

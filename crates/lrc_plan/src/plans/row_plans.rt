@@ -1,0 +1,164 @@
+//! Plans as rows of coefficients, which take no memory.
+ghost use Rattle.std.specs.Prelude.{◌≡◌, ◌<◌, true, false, not, is_none, length, slice_index, IfSome, MatchOption, Some, replicate, if◌then◌else◌};
+ghost use Rattle.lrc_code.specs.declared.places.Place.{Place};
+ghost use Rattle.lrc_code.specs.Code.{has_place};
+ghost use Rattle.lrc_code.specs.Codes.{tables_of};
+ghost use Rattle.lrc_code.specs.Places.{index_of};
+ghost use Rattle.lrc_code.specs.Reduction.{IsReduction};
+ghost use Rattle.lrc_code.specs.Sets.{is_in};
+ghost use Rattle.lrc_plan.specs.Rows.{coef_of, pivot_of};
+ghost use Rattle.lrc_plan.specs.ReducedRows.{AreReduced};
+ghost use Rattle.lrc_plan.specs.Planned.{ExtensionsDiffer};
+ghost use Rattle.lrc_plan.specs.ValueRows.{IsTargetRow};
+ghost use Rattle.lrc_plan.specs.GroupRows.{other_parity as other_parity_of};
+ghost use Rattle.lrc_plan.specs.RowPlans.{IsCheckRow, IsValueRow, AreCheckRows, IsRowPlan};
+
+use crate::plans::rows::{PLACES, determines, row_of, row_with_pivot};
+use crate::plans::value::local_row;
+use lrc_code::{Code, Group, Place, PlaceSet, Reduced, reduce_in};
+use lrc_field::Gf;
+
+/// How a lost fragment is rebuilt from survivors: coefficients by the places' indexes, 00 at places that don't survive.
+#[derive(Drop)]
+pub struct RowPlan {
+    /// What the survivors' bytes are multiplied with to give the target's byte; none where two stripes with the same
+    /// survivors differ there.
+    pub value: Option<[Gf; 16]>,
+    /// What gives 00 at every position, in each row, exactly where the survivors are those of a stripe. A row of 00
+    /// asks nothing.
+    pub checks: [[Gf; 16]; 4],
+}
+
+/// The plan for a lost target of a code, which is one of its places, as `plan_in`. Takes no memory.
+pub fn plan_rows(code: Code, survivors: PlaceSet, target: Place) -> RowPlan
+    requires lost { is_in survivors target ≡ false }
+    requires place { has_place (tables_of code) target ≡ true }
+    ensures { IsRowPlan (tables_of code) (is_in survivors) target result.value result.checks }
+{
+    if let Some(plan) = plan_in_group(code, survivors, target) {
+        return plan;
+    }
+    let lost = code.others(survivors);
+    let reduced = reduce_in(code, lost);
+    rows_from(code, &reduced, survivors, target)
+}
+
+// The plan of a repair inside the target's group that leaves no checks, where `row_in_group` gives its row.
+fn plan_in_group(code: Code, survivors: PlaceSet, target: Place) -> Option<RowPlan>
+    requires lost { is_in survivors target ≡ false }
+    requires place { has_place (tables_of code) target ≡ true }
+    ensures { IfSome result (λ plan. IsRowPlan (tables_of code) (is_in survivors) target plan.value plan.checks) }
+{
+    let row = row_in_group(code, survivors, target)?;
+    Some(RowPlan {
+        value: Some(row),
+        checks: [[Gf::new(0); 16]; 4],
+    })
+}
+
+// The sum of the others of the target's group, where they survive, and the other group's parity and both global parities are lost.
+// There are no checks, since the equations can be solved for the four lost places, whatever the survivors hold.
+pub(crate) fn row_in_group(code: Code, survivors: PlaceSet, target: Place) -> Option<[Gf; 16]>
+    requires lost { is_in survivors target ≡ false }
+    requires place { has_place (tables_of code) target ≡ true }
+    ensures { IfSome result (λ row. IsRowPlan (tables_of code) (is_in survivors) target (Some row) (replicate 4 (replicate 16 0))) }
+{
+    let group = target.group()?;
+    let lost = code.others(survivors);
+    if !lost.has(other_parity(group)) || !lost.has(Place::P0) || !lost.has(Place::P1) {
+        return None;
+    }
+    let row = local_row(code, survivors, target)?;
+    Some(cut_row(code, row, survivors, target))
+}
+
+// The local parity of the other group.
+fn other_parity(group: Group) -> Place
+    ensures { result ≡ other_parity_of group }
+{
+    match group {
+        Group::X => Place::Py,
+        Group::Y => Place::Px,
+    }
+}
+
+/// Rows that give 00 at every position, all of them, exactly where the survivors are those of a stripe; survivors that
+/// are not places of the code play no part. Takes no memory.
+pub fn check_rows(code: Code, survivors: PlaceSet) -> [[Gf; 16]; 4]
+    ensures { AreCheckRows (tables_of code) (is_in survivors) result }
+{
+    let lost = code.others(survivors);
+    let reduced = reduce_in(code, lost);
+    checks_from(code, &reduced, survivors)
+}
+
+// The plan from a reduction by the lost places.
+fn rows_from(code: Code, reduced: &Reduced, survivors: PlaceSet, target: Place) -> RowPlan
+    requires lost { is_in survivors target ≡ false }
+    requires place { has_place (tables_of code) target ≡ true }
+    requires reduced { IsReduction (tables_of code) (λ p. not (is_in survivors p)) reduced.now }
+    ensures { IsRowPlan (tables_of code) (is_in survivors) target result.value result.checks }
+{
+    RowPlan {
+        value: value_row(code, reduced, survivors, target),
+        checks: checks_from(code, reduced, survivors),
+    }
+}
+
+// The checks from a reduction by the lost places.
+fn checks_from(code: Code, reduced: &Reduced, survivors: PlaceSet) -> [[Gf; 16]; 4]
+    requires { IsReduction (tables_of code) (λ p. not (is_in survivors p)) reduced.now }
+    ensures { AreCheckRows (tables_of code) (is_in survivors) result }
+{
+    [
+        check_row(reduced, 0),
+        check_row(reduced, 1),
+        check_row(reduced, 2),
+        check_row(reduced, 3),
+    ]
+}
+
+// A row without a pivot, and 00 for another.
+fn check_row(reduced: &Reduced, row: usize) -> [Gf; 16]
+    requires { row < 4 }
+    ensures { IsCheckRow (coef_of reduced.now) (pivot_of reduced.now) row result }
+{
+    if reduced.pivot(row).is_some() {
+        return [Gf::new(0); 16];
+    }
+    row_of(reduced, row)
+}
+
+// The coefficients that give the target: from the equation of its group where the others survive, else from its row of
+// the reduction.
+fn value_row(code: Code, reduced: &Reduced, survivors: PlaceSet, target: Place) -> Option<[Gf; 16]>
+    requires place { has_place (tables_of code) target ≡ true }
+    requires lost { is_in survivors target ≡ false }
+    requires reduced { AreReduced (tables_of code) (is_in survivors) (coef_of reduced.now) (pivot_of reduced.now) }
+    ensures { MatchOption result
+        (ExtensionsDiffer (tables_of code) (is_in survivors) target)
+        (IsValueRow (tables_of code) (is_in survivors) target) }
+{
+    if let Some(row) = local_row(code, survivors, target) {
+        return Some(cut_row(code, row, survivors, target));
+    }
+    let Some(pivot_row) = row_with_pivot(reduced, target) else {
+        return None;
+    };
+    let row = row_of(reduced, pivot_row);
+    if !determines(&row, survivors, target, &PLACES) {
+        return None;
+    }
+    Some(cut_row(code, row, survivors, target))
+}
+
+// A row that determines the target, without the target's own coefficient.
+fn cut_row(code: Code, row: [Gf; 16], survivors: PlaceSet, target: Place) -> [Gf; 16]
+    requires lost { is_in survivors target ≡ false }
+    requires row { IsTargetRow (tables_of code) (is_in survivors) target (λ p. slice_index row (index_of p)) }
+    ensures { IsValueRow (tables_of code) (is_in survivors) target result }
+{
+    let mut coefficients = row;
+    coefficients[target.index()] = Gf::new(0);
+    coefficients
+}
