@@ -8,6 +8,7 @@ ghost use Rattle.lrc_code.specs.Text.{place_named};
 
 use crate::places::Place;
 use crate::sets::PlaceSet;
+use crate::tables::{NARROW_COUNT, WIDE_PLACES};
 
 /// A code of Huang et al. (section 2).
 #[derive(Clone, Copy, Debug, PartialEq, Eq)]
@@ -17,38 +18,6 @@ pub enum Code {
     /// (12,2,2): twelve data fragments in two groups.
     Wide,
 }
-
-static NARROW_PLACES: [Place; 10] = [
-    Place::X0,
-    Place::X1,
-    Place::X2,
-    Place::Y0,
-    Place::Y1,
-    Place::Y2,
-    Place::Px,
-    Place::Py,
-    Place::P0,
-    Place::P1,
-];
-
-static WIDE_PLACES: [Place; 16] = [
-    Place::X0,
-    Place::X1,
-    Place::X2,
-    Place::X3,
-    Place::X4,
-    Place::X5,
-    Place::Y0,
-    Place::Y1,
-    Place::Y2,
-    Place::Y3,
-    Place::Y4,
-    Place::Y5,
-    Place::Px,
-    Place::Py,
-    Place::P0,
-    Place::P1,
-];
 
 impl Code {
     /// The code of this name, `6-2-2` or `12-2-2`, of bytes that need not be text.
@@ -77,7 +46,7 @@ impl Code {
         ensures { result.now ≡ (tables_of self).places }
     {
         match self {
-            Code::Narrow => &NARROW_PLACES,
+            Code::Narrow => &Place::ALL[..NARROW_COUNT],
             Code::Wide => &WIDE_PLACES,
         }
     }
@@ -87,7 +56,7 @@ impl Code {
         ensures { result ≡ has_place (tables_of self) place }
     {
         match self {
-            Code::Narrow => place.index() < 10,
+            Code::Narrow => place.index() < NARROW_COUNT,
             Code::Wide => true,
         }
     }
