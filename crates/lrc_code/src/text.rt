@@ -4,11 +4,14 @@ ghost use Rattle.std.specs.List.{list_all};
 ghost use Rattle.std.specs.Str.Parse.{digits_value};
 ghost use Rattle.lrc_code.specs.Text.{is_digit, number};
 
+// A number has at most so many digits.
+const MOST_DIGITS: usize = 7;
+
 /// The number that one to seven decimal digits write; leading zeros are allowed, a sign is not.
 pub fn parse_number(text: &[u8]) -> Option<u32>
     ensures { result ≡ number text.now }
 {
-    if are_digits(text) && !text.is_empty() && text.len() <= 7 {
+    if are_digits(text) && !text.is_empty() && text.len() <= MOST_DIGITS {
         Some(value_of(text))
     } else {
         None
