@@ -36,24 +36,7 @@ pub(crate) fn row_of(reduced: &Reduced, row: usize) -> [Gf; 16]
     requires { row < 4 }
     ensures { (p : Place) → slice_index result (index_of p) ≡ coef_of reduced.now row p }
 {
-    [
-        reduced.coefficient(row, Place::X0),
-        reduced.coefficient(row, Place::X1),
-        reduced.coefficient(row, Place::X2),
-        reduced.coefficient(row, Place::Y0),
-        reduced.coefficient(row, Place::Y1),
-        reduced.coefficient(row, Place::Y2),
-        reduced.coefficient(row, Place::Px),
-        reduced.coefficient(row, Place::Py),
-        reduced.coefficient(row, Place::P0),
-        reduced.coefficient(row, Place::P1),
-        reduced.coefficient(row, Place::X3),
-        reduced.coefficient(row, Place::X4),
-        reduced.coefficient(row, Place::X5),
-        reduced.coefficient(row, Place::Y3),
-        reduced.coefficient(row, Place::Y4),
-        reduced.coefficient(row, Place::Y5),
-    ]
+    reduced.row(row)
 }
 
 // The number of rows without a pivot.
