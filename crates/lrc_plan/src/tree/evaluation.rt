@@ -20,31 +20,18 @@ pub fn evaluate<A: Allocator>(
     requires { CanEvaluate request.now (form_of tree.now) }
     ensures { IfOk result (λ v. IsValue request.now (form_of tree.now) v.items) }
 {
-    let bytes = evaluate_in(alloc, tree, request)?;
-    Ok(bytes)
-}
-
-// `evaluate` in any allocator.
-pub(crate) fn evaluate_in<A: Allocator, B: Allocator>(
-    alloc: B,
-    tree: &Tree<A>,
-    request: &Request,
-) -> Result<Vec<u8, B>, AllocError>
-    requires { CanEvaluate request.now (form_of tree.now) }
-    ensures { IfOk result (λ v. IsValue request.now (form_of tree.now) v.items) }
-{
     let _ = request.length();
     let bytes = evaluate_scaled(alloc, tree, Gf::new(1), request)?;
     Ok(bytes)
 }
 
 // A factor times the tree's value at each position.
-pub(crate) fn evaluate_scaled<A: Allocator, B: Allocator>(
-    alloc: B,
+pub(crate) fn evaluate_scaled<A: Allocator>(
+    alloc: Global,
     tree: &Tree<A>,
     factor: Gf,
     request: &Request,
-) -> Result<Vec<u8, B>, AllocError>
+) -> Result<Vec<u8>, AllocError>
     requires { CanEvaluate request.now (form_of tree.now) }
     ensures { IfOk result (λ v. IsScaledValue factor request.now (form_of tree.now) v.items) }
 {
@@ -53,7 +40,7 @@ pub(crate) fn evaluate_scaled<A: Allocator, B: Allocator>(
     Ok(bytes)
 }
 
-fn zeros<B: Allocator>(alloc: B, len: usize) -> Result<Vec<u8, B>, AllocError>
+fn zeros(alloc: Global, len: usize) -> Result<Vec<u8>, AllocError>
     ensures len { IfOk result (λ v. length v.items ≡ len) }
     ensures zero { IfOk result (λ v. AreZeros v.items) }
 {

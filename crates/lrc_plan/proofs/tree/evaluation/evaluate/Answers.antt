@@ -1,7 +1,7 @@
 use Rattle.lrc_plan.specs.Tree.{form_of}
 use Rattle.lrc_plan.proofs.FittingStripes.{byte_at-lt}
 use Rattle.lrc_plan.proofs.ScaledValues.{scaled_once}
-use Rattle.lrc_plan.proofs.tree.evaluation.evaluate_in.Goals as goal
+use Rattle.lrc_plan.proofs.tree.evaluation.evaluate.Goals as goal
 
 pub returns : goal.returns
 returns g c = scaled_once _ c.args.request.now (form_of c.args.tree.now) c.in_ok-bytes.bytes.items
