@@ -19,8 +19,7 @@ use Rattle.lrc_code.specs.Sums.{GivesBytes}
 use Rattle.lrc_code.proofs.CodeTables.{own_places}
 use Rattle.lrc_code.proofs.CodeLaws.{code-linear}
 use Rattle.lrc_code.proofs.PlaceSums.{same_place-eq, index_of-lt, index_at}
-use Rattle.lrc_plan.specs.Extensions.{Extends}
-use Rattle.lrc_plan.specs.Planned.{ExtensionsDiffer}
+use Rattle.lrc_plan.specs.Planned.{Extends, ExtensionsDiffer}
 use Rattle.lrc_plan.specs.RowPlans.{IsRowValue, IsValueRow, AreCheckRows, ReadsSurvivors}
 use Rattle.lrc_c.specs.Lent.{at_place, AreUsed}
 use Rattle.lrc_c.specs.Arguments.{AreWhole}

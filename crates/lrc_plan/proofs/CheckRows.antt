@@ -11,9 +11,9 @@ use Rattle.std.proofs.lemmas.Bool.Decides.{eqb_tells}
 use Rattle.lrc_code.specs.declared.places.Place.{Place}
 use Rattle.lrc_code.specs.Sums.{GivesBytes}
 use Rattle.lrc_plan.specs.Form.{Form, meaning}
-use Rattle.lrc_plan.specs.ReducedRows.{row_sum, AreReduced}
+use Rattle.lrc_plan.specs.Rows.{row_sum, AreReduced}
 use Rattle.lrc_plan.specs.Planned.{LeavesSurvive, IsShallow, rows_without_pivot, AreChecks}
-use Rattle.lrc_plan.specs.ChecksBelow.{AreChecksBelow}
+use Rattle.lrc_plan.specs.PlanParts.{AreChecksBelow}
 use Rattle.lrc_plan.proofs.Extension.{has_extension}
 
 module _ (survives : Place → Bool) (coef : ℕ → Place → ℕ) (pivot : ℕ → Option Place) where

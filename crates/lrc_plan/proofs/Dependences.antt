@@ -11,7 +11,7 @@ use Rattle.lrc_code.specs.declared.places.Place.{Place}
 use Rattle.lrc_code.specs.Places.{same_place, all_places}
 use Rattle.lrc_code.specs.Sums.{GivesBytes, sum_over}
 use Rattle.lrc_code.proofs.PlaceSums.{same_place-eq, same_place-refl, same_place-sym, sum_over-same}
-use Rattle.lrc_plan.specs.ReducedRows.{dot}
+use Rattle.lrc_plan.specs.Rows.{dot}
 use Rattle.lrc_plan.proofs.Extension.{row_sum-add, row_sum-single, products_small, cond_small, zeros}
 
 -- ---- lists of places

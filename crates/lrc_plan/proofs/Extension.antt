@@ -13,9 +13,8 @@ use Rattle.std.specs.Int.Bits.{xor_assoc, xor_zero_r, xor_zero_l, xor_self}
 use Rattle.std.proofs.lemmas.Nat.{xor_lt}
 use Rattle.lrc_field.proofs.FieldLaws.{times-zero_r, times-zero, times-xor, times-one, times-one_r, times_lt}
 use Rattle.lrc_code.proofs.PlaceSums.{same_place-eq, sum_over-add, sum_over-same, sum_over-single}
-use Rattle.lrc_plan.specs.Planned.{ExtensionsDiffer}
-use Rattle.lrc_plan.specs.ReducedRows.{dot, row_sum, AreReduced, GiveTarget}
-use Rattle.lrc_plan.specs.Extensions.{Extends}
+use Rattle.lrc_plan.specs.Planned.{ExtensionsDiffer, Extends}
+use Rattle.lrc_plan.specs.Rows.{dot, row_sum, AreReduced, GiveTarget}
 
 one-ne-zero : ◌≡◌ {A = ℕ} 1 0 → ⊥
 one-ne-zero e = absurd (omega (arith, e))

@@ -21,10 +21,9 @@ use Rattle.lrc_code.proofs.PlaceSums.{same_place-eq}
 use Rattle.lrc_code.proofs.CodeLaws.{code-linear}
 use Rattle.lrc_code.proofs.RequestLaws.{accepted_target, accepted_places, accepted_length, accepted_lengths, accepted_bytes, survivors_hold_bytes, among_at}
 use Rattle.lrc_plan.specs.Form.{Form}
-use Rattle.lrc_plan.specs.Extensions.{Extends}
+use Rattle.lrc_plan.specs.Planned.{Extends, LeavesSurvive, ExtensionsDiffer}
 use Rattle.lrc_plan.specs.Evaluation.{byte_at, CanEvaluate}
 use Rattle.lrc_plan.specs.EvaluationParts.{AreWhole}
-use Rattle.lrc_plan.specs.Planned.{LeavesSurvive, ExtensionsDiffer}
 use Rattle.lrc_plan.specs.RowPlans.{AreCheckRows, IsValueRow}
 use Rattle.lrc_plan.specs.Terms.{AreRowSums, IsZeroRow}
 

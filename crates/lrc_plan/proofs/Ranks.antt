@@ -13,8 +13,7 @@ use Rattle.lrc_code.specs.Codes.{tables_of}
 use Rattle.lrc_code.specs.Sums.{GivesBytes}
 use Rattle.lrc_code.specs.Reduction.{Reduction, IsReduction}
 use Rattle.lrc_code.proofs.PlaceSums.{same_place-eq, same_place-refl, sum_over-same, sum_over-single}
-use Rattle.lrc_plan.specs.Rows.{coef_of, pivot_of}
-use Rattle.lrc_plan.specs.ReducedRows.{AreReduced, row_sum}
+use Rattle.lrc_plan.specs.Rows.{coef_of, pivot_of, AreReduced, row_sum}
 use Rattle.lrc_plan.specs.Planned.{rows_without_pivot}
 use Rattle.lrc_plan.proofs.ReductionRows.{reduced_rows}
 use Rattle.lrc_plan.proofs.Dependences.{apart_bools, neither, member, Apart, pivots_below, joined, Dependence, dependence}

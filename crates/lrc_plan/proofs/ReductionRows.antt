@@ -13,8 +13,7 @@ use Rattle.lrc_code.specs.Codes.{tables_of}
 use Rattle.lrc_code.specs.Reduction.{Reduction, IsReduction, IsPivot, row_at, row_sum_over}
 use Rattle.lrc_code.proofs.CodeTables.{four_equations, sum_over-code}
 use Rattle.lrc_code.proofs.PlaceSums.{index_of-lt}
-use Rattle.lrc_plan.specs.ReducedRows.{AreReduced, row_sum}
-use Rattle.lrc_plan.specs.Rows.{coef_of, pivot_of}
+use Rattle.lrc_plan.specs.Rows.{AreReduced, row_sum, coef_of, pivot_of}
 
 -- lost places outside the code don't count
 pub reduction_of : (code : Code) (survives lost : Place → Bool) (r : Reduction)

@@ -8,8 +8,8 @@ use Rattle.lrc_code.specs.declared.places.Place.{Place}
 use Rattle.lrc_code.specs.Code.{Code, combination}
 use Rattle.lrc_code.specs.Places.{index_of, same_place, all_places}
 use Rattle.lrc_code.proofs.PlaceSums.{sum_over-same, combination-sum_over}
-use Rattle.lrc_plan.specs.ReducedRows.{AreReduced, row_sum}
-use Rattle.lrc_plan.specs.ValueRows.{IsTargetRow}
+use Rattle.lrc_plan.specs.Rows.{AreReduced, row_sum}
+use Rattle.lrc_plan.specs.PlanParts.{IsTargetRow}
 use Rattle.lrc_plan.specs.Planned.{ExtensionsDiffer}
 use Rattle.lrc_plan.specs.RowPlans.{IsRowValue, ReadsSurvivors, IsValueRow, IsCheckRow, AreCheckRows}
 use Rattle.lrc_plan.proofs.Extension.{determined, has_extension, zeros}

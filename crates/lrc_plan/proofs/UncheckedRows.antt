@@ -1,5 +1,5 @@
 -- Where the equations can be solved for four lost places, no check is left.
-use Rattle.std.proofs.Common.{◌≡◌, ◌<◌, ℕ, zero, suc, Bool, true, List, [], ◌∷◌, Option, Some, None, refl, sym, ◌∙◌, ap, subst, arith, lit<, replicate, map, All}
+use Rattle.std.proofs.Common.{◌≡◌, ◌<◌, ℕ, zero, suc, Bool, true, List, Option, Some, None, refl, sym, ◌∙◌, ap, subst, arith, lit<, replicate, map, All}
 use Rattle.std.specs.Prelude.{not, ◌&&◌, slice_index, slice_index_or}
 use Rattle.lrc_code.specs.declared.places.Group.{Group}
 use Rattle.lrc_code.specs.declared.places.Group.TheVariants as group
@@ -14,7 +14,7 @@ use Rattle.lrc_code.specs.Codes.{tables_of}
 use Rattle.lrc_code.specs.Reduction.{Reduction}
 use Rattle.lrc_code.proofs.FourPivots.{four_rows, four_pivots, four_reduced, other_parity as parity_beside}
 use Rattle.lrc_plan.specs.Rows.{coef_of, pivot_of}
-use Rattle.lrc_plan.specs.GroupRows.{other_parity}
+use Rattle.lrc_plan.specs.PlanParts.{other_parity}
 use Rattle.lrc_plan.specs.RowPlans.{AreCheckRows, IsCheckRow}
 use Rattle.lrc_plan.proofs.ReductionRows.{reduction_of, reduced_rows}
 use Rattle.std.proofs.lemmas.List.Elements.{All-from_recursion}

@@ -26,11 +26,9 @@ use Rattle.lrc_code.proofs.PlaceSums.{at_places, sum_over-same, same_place-eq, s
 use Rattle.lrc_code.proofs.CodeTables.{at_index, combination-at, own_places}
 use Rattle.lrc_code.proofs.Words.{word, word_small, word_apart, word_solves}
 use Rattle.lrc_plan.specs.Form.{Form, meaning, has_leaf}
-use Rattle.lrc_plan.specs.ReducedRows.{AreReduced, GiveTarget, HaveOtherLost, dot}
-use Rattle.lrc_plan.specs.GroupRows.{group_coefficient, group_row}
-use Rattle.lrc_plan.specs.ValueRows.{IsTargetRow, HasRowLeaves, cut}
-use Rattle.lrc_plan.specs.Extensions.{Extends}
-use Rattle.lrc_plan.specs.Planned.{ExtensionsDiffer, IsTargetValue, IsLocal, IsLocalTree, group_others, same_group}
+use Rattle.lrc_plan.specs.Rows.{AreReduced, GiveTarget, HaveOtherLost, dot}
+use Rattle.lrc_plan.specs.PlanParts.{group_coefficient, group_row, IsTargetRow, HasRowLeaves, cut}
+use Rattle.lrc_plan.specs.Planned.{Extends, ExtensionsDiffer, IsTargetValue, IsLocal, IsLocalTree, group_others, same_group}
 use Rattle.lrc_plan.specs.Sums.{sum_meaning, some_leaf, some_leaf_total}
 use Rattle.lrc_plan.proofs.Extension.{determined}
 

@@ -1,15 +1,23 @@
 -- What a plan promises.
-use Rattle.std.specs.Prelude.{◌≡◌, ◌≢◌, ℕ, ◌≤◌, ◌+◌, ◌↔◌, Bool, true, false, Option, Some, IfSome, IsNone, IsSomeAnd, List, length, All, is_none, zero, suc, if◌then◌else◌, not, ◌&&◌, filter, IsSome}
+use Rattle.std.specs.Prelude.{◌≡◌, ℕ, Bool, true, ◌≢◌, ◌≤◌, ◌+◌, ◌↔◌, false, Option, Some, IfSome, IsNone, IsSomeAnd, List, length, All, is_none, zero, suc, if◌then◌else◌, not, ◌&&◌, filter, IsSome, map}
 use Rattle.lrc_code.specs.declared.places.Place.{Place}
+use Rattle.lrc_code.specs.Code.{Code, Solves}
+use Rattle.lrc_code.specs.Sums.{GivesBytes}
 use Rattle.lrc_code.specs.declared.places.Group.{Group}
 use Rattle.lrc_code.specs.declared.places.Group.TheVariants as group
 use Rattle.lrc_code.specs.Places.{same_place, group_of}
-use Rattle.lrc_code.specs.Sums.{GivesBytes}
 use Rattle.lrc_plan.specs.Form.{Form, meaning, has_leaf, leaf_total, depth}
-use Rattle.lrc_code.specs.Code.{Code}
 use Rattle.lrc_code.specs.Reduction.{Reduction, IsReduction}
 use Rattle.lrc_plan.specs.Rows.{pivot_of}
-use Rattle.lrc_plan.specs.Extensions.{Extends}
+use Rattle.std.specs.Option.{option_map}
+use Rattle.lrc_plan.specs.declared.plans.Plan.{Plan}
+use Rattle.lrc_plan.specs.Tree.{form_of}
+
+-- a byte at each place that solves the code's equations and keeps the survivors' bytes; places outside the code play no part
+pub record Extends (code : Code) (survives : Place → Bool) (s e : Place → ℕ) : Type 0 where
+  pub bytes : GivesBytes e
+  pub solves : Solves code.equations code.places e
+  pub kept : (p : Place) → survives p ≡ true → e p ≡ s p
 
 -- all leaves survive
 abbrev pub LeavesSurvive : (Place → Bool) → Form → Type 0
@@ -78,3 +86,11 @@ pub record HasCheckCount (code : Code) (survives : Place → Bool) (n : ℕ) : T
   pub each : (r : Reduction) → IsReduction code (λ p. not (survives p)) r
       → n ≡ rows_without_pivot (pivot_of r) (length code.equations)
   pub some : (r : Reduction) × IsReduction code (λ p. not (survives p)) r
+
+-- the form of the value, if there is one
+abbrev pub value_form : {A : Type 0} → Plan A → Option Form
+value_form plan = option_map form_of plan.value
+
+-- the forms of the checks
+abbrev pub check_forms : {A : Type 0} → Plan A → List Form
+check_forms plan = map form_of plan.checks.items

@@ -4,8 +4,7 @@ use Rattle.lrc_code.specs.declared.places.Place.{Place}
 use Rattle.lrc_code.specs.Places.{index_of, all_places}
 use Rattle.lrc_code.specs.Code.{Code, combination}
 use Rattle.lrc_code.specs.Sums.{GivesBytes}
-use Rattle.lrc_plan.specs.Extensions.{Extends}
-use Rattle.lrc_plan.specs.Planned.{ExtensionsDiffer}
+use Rattle.lrc_plan.specs.Planned.{Extends, ExtensionsDiffer}
 
 -- the row is 0 at places that don't survive
 abbrev pub ReadsSurvivors : (Place → Bool) → List ℕ → Type 0

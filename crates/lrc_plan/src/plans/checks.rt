@@ -3,11 +3,9 @@ ghost use Rattle.lrc_code.specs.Codes.{tables_of};
 ghost use Rattle.std.specs.Prelude.{◌≡◌, ◌<◌, ◌+◌, map, All, IfOk, OnOk, vec_len};
 ghost use Rattle.lrc_code.specs.Sets.{is_in};
 ghost use Rattle.lrc_plan.specs.Tree.{form_of};
-ghost use Rattle.lrc_plan.specs.ReducedRows.{AreReduced};
-ghost use Rattle.lrc_plan.specs.Rows.{coef_of, pivot_of};
-ghost use Rattle.lrc_plan.specs.Planned.{AreChecks, IsShallow};
-ghost use Rattle.lrc_plan.specs.ChecksBelow.{AreChecksBelow};
-ghost use Rattle.lrc_plan.specs.Planned.{rows_without_pivot};
+ghost use Rattle.lrc_plan.specs.Rows.{AreReduced, coef_of, pivot_of};
+ghost use Rattle.lrc_plan.specs.Planned.{AreChecks, IsShallow, rows_without_pivot};
+ghost use Rattle.lrc_plan.specs.PlanParts.{AreChecksBelow};
 
 use crate::plans::products::row_tree;
 use crate::plans::rows::{PLACES, count_without_pivot, row_of};

@@ -5,8 +5,7 @@ ghost use Rattle.lrc_code.specs.Sets.{is_in};
 ghost use Rattle.lrc_code.specs.Code.{narrow, has_place};
 ghost use Rattle.lrc_code.specs.Codes.{tables_of};
 ghost use Rattle.lrc_code.specs.Reduction.{IsReduction};
-ghost use Rattle.lrc_plan.specs.PlanForms.{value_form, check_forms};
-ghost use Rattle.lrc_plan.specs.Planned.{IsPlan, IsShallow, HasCheckCount};
+ghost use Rattle.lrc_plan.specs.Planned.{value_form, check_forms, IsPlan, IsShallow, HasCheckCount};
 
 use crate::plans::Plan;
 use crate::plans::checks::checks_of;

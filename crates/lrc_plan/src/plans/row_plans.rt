@@ -6,11 +6,9 @@ ghost use Rattle.lrc_code.specs.Codes.{tables_of};
 ghost use Rattle.lrc_code.specs.Places.{index_of};
 ghost use Rattle.lrc_code.specs.Reduction.{IsReduction};
 ghost use Rattle.lrc_code.specs.Sets.{is_in};
-ghost use Rattle.lrc_plan.specs.Rows.{coef_of, pivot_of};
-ghost use Rattle.lrc_plan.specs.ReducedRows.{AreReduced};
+ghost use Rattle.lrc_plan.specs.Rows.{coef_of, pivot_of, AreReduced};
 ghost use Rattle.lrc_plan.specs.Planned.{ExtensionsDiffer};
-ghost use Rattle.lrc_plan.specs.ValueRows.{IsTargetRow};
-ghost use Rattle.lrc_plan.specs.GroupRows.{other_parity as other_parity_of};
+ghost use Rattle.lrc_plan.specs.PlanParts.{IsTargetRow, other_parity as other_parity_of};
 ghost use Rattle.lrc_plan.specs.RowPlans.{IsCheckRow, IsValueRow, AreCheckRows, IsRowPlan};
 
 use crate::plans::rows::{PLACES, determines, row_of, row_with_pivot};

@@ -4,9 +4,8 @@ ghost use Rattle.std.specs.Bool.{OnTrue};
 ghost use Rattle.lrc_code.specs.declared.places.Place.{Place};
 ghost use Rattle.lrc_code.specs.Places.{index_of, all_places};
 ghost use Rattle.lrc_code.specs.Sets.{is_in};
-ghost use Rattle.lrc_plan.specs.Rows.{coef_of, pivot_of};
+ghost use Rattle.lrc_plan.specs.Rows.{coef_of, pivot_of, GiveTarget, HaveOtherLost};
 ghost use Rattle.lrc_plan.specs.Planned.{rows_without_pivot};
-ghost use Rattle.lrc_plan.specs.ReducedRows.{GiveTarget, HaveOtherLost};
 
 use lrc_code::{Place, PlaceSet, Reduced};
 use lrc_field::Gf;

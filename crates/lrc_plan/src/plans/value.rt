@@ -8,11 +8,9 @@ ghost use Rattle.lrc_code.specs.Codes.{tables_of};
 ghost use Rattle.lrc_code.specs.Sets.{is_in};
 ghost use Rattle.lrc_code.specs.Sums.{GivesBytes};
 ghost use Rattle.lrc_plan.specs.Tree.{form_of};
-ghost use Rattle.lrc_plan.specs.GroupRows.{group_row};
-ghost use Rattle.lrc_plan.specs.ReducedRows.{AreReduced, GiveTarget, dot};
-ghost use Rattle.lrc_plan.specs.Rows.{coef_of, pivot_of};
+ghost use Rattle.lrc_plan.specs.PlanParts.{group_row, IsTargetRow, HasRowLeaves};
+ghost use Rattle.lrc_plan.specs.Rows.{AreReduced, GiveTarget, dot, coef_of, pivot_of};
 ghost use Rattle.lrc_plan.specs.Planned.{IsTargetValue, IsShallow, IsLocal, IsLocalTree};
-ghost use Rattle.lrc_plan.specs.ValueRows.{IsTargetRow, HasRowLeaves};
 
 use crate::plans::products::row_tree;
 use crate::plans::rows::{PLACES, determines, row_of, row_with_pivot};

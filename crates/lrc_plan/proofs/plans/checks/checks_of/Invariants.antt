@@ -2,7 +2,7 @@ use Rattle.std.proofs.Common.{map}
 use Rattle.lrc_code.specs.Sets.{is_in}
 use Rattle.lrc_plan.specs.Tree.{form_of}
 use Rattle.lrc_plan.specs.Rows.{coef_of, pivot_of}
-use Rattle.lrc_plan.specs.ChecksBelow.{AreChecksBelow}
+use Rattle.lrc_plan.specs.PlanParts.{AreChecksBelow}
 use Rattle.lrc_plan.proofs.plans.checks.checks_of.Given as goal
 
 abbrev pub invariant-loop-row : goal.invariant-loop-row

@@ -4,7 +4,7 @@ use Rattle.lrc_code.specs.declared.places.Place.TheVariants.{P0, P1}
 use Rattle.lrc_code.specs.Code.{has_place}
 use Rattle.lrc_code.specs.Codes.{tables_of}
 use Rattle.lrc_code.specs.Sets.{is_in}
-use Rattle.lrc_plan.specs.GroupRows.{other_parity}
+use Rattle.lrc_plan.specs.PlanParts.{other_parity}
 use Rattle.lrc_plan.proofs.UncheckedRows.{no_checks}
 use Rattle.lrc_plan.proofs.plans.row_plans.row_in_group.Goals as goal
 

@@ -1,7 +1,7 @@
 use Rattle.std.proofs.Common.{refl, ◌∙◌, sym, ap}
 use Rattle.lrc_code.specs.Codes.{tables_of}
 use Rattle.lrc_code.specs.Sets.{is_in}
-use Rattle.lrc_plan.specs.GroupRows.{group_row}
+use Rattle.lrc_plan.specs.PlanParts.{group_row}
 use Rattle.lrc_plan.proofs.Values.{group_target_row, not_local}
 use Rattle.lrc_plan.proofs.plans.value.local_row.Goals as goal
 

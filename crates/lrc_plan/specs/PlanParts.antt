@@ -1,0 +1,49 @@
+-- What the parts of a plan say: rows that give the target, and the checks of the first rows.
+use Rattle.std.specs.Prelude.{ℕ, ◌&&◌, Option, List, map, if◌then◌else◌, ◌≡◌, ◌≢◌, Bool, true, count_by, not, ◌==◌, ◌<◌, ◌↔◌, None, length, All}
+use Rattle.lrc_code.specs.declared.places.Place.{Place}
+use Rattle.lrc_code.specs.declared.places.Place.TheVariants.{Px, Py}
+use Rattle.lrc_code.specs.declared.places.Group.{Group}
+use Rattle.lrc_code.specs.declared.places.Group.TheVariants as group
+use Rattle.lrc_code.specs.Places.{group_of, all_places, same_place}
+use Rattle.lrc_code.specs.Code.{Code, has_place, Solves}
+use Rattle.lrc_plan.specs.Planned.{same_group, LeavesSurvive, IsShallow, rows_without_pivot}
+use Rattle.lrc_code.specs.Sums.{GivesBytes}
+use Rattle.lrc_plan.specs.Form.{Form, meaning}
+use Rattle.lrc_plan.specs.Sums.{some_leaf, some_leaf_total}
+use Rattle.lrc_plan.specs.Rows.{dot, GiveTarget, row_sum}
+
+-- 1 at the code's places of the group, 0 at the others
+abbrev pub group_coefficient : Code → Option Group → Place → ℕ
+group_coefficient code g p = if has_place code p && same_group (group_of p) g then 1 else 0
+
+abbrev pub group_row : Code → Option Group → List ℕ
+group_row code g = map (group_coefficient code g) all_places
+
+-- the local parity of the other group
+abbrev pub other_parity : Group → Place
+other_parity group.X = Py
+other_parity group.Y = Px
+
+-- coefficients whose sum is 0 for all bytes of the code, with 1 at the target and 0 at all other lost places
+pub record IsTargetRow (code : Code) (survives : Place → Bool) (target : Place) (c : Place → ℕ) : Type 0 where
+  pub one : c target ≡ 1
+  pub clear : GiveTarget survives c target
+  pub holds : (e : Place → ℕ) → GivesBytes e → Solves code.equations code.places e → dot c e ≡ 0
+
+-- the coefficients without the target's
+abbrev pub cut : (Place → ℕ) → Place → Place → ℕ
+cut c t p = if same_place t p then 0 else c p
+
+-- a leaf for each place but the target whose coefficient isn't 0
+pub record HasRowLeaves (target : Place) (c : Place → ℕ) (value : Option Form) : Type 0 where
+  pub total : some_leaf_total value ≡ count_by (λ p. not (cut c target p == 0)) all_places
+  pub all : (p : Place) → cut c target p ≢ 0 → some_leaf value p ≡ true
+
+-- the checks of the first n rows
+pub record AreChecksBelow (survives : Place → Bool) (coef : ℕ → Place → ℕ) (pivot : ℕ → Option Place)
+    (n : ℕ) (checks : List Form) : Type 0 where
+  pub leaves : All (LeavesSurvive survives) checks
+  pub means : (s : Place → ℕ) → GivesBytes s
+      → All (λ t. meaning s t ≡ 0) checks ↔ ((r : ℕ) → r < n → pivot r ≡ None → row_sum coef r s ≡ 0)
+  pub shallow : All IsShallow checks
+  pub count : length checks ≡ rows_without_pivot pivot n
