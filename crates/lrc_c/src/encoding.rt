@@ -13,7 +13,7 @@ use crate::checking::lent_are_bytes;
 use crate::combining::terms_of;
 use crate::lent::Lent;
 use crate::windows::{Checks, Wanted, Wants, write_checked};
-use lrc_code::Code;
+use lrc_code::{Code, NARROW_PARITIES, WIDE_PARITIES};
 
 // Whether each slice has so many bytes.
 fn have_length(sources: &[Lent], len: usize) -> bool
@@ -37,10 +37,10 @@ fn encode_narrow(sources: &[Lent], px: &mut [u8], py: &mut [u8], p0: &mut [u8], 
 {
     lent_are_bytes(sources);
     let rows = Rows {
-        px: &[0x01, 0x01, 0x01, 0x00, 0x00, 0x00],
-        py: &[0x00, 0x00, 0x00, 0x01, 0x01, 0x01],
-        p0: &[0x04, 0x08, 0x0c, 0x01, 0x02, 0x03],
-        p1: &[0x10, 0x40, 0x50, 0x01, 0x04, 0x05],
+        px: &NARROW_PARITIES[0],
+        py: &NARROW_PARITIES[1],
+        p0: &NARROW_PARITIES[2],
+        p1: &NARROW_PARITIES[3],
     };
     write_parities(rows, sources, px, py, p0, p1);
 }
@@ -54,14 +54,10 @@ fn encode_wide(sources: &[Lent], px: &mut [u8], py: &mut [u8], p0: &mut [u8], p1
 {
     lent_are_bytes(sources);
     let rows = Rows {
-        px: &[1, 1, 1, 1, 1, 1, 0, 0, 0, 0, 0, 0],
-        py: &[0, 0, 0, 0, 0, 0, 1, 1, 1, 1, 1, 1],
-        p0: &[
-            0x10, 0x20, 0x30, 0x40, 0x50, 0x60, 0x01, 0x02, 0x03, 0x04, 0x05, 0x06,
-        ],
-        p1: &[
-            0x1d, 0x74, 0x69, 0xcd, 0xd0, 0xb9, 0x01, 0x04, 0x05, 0x10, 0x11, 0x14,
-        ],
+        px: &WIDE_PARITIES[0],
+        py: &WIDE_PARITIES[1],
+        p0: &WIDE_PARITIES[2],
+        p1: &WIDE_PARITIES[3],
     };
     write_parities(rows, sources, px, py, p0, p1);
 }
