@@ -8,9 +8,9 @@ ghost use Rattle.lrc_plan.specs.Planned.{AreChecks, IsShallow, rows_without_pivo
 ghost use Rattle.lrc_plan.specs.PlanParts.{AreChecksBelow};
 
 use crate::plans::products::row_tree;
-use crate::plans::rows::{PLACES, count_without_pivot, row_of};
+use crate::plans::rows::{count_without_pivot, row_of};
 use crate::tree::Tree;
-use lrc_code::{Code, PlaceSet, Reduced};
+use lrc_code::{Code, Place, PlaceSet, Reduced};
 use std::alloc::{AllocError, Allocator};
 
 // One check for each row without a pivot.
@@ -52,7 +52,7 @@ fn add_check<A: Allocator + Clone>(
         Some(_) => Ok(()),
         None => {
             let coefficients = row_of(reduced, row);
-            match row_tree(alloc, &coefficients, &PLACES)? {
+            match row_tree(alloc, &coefficients, &Place::ALL)? {
                 Some(tree) => {
                     checks.push(tree)?;
                     Ok(())

@@ -11,7 +11,7 @@ ghost use Rattle.lrc_plan.specs.Planned.{ExtensionsDiffer};
 ghost use Rattle.lrc_plan.specs.PlanParts.{IsTargetRow, other_parity as other_parity_of};
 ghost use Rattle.lrc_plan.specs.RowPlans.{IsCheckRow, IsValueRow, AreCheckRows, IsRowPlan};
 
-use crate::plans::rows::{PLACES, determines, row_of, row_with_pivot};
+use crate::plans::rows::{determines, row_of, row_with_pivot};
 use crate::plans::value::local_row;
 use lrc_code::{Code, Group, Place, PlaceSet, Reduced, reduce_in};
 use lrc_field::Gf;
@@ -144,7 +144,7 @@ fn value_row(code: Code, reduced: &Reduced, survivors: PlaceSet, target: Place) 
         return None;
     };
     let row = row_of(reduced, pivot_row);
-    if !determines(&row, survivors, target, &PLACES) {
+    if !determines(&row, survivors, target, &Place::ALL) {
         return None;
     }
     Some(cut_row(code, row, survivors, target))

@@ -10,26 +10,6 @@ ghost use Rattle.lrc_plan.specs.Planned.{rows_without_pivot};
 use lrc_code::{Place, PlaceSet, Reduced};
 use lrc_field::Gf;
 
-/// All places, in the order of their indexes.
-pub(crate) const PLACES: [Place; 16] = [
-    Place::X0,
-    Place::X1,
-    Place::X2,
-    Place::Y0,
-    Place::Y1,
-    Place::Y2,
-    Place::Px,
-    Place::Py,
-    Place::P0,
-    Place::P1,
-    Place::X3,
-    Place::X4,
-    Place::X5,
-    Place::Y3,
-    Place::Y4,
-    Place::Y5,
-];
-
 // The coefficients of a row.
 pub(crate) fn row_of(reduced: &Reduced, row: usize) -> [Gf; 16]
     requires { row < 4 }

@@ -13,7 +13,7 @@ ghost use Rattle.lrc_plan.specs.Rows.{AreReduced, GiveTarget, dot, coef_of, pivo
 ghost use Rattle.lrc_plan.specs.Planned.{IsTargetValue, IsShallow, IsLocal, IsLocalTree};
 
 use crate::plans::products::row_tree;
-use crate::plans::rows::{PLACES, determines, row_of, row_with_pivot};
+use crate::plans::rows::{determines, row_of, row_with_pivot};
 use crate::tree::Tree;
 use lrc_code::{Code, Group, Place, PlaceSet, Reduced};
 use lrc_field::Gf;
@@ -49,7 +49,7 @@ fn tree_of_row<A: Allocator + Clone>(
 {
     let mut coefficients = row;
     coefficients[target.index()] = Gf::new(0);
-    let tree = row_tree(alloc, &coefficients, &PLACES)?;
+    let tree = row_tree(alloc, &coefficients, &Place::ALL)?;
     Ok(tree)
 }
 
@@ -70,7 +70,7 @@ fn row_value<A: Allocator + Clone>(
         return Ok(None);
     };
     let coefficients = row_of(reduced, row);
-    if !determines(&coefficients, survivors, target, &PLACES) {
+    if !determines(&coefficients, survivors, target, &Place::ALL) {
         return Ok(None);
     }
     let tree = tree_of_row(alloc, code, coefficients, survivors, target)?;
@@ -86,7 +86,7 @@ pub(crate) fn local_row(code: Code, survivors: PlaceSet, target: Place) -> Optio
         × IsTargetRow (tables_of code) (is_in survivors) target (λ p. slice_index row (index_of p))) }
 {
     let row = equation_of(code, target.group()?);
-    if determines(&row, survivors, target, &PLACES) {
+    if determines(&row, survivors, target, &Place::ALL) {
         return Some(row);
     }
     None
