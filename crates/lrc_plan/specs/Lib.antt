@@ -7,6 +7,5 @@ pub mod Planned
 pub mod Rows
 pub mod PlanParts
 pub mod Sums
-pub mod Solved
 pub mod Terms
 pub mod RowPlans

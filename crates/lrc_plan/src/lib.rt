@@ -21,7 +21,6 @@
 
 pub mod answer_laws;
 mod plans;
-mod solved;
 mod solving;
 mod tree;
 

@@ -6,13 +6,11 @@ ghost use Rattle.lrc_code.specs.Answers.{IsAnswer};
 ghost use Rattle.lrc_code.specs.Requests.{AreSources, is_among};
 ghost use Rattle.lrc_code.specs.Sets.{is_in};
 ghost use Rattle.lrc_plan.specs.RowPlans.{IsRowPlan};
-ghost use Rattle.lrc_plan.specs.Solved.{outcome_of};
 ghost use Rattle.lrc_plan.specs.Terms.{IsZeroRow};
 
 pub mod terms;
 
 use crate::plans::row_plans::{RowPlan, plan_rows, row_in_group};
-use crate::solved::Solved;
 use crate::solving::terms::{is_zero, row_sums};
 use lrc_code::{Bytes, Outcome, PlaceSet, Request, Sources};
 use lrc_field::Gf;
@@ -36,17 +34,6 @@ pub fn solve<A: Allocator + Clone>(
     ensures { IfOk result (IsAnswer request.now) }
 {
     let _ = plan_alloc;
-    match solve_in(alloc, request)? {
-        Solved::Rebuilt(bytes) => Ok(Outcome::Rebuilt(Bytes::new(bytes))),
-        Solved::Contradiction => Ok(Outcome::Contradiction),
-        Solved::Several => Ok(Outcome::Several),
-    }
-}
-
-// `solve` with the bytes in any allocator.
-pub(crate) fn solve_in<B: Allocator>(alloc: B, request: &Request) -> Result<Solved<B>, AllocError>
-    ensures { IfOk result (λ s. IsAnswer request.now (outcome_of s)) }
-{
     let code = request.code();
     let survivors = request.survivors();
     let target = request.target();
@@ -55,50 +42,50 @@ pub(crate) fn solve_in<B: Allocator>(alloc: B, request: &Request) -> Result<Solv
         return rebuilt(alloc, survivors, &row, request);
     }
     let plan = plan_rows(code, survivors, target);
-    let solved = apply(alloc, survivors, &plan, request)?;
-    Ok(solved)
+    let outcome = apply(alloc, survivors, &plan, request)?;
+    Ok(outcome)
 }
 
 // What a row answers where there are no checks.
-fn rebuilt<B: Allocator>(
-    alloc: B,
+fn rebuilt(
+    alloc: Global,
     survivors: PlaceSet,
     row: &[Gf; 16],
     request: &Request,
-) -> Result<Solved<B>, AllocError>
+) -> Result<Outcome, AllocError>
     requires survivors { (p : Place) → is_in survivors p ≡ is_among p request.now.survivors }
     requires plan { IsRowPlan (tables_of request.now.code) (is_in survivors) request.now.target (Some row.now) (replicate 4 (replicate 16 0)) }
-    ensures { IfOk result (λ s. IsAnswer request.now (outcome_of s)) }
+    ensures { IfOk result (IsAnswer request.now) }
 {
     let _ = request.length();
     let sources = request.sources();
     let bytes = row_sums(alloc, row, request, &sources)?;
-    Ok(Solved::Rebuilt(bytes))
+    Ok(Outcome::Rebuilt(Bytes::new(bytes)))
 }
 
 // What the plan answers. The checks need no memory, and the value needs that of its bytes.
-fn apply<B: Allocator>(
-    alloc: B,
+fn apply(
+    alloc: Global,
     survivors: PlaceSet,
     plan: &RowPlan,
     request: &Request,
-) -> Result<Solved<B>, AllocError>
+) -> Result<Outcome, AllocError>
     requires survivors { (p : Place) → is_in survivors p ≡ is_among p request.now.survivors }
     requires plan { IsRowPlan (tables_of request.now.code) (is_in survivors) request.now.target plan.now.value plan.now.checks }
-    ensures { IfOk result (λ s. IsAnswer request.now (outcome_of s)) }
+    ensures { IfOk result (IsAnswer request.now) }
 {
     let _ = request.length();
     let sources = request.sources();
     let possible = are_zero(&plan.checks, request, &sources);
     if !possible {
-        return Ok(Solved::Contradiction);
+        return Ok(Outcome::Contradiction);
     }
     match &plan.value {
         Some(row) => {
             let bytes = row_sums(alloc, row, request, &sources)?;
-            Ok(Solved::Rebuilt(bytes))
+            Ok(Outcome::Rebuilt(Bytes::new(bytes)))
         }
-        None => Ok(Solved::Several),
+        None => Ok(Outcome::Several),
     }
 }
 

@@ -6,15 +6,15 @@ ghost use Rattle.lrc_plan.specs.Terms.{AreRowSums, AreTerms, IsTermAt, IsZeroRow
 
 use lrc_code::{Request, Sources};
 use lrc_field::{Gf, Term, combined, sums_are_zero};
-use std::alloc::{AllocError, Allocator};
+use std::alloc::{AllocError, Global};
 
 // The row's sum at each position.
-pub(crate) fn row_sums<B: Allocator>(
-    alloc: B,
+pub(crate) fn row_sums(
+    alloc: Global,
     row: &[Gf; 16],
     request: &Request,
     sources: &Sources<'_>,
-) -> Result<Vec<u8, B>, AllocError>
+) -> Result<Vec<u8>, AllocError>
     requires { AreSources request.now.survivors sources.now }
     ensures { IfOk result (λ v. AreRowSums request.now row.now v.items) }
 {
