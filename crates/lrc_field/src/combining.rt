@@ -164,6 +164,7 @@ fn write_sums(dst: &mut [u8], from: usize, terms: &[Term], tables: &[Option<Tabl
 
 // The same for three slices as they are, as a group of four has them for one that is lost: no table is looked for.
 fn write_sums_of_three(dst: &mut [u8], from: usize, first: &[u8], second: &[u8], third: &[u8])
+    requires many { 32 ≤ length dst.old }
     requires fits { from + length dst.old < 2 ^ 64 }
     requires in_first { from + length dst.old ≤ length first.now }
     requires in_second { from + length dst.old ≤ length second.now }
@@ -171,16 +172,7 @@ fn write_sums_of_three(dst: &mut [u8], from: usize, first: &[u8], second: &[u8],
     ensures len { length dst.new ≡ length dst.old }
     ensures sums { AreSet (λ k. three_at first.now second.now third.now (from + k)) dst.new (length dst.old) }
 {
-    if dst.len() < 32 {
-        write_few_of_three(dst, from, first, second, third);
-        return;
-    }
-    let mut i = 0;
-    'quads: while dst.len() - i >= 128 {
-        let sums = quad_of_three(first, second, third, from + i);
-        blocks::put_quad(dst, i, sums);
-        i += 128;
-    }
+    let mut i = write_quads_of_three(dst, from, first, second, third);
     'singles: while dst.len() - i >= 32 {
         let sums = block_of_three(first, second, third, from + i);
         blocks::put(dst, i, sums);
@@ -195,24 +187,38 @@ fn write_sums_of_three(dst: &mut [u8], from: usize, first: &[u8], second: &[u8],
     blocks::put(dst, rest, sums);
 }
 
-// The same, byte by byte.
-fn write_few_of_three(dst: &mut [u8], from: usize, first: &[u8], second: &[u8], third: &[u8])
+// Writes the same at as many places from the front as whole blocks of 128 have, and tells how many. A block is written after the next
+// one's bytes are read: a read waits for a write before it whose address has the same low twelve bits, and memory that is taken
+// after the sources' often stands a few bytes past theirs in that measure.
+#[inline(always)]
+fn write_quads_of_three(
+    dst: &mut [u8],
+    from: usize,
+    first: &[u8],
+    second: &[u8],
+    third: &[u8],
+) -> usize
     requires fits { from + length dst.old < 2 ^ 64 }
     requires in_first { from + length dst.old ≤ length first.now }
     requires in_second { from + length dst.old ≤ length second.now }
     requires in_third { from + length dst.old ≤ length third.now }
     ensures len { length dst.new ≡ length dst.old }
-    ensures sums { AreSet (λ k. three_at first.now second.now third.now (from + k)) dst.new (length dst.old) }
+    ensures within { result ≤ length dst.old }
+    ensures sums { AreSet (λ k. three_at first.now second.now third.now (from + k)) dst.new result }
 {
-    for k in 0..dst.len() {
-        dst[k] = sum_of_three(first[from + k], second[from + k], third[from + k]);
+    if dst.len() < 128 {
+        return 0;
     }
-}
-
-fn sum_of_three(first: u8, second: u8, third: u8) -> u8
-    ensures { result ≡ bit_xor (times 1 first) (bit_xor (times 1 second) (times 1 third)) }
-{
-    first ^ (second ^ third)
+    let mut sums = quad_of_three(first, second, third, from);
+    let mut i = 0;
+    'quads: while dst.len() - i >= 256 {
+        let next = quad_of_three(first, second, third, from + i + 128);
+        blocks::put_quad(dst, i, sums);
+        sums = next;
+        i += 128;
+    }
+    blocks::put_quad(dst, i, sums);
+    i + 128
 }
 
 // The sums of three slices at 32 places, from place `i` on.
@@ -339,6 +345,7 @@ fn combined_of_three<A: Allocator>(
     second: &[u8],
     third: &[u8],
 ) -> Result<Vec<u8, A>, AllocError>
+    requires many { 32 ≤ len }
     requires in_first { length first.now ≡ len }
     requires in_second { length second.now ≡ len }
     requires in_third { length third.now ≡ len }
@@ -351,7 +358,7 @@ fn combined_of_three<A: Allocator>(
     Ok(bytes)
 }
 
-// Appends the sums of three slices at up to 4,096 further places.
+// Appends the sums of three slices at 4,096 further places, or at all where few are left behind these.
 fn append_part_of_three<A: Allocator>(
     bytes: &mut Vec<u8, A>,
     len: usize,
@@ -362,13 +369,14 @@ fn append_part_of_three<A: Allocator>(
     requires in_first { length first.now ≡ len }
     requires in_second { length second.now ≡ len }
     requires in_third { length third.now ≡ len }
-    requires more { length bytes.old.items < len }
+    requires many { length bytes.old.items + 32 ≤ len }
     ensures longer { OnOk result (length bytes.old.items < length bytes.new.items) }
-    ensures within { OnOk result (length bytes.new.items ≤ len) }
+    ensures many { OnOk result ((length bytes.new.items ≤ len) × (length bytes.new.items < len → length bytes.new.items + 32 ≤ len)) }
     ensures set { AreSet (three_at first.now second.now third.now) bytes.old.items (length bytes.old.items) → OnOk result (AreSet (three_at first.now second.now third.now) bytes.new.items (length bytes.new.items)) }
 {
     let from = bytes.len();
-    let part = (len - from).min(4096);
+    let left = len - from;
+    let part = if left < 8192 { left } else { 4096 };
     bytes.resize(from + part, 0)?;
     write_sums_of_three(bytes.slice_mut(from..), from, first, second, third);
     Ok(())

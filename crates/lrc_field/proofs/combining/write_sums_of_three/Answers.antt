@@ -1,18 +1,7 @@
 use Rattle.std.proofs.Common.{◌+◌, ◌-◌, length, ap, arith}
 use Rattle.lrc_field.specs.Combined.{three_at}
-use Rattle.lrc_field.proofs.TermSums.{lanes_same, quad_same}
+use Rattle.lrc_field.proofs.TermSums.{lanes_same}
 use Rattle.lrc_field.proofs.combining.write_sums_of_three.Goals as goal
-
-pub quads-preserved : goal.quads-preserved
-quads-preserved c =
-    let sum = three_at c.args.first.now c.args.second.now c.args.third.now in
-    let from = c.args.from in
-    let i = c.quads.i in
-    record {
-      within = omega arith;
-      set = c.put_quad.ensures.set (λ k. sum (from + k)) c.quads.invariant.set
-          (quad_same c.quad_of_three-sums.result (λ k. sum (from + i + k)) (λ k. sum (from + (i + k))) (λ k lt. ap sum (omega arith)) c.quad_of_three-sums.ensures);
-    }
 
 pub singles-preserved : goal.singles-preserved
 singles-preserved c =

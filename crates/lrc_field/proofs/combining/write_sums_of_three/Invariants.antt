@@ -3,12 +3,6 @@ use Rattle.lrc_field.specs.Blocks.{AreSet}
 use Rattle.lrc_field.specs.Combined.{three_at}
 use Rattle.lrc_field.proofs.combining.write_sums_of_three.Given as goal
 
-abbrev pub invariant-quads : goal.invariant-quads
-invariant-quads l = record { within : l.i ≤ length l.dst; set : AreSet (λ k. three_at l.first l.second l.third (l.from + k)) l.dst l.i }
-
-abbrev pub decreases-quads : goal.decreases-quads
-decreases-quads l = length l.dst - l.i
-
 abbrev pub invariant-singles : goal.invariant-singles
 invariant-singles l = record { within : l.i ≤ length l.dst; set : AreSet (λ k. three_at l.first l.second l.third (l.from + k)) l.dst l.i }
 
