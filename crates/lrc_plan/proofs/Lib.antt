@@ -14,3 +14,4 @@ pub mod TermRows
 pub mod RowPlanLaws
 pub mod UncheckedRows
 pub mod AnswerLaws
+pub mod LocalRepairs

@@ -1,5 +1,5 @@
 -- What plans as rows of coefficients promise. Rows are by the places' indexes.
-use Rattle.std.specs.Prelude.{◌≡◌, ℕ, ◌↔◌, Bool, false, Option, Some, None, List, map, slice_index, All}
+use Rattle.std.specs.Prelude.{◌≡◌, ℕ, ◌↔◌, Bool, false, Option, Some, None, List, map, slice_index, All, replicate}
 use Rattle.lrc_code.specs.declared.places.Place.{Place}
 use Rattle.lrc_code.specs.Places.{index_of, all_places}
 use Rattle.lrc_code.specs.Code.{Code, combination}
@@ -37,3 +37,8 @@ abbrev pub IsCheckRow : (ℕ → Place → ℕ) → (ℕ → Option Place) → �
 IsCheckRow coef pivot r row =
     (pivot r ≡ None → (p : Place) → slice_index row (index_of p) ≡ coef r p)
     × ((v : Place) → pivot r ≡ Some v → (p : Place) → slice_index row (index_of p) ≡ 0)
+
+-- A row that gives the target's byte where all that it reads survives, and survivors that ask for no checks: each check is a row of 0.
+pub record IsLocalRepairRow (code : Code) (survives : Place → Bool) (target : Place) (row : List ℕ) : Type 0 where
+  pub of_target : ReadsSurvivors survives row → IsValueRow code survives target row
+  pub of_survivors : AreCheckRows code survives (replicate 4 (replicate 16 0))

@@ -1,19 +1,20 @@
 //! Answers to requests.
-ghost use Rattle.std.specs.Prelude.{◌≡◌, true, false, IfOk, All, Some, replicate};
+ghost use Rattle.std.specs.Prelude.{◌≡◌, ◌≤◌, ℕ, List, All, Some, true, false, IfOk, IfSome, length, replicate};
 ghost use Rattle.lrc_code.specs.declared.places.Place.{Place};
 ghost use Rattle.lrc_code.specs.Codes.{tables_of};
 ghost use Rattle.lrc_code.specs.Answers.{IsAnswer};
 ghost use Rattle.lrc_code.specs.Requests.{AreSources, is_among};
 ghost use Rattle.lrc_code.specs.Sets.{is_in};
-ghost use Rattle.lrc_plan.specs.RowPlans.{IsRowPlan};
-ghost use Rattle.lrc_plan.specs.Terms.{IsZeroRow};
+ghost use Rattle.lrc_plan.specs.RowPlans.{IsRowPlan, IsLocalRepairRow};
+ghost use Rattle.lrc_plan.specs.Terms.{AreTerms, IsZeroRow};
 
 pub mod terms;
 
-use crate::plans::row_plans::{RowPlan, plan_rows, row_in_group};
-use crate::solving::terms::{is_zero, row_sums};
-use lrc_code::{Bytes, Outcome, PlaceSet, Request, Sources};
-use lrc_field::Gf;
+use crate::plans::row_plans::{RowPlan, other_parity, plan_by_reduction};
+use crate::plans::value::equation_of;
+use crate::solving::terms::{fill_surviving, is_zero, no_term, row_sums};
+use lrc_code::{Bytes, Outcome, Place, PlaceSet, Request, Sources};
+use lrc_field::{Gf, Term, combined};
 use std::alloc::{AllocError, Allocator, Global};
 
 /// The answer to a request over all stripes of its code: the target's bytes that every fitting stripe
@@ -34,32 +35,75 @@ pub fn solve<A: Allocator + Clone>(
     ensures { IfOk result (IsAnswer request.now) }
 {
     let _ = plan_alloc;
+    if let Some(row) = local_repair_row(request) {
+        let mut terms = [
+            no_term(),
+            no_term(),
+            no_term(),
+            no_term(),
+            no_term(),
+            no_term(),
+        ];
+        if let Some(count) = fill_surviving(&mut terms, &row, request) {
+            return rebuilt(alloc, request, &terms[..count]);
+        }
+    }
+    solve_by_plan(alloc, request)
+}
+
+// The same by a plan for any survivors. A call of its own, since its locals are thousands of bytes, which are cleared
+// where a call begins.
+#[inline(never)]
+fn solve_by_plan(alloc: Global, request: &Request) -> Result<Outcome, AllocError>
+    ensures { IfOk result (IsAnswer request.now) }
+{
     let code = request.code();
     let survivors = request.survivors();
     let target = request.target();
     let _ = request.length();
-    if let Some(row) = row_in_group(code, survivors, target) {
-        return rebuilt(alloc, survivors, &row, request);
-    }
-    let plan = plan_rows(code, survivors, target);
+    let plan = plan_by_reduction(code, survivors, target);
     let outcome = apply(alloc, survivors, &plan, request)?;
     Ok(outcome)
 }
 
-// What a row answers where there are no checks.
-fn rebuilt(
-    alloc: Global,
-    survivors: PlaceSet,
-    row: &[Gf; 16],
-    request: &Request,
-) -> Result<Outcome, AllocError>
-    requires survivors { (p : Place) → is_in survivors p ≡ is_among p request.now.survivors }
-    requires plan { IsRowPlan (tables_of request.now.code) (is_in survivors) request.now.target (Some row.now) (replicate 4 (replicate 16 0)) }
-    ensures { IfOk result (IsAnswer request.now) }
+// The equation of the target's group without the target, where the other group's parity and both global parities are lost.
+// There are no checks then, whatever the survivors hold. Places are looked for among the fragments, which takes less than a set.
+fn local_repair_row(request: &Request) -> Option<[Gf; 16]>
+    ensures { IfSome result (IsLocalRepairRow (tables_of request.now.code) (λ p. is_among p request.now.survivors) request.now.target) }
 {
     let _ = request.length();
-    let sources = request.sources();
-    let bytes = row_sums(alloc, row, request, &sources)?;
+    let target = request.target();
+    let group = target.group()?;
+    if survives(request, other_parity(group)) {
+        return None;
+    }
+    if survives(request, Place::P0) {
+        return None;
+    }
+    if survives(request, Place::P1) {
+        return None;
+    }
+    let mut row = equation_of(request.code(), group);
+    row[target.index()] = Gf::new(0);
+    Some(row)
+}
+
+fn survives(request: &Request, place: Place) -> bool
+    ensures { result ≡ is_among place request.now.survivors }
+{
+    match request.bytes_at(place) {
+        Some(_) => true,
+        None => false,
+    }
+}
+
+// What the sum of terms answers where there are no checks.
+fn rebuilt(alloc: Global, request: &Request, terms: &[Term<'_>]) -> Result<Outcome, AllocError>
+    requires few { length terms.now ≤ 16 }
+    requires plan { (row : List ℕ) × AreTerms request.now row terms.now × IsRowPlan (tables_of request.now.code) (λ p. is_among p request.now.survivors) request.now.target (Some row) (replicate 4 (replicate 16 0)) }
+    ensures { IfOk result (IsAnswer request.now) }
+{
+    let bytes = combined(alloc, request.length() as usize, terms)?;
     Ok(Outcome::Rebuilt(Bytes::new(bytes)))
 }
 

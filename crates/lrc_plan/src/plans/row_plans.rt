@@ -36,6 +36,15 @@ pub fn plan_rows(code: Code, survivors: PlaceSet, target: Place) -> RowPlan
     if let Some(plan) = plan_in_group(code, survivors, target) {
         return plan;
     }
+    plan_by_reduction(code, survivors, target)
+}
+
+// The plan from the equations solved for the lost places.
+pub(crate) fn plan_by_reduction(code: Code, survivors: PlaceSet, target: Place) -> RowPlan
+    requires lost { is_in survivors target ≡ false }
+    requires place { has_place (tables_of code) target ≡ true }
+    ensures { IsRowPlan (tables_of code) (is_in survivors) target result.value result.checks }
+{
     let lost = code.others(survivors);
     let reduced = reduce_in(code, lost);
     rows_from(code, &reduced, survivors, target)
@@ -56,7 +65,7 @@ fn plan_in_group(code: Code, survivors: PlaceSet, target: Place) -> Option<RowPl
 
 // The sum of the others of the target's group, where they survive, and the other group's parity and both global parities are lost.
 // There are no checks, since the equations can be solved for the four lost places, whatever the survivors hold.
-pub(crate) fn row_in_group(code: Code, survivors: PlaceSet, target: Place) -> Option<[Gf; 16]>
+fn row_in_group(code: Code, survivors: PlaceSet, target: Place) -> Option<[Gf; 16]>
     requires lost { is_in survivors target ≡ false }
     requires place { has_place (tables_of code) target ≡ true }
     ensures { IfSome result (λ row. IsRowPlan (tables_of code) (is_in survivors) target (Some row) (replicate 4 (replicate 16 0))) }
@@ -71,7 +80,7 @@ pub(crate) fn row_in_group(code: Code, survivors: PlaceSet, target: Place) -> Op
 }
 
 // The local parity of the other group.
-fn other_parity(group: Group) -> Place
+pub(crate) fn other_parity(group: Group) -> Place
     ensures { result ≡ other_parity_of group }
 {
     match group {

@@ -20,7 +20,7 @@ use lrc_field::Gf;
 use std::alloc::{AllocError, Allocator};
 
 // The equation of a group: 01 at its places in the code, 00 elsewhere.
-fn equation_of(code: Code, group: Group) -> [Gf; 16]
+pub(crate) fn equation_of(code: Code, group: Group) -> [Gf; 16]
     ensures { result ≡ group_row (tables_of code) (Some group) }
 {
     let o = Gf::new(0);

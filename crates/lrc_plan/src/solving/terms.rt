@@ -1,10 +1,14 @@
 //! Rows of coefficients as sums of scaled fragments, which are made in one pass.
-ghost use Rattle.std.specs.Prelude.{◌≡◌, ◌==◌, ◌<◌, ◌≤◌, true, false, length, take, IfOk};
+ghost use Rattle.std.specs.Prelude.{◌≡◌, ◌==◌, ◌<◌, ◌≤◌, ℕ, true, false, length, take, IfOk, IfSome, slice_index_or};
 ghost use Rattle.std.specs.List.{list_all};
-ghost use Rattle.lrc_code.specs.Requests.{AreSources};
-ghost use Rattle.lrc_plan.specs.Terms.{AreRowSums, AreTerms, IsTermAt, IsZeroRow};
+ghost use Rattle.lrc_code.specs.declared.places.Place.TheVariants.{X0};
+ghost use Rattle.lrc_code.specs.Places.{all_places};
+ghost use Rattle.lrc_code.specs.Requests.{AreSources, is_among};
+ghost use Rattle.lrc_plan.specs.RowPlans.{ReadsSurvivors};
+ghost use Rattle.lrc_field.specs.Combined.{product_at};
+ghost use Rattle.lrc_plan.specs.Terms.{AreRowSums, AreTerms, IsTermAt, IsZeroRow, survivor_product};
 
-use lrc_code::{Request, Sources};
+use lrc_code::{Place, Request, Sources};
 use lrc_field::{Gf, Term, combined, sums_are_zero};
 use std::alloc::{AllocError, Global};
 
@@ -79,6 +83,44 @@ fn fill_terms<'a>(
     count
 }
 
+// The same of at most six terms where all that the row reads survive, else none: a group has no more than six others.
+pub(crate) fn fill_surviving<'a>(
+    terms: &mut [Term<'a>; 6],
+    row: &[Gf; 16],
+    request: &'a Request,
+) -> Option<usize>
+    requires { length terms.old ≡ 6 }
+    ensures count { IfSome result (λ n. n ≤ 6) }
+    ensures reads { IfSome result (λ n. ReadsSurvivors (λ p. is_among p request.now.survivors) row.now) }
+    ensures terms { IfSome result (λ n. AreTerms request.now row.now (take n terms.new)) }
+{
+    let mut count = 0;
+    for k in 0..16 {
+        if row[k].byte() != 0 {
+            if count == 6 {
+                return None;
+            }
+            let Some(term) = survivor_term(request, k, row[k]) else {
+                return None;
+            };
+            terms[count] = term;
+            count += 1;
+        }
+    }
+    Some(count)
+}
+
+// The survivor's bytes at the place of an index, with a scalar.
+fn survivor_term<'a>(request: &'a Request, k: usize, scalar: Gf) -> Option<Term<'a>>
+    requires { k < 16 }
+    ensures products { IfSome result (λ t. (length t.bytes.now ≡ request.now.len) × ((i : ℕ) → product_at t i ≡ survivor_product request.now scalar k i)) }
+    ensures survives { IfSome result (λ t. is_among (slice_index_or all_places k X0) request.now.survivors ≡ true) }
+{
+    let _ = request.length();
+    let bytes = request.bytes_at(Place::ALL[k])?;
+    Some(Term { scalar, bytes })
+}
+
 // The survivor's bytes at the place of an index, with a scalar. None only where their products are 00.
 fn term_at<'a>(request: &Request, sources: &Sources<'a>, k: usize, scalar: Gf) -> Option<Term<'a>>
     requires index { k < 16 }
@@ -118,7 +160,7 @@ fn no_terms<'a>() -> [Term<'a>; 16] {
     ]
 }
 
-fn no_term<'a>() -> Term<'a> {
+pub(crate) fn no_term<'a>() -> Term<'a> {
     Term {
         scalar: Gf::new(0),
         bytes: &[],
