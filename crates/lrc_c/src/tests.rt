@@ -8,6 +8,8 @@ use crate::rebuilding::lrc_rebuild_into;
 use crate::rebuilding_many::lrc_rebuild_many_into;
 use crate::version::lrc_version;
 
+mod stripes;
+
 fn one(bytes: &[u8]) -> Lent<'_> {
     Lent { bytes }
 }
