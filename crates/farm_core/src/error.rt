@@ -1,4 +1,6 @@
 //! Why a farm gives no answers.
+ghost use Rattle.std.specs.Prelude.{◌≡◌};
+ghost use Rattle.farm_core.specs.declared.error.FarmError.TheVariants.{OutOfMemory};
 
 use std::alloc::AllocError;
 use thiserror::Error;
@@ -15,6 +17,8 @@ pub enum FarmError {
 }
 
 impl From<AllocError> for FarmError {
+    ghost from_gives = { λ _ e. e ≡ OutOfMemory };
+
     fn from(_error: AllocError) -> FarmError {
         FarmError::OutOfMemory
     }
