@@ -63,6 +63,20 @@ fn refuses_a_seat_without_budget(rt: HostRuntime) -> Result<(), Fail> {
     Ok(())
 }
 
+/// A seat that is cut in two keeps what the other isn't given.
+#[test]
+fn splits_the_budget(rt: HostRuntime) -> Result<(), Fail> {
+    let Alone {
+        gate,
+        seat,
+        right: _,
+    } = open_alone(rt.alloc())?;
+    let (first, second) = gate.split(seat, 10);
+    assert_eq!(rt; (first.budget(), second.budget()), (4294967286, 10));
+    assert_eq!(rt; gate.join(first, second).budget(), 4294967296);
+    Ok(())
+}
+
 /// Only the first of two closes is told how many numbers were given.
 #[test]
 fn closes_once(rt: HostRuntime) -> Result<(), Fail> {

@@ -129,6 +129,7 @@ fn refuses_what_is_beyond_the_limits(rt: HostRuntime) {
         (1025, 1, 1, Some(LaneError::NoRoom)),
         (1, 0, 1, Some(LaneError::NoEnds)),
         (0, 1, 0, Some(LaneError::NoRoom)),
+        (0, 0, 1, Some(LaneError::NoRoom)),
         (1025, 129, 33, Some(LaneError::NoRoom)),
         (1, 1, 0, Some(LaneError::NoEnds)),
         (1, 129, 1, Some(LaneError::NoEnds)),
