@@ -67,38 +67,8 @@ fn list_fault(rack: usize, feed: usize, fault: ListFault) -> ServeFault
     ensures { result ≡ serve_fault rack feed fault }
 {
     match fault {
-        ListFault::InputTooLong => ServeFault::List {
-            rack,
-            feed,
-            fault: ListFault::InputTooLong,
-        },
-        ListFault::BadHeader => ServeFault::List {
-            rack,
-            feed,
-            fault: ListFault::BadHeader,
-        },
-        ListFault::BadRecord { number: n } => ServeFault::List {
-            rack,
-            feed,
-            fault: ListFault::BadRecord { number: n },
-        },
-        ListFault::Refused {
-            number: n,
-            fault: e,
-        } => ServeFault::List {
-            rack,
-            feed,
-            fault: ListFault::Refused {
-                number: n,
-                fault: e,
-            },
-        },
-        ListFault::TooManyOrders => ServeFault::List {
-            rack,
-            feed,
-            fault: ListFault::TooManyOrders,
-        },
         ListFault::OutOfMemory => ServeFault::OutOfMemory,
+        _ => ServeFault::List { rack, feed, fault },
     }
 }
 
