@@ -5,7 +5,7 @@
 //!
 //! let mut shelf = MemoryShelf::new(alloc);
 //! shelf.write(alloc, "a", b"abc")?;
-//! assert!(rt; shelf.read(alloc, "a", 2)?.is_some_and(|bytes| bytes.as_slice() == b"ab"));
+//! assert!(rt; shelf.read(alloc, "a", 2)?.is_some_and(|bytes| bytes.as_slice() == b"ab".as_slice()));
 //! assert_eq!(rt; shelf.failures(), 0);
 //! ```
 #![tactic(auto)]
