@@ -41,9 +41,10 @@ uninstall:
 	rm -f "$(PLACE)/share/zsh/site-functions/_rebuild"
 	rm -f "$(PLACE)/share/fish/vendor_completions.d/rebuild.fish"
 
-# Proves the C library and what it stands on, and builds it: crates/lrc_c/out/liblrc_c.a and the shared object.
+# Proves the C library and what it stands on, and builds it: crates/lrc_c/out/liblrc_c.a and the shared object. JOBS=N has each proof
+# use N processors.
 library:
-	cd crates/lrc_c && rt lib --cpu=$(CPU)
+	cd crates/lrc_c && rt lib $(if $(JOBS),--jobs $(JOBS)) --cpu=$(CPU)
 	$(CC) -shared -o $(LIBRARY)/$(SONAME) -Wl,--whole-archive $(LIBRARY)/liblrc_c.a -Wl,--no-whole-archive -Wl,-z,defs -Wl,-soname,$(SONAME)
 
 # Builds nothing, as `install`.
@@ -63,18 +64,22 @@ uninstall-library:
 
 # What the gate runs behind the proofs, over the programs and tests that they leave in each crate's out/. No two of these share a file
 # that one of them writes, so several run at once.
-BEHIND := library.sh refusals.py no-compile.sh reference-lines.sh ends.sh demo.sh examples.py manual.sh completions.sh install.sh \
-  version.sh split-lists-test.py
+BEHIND := refusals.py no-compile.sh reference-lines.sh ends.sh demo.sh examples.py manual.sh completions.sh install.sh version.sh \
+  split-lists-test.py
 
-# A proof was seen to take 3 GB at most, less than rt allows for, so RT_JOBS has it run one on each processor.
+# library.sh builds in a copy of its own, so it runs beside the proofs.
 test:
 	scripts/wrong-bodies.sh
 	scripts/architecture.py
-	RT_JOBS=$(shell nproc) rt ci
+	@$(MAKE) --no-print-directory -j2 proofs library.sh
 	@$(MAKE) --no-print-directory --output-sync=target -j$(shell nproc) $(BEHIND)
 
-.PHONY: $(BEHIND)
-$(BEHIND):
+# A proof was seen to take 3 GB at most, less than rt allows for, so RT_JOBS has it run one on each processor.
+proofs:
+	RT_JOBS=$(shell nproc) rt ci
+
+.PHONY: proofs library.sh $(BEHIND)
+library.sh $(BEHIND):
 	scripts/$@
 
 wrong-bodies:

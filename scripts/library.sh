@@ -1,11 +1,15 @@
 #!/usr/bin/env bash
 # Builds the C library, which the gate proves and doesn't build, and tries it: what the archive asks of a linker, the header by
 # several compilers and standards, the tests in C, `make install-library`, the shared object, and the examples in C, Python, Go and
-# Rust. What isn't installed is left out with a word.
+# Rust. What isn't installed is left out with a word. All this is done in a copy of the repository, since the gate runs it beside
+# `rt ci`, which holds the crates.
 set -euo pipefail
 cd "$(dirname "$0")/.."
 scratch=$(mktemp -d)
 trap 'rm -rf "$scratch"' EXIT
+mkdir "$scratch/copy"
+git ls-files -z --cached --others --exclude-standard | xargs -0 cp --parents -t "$scratch/copy"
+cd "$scratch/copy"
 # What a make that runs this script was told is not for the runs below.
 unset MAKEFLAGS MFLAGS MAKELEVEL MAKEOVERRIDES PREFIX DESTDIR
 
@@ -35,7 +39,7 @@ quietly() {
   "$@" > "$scratch/said" 2>&1 || { cat "$scratch/said"; fail "$what"; }
 }
 
-quietly 'make library' make -s library CPU=x86-64-v2
+quietly 'make library' make -s library CPU=x86-64-v2 JOBS=1
 [ "$(nm -u "$archive" | awk 'NF == 2 { print $2 }' | sort | tr '\n' ' ')" = 'memcpy memset ' ] ||
   fail "the archive asks for $(nm -u "$archive")"
 exports='lrc_add lrc_apply lrc_combine lrc_encode_into lrc_plan_into lrc_rebuild_into lrc_rebuild_many_into lrc_scale_add lrc_verify_at lrc_version '

@@ -24,6 +24,7 @@ TESTS = {
     "farm_lists": "files_tests",
     "farm_shelves": "files_tests",
     "farm_files": "files_tests",
+    "line_mode": "line_tests",
 }
 
 # Tests that a wrong body keeps from ending are stopped after so many seconds, and have noticed it.
