@@ -1,5 +1,5 @@
 //! Digests of the standard and of OpenSSL, in each lane, and any lengths against the crate `sha2`.
-ghost use Rattle.std.specs.Prelude.{◌<◌, ◌≤◌, length};
+ghost use Rattle.std.specs.Prelude.{◌≤◌};
 
 use sha2::{Digest, Sha256};
 use sha256_lanes::{are_of_one_length, digests, digests_of_eight};
@@ -11,20 +11,17 @@ fn checked_digests(rt: &impl Abort, messages: &[&[u8]; 8]) -> [[u8; 32]; 8] {
 }
 
 // Byte `i` of the message in lane `lane`, at length `len`.
-fn byte_at(i: usize, lane: usize, len: usize) -> u8
-    requires { (i < 4096) × (lane < 8) × (len < 4096) }
-{
-    ((31 * i + 17 * lane + len) % 251) as u8
+fn byte_at(i: usize, lane: usize, len: usize) -> u8 {
+    let sum = i.wrapping_mul(31).wrapping_add(lane.wrapping_mul(17));
+    (sum.wrapping_add(len) % 251) as u8
 }
 
 // Eight messages of `len` bytes, each in a row of its own.
-fn rows_of(len: usize) -> [[u8; 1000]; 8]
-    requires { len ≤ 1000 }
-{
+fn rows_of(len: usize) -> [[u8; 1000]; 8] {
     let mut rows = [[0u8; 1000]; 8];
-    for lane in 0..8usize {
-        for i in 0..len {
-            rows[lane][i] = byte_at(i, lane, len);
+    for (lane, row) in rows.iter_mut().enumerate() {
+        for (i, byte) in row.iter_mut().take(len).enumerate() {
+            *byte = byte_at(i, lane, len);
         }
     }
     rows
@@ -48,23 +45,21 @@ fn digests_of_rows(rt: &impl Abort, rows: &[[u8; 1000]; 8], len: usize) -> [[u8;
     )
 }
 
+const OTHER: &[u8] = &[0x5a; 1000];
+
 // A message in each lane, beside other messages of its length.
-fn check_in_each_lane(rt: &impl Abort, message: &[u8], wanted: &[u8; 32])
-    requires { length message.now ≤ 1000 }
-{
-    let len = message.len();
-    let other = [0x5au8; 1000];
-    let plain: [u8; 32] = Sha256::digest(&other[..len]);
+fn check_in_each_lane(rt: &impl Abort, message: &'static [u8], wanted: &[u8; 32]) {
+    let Some(other) = OTHER.get(..message.len()) else {
+        panic!(rt; "a message that is too long");
+    };
+    let plain: [u8; 32] = Sha256::digest(other);
     for lane in 0..8usize {
-        let mut rows = [other; 8];
-        rows[lane][..len].copy_from_slice(message);
-        let found = digests_of_rows(rt, &rows, len);
-        assert_eq!(rt; found[lane].as_slice(), wanted.as_slice(), "lane {lane}");
-        assert_eq!(rt;
-            found[(lane + 1) % 8].as_slice(),
-            plain.as_slice(),
-            "beside lane {lane}"
-        );
+        let mut messages = [other; 8];
+        messages[lane] = message;
+        for (place, digest) in checked_digests(rt, &messages).iter().enumerate() {
+            let right = if place == lane { wanted } else { &plain };
+            assert!(rt; digest == right, "message in lane {lane}, digest {place}");
+        }
     }
 }
 
@@ -178,36 +173,35 @@ fn every_length(rt: HostRuntime) {
     for len in 0..301usize {
         let rows = rows_of(len);
         let found = digests_of_rows(&rt, &rows, len);
-        for lane in 0..8usize {
-            let plain: [u8; 32] = Sha256::digest(&rows[lane][..len]);
-            assert_eq!(rt;
-                found[lane].as_slice(),
-                plain.as_slice(),
-                "lane {lane} at {len}"
-            );
+        for (lane, (row, digest)) in rows.iter().zip(&found).enumerate() {
+            let plain: [u8; 32] = Sha256::digest(&row[..len]);
+            assert!(rt; *digest == plain, "lane {lane} at {len}");
         }
     }
 }
 
-// Runs of one length, too short and long enough, between others.
+// Lengths of messages, with runs of one length, too short and long enough, between others.
+const MIXED: &[usize] = &[
+    3, 64, 64, 64, 64, 64, 64, 64, 9, 55, 55, 55, 55, 55, 55, 55, 55, 56, 120, 120, 120, 120, 120,
+    120, 120, 120, 120, 120, 120, 120, 120, 120, 120, 120, 0, 1, 1, 1, 1, 1,
+];
+
 #[test]
 fn mixed_lengths(rt: HostRuntime) {
     let row = rows_of(200)[3];
     let mut messages = [row.as_slice(); 40];
-    let lens = [
-        3, 64, 64, 64, 64, 64, 64, 64, 9, 55, 55, 55, 55, 55, 55, 55, 55, 56, 120, 120, 120, 120,
-        120, 120, 120, 120, 120, 120, 120, 120, 120, 120, 120, 120, 0, 1, 1, 1, 1, 1usize,
-    ];
-    for i in 0..40usize {
-        let len = lens[i];
-        assert!(rt; len <= 120);
-        messages[i] = &row[i..i + len];
+    assert!(rt; MIXED.len() == messages.len());
+    for (i, (message, len)) in messages.iter_mut().zip(MIXED).enumerate() {
+        let Some(part) = row.get(i..i.saturating_add(*len)) else {
+            panic!(rt; "message {i} is too long");
+        };
+        *message = part;
     }
     let mut found = [[0u8; 32]; 40];
     digests(&messages, &mut found);
-    for i in 0..40usize {
-        let plain: [u8; 32] = Sha256::digest(messages[i]);
-        assert_eq!(rt; found[i].as_slice(), plain.as_slice(), "message {i}");
+    for (i, (message, digest)) in messages.iter().zip(&found).enumerate() {
+        let plain: [u8; 32] = Sha256::digest(*message);
+        assert!(rt; *digest == plain, "message {i}");
     }
     let no_messages: [&[u8]; 0] = [];
     digests(&no_messages, &mut []);
@@ -217,14 +211,14 @@ fn mixed_lengths(rt: HostRuntime) {
 #[test]
 fn owned_messages(rt: HostRuntime) {
     let mut messages = [[7u8; 65]; 9];
-    for i in 0..9usize {
-        messages[i][64] = i as u8;
+    for (i, message) in messages.iter_mut().enumerate() {
+        message[64] = i as u8;
     }
     let mut found = [[0u8; 32]; 9];
     digests(&messages, &mut found);
-    for i in 0..9usize {
-        let plain: [u8; 32] = Sha256::digest(&messages[i]);
-        assert_eq!(rt; found[i].as_slice(), plain.as_slice(), "message {i}");
+    for (i, (message, digest)) in messages.iter().zip(&found).enumerate() {
+        let plain: [u8; 32] = Sha256::digest(message);
+        assert!(rt; *digest == plain, "message {i}");
     }
 }
 

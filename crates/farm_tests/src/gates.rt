@@ -37,12 +37,12 @@ fn counts_the_refused_draw(rt: HostRuntime) -> Result<(), Fail> {
         mut seat,
         right,
     } = open_alone(rt.alloc())?;
-    assert_eq!(rt; (seat.budget(), seat.last()), (4294967296, None));
-    assert_eq!(rt; gate.draw(&mut seat), Ok(0));
-    assert_eq!(rt; gate.draw(&mut seat), Ok(1));
-    assert_eq!(rt; gate.close(&mut seat, right), Ok(2));
-    assert_eq!(rt; gate.draw(&mut seat), Err(GateRefusal::Closed));
-    assert_eq!(rt; (seat.budget(), seat.last()), (4294967293, Some(1)));
+    assert!(rt; seat.budget() == 4294967296 && seat.last().is_none());
+    assert!(rt; gate.draw(&mut seat) == Ok(0));
+    assert!(rt; gate.draw(&mut seat) == Ok(1));
+    assert!(rt; gate.close(&mut seat, right) == Ok(2));
+    assert!(rt; gate.draw(&mut seat) == Err(GateRefusal::Closed));
+    assert!(rt; seat.budget() == 4294967293 && seat.last() == Some(1));
     Ok(())
 }
 
@@ -55,11 +55,11 @@ fn refuses_a_seat_without_budget(rt: HostRuntime) -> Result<(), Fail> {
         right: _,
     } = open_alone(rt.alloc())?;
     let (first, mut second) = gate.split(seat, 0);
-    assert_eq!(rt; gate.draw(&mut second), Err(GateRefusal::SeatSpent));
-    assert_eq!(rt; (second.budget(), second.last()), (0, None));
+    assert!(rt; gate.draw(&mut second) == Err(GateRefusal::SeatSpent));
+    assert!(rt; second.budget() == 0 && second.last().is_none());
     let mut all = gate.join(first, second);
-    assert_eq!(rt; all.budget(), 4294967296);
-    assert_eq!(rt; gate.draw(&mut all), Ok(0));
+    assert!(rt; all.budget() == 4294967296);
+    assert!(rt; gate.draw(&mut all) == Ok(0));
     Ok(())
 }
 
@@ -72,8 +72,9 @@ fn splits_the_budget(rt: HostRuntime) -> Result<(), Fail> {
         right: _,
     } = open_alone(rt.alloc())?;
     let (first, second) = gate.split(seat, 10);
-    assert_eq!(rt; (first.budget(), second.budget()), (4294967286, 10));
-    assert_eq!(rt; gate.join(first, second).budget(), 4294967296);
+    assert!(rt; first.budget() == 4294967286);
+    assert!(rt; second.budget() == 10);
+    assert!(rt; gate.join(first, second).budget() == 4294967296);
     Ok(())
 }
 
@@ -81,16 +82,24 @@ fn splits_the_budget(rt: HostRuntime) -> Result<(), Fail> {
 #[test]
 fn closes_once(rt: HostRuntime) -> Result<(), Fail> {
     let (gate, mut seats, mut rights) = Gate::open(rt.alloc(), 1, 2)?;
-    let (Some(mut seat), Some(first), Some(second)) = (seats.pop(), rights.pop(), rights.pop())
-    else {
-        unreachable!();
+    let Some(mut seat) = seats.pop() else {
+        panic!(rt; "no seat");
     };
-    assert_eq!(rt; gate.draw(&mut seat), Ok(0));
-    assert_eq!(rt; gate.close(&mut seat, first), Ok(1));
-    assert_eq!(rt; gate.close(&mut seat, second), Err(AlreadyClosed));
-    assert_eq!(rt; gate.draw(&mut seat), Err(GateRefusal::Closed));
+    let Some(first) = rights.pop() else {
+        panic!(rt; "no right");
+    };
+    let Some(second) = rights.pop() else {
+        panic!(rt; "no second right");
+    };
+    assert!(rt; gate.draw(&mut seat) == Ok(0));
+    assert!(rt; gate.close(&mut seat, first) == Ok(1));
+    assert!(rt; gate.close(&mut seat, second) == Err(AlreadyClosed));
+    assert!(rt; gate.draw(&mut seat) == Err(GateRefusal::Closed));
     Ok(())
 }
+
+/// Numbers of seats and of rights of which one is out of its limits.
+const BEYOND: &[(usize, usize)] = &[(0, 1), (17, 1), (1, 0), (1, 17), (0, 17)];
 
 /// The draws are shared out evenly over the seats.
 #[test]
@@ -98,14 +107,13 @@ fn opens_within_the_limits(rt: HostRuntime) -> Result<(), Fail> {
     let alloc: Global = rt.alloc();
     let (_gate, seats, rights) = Gate::open(alloc, 3, 16)?;
     for seat in &seats {
-        assert_eq!(rt; seat.budget(), 1_431_655_765);
+        assert!(rt; seat.budget() == 1_431_655_765);
     }
-    assert_eq!(rt; (seats.len(), rights.len()), (3, 16));
-    for (seats, rights) in [(0, 1), (17, 1), (1, 0), (1, 17), (0, 17)] {
-        let opened = Gate::open(alloc, seats, rights);
-        assert_eq!(rt;
-            opened.err(),
-            Some(GateError::NoSeats),
+    assert!(rt; seats.len() == 3 && rights.len() == 16);
+    for (seats, rights) in BEYOND {
+        let opened = Gate::open(alloc, *seats, *rights);
+        assert!(rt;
+            matches!(opened, Err(GateError::NoSeats)),
             "{seats} seats, {rights} rights"
         );
     }
@@ -203,23 +211,21 @@ fn sorted(
     fourth: &[u64],
 ) -> Result<Vec<u64>, AllocError> {
     let mut all = Vec::from_slice(alloc, first)?;
-    for numbers in [second, third, fourth] {
-        for &number in numbers {
-            all.push(number)?;
-        }
-    }
+    all.extend_from_slice(second)?;
+    all.extend_from_slice(third)?;
+    all.extend_from_slice(fourth)?;
     all.sort()?;
     Ok(all)
 }
 
 /// Whether these are 0, 1, 2 and so on.
-fn count_up(numbers: &[u64]) -> bool {
-    let mut next = 0u64;
-    numbers.iter().all(|&number| {
-        let same = number == next;
-        next = next.saturating_add(1);
-        same
-    })
+pub(crate) fn count_up(numbers: &[u64]) -> bool {
+    for (place, number) in numbers.iter().enumerate() {
+        if *number != place as u64 {
+            return false;
+        }
+    }
+    true
 }
 
 /// Four threads with 1,000 draws each, the seats joined, and then the close: how the seat stands, the close's answer, and a draw
@@ -283,11 +289,10 @@ fn draw_by_four<R: Threads + Sync>(
 fn draws_each_number_once(rt: HostRuntime) -> Result<(), Fail> {
     let alloc: Global = rt.alloc();
     let drawn = draw_by_four(&rt, alloc, open_four(alloc)?)?;
-    assert_eq!(rt; drawn.numbers.len(), 4000);
-    assert!(rt; count_up(&drawn.numbers));
-    assert_eq!(rt; (drawn.budget, drawn.last), (4_294_963_296, Some(3999)));
-    assert_eq!(rt; drawn.closed, Ok(4000));
-    assert_eq!(rt; drawn.late, Err(GateRefusal::Closed));
+    assert!(rt; drawn.numbers.len() == 4000 && count_up(&drawn.numbers));
+    assert!(rt; drawn.budget == 4_294_963_296 && drawn.last == Some(3999));
+    assert!(rt; drawn.closed == Ok(4000));
+    assert!(rt; drawn.late == Err(GateRefusal::Closed));
     Ok(())
 }
 
@@ -368,7 +373,7 @@ fn draw_ten_and_close(
 fn gives_the_numbers_below_the_closes_answer(rt: HostRuntime) -> Result<(), Fail> {
     let alloc: Global = rt.alloc();
     let (numbers, closed) = draw_until_closed(&rt, alloc, open_four(alloc)?)?;
-    assert_eq!(rt; closed, Ok(numbers.len() as u64));
+    assert!(rt; closed == Ok(numbers.len() as u64));
     assert!(rt; count_up(&numbers));
     assert!(rt; numbers.len() >= 10);
     Ok(())
@@ -389,7 +394,7 @@ fn tells_want_of_memory(rt: HostRuntime) -> Result<(), Fail> {
             assert!(rt; refused);
             return Ok(());
         };
-        assert_eq!(rt; error, GateError::OutOfMemory);
+        assert!(rt; error == GateError::OutOfMemory);
         refused = true;
     }
     assert!(rt; false, "the gate is never opened");

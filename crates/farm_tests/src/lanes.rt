@@ -2,6 +2,7 @@
 ghost use Rattle.std.specs.Prelude.{◌≡◌, ℕ, ◌<◌, ◌≤◌, [], ◌∷◌, length, IfOk};
 ghost use Rattle.farm_lanes.specs.LaneEnds.{new_put, new_take};
 
+use crate::gates::count_up;
 use farm_lanes::{EndedPut, Item, Lane, LaneError, PutEnd, TakeEnd, settle};
 use linked_list_allocator::LocalHeap;
 use std::alloc::{AllocError, Global};
@@ -115,32 +116,34 @@ fn takes_in_another_thread_what_was_put(rt: HostRuntime) -> Result<(), Fail> {
         "the items that were put are not taken"
     );
     let ThreeTaken { end, items } = taker.join(&rt);
-    assert_eq!(rt; items, [(0, 0, Some(7)), (0, 1, Some(9)), (0, 2, None)]);
-    assert_eq!(rt; settle_pair(alloc, ended, end)?, (3, 3));
+    assert!(rt; items == [(0, 0, Some(7)), (0, 1, Some(9)), (0, 2, None)]);
+    assert!(rt; settle_pair(alloc, ended, end)? == (3, 3));
     Ok(())
 }
+
+/// Capacities and numbers of putting and of taking ends, with what they are refused as.
+const LIMITS: &[(usize, usize, usize, Option<LaneError>)] = &[
+    (0, 1, 1, Some(LaneError::NoRoom)),
+    (1025, 1, 1, Some(LaneError::NoRoom)),
+    (1, 0, 1, Some(LaneError::NoEnds)),
+    (0, 1, 0, Some(LaneError::NoRoom)),
+    (0, 0, 1, Some(LaneError::NoRoom)),
+    (1025, 129, 33, Some(LaneError::NoRoom)),
+    (1, 1, 0, Some(LaneError::NoEnds)),
+    (1, 129, 1, Some(LaneError::NoEnds)),
+    (1, 1, 33, Some(LaneError::NoEnds)),
+    (1024, 128, 32, None),
+    (1, 1, 1, None),
+];
 
 /// The capacity is tested before the numbers of ends.
 #[test]
 fn refuses_what_is_beyond_the_limits(rt: HostRuntime) {
     let alloc: Global = rt.alloc();
-    for (capacity, putters, takers, refusal) in [
-        (0, 1, 1, Some(LaneError::NoRoom)),
-        (1025, 1, 1, Some(LaneError::NoRoom)),
-        (1, 0, 1, Some(LaneError::NoEnds)),
-        (0, 1, 0, Some(LaneError::NoRoom)),
-        (0, 0, 1, Some(LaneError::NoRoom)),
-        (1025, 129, 33, Some(LaneError::NoRoom)),
-        (1, 1, 0, Some(LaneError::NoEnds)),
-        (1, 129, 1, Some(LaneError::NoEnds)),
-        (1, 1, 33, Some(LaneError::NoEnds)),
-        (1024, 128, 32, None),
-        (1, 1, 1, None),
-    ] {
-        let opened = Lane::open::<u64>(alloc, capacity, putters, takers);
-        assert_eq!(rt;
-            opened.err(),
-            refusal,
+    for (capacity, putters, takers, refusal) in LIMITS {
+        let opened = Lane::open::<u64>(alloc, *capacity, *putters, *takers);
+        assert!(rt;
+            opened.err() == *refusal,
             "capacity {capacity}, ends {putters} and {takers}"
         );
     }
@@ -167,15 +170,14 @@ fn drops_what_was_not_taken(rt: HostRuntime) -> Result<(), Fail> {
     put.put(&rt, CountsDrops { drops: &drops });
     put.put(&rt, CountsDrops { drops: &drops });
     put.put(&rt, CountsDrops { drops: &drops });
-    let puts = put.puts();
+    assert!(rt; put.puts() == 3);
     let ended = put.end(&rt);
-    let count = ended.count();
-    assert_eq!(rt; (puts, count), (3, 4));
+    assert!(rt; ended.count() == 4);
     drop(take.take(&rt));
     drop(take.take(&rt));
-    assert_eq!(rt; (take.count(), drops.load(Ordering::SeqCst)), (2, 2));
-    assert_eq!(rt; settle_pair(alloc, ended, take)?, (4, 2));
-    assert_eq!(rt; drops.load(Ordering::SeqCst), 3);
+    assert!(rt; take.count() == 2 && drops.load(Ordering::SeqCst) == 2);
+    assert!(rt; settle_pair(alloc, ended, take)? == (4, 2));
+    assert!(rt; drops.load(Ordering::SeqCst) == 3);
     Ok(())
 }
 
@@ -389,22 +391,13 @@ fn numbers_of(alloc: Global, items: &[Shown], sender: u32) -> Result<Vec<u64>, A
 /// Whether each number is greater than those before it.
 fn rises(numbers: &[u64]) -> bool {
     let mut least = 0u64;
-    numbers.iter().all(|&number| {
-        let more = number >= least;
+    for number in numbers {
+        if *number < least {
+            return false;
+        }
         least = number.saturating_add(1);
-        more
-    })
-}
-
-/// Whether these are the numbers 0 to 250, each once.
-fn are_all_numbers(numbers: &[u64]) -> bool {
-    let mut next = 0u64;
-    numbers.len() == 251
-        && numbers.iter().all(|&number| {
-            let same = number == next;
-            next = next.saturating_add(1);
-            same
-        })
+    }
+    true
 }
 
 /// Through a lane of capacity 1 each item of four senders comes to one of two takers, once, and in rising numbers.
@@ -412,18 +405,19 @@ fn are_all_numbers(numbers: &[u64]) -> bool {
 fn takes_each_item_once(rt: HostRuntime) -> Result<(), Fail> {
     let alloc: Global = rt.alloc();
     let run = run_lane(&rt, alloc, four_to_two(alloc, 1)?)?;
-    assert_eq!(rt; (run.put, run.taken), (1004, 1004));
-    assert_eq!(rt; (run.first.len(), run.second.len()), (502, 502));
+    assert!(rt; run.put == 1004 && run.taken == 1004);
+    assert!(rt; run.first.len() == 502 && run.second.len() == 502);
     for sender in 0..4u32 {
         let mut numbers = numbers_of(alloc, &run.first, sender)?;
         assert!(rt; rises(&numbers), "sender {sender}, first taker");
         let others = numbers_of(alloc, &run.second, sender)?;
         assert!(rt; rises(&others), "sender {sender}, second taker");
-        for &number in &others {
-            numbers.push(number)?;
-        }
+        numbers.extend_from_slice(&others)?;
         numbers.sort()?;
-        assert!(rt; are_all_numbers(&numbers), "sender {sender}");
+        assert!(rt;
+            numbers.len() == 251 && count_up(&numbers),
+            "sender {sender}"
+        );
     }
     Ok(())
 }
@@ -443,7 +437,7 @@ fn tells_want_of_memory(rt: HostRuntime) -> Result<(), Fail> {
             assert!(rt; refused);
             return Ok(());
         };
-        assert_eq!(rt; error, LaneError::OutOfMemory);
+        assert!(rt; error == LaneError::OutOfMemory);
         refused = true;
     }
     assert!(rt; false, "the lane is never opened");

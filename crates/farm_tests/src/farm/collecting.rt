@@ -4,7 +4,9 @@ ghost use Rattle.lrc_code.specs.Requests.{Asked};
 ghost use Rattle.farm_core.specs.Orders.{before_close, served};
 ghost use Rattle.farm_core.specs.Replies.{IsInPlace};
 
-use crate::farm::requests::{GLOBAL, LOCAL, SEVERAL, is_byte, is_several, racks_of};
+use crate::farm::requests::{
+    ANSWERS_OF_ONE, Entry, GLOBAL, LOCAL, ONE, are_of_racks, is_byte, racks_of,
+};
 use farm_core::{CollectFault, Collector, FinishFault, Order, RackList, Racks, Reply, ReplyResult};
 use lrc_code::{Outcome, Request};
 use lrc_plan::solve;
@@ -77,68 +79,49 @@ pub(crate) fn gathered(
     Ok(collector.finish())
 }
 
-// Whether the answers are those of the three requests, in their order.
-pub(crate) fn are_answers_of_three(answers: &[Vec<Outcome>]) -> bool {
-    match answers {
-        [rack] => match rack.as_slice() {
-            [first, second, third] => {
-                is_byte(first, 0x01) && is_several(second) && is_byte(third, 0x6e)
-            }
-            _ => false,
-        },
-        _ => false,
-    }
-}
+const SIX_ORDERS: &[&[usize]] = &[
+    &[0, 1, 2],
+    &[0, 2, 1],
+    &[1, 0, 2],
+    &[1, 2, 0],
+    &[2, 0, 1],
+    &[2, 1, 0],
+];
 
 #[test]
 fn three_replies_in_all_six_orders(rt: HostRuntime) -> Result<(), AllocError> {
     let alloc = rt.alloc();
-    let racks = racks_of(&rt, alloc, &[&[LOCAL, SEVERAL, GLOBAL]])?;
-    let orders = [
-        [0, 1, 2],
-        [0, 2, 1],
-        [1, 0, 2],
-        [1, 2, 0],
-        [2, 0, 1],
-        [2, 1, 0],
-    ];
-    for order in orders {
-        let Ok(answers) = gathered(alloc, &racks, &order, &[])? else {
-            panic!(rt; "no answers");
-        };
-        assert!(rt; are_answers_of_three(answers.as_slice()));
+    let racks = racks_of(&rt, alloc, ONE)?;
+    for order in SIX_ORDERS {
+        match gathered(alloc, &racks, order, &[])? {
+            Ok(answers) => assert!(rt; are_of_racks(answers.as_slice(), ANSWERS_OF_ONE)),
+            Err(_) => panic!(rt; "no answers"),
+        }
     }
     Ok(())
 }
 
+// Replies in their order, those of them that are starved, and the number of the first that is missing.
+const MISSING: &[(&[usize], &[usize], u64)] = &[
+    (&[2, 1], &[1], 0),
+    (&[], &[], 0),
+    (&[0, 1], &[], 2),
+];
+
 #[test]
 fn a_starved_reply_and_a_missing_one(rt: HostRuntime) -> Result<(), AllocError> {
     let alloc = rt.alloc();
-    let racks = racks_of(&rt, alloc, &[&[LOCAL, SEVERAL, GLOBAL]])?;
-    assert!(rt;
-        matches!(
-            gathered(alloc, &racks, &[2, 0, 1], &[1])?,
-            Err(FinishFault::OutOfMemory)
-        )
-    );
-    assert!(rt;
-        matches!(
-            gathered(alloc, &racks, &[2, 1], &[1])?,
-            Err(FinishFault::Missing { rack: 0, number: 0 })
-        )
-    );
-    assert!(rt;
-        matches!(
-            gathered(alloc, &racks, &[], &[])?,
-            Err(FinishFault::Missing { rack: 0, number: 0 })
-        )
-    );
-    assert!(rt;
-        matches!(
-            gathered(alloc, &racks, &[0, 1], &[])?,
-            Err(FinishFault::Missing { rack: 0, number: 2 })
-        )
-    );
+    let racks = racks_of(&rt, alloc, ONE)?;
+    let starved = gathered(alloc, &racks, &[2, 0, 1], &[1])?;
+    assert!(rt; matches!(starved, Err(FinishFault::OutOfMemory)));
+    for (numbers, starved, first) in MISSING {
+        match gathered(alloc, &racks, numbers, starved)? {
+            Err(FinishFault::Missing { rack, number }) => assert!(rt;
+                rack == 0 && number == *first
+            ),
+            _ => panic!(rt; "no reply is missing"),
+        }
+    }
     Ok(())
 }
 

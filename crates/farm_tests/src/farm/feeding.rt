@@ -1,5 +1,6 @@
 //! Racks with several feeds.
-use crate::farm::requests::{Entry, GLOBAL, LOCAL, SEVERAL, is_byte, is_several, list_of};
+use crate::farm::requests::{Entry, GLOBAL, LOCAL, SEVERAL, is_answer, is_byte, list_of};
+use crate::farm::running::settings_of;
 use farm_core::{Feeds, NoPause, Pause, RackList, Settings, run_feeds};
 use lrc_code::Outcome;
 use std::alloc::{AllocError, Global};
@@ -11,7 +12,7 @@ use std::thread::{self, Threads};
 const MOST_TURNS: u64 = 1_000_000;
 
 // A rack whose feeds have these entries.
-pub fn rack_of(
+fn rack_of(
     rt: &impl Abort,
     alloc: Global,
     lists: &[&[Entry]],
@@ -23,12 +24,54 @@ pub fn rack_of(
     Ok(feeds)
 }
 
-// The feeds of these racks.
-pub fn feeds_of(rt: &impl Abort, racks: Vec<Vec<RackList>>) -> Feeds {
+/// The feeds of racks whose feeds have these entries.
+pub(crate) fn feeds_of(
+    rt: &impl Abort,
+    alloc: Global,
+    lists: &[&[&[Entry]]],
+) -> Result<Feeds, AllocError> {
+    let mut racks = Vec::new(alloc);
+    for rack in lists {
+        racks.push(rack_of(rt, alloc, rack)?)?;
+    }
     match Feeds::new(racks) {
-        Ok(feeds) => feeds,
+        Ok(feeds) => Ok(feeds),
         Err(_) => panic!(rt; "bad feeds"),
     }
+}
+
+/// The answers to these feeds, each with its feed's number; want of memory where the run has none.
+pub(crate) fn answers_of_feeds<R: Abort + Threads + Wait + Sync, P: Pause>(
+    rt: &R,
+    alloc: Global,
+    feeds: &Feeds,
+    settings: Settings,
+    pause: &P,
+) -> Result<Vec<Vec<(usize, Outcome)>>, AllocError> {
+    match run_feeds(rt, alloc, feeds, settings, pause) {
+        Ok(answers) => Ok(answers),
+        Err(_) => Err(AllocError),
+    }
+}
+
+/// Whether the answers to one feed are these, in this order.
+pub(crate) fn are_of_feed(
+    answers: &[(usize, Outcome)],
+    feed: usize,
+    wanted: &[Option<u8>],
+) -> bool {
+    let mut wanted = wanted.iter();
+    for (from, outcome) in answers {
+        if *from == feed {
+            let Some(byte) = wanted.next() else {
+                return false;
+            };
+            if !is_answer(outcome, *byte) {
+                return false;
+            }
+        }
+    }
+    wanted.next().is_none()
 }
 
 // Holds the feeder of one feed ahead of its first order until that of the other is behind it.
@@ -66,58 +109,63 @@ impl Pause for Held {
 
 const CLOSE: Entry = Entry::Close;
 
+// A rack without a close, one of closes alone, one whose close stands in the other feed, and one of two feeds with a close.
+const TWO_FEEDS: &[&[&[Entry]]] = &[
+    &[&[LOCAL, SEVERAL], &[GLOBAL]],
+    &[&[CLOSE], &[CLOSE]],
+    &[&[CLOSE], &[LOCAL]],
+    &[&[LOCAL, CLOSE, GLOBAL], &[LOCAL, CLOSE, GLOBAL]],
+];
+
+// Whether the first of two feeds got these answers and the second its one.
+fn are_of_open(answers: &[(usize, Outcome)]) -> bool {
+    answers.len() == 3
+        && are_of_feed(answers, 0, &[Some(0x01), None])
+        && are_of_feed(answers, 1, &[Some(0x6e)])
+}
+
+/// Whether there is no answer, or one to this feed, of byte 01.
+pub(crate) fn are_of_raced(answers: &[(usize, Outcome)], feed: usize) -> bool {
+    match answers {
+        [] => true,
+        [(from, outcome)] => *from == feed && is_byte(outcome, 0x01),
+        _ => false,
+    }
+}
+
+// Whether there is an answer to one feed, or one to each, of byte 01.
+fn are_of_both(answers: &[(usize, Outcome)]) -> bool {
+    match answers {
+        [(_, only)] => is_byte(only, 0x01),
+        [(one, first), (other, second)] => {
+            *one != *other && is_byte(first, 0x01) && is_byte(second, 0x01)
+        }
+        _ => false,
+    }
+}
+
 /// Each row a hundred times, with 3 workers and queue 1.
 #[test]
 fn two_feeds(rt: HostRuntime) -> Result<(), AllocError> {
     let alloc = rt.alloc();
-    let Ok(settings) = Settings::new(3, 1) else {
-        panic!(rt; "settings out of their limits");
-    };
-    let mut racks = Vec::new(alloc);
-    racks.push(rack_of(&rt, alloc, &[&[LOCAL, SEVERAL], &[GLOBAL]])?)?;
-    racks.push(rack_of(&rt, alloc, &[&[CLOSE], &[CLOSE]])?)?;
-    racks.push(rack_of(&rt, alloc, &[&[CLOSE], &[LOCAL]])?)?;
-    let both = [LOCAL, CLOSE, GLOBAL];
-    racks.push(rack_of(&rt, alloc, &[both.as_slice(), both.as_slice()])?)?;
-    let feeds = feeds_of(&rt, racks);
+    let settings = settings_of(&rt, 3, 1);
+    let feeds = feeds_of(&rt, alloc, TWO_FEEDS)?;
     for _ in 0..100 {
-        let Ok(racks) = run_feeds(&rt, alloc, &feeds, settings, &NoPause) else {
-            panic!(rt; "no answers");
-        };
-        assert!(rt; racks.len() == 4);
-        let open = racks[0].as_slice();
-        assert!(rt; open.len() == 3);
-        let mut first = 0usize;
-        for (feed, outcome) in open {
-            if *feed == 1 {
-                assert!(rt; is_byte(outcome, 0x6e));
-            } else {
-                assert!(rt; *feed == 0);
-                assert!(rt;
-                    if first == 0 {
-                        is_byte(outcome, 0x01)
-                    } else {
-                        is_several(outcome)
-                    }
-                );
-                first = first.saturating_add(1);
+        let racks = answers_of_feeds(&rt, alloc, &feeds, settings, &NoPause)?;
+        match racks.as_slice() {
+            [open, closed, raced, both] => {
+                assert!(rt; are_of_open(open.as_slice()));
+                assert!(rt; closed.is_empty());
+                assert!(rt; are_of_raced(raced.as_slice(), 1));
+                assert!(rt; are_of_both(both.as_slice()));
             }
-        }
-        assert!(rt; first == 2);
-        assert!(rt; racks[1].is_empty());
-        let raced = racks[2].as_slice();
-        assert!(rt; raced.len() <= 1);
-        for (feed, outcome) in raced {
-            assert!(rt; *feed == 1 && is_byte(outcome, 0x01));
-        }
-        let both = racks[3].as_slice();
-        assert!(rt; both.len() == 1 || both.len() == 2 && both[0].0 != both[1].0);
-        for (_, outcome) in both {
-            assert!(rt; is_byte(outcome, 0x01));
+            _ => panic!(rt; "not four racks"),
         }
     }
     Ok(())
 }
+
+const RACED: &[&[&[Entry]]] = &[&[&[CLOSE], &[LOCAL]]];
 
 // The number of answers where the feeder of this feed goes first.
 fn answers_with_first<R: Abort + Threads + Wait + Sync>(
@@ -125,23 +173,18 @@ fn answers_with_first<R: Abort + Threads + Wait + Sync>(
     alloc: Global,
     first: usize,
 ) -> Result<usize, AllocError> {
-    let Ok(settings) = Settings::new(3, 1) else {
-        panic!(rt; "settings out of their limits");
-    };
-    let mut racks = Vec::new(alloc);
-    racks.push(rack_of(rt, alloc, &[&[CLOSE], &[LOCAL]])?)?;
-    let feeds = feeds_of(rt, racks);
+    let feeds = feeds_of(rt, alloc, RACED)?;
     let held = Held {
         first,
         behind: AtomicBool::new(false),
         missed: AtomicBool::new(false),
     };
-    let Ok(racks) = run_feeds(rt, alloc, &feeds, settings, &held) else {
-        panic!(rt; "no answers");
-    };
+    let racks = answers_of_feeds(rt, alloc, &feeds, settings_of(rt, 3, 1), &held)?;
     assert!(rt; !held.missed.load(Ordering::SeqCst));
-    assert!(rt; racks.len() == 1);
-    Ok(racks[0].len())
+    match racks.as_slice() {
+        [only] => Ok(only.len()),
+        _ => panic!(rt; "not one rack"),
+    }
 }
 
 /// The feeders of a rack run at the same time: either may go first.
@@ -214,28 +257,24 @@ impl Pause for Full {
     }
 }
 
-// One feed of these entries, 1 worker: while it is held in the first, as many jobs wait as the queue holds, and one more at its end.
+// One feed that asks so often, 1 worker: while it is held in the first, as many jobs wait as the queue holds, and one more at its end.
 fn fills<R: Abort + Threads + Wait + Sync>(
     rt: &R,
     alloc: Global,
     entries: &[Entry],
     queue: usize,
+    wanted: &[Option<u8>],
 ) -> Result<(), AllocError> {
-    let Ok(settings) = Settings::new(1, queue) else {
-        panic!(rt; "settings out of their limits");
-    };
-    let mut racks = Vec::new(alloc);
-    racks.push(rack_of(rt, alloc, &[entries])?)?;
-    let feeds = feeds_of(rt, racks);
-    let full = Full::new(settings.queue() + 1);
-    let Ok(racks) = run_feeds(rt, alloc, &feeds, settings, &full) else {
-        panic!(rt; "no answers");
-    };
+    let feeds = feeds_of(rt, alloc, &[&[entries]])?;
+    let full = Full::new(queue.saturating_add(1));
+    let racks = answers_of_feeds(rt, alloc, &feeds, settings_of(rt, 1, queue), &full)?;
     assert!(rt; !full.missed.load(Ordering::SeqCst));
     assert!(rt; !full.early.load(Ordering::SeqCst));
-    assert!(rt; racks.len() == 1 && racks[0].len() == entries.len());
-    for (feed, outcome) in racks[0].as_slice() {
-        assert!(rt; *feed == 0 && is_byte(outcome, 0x01));
+    match racks.as_slice() {
+        [only] => {
+            assert!(rt; only.len() == entries.len() && are_of_feed(only.as_slice(), 0, wanted));
+        }
+        _ => panic!(rt; "not one rack"),
     }
     Ok(())
 }
@@ -243,6 +282,6 @@ fn fills<R: Abort + Threads + Wait + Sync>(
 /// With one worker no more jobs wait than the queue holds, and no fewer.
 #[test]
 fn jobs_wait_in_the_queue_alone(rt: HostRuntime) -> Result<(), AllocError> {
-    fills(&rt, rt.alloc(), &[LOCAL, LOCAL, LOCAL, LOCAL], 1)?;
-    fills(&rt, rt.alloc(), &[LOCAL; 7], 4)
+    fills(&rt, rt.alloc(), &[LOCAL; 4], 1, &[Some(0x01); 4])?;
+    fills(&rt, rt.alloc(), &[LOCAL; 7], 4, &[Some(0x01); 7])
 }

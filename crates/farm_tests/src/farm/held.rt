@@ -1,8 +1,10 @@
 //! Runs in which a pause holds requests: two until each has met the other, so that one thread alone can't answer both; and one until
 //! the other worker has ended.
-use crate::farm::requests::{Entry, GLOBAL, LOCAL, SEVERAL, is_byte, is_several, racks_of};
-use farm_core::{Pause, Settings, run};
-use lrc_code::Outcome;
+use crate::farm::requests::{
+    ANSWERS_OF_ONE, Entry, GLOBAL, LOCAL, ONE, SEVERAL, are_of_racks, racks_of,
+};
+use crate::farm::running::{answers_of, settings_of};
+use farm_core::{Pause, Settings};
 use std::alloc::{AllocError, Global};
 use std::process::Abort;
 use std::sync::Wait;
@@ -100,91 +102,78 @@ impl Pause for Late {
     fn after(&self, _rack: usize, _number: u64) {}
 }
 
-fn are_local_several_global(answers: &[Outcome]) -> bool {
-    match answers {
-        [first, second, third] => {
-            is_byte(first, 0x01) && is_several(second) && is_byte(third, 0x6e)
-        }
-        _ => false,
-    }
-}
+const TWO_BY_TWO: &[&[Entry]] = &[&[LOCAL, SEVERAL, GLOBAL], &[LOCAL, SEVERAL, GLOBAL]];
 
-fn are_two_locals_and_several(answers: &[Outcome]) -> bool {
-    match answers {
-        [first, second, third] => {
-            is_byte(first, 0x01) && is_byte(second, 0x01) && is_several(third)
-        }
-        _ => false,
-    }
-}
+const ANSWERS_OF_TWO: &[&[Option<u8>]] = &[
+    &[Some(0x01), None, Some(0x6e)],
+    &[Some(0x01), None, Some(0x6e)],
+];
 
-// The answers to two racks that ask the same, where two requests of the second had to meet.
-fn answers_of_met<R: Abort + Threads + Wait + Sync>(
+// Two racks that ask the same, where two requests of the second have to meet.
+fn meets<R: Abort + Threads + Wait + Sync>(
     rt: &R,
     alloc: Global,
-    asked: &[Entry],
+    asked: &[&[Entry]],
     settings: Settings,
-) -> Result<Vec<Vec<Outcome>>, AllocError> {
-    let racks = racks_of(rt, alloc, &[asked, asked])?;
+    wanted: &[&[Option<u8>]],
+) -> Result<(), AllocError> {
+    let racks = racks_of(rt, alloc, asked)?;
     let pause = Crossed::new();
-    let Ok(answers) = run(rt, alloc, &racks, settings, &pause) else {
-        panic!(rt; "no answers");
-    };
+    let answers = answers_of(rt, alloc, &racks, settings, &pause)?;
     assert!(rt; !pause.missed.load(Ordering::SeqCst));
-    Ok(answers)
+    assert!(rt; are_of_racks(answers.as_slice(), wanted));
+    Ok(())
 }
 
 #[test]
 fn two_workers_meet(rt: HostRuntime) -> Result<(), AllocError> {
-    for queue in [8, 1] {
-        let Ok(settings) = Settings::new(2, queue) else {
-            panic!(rt; "settings out of their limits");
-        };
-        let answers = answers_of_met(&rt, rt.alloc(), &[LOCAL, SEVERAL, GLOBAL], settings)?;
-        assert!(rt; answers.len() == 2);
-        for rack in &answers {
-            assert!(rt; are_local_several_global(rack.as_slice()));
-        }
-    }
-    Ok(())
+    let alloc = rt.alloc();
+    meets(
+        &rt,
+        alloc,
+        TWO_BY_TWO,
+        settings_of(&rt, 2, 8),
+        ANSWERS_OF_TWO,
+    )?;
+    meets(
+        &rt,
+        alloc,
+        TWO_BY_TWO,
+        settings_of(&rt, 2, 1),
+        ANSWERS_OF_TWO,
+    )
 }
+
+const TWICE: &[&[Entry]] = &[&[LOCAL, LOCAL, SEVERAL], &[LOCAL, LOCAL, SEVERAL]];
+
+const ANSWERS_OF_TWICE: &[&[Option<u8>]] = &[
+    &[Some(0x01), Some(0x01), None],
+    &[Some(0x01), Some(0x01), None],
+];
 
 #[test]
 fn two_of_sixteen_workers_meet(rt: HostRuntime) -> Result<(), AllocError> {
-    let Ok(settings) = Settings::new(16, 1024) else {
-        panic!(rt; "settings out of their limits");
-    };
-    let answers = answers_of_met(&rt, rt.alloc(), &[LOCAL, LOCAL, SEVERAL], settings)?;
-    assert!(rt; answers.len() == 2);
-    for rack in &answers {
-        assert!(rt; are_two_locals_and_several(rack.as_slice()));
-    }
-    Ok(())
+    let settings = settings_of(&rt, 16, 1024);
+    meets(&rt, rt.alloc(), TWICE, settings, ANSWERS_OF_TWICE)
 }
+
+const SIXTEEN: &[&[Entry]] = &[&[LOCAL; 16]];
+
+const ANSWERS_OF_SIXTEEN: &[&[Option<u8>]] = &[&[Some(0x01); 16]];
 
 /// As many workers are started as are set: sixteen requests are worked on at once.
 #[test]
 fn all_sixteen_workers_meet(rt: HostRuntime) -> Result<(), AllocError> {
     let alloc = rt.alloc();
-    let racks = racks_of(&rt, alloc, &[&[LOCAL; 16]])?;
-    let Ok(settings) = Settings::new(16, 1) else {
-        panic!(rt; "settings out of their limits");
-    };
+    let racks = racks_of(&rt, alloc, SIXTEEN)?;
     let pause = Gathered {
         workers: 16,
         begun: AtomicU64::new(0),
         missed: AtomicBool::new(false),
     };
-    let Ok(answers) = run(&rt, alloc, &racks, settings, &pause) else {
-        panic!(rt; "no answers");
-    };
+    let answers = answers_of(&rt, alloc, &racks, settings_of(&rt, 16, 1), &pause)?;
     assert!(rt; !pause.missed.load(Ordering::SeqCst));
-    match answers.as_slice() {
-        [only] => {
-            assert!(rt; only.len() == 16 && only.iter().all(|outcome| is_byte(outcome, 0x01)));
-        }
-        _ => panic!(rt; "not one rack"),
-    }
+    assert!(rt; are_of_racks(answers.as_slice(), ANSWERS_OF_SIXTEEN));
     Ok(())
 }
 
@@ -192,16 +181,8 @@ fn all_sixteen_workers_meet(rt: HostRuntime) -> Result<(), AllocError> {
 #[test]
 fn one_worker_ends_late(rt: HostRuntime) -> Result<(), AllocError> {
     let alloc = rt.alloc();
-    let racks = racks_of(&rt, alloc, &[&[LOCAL, SEVERAL, GLOBAL]])?;
-    let Ok(settings) = Settings::new(2, 1) else {
-        panic!(rt; "settings out of their limits");
-    };
-    let Ok(answers) = run(&rt, alloc, &racks, settings, &Late) else {
-        panic!(rt; "no answers");
-    };
-    match answers.as_slice() {
-        [only] => assert!(rt; are_local_several_global(only.as_slice())),
-        _ => panic!(rt; "not one rack"),
-    }
+    let racks = racks_of(&rt, alloc, ONE)?;
+    let answers = answers_of(&rt, alloc, &racks, settings_of(&rt, 2, 1), &Late)?;
+    assert!(rt; are_of_racks(answers.as_slice(), ANSWERS_OF_ONE));
     Ok(())
 }

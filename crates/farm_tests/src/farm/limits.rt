@@ -74,23 +74,33 @@ fn sizes(racks: &[Vec<RackList>]) -> (usize, usize) {
     }
 }
 
+// Numbers of racks, of feeds of each, and of feeds of the last.
+const ACCEPTED: &[(usize, usize, usize)] = &[
+    (0, 0, 0),
+    (1, 1, 1),
+    (1, 4, 4),
+    (16, 1, 4),
+    (16, 4, 4),
+];
+
+// Numbers of racks, and of feeds of the last.
+const REFUSED: &[(usize, usize)] = &[(1, 0), (2, 0), (16, 0), (1, 5), (2, 5), (16, 5)];
+
 #[test]
 fn racks_of_one_to_four_feeds(rt: HostRuntime) -> Result<(), AllocError> {
     let alloc = rt.alloc();
-    for (racks, each, last) in [(0, 0, 0), (1, 1, 1), (1, 4, 4), (16, 1, 4), (16, 4, 4)] {
-        let Ok(accepted) = Feeds::new(feeds(&rt, alloc, racks, each, last)?) else {
-            panic!(rt; "feeds were refused");
-        };
-        assert!(rt; sizes(accepted.racks()) == (racks, last));
+    for (racks, each, last) in ACCEPTED {
+        match Feeds::new(feeds(&rt, alloc, *racks, *each, *last)?) {
+            Ok(accepted) => assert!(rt; sizes(accepted.racks()) == (*racks, *last)),
+            Err(_) => panic!(rt; "feeds were refused"),
+        }
     }
-    for last in [0, 5] {
-        for racks in [1, 2, 16] {
-            match Feeds::new(feeds(&rt, alloc, racks, 4, last)?) {
-                Err(FeedsFault::BadFeeds { racks: back }) => {
-                    assert!(rt; sizes(back.as_slice()) == (racks, last))
-                }
-                _ => panic!(rt; "a rack of no feed or of five isn't refused as such"),
+    for (racks, last) in REFUSED {
+        match Feeds::new(feeds(&rt, alloc, *racks, 4, *last)?) {
+            Err(FeedsFault::BadFeeds { racks: back }) => {
+                assert!(rt; sizes(back.as_slice()) == (*racks, *last))
             }
+            _ => panic!(rt; "a rack of no feed or of five isn't refused as such"),
         }
     }
     Ok(())

@@ -1,7 +1,8 @@
 //! What a run tells its pause: the racks, feeds, positions and numbers of all calls.
-use crate::farm::feeding::{feeds_of, rack_of};
+use crate::farm::feeding::{answers_of_feeds, feeds_of};
 use crate::farm::requests::{Entry, GLOBAL, LOCAL, SEVERAL, racks_of};
-use farm_core::{Pause, Settings, run, run_feeds};
+use crate::farm::running::{answers_of, settings_of};
+use farm_core::Pause;
 use std::alloc::AllocError;
 use std::sync::atomic::{AtomicBool, AtomicU64, Ordering};
 
@@ -25,6 +26,15 @@ impl Told {
             ahead: AtomicU64::new(0),
             behind: AtomicU64::new(0),
         }
+    }
+
+    // Whether no call was strange, and so many requests and orders were told.
+    fn are(&self, requests: u64, orders: u64) -> bool {
+        !self.strange.load(Ordering::SeqCst)
+            && self.before.load(Ordering::SeqCst) == requests
+            && self.after.load(Ordering::SeqCst) == requests
+            && self.ahead.load(Ordering::SeqCst) == orders
+            && self.behind.load(Ordering::SeqCst) == orders
     }
 
     fn count(&self, calls: &AtomicU64, digit: Option<u64>) {
@@ -78,43 +88,32 @@ impl Pause for Told {
     }
 }
 
+const SEVEN_FEEDS: &[&[&[Entry]]] = &[
+    &[&[LOCAL]],
+    &[&[GLOBAL], &[LOCAL, SEVERAL]],
+    &[&[], &[LOCAL], &[LOCAL], &[GLOBAL, LOCAL]],
+];
+
 /// Racks of one, two and four feeds.
 #[test]
 fn orders_of_seven_feeds(rt: HostRuntime) -> Result<(), AllocError> {
     let alloc = rt.alloc();
-    let Ok(settings) = Settings::new(3, 1) else {
-        panic!(rt; "settings out of their limits");
-    };
-    let four: [&[Entry]; 4] = [&[], &[LOCAL], &[LOCAL], &[GLOBAL, LOCAL]];
-    let mut racks = Vec::new(alloc);
-    racks.push(rack_of(&rt, alloc, &[&[LOCAL]])?)?;
-    racks.push(rack_of(&rt, alloc, &[&[GLOBAL], &[LOCAL, SEVERAL]])?)?;
-    racks.push(rack_of(&rt, alloc, four.as_slice())?)?;
-    let feeds = feeds_of(&rt, racks);
+    let feeds = feeds_of(&rt, alloc, SEVEN_FEEDS)?;
     let told = Told::new();
-    assert!(rt; run_feeds(&rt, alloc, &feeds, settings, &told).is_ok());
-    assert!(rt; !told.strange.load(Ordering::SeqCst));
-    assert!(rt; told.before.load(Ordering::SeqCst) == 431);
-    assert!(rt; told.after.load(Ordering::SeqCst) == 431);
-    assert!(rt; told.ahead.load(Ordering::SeqCst) == 211_211);
-    assert!(rt; told.behind.load(Ordering::SeqCst) == 211_211);
+    answers_of_feeds(&rt, alloc, &feeds, settings_of(&rt, 3, 1), &told)?;
+    assert!(rt; told.are(431, 211_211));
     Ok(())
 }
+
+const TWO_LISTS: &[&[Entry]] = &[&[LOCAL], &[GLOBAL]];
 
 /// Racks of one list each: a list is its rack's feed 0.
 #[test]
 fn orders_of_two_lists(rt: HostRuntime) -> Result<(), AllocError> {
     let alloc = rt.alloc();
-    let Ok(settings) = Settings::new(2, 1) else {
-        panic!(rt; "settings out of their limits");
-    };
-    let racks = racks_of(&rt, alloc, &[&[LOCAL], &[GLOBAL]])?;
+    let racks = racks_of(&rt, alloc, TWO_LISTS)?;
     let told = Told::new();
-    assert!(rt; run(&rt, alloc, &racks, settings, &told).is_ok());
-    assert!(rt; !told.strange.load(Ordering::SeqCst));
-    assert!(rt; told.before.load(Ordering::SeqCst) == 11);
-    assert!(rt; told.after.load(Ordering::SeqCst) == 11);
-    assert!(rt; told.ahead.load(Ordering::SeqCst) == 11);
-    assert!(rt; told.behind.load(Ordering::SeqCst) == 11);
+    answers_of(&rt, alloc, &racks, settings_of(&rt, 2, 1), &told)?;
+    assert!(rt; told.are(11, 11));
     Ok(())
 }

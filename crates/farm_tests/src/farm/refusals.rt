@@ -1,46 +1,35 @@
 //! Calls that a script also makes with each of their allocations refused in turn: they end with an `AllocError` where they meet a
 //! refusal, and else with the answers.
-use crate::farm::collecting::{are_answers_of_three, gathered};
-use crate::farm::feeding::{feeds_of, rack_of};
-use crate::farm::requests::{Entry, GLOBAL, LOCAL, SEVERAL, is_byte, is_several, racks_of};
-use farm_core::{FinishFault, NoPause, Settings, run, run_feeds};
+use crate::farm::collecting::gathered;
+use crate::farm::feeding::{answers_of_feeds, are_of_feed, are_of_raced, feeds_of};
+use crate::farm::requests::{
+    ANSWERS_OF_ONE, Entry, GLOBAL, LOCAL, ONE, SEVERAL, are_of_racks, racks_of,
+};
+use crate::farm::running::{answers_of, settings_of};
+use farm_core::{FinishFault, NoPause};
 use lrc_code::Outcome;
 use std::alloc::{AllocError, Global};
 use std::process::Abort;
 use std::sync::Wait;
 use std::thread::Threads;
 
-fn are_two_and_several(answers: &[Outcome]) -> bool {
-    match answers {
-        [first, second, third] => {
-            is_byte(first, 0x01) && is_byte(second, 0x01) && is_several(third)
-        }
-        _ => false,
-    }
-}
-
 // Two racks that each ask for one fragment twice, and for one that several stripes fit.
+const TWO_RACKS: &[&[Entry]] = &[&[LOCAL, LOCAL, SEVERAL], &[LOCAL, LOCAL, SEVERAL]];
+
+const ANSWERS_OF_TWO: &[&[Option<u8>]] = &[
+    &[Some(0x01), Some(0x01), None],
+    &[Some(0x01), Some(0x01), None],
+];
+
 fn runs_two_racks<R: Abort + Threads + Wait + Sync>(
     rt: &R,
     alloc: Global,
     workers: usize,
     queue: usize,
 ) -> Result<(), AllocError> {
-    let three = [LOCAL, LOCAL, SEVERAL];
-    let racks = racks_of(rt, alloc, &[three.as_slice(), three.as_slice()])?;
-    let Ok(settings) = Settings::new(workers, queue) else {
-        panic!(rt; "settings out of their limits");
-    };
-    let Ok(answers) = run(rt, alloc, &racks, settings, &NoPause) else {
-        return Err(AllocError);
-    };
-    match answers.as_slice() {
-        [first, second] => {
-            assert!(rt; are_two_and_several(first.as_slice()));
-            assert!(rt; are_two_and_several(second.as_slice()));
-        }
-        _ => panic!(rt; "not two racks"),
-    }
+    let racks = racks_of(rt, alloc, TWO_RACKS)?;
+    let answers = answers_of(rt, alloc, &racks, settings_of(rt, workers, queue), &NoPause)?;
+    assert!(rt; are_of_racks(answers.as_slice(), ANSWERS_OF_TWO));
     Ok(())
 }
 
@@ -55,49 +44,32 @@ fn two_workers_and_a_queue_of_one(rt: HostRuntime) -> Result<(), AllocError> {
 }
 
 // A rack of four feeds without a close, and one of two feeds that both have one.
+const SIX_FEEDS: &[&[&[Entry]]] = &[
+    &[&[LOCAL, SEVERAL], &[GLOBAL], &[], &[LOCAL]],
+    &[&[LOCAL, Entry::Close], &[Entry::Close]],
+];
+
+fn are_of_four(answers: &[(usize, Outcome)]) -> bool {
+    answers.len() == 4
+        && are_of_feed(answers, 0, &[Some(0x01), None])
+        && are_of_feed(answers, 1, &[Some(0x6e)])
+        && are_of_feed(answers, 3, &[Some(0x01)])
+}
+
 fn runs_six_feeds<R: Abort + Threads + Wait + Sync>(
     rt: &R,
     alloc: Global,
     workers: usize,
     queue: usize,
 ) -> Result<(), AllocError> {
-    let open: [&[Entry]; 4] = [&[LOCAL, SEVERAL], &[GLOBAL], &[], &[LOCAL]];
-    let closing: [&[Entry]; 2] = [&[LOCAL, Entry::Close], &[Entry::Close]];
-    let mut racks = Vec::new(alloc);
-    racks.push(rack_of(rt, alloc, open.as_slice())?)?;
-    racks.push(rack_of(rt, alloc, closing.as_slice())?)?;
-    let feeds = feeds_of(rt, racks);
-    let Ok(settings) = Settings::new(workers, queue) else {
-        panic!(rt; "settings out of their limits");
-    };
-    let Ok(answers) = run_feeds(rt, alloc, &feeds, settings, &NoPause) else {
-        return Err(AllocError);
-    };
-    assert!(rt; answers.len() == 2);
-    let open = answers[0].as_slice();
-    assert!(rt; open.len() == 4);
-    let mut first = 0usize;
-    for (feed, outcome) in open {
-        if *feed == 0 {
-            assert!(rt;
-                if first == 0 {
-                    is_byte(outcome, 0x01)
-                } else {
-                    is_several(outcome)
-                }
-            );
-            first = first.saturating_add(1);
-        } else if *feed == 1 {
-            assert!(rt; is_byte(outcome, 0x6e));
-        } else {
-            assert!(rt; *feed == 3 && is_byte(outcome, 0x01));
+    let feeds = feeds_of(rt, alloc, SIX_FEEDS)?;
+    let answers = answers_of_feeds(rt, alloc, &feeds, settings_of(rt, workers, queue), &NoPause)?;
+    match answers.as_slice() {
+        [open, closing] => {
+            assert!(rt; are_of_four(open.as_slice()));
+            assert!(rt; are_of_raced(closing.as_slice(), 0));
         }
-    }
-    assert!(rt; first == 2);
-    let closed = answers[1].as_slice();
-    assert!(rt; closed.len() <= 1);
-    for (feed, outcome) in closed {
-        assert!(rt; *feed == 0 && is_byte(outcome, 0x01));
+        _ => panic!(rt; "not two racks"),
     }
     Ok(())
 }
@@ -115,9 +87,9 @@ fn six_feeds_with_sixteen_workers(rt: HostRuntime) -> Result<(), AllocError> {
 #[test]
 fn collector_takes_its_room(rt: HostRuntime) -> Result<(), AllocError> {
     let alloc = rt.alloc();
-    let racks = racks_of(&rt, alloc, &[&[LOCAL, SEVERAL, GLOBAL]])?;
+    let racks = racks_of(&rt, alloc, ONE)?;
     match gathered(alloc, &racks, &[2, 0, 1], &[])? {
-        Ok(answers) => assert!(rt; are_answers_of_three(answers.as_slice())),
+        Ok(answers) => assert!(rt; are_of_racks(answers.as_slice(), ANSWERS_OF_ONE)),
         Err(FinishFault::OutOfMemory) => return Err(AllocError),
         Err(FinishFault::Missing { .. }) => panic!(rt; "a reply is missing"),
     }

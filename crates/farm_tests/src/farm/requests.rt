@@ -43,6 +43,12 @@ pub(crate) const GLOBAL: Entry = Entry::Lost(
     ],
 );
 
+/// A rack with each of these three.
+pub(crate) const ONE: &[&[Entry]] = &[&[LOCAL, SEVERAL, GLOBAL]];
+
+/// Its answers, as `are_of_racks` takes them.
+pub(crate) const ANSWERS_OF_ONE: &[&[Option<u8>]] = &[&[Some(0x01), None, Some(0x6e)]];
+
 // A request, which is accepted.
 fn request(
     rt: &impl Abort,
@@ -101,6 +107,34 @@ pub(crate) fn is_byte(outcome: &Outcome, byte: u8) -> bool {
 /// Whether the answer is that two stripes differ.
 pub(crate) fn is_several(outcome: &Outcome) -> bool {
     matches!(outcome, Outcome::Several)
+}
+
+/// Whether these are the answers: each a fragment of this one byte, or where there is none, that two stripes differ.
+pub(crate) fn are_answers(outcomes: &[Outcome], wanted: &[Option<u8>]) -> bool {
+    for (outcome, byte) in outcomes.iter().zip(wanted) {
+        if !is_answer(outcome, *byte) {
+            return false;
+        }
+    }
+    outcomes.len() == wanted.len()
+}
+
+/// Whether the answer is a fragment of this one byte, or where there is none, that two stripes differ.
+pub(crate) fn is_answer(outcome: &Outcome, wanted: Option<u8>) -> bool {
+    match wanted {
+        Some(byte) => is_byte(outcome, byte),
+        None => is_several(outcome),
+    }
+}
+
+/// Whether these are the answers of each rack.
+pub(crate) fn are_of_racks(racks: &[Vec<Outcome>], wanted: &[&[Option<u8>]]) -> bool {
+    for (outcomes, bytes) in racks.iter().zip(wanted) {
+        if !are_answers(outcomes.as_slice(), bytes) {
+            return false;
+        }
+    }
+    racks.len() == wanted.len()
 }
 
 /// Racks with lists of these entries.

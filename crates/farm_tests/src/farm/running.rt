@@ -1,57 +1,65 @@
 //! Runs of the farm.
-use crate::farm::requests::{Entry, GLOBAL, LOCAL, SEVERAL, is_byte, is_several, racks_of};
-use farm_core::{NoPause, Racks, Settings, run};
+use crate::farm::requests::{Entry, GLOBAL, LOCAL, SEVERAL, are_of_racks, racks_of};
+use farm_core::{NoPause, Pause, Racks, Settings, run};
 use lrc_code::Outcome;
 use std::alloc::{AllocError, Global};
 use std::process::Abort;
 use std::sync::Wait;
 use std::thread::Threads;
 
-fn answers_of<R: Abort + Threads + Wait + Sync>(
+/// So many workers, and a queue of so many jobs.
+pub(crate) fn settings_of(rt: &impl Abort, workers: usize, queue: usize) -> Settings {
+    match Settings::new(workers, queue) {
+        Ok(settings) => settings,
+        Err(_) => panic!(rt; "settings out of their limits"),
+    }
+}
+
+/// The answers to these racks; want of memory where the run has none.
+pub(crate) fn answers_of<R: Abort + Threads + Wait + Sync, P: Pause>(
     rt: &R,
     alloc: Global,
     racks: &Racks,
-    workers: usize,
-    queue: usize,
-) -> Vec<Vec<Outcome>> {
-    let Ok(settings) = Settings::new(workers, queue) else {
-        panic!(rt; "settings out of their limits");
-    };
-    match run(rt, alloc, racks, settings, &NoPause) {
-        Ok(answers) => answers,
-        Err(_) => panic!(rt; "no answers"),
+    settings: Settings,
+    pause: &P,
+) -> Result<Vec<Vec<Outcome>>, AllocError> {
+    match run(rt, alloc, racks, settings, pause) {
+        Ok(answers) => Ok(answers),
+        Err(_) => Err(AllocError),
     }
 }
+
+const CLOSED: &[&[Entry]] = &[&[LOCAL, SEVERAL, Entry::Close, GLOBAL], &[], &[GLOBAL]];
+
+const ANSWERS_OF_CLOSED: &[&[Option<u8>]] = &[&[Some(0x01), None], &[], &[Some(0x6e)]];
+
+const SETTINGS: &[(usize, usize)] = &[(1, 1), (4, 16), (16, 1024)];
 
 #[test]
 fn requests_in_front_of_the_close(rt: HostRuntime) -> Result<(), AllocError> {
     let alloc = rt.alloc();
-    let closed = [LOCAL, SEVERAL, Entry::Close, GLOBAL];
-    let racks = racks_of(&rt, alloc, &[closed.as_slice(), &[], &[GLOBAL]])?;
-    for (workers, queue) in [(1, 1), (4, 16), (16, 1024)] {
-        let answers = answers_of(&rt, alloc, &racks, workers, queue);
-        match answers.as_slice() {
-            [first, second, third] => {
-                assert!(rt; first.len() == 2 && second.is_empty() && third.len() == 1);
-                assert!(rt; is_byte(&first[0], 0x01) && is_several(&first[1]));
-                assert!(rt; is_byte(&third[0], 0x6e));
-            }
-            _ => panic!(rt; "not three racks"),
-        }
+    let racks = racks_of(&rt, alloc, CLOSED)?;
+    for (workers, queue) in SETTINGS {
+        let settings = settings_of(&rt, *workers, *queue);
+        let answers = answers_of(&rt, alloc, &racks, settings, &NoPause)?;
+        assert!(rt; are_of_racks(answers.as_slice(), ANSWERS_OF_CLOSED));
     }
     Ok(())
 }
 
+const NO_RACKS: &[&[Entry]] = &[];
+
+const NO_REQUESTS: &[&[Entry]] = &[&[]];
+
 #[test]
 fn no_racks_and_racks_without_requests(rt: HostRuntime) -> Result<(), AllocError> {
     let alloc = rt.alloc();
-    let none = racks_of(&rt, alloc, &[])?;
-    assert!(rt; answers_of(&rt, alloc, &none, 1, 1).is_empty());
-    let one = racks_of(&rt, alloc, &[&[]])?;
-    let answers = answers_of(&rt, alloc, &one, 1, 1);
-    match answers.as_slice() {
-        [only] => assert!(rt; only.is_empty()),
-        _ => panic!(rt; "not one rack"),
-    }
+    let settings = settings_of(&rt, 1, 1);
+    let none = racks_of(&rt, alloc, NO_RACKS)?;
+    let answers = answers_of(&rt, alloc, &none, settings, &NoPause)?;
+    assert!(rt; answers.is_empty());
+    let one = racks_of(&rt, alloc, NO_REQUESTS)?;
+    let answers = answers_of(&rt, alloc, &one, settings, &NoPause)?;
+    assert!(rt; are_of_racks(answers.as_slice(), &[&[]]));
     Ok(())
 }
