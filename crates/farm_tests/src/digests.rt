@@ -1,5 +1,5 @@
 //! Digests of the standard and of OpenSSL, in each lane, and any lengths against the crate `sha2`.
-ghost use Rattle.std.specs.Prelude.{◌≤◌};
+ghost use Rattle.std.specs.Prelude.{◌<◌, ◌≤◌};
 
 use sha2::{Digest, Sha256};
 use sha256_lanes::{are_of_one_length, digests, digests_of_eight};
@@ -11,17 +11,20 @@ fn checked_digests(rt: &impl Abort, messages: &[&[u8]; 8]) -> [[u8; 32]; 8] {
 }
 
 // Byte `i` of the message in lane `lane`, at length `len`.
-fn byte_at(i: usize, lane: usize, len: usize) -> u8 {
-    let sum = i.wrapping_mul(31).wrapping_add(lane.wrapping_mul(17));
-    (sum.wrapping_add(len) % 251) as u8
+fn byte_at(i: usize, lane: usize, len: usize) -> u8
+    requires { (i < 4096) × (lane < 8) × (len < 4096) }
+{
+    ((31 * i + 17 * lane + len) % 251) as u8
 }
 
 // Eight messages of `len` bytes, each in a row of its own.
-fn rows_of(len: usize) -> [[u8; 1000]; 8] {
+fn rows_of(len: usize) -> [[u8; 1000]; 8]
+    requires { len ≤ 1000 }
+{
     let mut rows = [[0u8; 1000]; 8];
-    for (lane, row) in rows.iter_mut().enumerate() {
-        for (i, byte) in row.iter_mut().take(len).enumerate() {
-            *byte = byte_at(i, lane, len);
+    for lane in 0..8usize {
+        for i in 0..len {
+            rows[lane][i] = byte_at(i, lane, len);
         }
     }
     rows

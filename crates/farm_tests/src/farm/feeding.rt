@@ -1,5 +1,5 @@
 //! Racks with several feeds.
-use crate::farm::requests::{Entry, GLOBAL, LOCAL, SEVERAL, is_answer, is_byte, list_of};
+use crate::farm::requests::{Entry, GLOBAL, LOCAL, SEVERAL, is_answer, is_byte, lists_of};
 use crate::farm::running::settings_of;
 use farm_core::{Feeds, NoPause, Pause, RackList, Settings, run_feeds};
 use lrc_code::Outcome;
@@ -11,17 +11,17 @@ use std::thread::{self, Threads};
 
 const MOST_TURNS: u64 = 1_000_000;
 
-// A rack whose feeds have these entries.
-fn rack_of(
+// Racks whose feeds have these entries.
+fn feed_lists_of(
     rt: &impl Abort,
     alloc: Global,
-    lists: &[&[Entry]],
-) -> Result<Vec<RackList>, AllocError> {
-    let mut feeds = Vec::new(alloc);
-    for entries in lists {
-        feeds.push(list_of(rt, alloc, entries)?)?;
+    lists: &[&[&[Entry]]],
+) -> Result<Vec<Vec<RackList>>, AllocError> {
+    let mut racks = Vec::new(alloc);
+    for rack in lists {
+        racks.push(lists_of(rt, alloc, rack)?)?;
     }
-    Ok(feeds)
+    Ok(racks)
 }
 
 /// The feeds of racks whose feeds have these entries.
@@ -30,11 +30,7 @@ pub(crate) fn feeds_of(
     alloc: Global,
     lists: &[&[&[Entry]]],
 ) -> Result<Feeds, AllocError> {
-    let mut racks = Vec::new(alloc);
-    for rack in lists {
-        racks.push(rack_of(rt, alloc, rack)?)?;
-    }
-    match Feeds::new(racks) {
+    match Feeds::new(feed_lists_of(rt, alloc, lists)?) {
         Ok(feeds) => Ok(feeds),
         Err(_) => panic!(rt; "bad feeds"),
     }
@@ -54,7 +50,7 @@ pub(crate) fn answers_of_feeds<R: Abort + Threads + Wait + Sync, P: Pause>(
     }
 }
 
-/// Whether the answers to one feed are these, in this order.
+/// Whether the answers to one feed are these, in this order, each as `are_answers` takes it.
 pub(crate) fn are_of_feed(
     answers: &[(usize, Outcome)],
     feed: usize,
@@ -117,7 +113,7 @@ const TWO_FEEDS: &[&[&[Entry]]] = &[
     &[&[LOCAL, CLOSE, GLOBAL], &[LOCAL, CLOSE, GLOBAL]],
 ];
 
-// Whether the first of two feeds got these answers and the second its one.
+// Whether the first of two feeds got a byte and several, in this order, and the second a byte.
 fn are_of_open(answers: &[(usize, Outcome)]) -> bool {
     answers.len() == 3
         && are_of_feed(answers, 0, &[Some(0x01), None])
@@ -257,7 +253,7 @@ impl Pause for Full {
     }
 }
 
-// One feed that asks so often, 1 worker: while it is held in the first, as many jobs wait as the queue holds, and one more at its end.
+// One feed of these entries, 1 worker: while it is held in the first, as many jobs wait as the queue holds, and one more at its end.
 fn fills<R: Abort + Threads + Wait + Sync>(
     rt: &R,
     alloc: Global,

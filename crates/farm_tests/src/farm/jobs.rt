@@ -1,13 +1,11 @@
 //! A feeder and two workers in one thread, over lanes that hold all that they put.
-ghost use Rattle.std.specs.Prelude.{◌≡◌, false, IfOk};
+ghost use Rattle.std.specs.Prelude.{IfOk};
 ghost use Rattle.farm_lanes.specs.LaneEnds.{IsUnusedPut, IsUnusedTake};
-ghost use Rattle.farm_lanes.specs.SeatChanges.{fresh};
 
-use crate::farm::requests::{Entry, GLOBAL, LOCAL, SEVERAL, is_byte, is_several, list_of};
+use crate::farm::requests::{Entry, GLOBAL, LOCAL, SEVERAL, is_answer, list_of};
 use crate::gates::{Alone, open_alone};
-use farm_core::{Job, NoPause, Reply, feed, work};
-use farm_lanes::{Item, Lane, LaneError, PutEnd, TakeEnd};
-use lrc_code::Outcome;
+use farm_core::{Job, NoPause, RackList, Reply, feed, work};
+use farm_lanes::{GateError, Item, Lane, LaneError, PutEnd, TakeEnd};
 use std::alloc::Global;
 use std::process::Abort;
 use std::sync::Wait;
@@ -55,19 +53,49 @@ fn works<'a, R: Abort + Wait>(
     assert!(rt; worked.jobs.count() == taken && worked.replies.count() == put);
 }
 
-// The outcome of the next reply, which has this number; none of an end mark.
-fn next_outcome<'a, R: Abort + Wait>(
+// Feeds this list through a gate of its own. It is closed at 2.
+fn feeds_two<'a, R: Abort + Wait>(
     rt: &R,
+    alloc: Global,
+    list: &'a RackList,
+    jobs: PutEnd<Job<'a>>,
+) -> Result<(), GateError>
+    requires { IsUnusedPut jobs }
+{
+    let Alone { gate, seat, right } = open_alone(alloc)?;
+    let fed = feed(rt, &gate, seat, right, 0, 0, list, jobs, &NoPause);
+    assert!(rt; fed.close == Some(2) && fed.right.is_none() && fed.jobs.count() == 3);
+    Ok(())
+}
+
+fn stops_both<'a>(rt: &impl Wait, mut jobs: PutEnd<Job<'a>>)
+    requires { IsUnusedPut jobs }
+{
+    jobs.put(rt, Job::Stop);
+    jobs.put(rt, Job::Stop);
+}
+
+// Whether the next item is a reply of this number with this answer.
+fn is_next<'a>(
+    rt: &impl Wait,
     replies: &mut TakeEnd<Reply<'a>>,
     number: u64,
-) -> Option<Outcome> {
+    wanted: Option<u8>,
+) -> bool {
     match replies.take(rt) {
         Item::Value { value, .. } => {
-            assert!(rt; value.number == number);
-            value.into_outcome()
+            let same = value.number == number;
+            match value.into_outcome() {
+                Some(outcome) => same && is_answer(&outcome, wanted),
+                None => false,
+            }
         }
-        Item::End { .. } => None,
+        Item::End { .. } => false,
     }
+}
+
+fn is_end<'a>(rt: &impl Wait, replies: &mut TakeEnd<Reply<'a>>) -> bool {
+    matches!(replies.take(rt), Item::End { .. })
 }
 
 /// The gate is closed at 2, the first worker replies to both requests and the second to none.
@@ -75,21 +103,15 @@ fn next_outcome<'a, R: Abort + Wait>(
 fn a_feeder_and_two_workers(rt: HostRuntime) -> Result<(), Fail> {
     let alloc = rt.alloc();
     let list = list_of(&rt, alloc, &[SEVERAL, LOCAL, Entry::Close, GLOBAL])?;
-    let Alone { gate, seat, right } = open_alone(alloc)?;
     let jobs = two_to_two(alloc)?;
     let replies = two_to_two(alloc)?;
-    let fed = feed(&rt, &gate, seat, right, 0, 0, &list, jobs.first, &NoPause);
-    assert!(rt; fed.close == Some(2) && fed.right.is_none() && fed.jobs.count() == 3);
-    let mut stops = jobs.second;
-    stops.put(&rt, Job::Stop);
-    stops.put(&rt, Job::Stop);
+    feeds_two(&rt, alloc, &list, jobs.first)?;
+    stops_both(&rt, jobs.second);
     works(&rt, alloc, jobs.taker, replies.first, 4, 3);
     works(&rt, alloc, jobs.other, replies.second, 1, 1);
     let mut taker = replies.taker;
-    assert!(rt; matches!(next_outcome(&rt, &mut taker, 0), Some(outcome) if is_several(&outcome)));
-    assert!(rt;
-        matches!(next_outcome(&rt, &mut taker, 1), Some(outcome) if is_byte(&outcome, 0x01))
-    );
-    assert!(rt; next_outcome(&rt, &mut taker, 2).is_none());
+    assert!(rt; is_next(&rt, &mut taker, 0, None));
+    assert!(rt; is_next(&rt, &mut taker, 1, Some(0x01)));
+    assert!(rt; is_end(&rt, &mut taker));
     Ok(())
 }

@@ -137,17 +137,26 @@ pub(crate) fn are_of_racks(racks: &[Vec<Outcome>], wanted: &[&[Option<u8>]]) -> 
     racks.len() == wanted.len()
 }
 
+/// Lists of these entries: of several racks, or of one rack's feeds.
+pub(crate) fn lists_of(
+    rt: &impl Abort,
+    alloc: Global,
+    lists: &[&[Entry]],
+) -> Result<Vec<RackList>, AllocError> {
+    let mut all = Vec::new(alloc);
+    for entries in lists {
+        all.push(list_of(rt, alloc, entries)?)?;
+    }
+    Ok(all)
+}
+
 /// Racks with lists of these entries.
 pub(crate) fn racks_of(
     rt: &impl Abort,
     alloc: Global,
     lists: &[&[Entry]],
 ) -> Result<Racks, AllocError> {
-    let mut all = Vec::new(alloc);
-    for entries in lists {
-        all.push(list_of(rt, alloc, entries)?)?;
-    }
-    match Racks::new(all) {
+    match Racks::new(lists_of(rt, alloc, lists)?) {
         Ok(racks) => Ok(racks),
         Err(_) => panic!(rt; "too many racks"),
     }
