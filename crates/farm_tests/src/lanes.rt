@@ -87,6 +87,21 @@ fn take_three<R: Wait>(rt: &R, mut end: TakeEnd<u64>, done: &AtomicBool) -> Thre
     }
 }
 
+/// Whether it is set within a million turns.
+fn is_set_in_time(done: &AtomicBool) -> bool {
+    for _ in 0..1_000_000u32 {
+        if done.load(Ordering::SeqCst) {
+            return true;
+        }
+        thread::yield_now();
+    }
+    done.load(Ordering::SeqCst)
+}
+
+fn are_seven_and_nine(items: &[Shown; 3]) -> bool {
+    *items == [(0, 0, Some(7)), (0, 1, Some(9)), (0, 2, None)]
+}
+
 /// What was put is taken in another thread, within a bounded number of turns.
 #[test]
 fn takes_in_another_thread_what_was_put(rt: HostRuntime) -> Result<(), Fail> {
@@ -105,18 +120,12 @@ fn takes_in_another_thread_what_was_put(rt: HostRuntime) -> Result<(), Fail> {
             ensures { result.end.lane ≡ take.lane }
         { take_three(&rt, take, &set_when_done) },
     )?;
-    for _ in 0..1_000_000u32 {
-        if done.load(Ordering::SeqCst) {
-            break;
-        }
-        thread::yield_now();
-    }
     assert!(rt;
-        done.load(Ordering::SeqCst),
+        is_set_in_time(&done),
         "the items that were put are not taken"
     );
     let ThreeTaken { end, items } = taker.join(&rt);
-    assert!(rt; items == [(0, 0, Some(7)), (0, 1, Some(9)), (0, 2, None)]);
+    assert!(rt; are_seven_and_nine(&items));
     assert!(rt; settle_pair(alloc, ended, end)? == (3, 3));
     Ok(())
 }
@@ -400,6 +409,21 @@ fn rises(numbers: &[u64]) -> bool {
     true
 }
 
+/// Whether the numbers of one sender rise at each taker, and are together 0 to 250, each once.
+fn rise_and_are_all(
+    alloc: Global,
+    first: &[Shown],
+    second: &[Shown],
+    sender: u32,
+) -> Result<bool, AllocError> {
+    let mut numbers = numbers_of(alloc, first, sender)?;
+    let others = numbers_of(alloc, second, sender)?;
+    let both_rise = rises(&numbers) && rises(&others);
+    numbers.extend_from_slice(&others)?;
+    numbers.sort()?;
+    Ok(both_rise && numbers.len() == 251 && count_up(&numbers))
+}
+
 /// Through a lane of capacity 1 each item of four senders comes to one of two takers, once, and in rising numbers.
 #[test]
 fn takes_each_item_once(rt: HostRuntime) -> Result<(), Fail> {
@@ -408,14 +432,8 @@ fn takes_each_item_once(rt: HostRuntime) -> Result<(), Fail> {
     assert!(rt; run.put == 1004 && run.taken == 1004);
     assert!(rt; run.first.len() == 502 && run.second.len() == 502);
     for sender in 0..4u32 {
-        let mut numbers = numbers_of(alloc, &run.first, sender)?;
-        assert!(rt; rises(&numbers), "sender {sender}, first taker");
-        let others = numbers_of(alloc, &run.second, sender)?;
-        assert!(rt; rises(&others), "sender {sender}, second taker");
-        numbers.extend_from_slice(&others)?;
-        numbers.sort()?;
         assert!(rt;
-            numbers.len() == 251 && count_up(&numbers),
+            rise_and_are_all(alloc, &run.first, &run.second, sender)?,
             "sender {sender}"
         );
     }

@@ -253,22 +253,22 @@ impl Pause for Full {
     }
 }
 
-// One feed of these entries, 1 worker: while it is held in the first, as many jobs wait as the queue holds, and one more at its end.
+// One rack with one feed, 1 worker: while it is held in the first, as many jobs wait as the queue holds, and one more at its end.
 fn fills<R: Abort + Threads + Wait + Sync>(
     rt: &R,
     alloc: Global,
-    entries: &[Entry],
+    asked: &[&[&[Entry]]],
     queue: usize,
     wanted: &[Option<u8>],
 ) -> Result<(), AllocError> {
-    let feeds = feeds_of(rt, alloc, &[&[entries]])?;
+    let feeds = feeds_of(rt, alloc, asked)?;
     let full = Full::new(queue.saturating_add(1));
     let racks = answers_of_feeds(rt, alloc, &feeds, settings_of(rt, 1, queue), &full)?;
     assert!(rt; !full.missed.load(Ordering::SeqCst));
     assert!(rt; !full.early.load(Ordering::SeqCst));
     match racks.as_slice() {
         [only] => {
-            assert!(rt; only.len() == entries.len() && are_of_feed(only.as_slice(), 0, wanted));
+            assert!(rt; only.len() == wanted.len() && are_of_feed(only.as_slice(), 0, wanted));
         }
         _ => panic!(rt; "not one rack"),
     }
@@ -278,6 +278,7 @@ fn fills<R: Abort + Threads + Wait + Sync>(
 /// With one worker no more jobs wait than the queue holds, and no fewer.
 #[test]
 fn jobs_wait_in_the_queue_alone(rt: HostRuntime) -> Result<(), AllocError> {
-    fills(&rt, rt.alloc(), &[LOCAL; 4], 1, &[Some(0x01); 4])?;
-    fills(&rt, rt.alloc(), &[LOCAL; 7], 4, &[Some(0x01); 7])
+    let alloc = rt.alloc();
+    fills(&rt, alloc, &[&[&[LOCAL; 4]]], 1, &[Some(0x01); 4])?;
+    fills(&rt, alloc, &[&[&[LOCAL; 7]]], 4, &[Some(0x01); 7])
 }

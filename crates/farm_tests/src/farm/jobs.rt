@@ -5,7 +5,7 @@ ghost use Rattle.farm_lanes.specs.LaneEnds.{IsUnusedPut, IsUnusedTake};
 use crate::farm::requests::{Entry, GLOBAL, LOCAL, SEVERAL, is_answer, list_of};
 use crate::gates::{Alone, open_alone};
 use farm_core::{Job, NoPause, RackList, Reply, feed, work};
-use farm_lanes::{GateError, Item, Lane, LaneError, PutEnd, TakeEnd};
+use farm_lanes::{Item, Lane, LaneError, PutEnd, TakeEnd};
 use std::alloc::Global;
 use std::process::Abort;
 use std::sync::Wait;
@@ -54,18 +54,14 @@ fn works<'a, R: Abort + Wait>(
 }
 
 // Feeds this list through a gate of its own. It is closed at 2.
-fn feeds_two<'a, R: Abort + Wait>(
-    rt: &R,
-    alloc: Global,
-    list: &'a RackList,
-    jobs: PutEnd<Job<'a>>,
-) -> Result<(), GateError>
+fn feeds_two<'a, R: Abort + Wait>(rt: &R, alloc: Global, list: &'a RackList, jobs: PutEnd<Job<'a>>)
     requires { IsUnusedPut jobs }
 {
-    let Alone { gate, seat, right } = open_alone(alloc)?;
+    let Ok(Alone { gate, seat, right }) = open_alone(alloc) else {
+        panic!(rt; "no gate");
+    };
     let fed = feed(rt, &gate, seat, right, 0, 0, list, jobs, &NoPause);
     assert!(rt; fed.close == Some(2) && fed.right.is_none() && fed.jobs.count() == 3);
-    Ok(())
 }
 
 fn stops_both<'a>(rt: &impl Wait, mut jobs: PutEnd<Job<'a>>)
@@ -105,7 +101,7 @@ fn a_feeder_and_two_workers(rt: HostRuntime) -> Result<(), Fail> {
     let list = list_of(&rt, alloc, &[SEVERAL, LOCAL, Entry::Close, GLOBAL])?;
     let jobs = two_to_two(alloc)?;
     let replies = two_to_two(alloc)?;
-    feeds_two(&rt, alloc, &list, jobs.first)?;
+    feeds_two(&rt, alloc, &list, jobs.first);
     stops_both(&rt, jobs.second);
     works(&rt, alloc, jobs.taker, replies.first, 4, 3);
     works(&rt, alloc, jobs.other, replies.second, 1, 1);
