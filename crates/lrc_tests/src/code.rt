@@ -7,49 +7,41 @@ use lrc_code::{
     first_refusal, is_stripe_name, reduce, reduce_in,
 };
 use std::alloc::{AllocError, Global};
+use std::array;
 
 const NAMES: [&str; 16] = [
     "x0", "x1", "x2", "y0", "y1", "y2", "px", "py", "p0", "p1", "x3", "x4", "x5", "y3", "y4", "y5",
 ];
 
-fn text(alloc: Global, text: &str) -> Result<String, AllocError> {
-    String::from_str(alloc, text)
+// The group of the place with an index.
+fn group_at(index: usize) -> Option<Group> {
+    match index {
+        0 | 1 | 2 | 6 | 10 | 11 | 12 => Some(Group::X),
+        3 | 4 | 5 | 7 | 13 | 14 | 15 => Some(Group::Y),
+        _ => None,
+    }
 }
 
-// A request for `target` with survivors of these places, each of one byte.
-fn asked(
-    alloc: Global,
-    stripe: &str,
-    target: Place,
-    length: u32,
-    places: &[Place],
-) -> Result<Result<Request, RequestFault>, AllocError> {
-    let mut survivors = Vec::new(alloc);
-    for place in places {
-        survivors.push(Fragment {
-            place: *place,
-            bytes: vec![in alloc; 7]?,
-        })?;
-    }
-    Ok(Request::new(text(alloc, stripe)?, target, length, survivors))
+// Whether the place with an index has this name.
+fn is_named(index: usize, name: &str) -> bool {
+    let Some(place) = Place::from_index(index) else {
+        return false;
+    };
+    place.index() == index
+        && place.name() == name
+        && Place::parse(name) == Some(place)
+        && place.group() == group_at(index)
 }
+
+const NO_NAMES: &[&str] = &["", "x", "x6", "X0", "x0 ", "px0", "z9"];
 
 #[test]
 fn places_by_name_and_index(rt: HostRuntime) {
     for index in 0..16usize {
-        let place = Place::from_index(index);
-        assert!(&rt; place.is_some_and(|p| p.index() == index));
-        assert_eq!(&rt; place.map(|p| p.name()), Some(NAMES[index]));
-        assert_eq!(&rt; Place::parse(NAMES[index]), place);
-        let group = match index {
-            0 | 1 | 2 | 6 | 10 | 11 | 12 => Some(Group::X),
-            3 | 4 | 5 | 7 | 13 | 14 | 15 => Some(Group::Y),
-            _ => None,
-        };
-        assert_eq!(&rt; place.and_then(|p| p.group()), group);
+        assert!(&rt; is_named(index, NAMES[index]), "place {index}");
     }
     assert!(&rt; Place::from_index(16).is_none());
-    for name in ["", "x", "x6", "X0", "x0 ", "px0", "z9"] {
+    for name in NO_NAMES {
         assert!(&rt; Place::parse(name).is_none(), "{name}");
     }
     assert!(&rt; Place::named(b"\xffp").is_none());
@@ -71,147 +63,225 @@ fn sets_of_places(rt: HostRuntime) {
     );
 }
 
+const NUMBERS: &[(&str, u32)] = &[
+    ("0", 0),
+    ("7", 7),
+    ("0000003", 3),
+    ("65536", 65_536),
+    ("9999999", 9_999_999),
+];
+
+const NO_NUMBERS: &[&str] = &["", "00000003", "+3", "-3", "3 ", "3a", "٣"];
+
 #[test]
 fn numbers_of_one_to_seven_digits(rt: HostRuntime) {
-    for (text, number) in [
-        ("0", 0),
-        ("7", 7),
-        ("0000003", 3),
-        ("65536", 65_536),
-        ("9999999", 9_999_999),
-    ] {
-        assert_eq!(&rt; parse_number(text.as_bytes()), Some(number));
+    for (text, number) in NUMBERS {
+        assert!(&rt; parse_number(text.as_bytes()) == Some(*number), "{text}");
     }
-    for text in ["", "00000003", "+3", "-3", "3 ", "3a", "٣"] {
+    for text in NO_NUMBERS {
         assert!(&rt; parse_number(text.as_bytes()).is_none(), "{text}");
     }
 }
 
+const STRIPE_NAMES: &[&str] = &["a", "z9-", "-", "abcdefghijklmnopqrstuvwxyz012345"];
+
+const NO_STRIPE_NAMES: &[&str] = &[
+    "",
+    "A",
+    "a b",
+    "a_b",
+    "ä",
+    "abcdefghijklmnopqrstuvwxyz0123456",
+];
+
 #[test]
 fn names_of_stripes(rt: HostRuntime) {
-    for name in ["a", "z9-", "-", "abcdefghijklmnopqrstuvwxyz012345"] {
+    for name in STRIPE_NAMES {
         assert!(&rt; is_stripe_name(name), "{name}");
     }
-    for name in [
-        "",
-        "A",
-        "a b",
-        "a_b",
-        "ä",
-        "abcdefghijklmnopqrstuvwxyz0123456",
-    ] {
+    for name in NO_STRIPE_NAMES {
         assert!(&rt; !is_stripe_name(name), "{name}");
     }
 }
 
+// A request for `target` with these survivors.
+fn asked(
+    alloc: Global,
+    stripe: &str,
+    target: Place,
+    length: u32,
+    given: &[(Place, &[u8])],
+) -> Result<Result<Request, RequestFault>, AllocError> {
+    let mut survivors = Vec::new(alloc);
+    for (place, bytes) in given {
+        survivors.push(Fragment {
+            place: *place,
+            bytes: bytes.to_vec(alloc)?,
+        })?;
+    }
+    Ok(Request::new(stripe.to_string(alloc)?, target, length, survivors))
+}
+
+// The number by which a request with these survivors is refused.
+fn refusal_of(
+    alloc: Global,
+    stripe: &str,
+    target: Place,
+    length: u32,
+    given: &[(Place, &[u8])],
+) -> Result<Option<u8>, AllocError> {
+    Ok(match asked(alloc, stripe, target, length, given)? {
+        Ok(_) => None,
+        Err(fault) => Some(fault.code()),
+    })
+}
+
+const SEVEN: &[u8] = &[7];
+
+const X0: (Place, &[u8]) = (Place::X0, SEVEN);
+
+const X1: (Place, &[u8]) = (Place::X1, SEVEN);
+
+const X2: (Place, &[u8]) = (Place::X2, SEVEN);
+
+const Y2: (Place, &[u8]) = (Place::Y2, SEVEN);
+
+const Y5: (Place, &[u8]) = (Place::Y5, SEVEN);
+
+const PX: (Place, &[u8]) = (Place::Px, SEVEN);
+
+// Requests by stripe, target, length and survivors, and the numbers of their refusals.
+const REFUSALS: &[(&str, Place, u32, &[(Place, &[u8])], Option<u8>)] = &[
+    ("a", Place::X0, 1, &[], None),
+    ("a", Place::X0, 65_536, &[], None),
+    ("a", Place::X0, 1, &[X1, X2, PX], None),
+    ("A", Place::X0, 1, &[], Some(1)),
+    ("A", Place::X0, 0, &[X0, X0], Some(1)),
+    ("a", Place::X0, 0, &[X0, X0], Some(2)),
+    ("a", Place::X0, 65_537, &[], Some(2)),
+    ("a", Place::X3, 1, &[], Some(29)),
+    ("a", Place::X3, 0, &[], Some(2)),
+    ("a", Place::X0, 1, &[X1, Y5], Some(29)),
+    ("a", Place::X0, 2, &[Y5, Y5], Some(29)),
+    ("a", Place::X0, 1, &[X1, X1], Some(3)),
+    ("a", Place::X0, 2, &[X0, X0], Some(3)),
+    ("a", Place::X0, 1, &[X0], Some(4)),
+    ("a", Place::X0, 2, &[X0], Some(4)),
+    ("a", Place::X0, 2, &[X1], Some(5)),
+    // E5 comes of the second survivor too.
+    ("a", Place::X0, 1, &[X1, (Place::X2, &[7, 7])], Some(5)),
+];
+
 #[test]
 fn refusals_in_order(rt: HostRuntime) -> Result<(), AllocError> {
-    let rows: [(&str, Place, u32, &[Place], Option<u8>); 16] = [
-        ("a", Place::X0, 1, &[], None),
-        ("a", Place::X0, 65_536, &[], None),
-        ("a", Place::X0, 1, &[Place::X1, Place::X2, Place::Px], None),
-        ("A", Place::X0, 1, &[], Some(1)),
-        ("A", Place::X0, 0, &[Place::X0, Place::X0], Some(1)),
-        ("a", Place::X0, 0, &[Place::X0, Place::X0], Some(2)),
-        ("a", Place::X0, 65_537, &[], Some(2)),
-        ("a", Place::X3, 1, &[], Some(29)),
-        ("a", Place::X3, 0, &[], Some(2)),
-        ("a", Place::X0, 1, &[Place::X1, Place::Y5], Some(29)),
-        ("a", Place::X0, 2, &[Place::Y5, Place::Y5], Some(29)),
-        ("a", Place::X0, 1, &[Place::X1, Place::X1], Some(3)),
-        ("a", Place::X0, 2, &[Place::X0, Place::X0], Some(3)),
-        ("a", Place::X0, 1, &[Place::X0], Some(4)),
-        ("a", Place::X0, 2, &[Place::X0], Some(4)),
-        ("a", Place::X0, 2, &[Place::X1], Some(5)),
-    ];
-    for (stripe, target, length, places, code) in rows {
-        let made = asked(rt.alloc(), stripe, target, length, places)?;
-        assert_eq!(&rt;
-            made.err().map(|fault| fault.code()),
-            code,
-            "{stripe} {length}"
-        );
+    for (stripe, target, length, survivors, expected) in REFUSALS {
+        let refusal = refusal_of(rt.alloc(), stripe, *target, *length, survivors)?;
+        assert!(&rt; refusal == *expected, "{stripe} {length}");
     }
     Ok(())
 }
 
-// E5 comes of the second survivor too, and the refusals in front of it ask for no bytes.
-#[test]
-fn length_of_each_survivor(rt: HostRuntime) -> Result<(), AllocError> {
-    let alloc = rt.alloc();
-    let mut survivors = Vec::new(alloc);
-    for (place, length) in [(Place::X1, 1usize), (Place::X2, 2)] {
-        survivors.push(Fragment {
-            place,
-            bytes: vec![in alloc; 7u8; length]?,
-        })?;
+// The number of the first refusal where a survivor has the wrong length, and places are repeated and among or not.
+fn refusal_of_lengths(repeated: bool, among: bool) -> Option<u8> {
+    match first_refusal(
+        "a",
+        1,
+        true,
+        repeated,
+        among,
+        Some(RequestFault::WrongLength),
+    ) {
+        Some(fault) => Some(fault.code()),
+        None => None,
     }
-    let made = Request::new(text(alloc, "a")?, Place::X0, 1, survivors);
-    assert_eq!(&rt; made.err().map(|fault| fault.code()), Some(5));
+}
+
+// The refusals in front of E5 ask for no bytes.
+#[test]
+fn refusals_without_bytes(rt: HostRuntime) {
     assert!(&rt; first_refusal("a", 1, true, false, false, None).is_none());
-    let behind = first_refusal("a", 1, true, false, false, Some(RequestFault::WrongLength));
-    assert_eq!(&rt; behind.map(|fault| fault.code()), Some(5));
-    let first = first_refusal("a", 1, true, true, true, Some(RequestFault::WrongLength));
-    assert_eq!(&rt; first.map(|fault| fault.code()), Some(3));
-    Ok(())
+    assert!(&rt; refusal_of_lengths(false, false) == Some(5));
+    assert!(&rt; refusal_of_lengths(true, true) == Some(3));
+}
+
+// Whether the readers give what the request of the test was made with.
+fn is_read(request: &Request) -> bool {
+    let survivors = request.survivors();
+    request.stripe() == "a-1"
+        && request.target() == Place::P0
+        && request.length() == 1
+        && survivors.len() == 2
+        && survivors.has(Place::Y2)
+        && request.bytes_at(Place::X1) == Some(SEVEN)
+        && request.bytes_at(Place::X0).is_none()
+}
+
+// Whether its sources are the bytes of its two survivors.
+fn has_two_sources(request: &Request) -> bool {
+    let sources = request.sources();
+    sources[Place::X1.index()] == SEVEN
+        && sources[Place::Y2.index()] == SEVEN
+        && sources[0].is_empty()
+        && sources[15].is_empty()
 }
 
 #[test]
 fn readers_of_a_request(rt: HostRuntime) -> Result<(), AllocError> {
-    let made = asked(rt.alloc(), "a-1", Place::P0, 1, &[Place::Y2, Place::X1])?;
-    assert!(&rt; made.is_ok());
-    if let Ok(request) = made {
-        assert!(&rt;
-            request.stripe() == "a-1" && request.target() == Place::P0 && request.length() == 1
-        );
-        assert!(&rt; request.survivors().len() == 2 && request.survivors().has(Place::Y2));
-        assert_eq!(&rt; request.bytes_at(Place::X1), Some([7u8].as_slice()));
-        assert!(&rt; request.bytes_at(Place::X0).is_none());
-        let sources = request.sources();
-        assert_eq!(&rt; sources[Place::X1.index()], [7u8].as_slice());
-        assert_eq!(&rt; sources[Place::Y2.index()], [7u8].as_slice());
-        assert!(&rt; sources[0].is_empty() && sources[15].is_empty());
+    match asked(rt.alloc(), "a-1", Place::P0, 1, &[Y2, X1])? {
+        Ok(request) => assert!(&rt; is_read(&request) && has_two_sources(&request)),
+        Err(_) => assert!(&rt; false, "it is refused"),
     }
-    let bytes = Bytes::new(vec![in rt.alloc(); 1, 2, 3]?);
-    assert_eq!(&rt; bytes.as_slice(), [1u8, 2, 3].as_slice());
-    assert_eq!(&rt; bytes.into_vec().len(), 3);
     Ok(())
+}
+
+#[test]
+fn readers_of_bytes(rt: HostRuntime) -> Result<(), AllocError> {
+    let three: &[u8] = b"\x01\x02\x03";
+    let bytes = Bytes::new(three.to_vec(rt.alloc())?);
+    assert!(&rt; bytes.as_slice() == three);
+    assert!(&rt; bytes.into_vec().len() == 3);
+    Ok(())
+}
+
+// Whether these fragments have these bytes.
+fn are_fragments(fragments: &[Vec<u8>], expected: &[&[u8]]) -> bool {
+    if fragments.len() != expected.len() {
+        return false;
+    }
+    for k in 0..expected.len() {
+        if fragments[k].as_slice() != expected[k] {
+            return false;
+        }
+    }
+    true
+}
+
+const STRIPE: &[&[u8]; 10] = &[
+    b"\x61\x62\x63",
+    b"\0\0\0",
+    b"\0\0\0",
+    b"\0\0\0",
+    b"\0\0\0",
+    b"\0\0\0",
+    b"\x61\x62\x63",
+    b"\0\0\0",
+    b"\x99\x95\x91",
+    b"\x5e\x6e\x7e",
+];
+
+// Whether the data of the stripe, of one length, are encoded as the stripe.
+fn is_encoded(alloc: Global) -> Result<bool, AllocError> {
+    let sources: [Vec<u8>; 6] = array::try_from_fn(|k| STRIPE[k].to_vec(alloc))?;
+    if !sources.iter().all(|source| source.len() == 3) {
+        return Ok(false);
+    }
+    Ok(are_fragments(&encode(alloc, &sources)?, STRIPE))
 }
 
 // The parities of 61 62 63 and five data of zeros.
 #[test]
 fn one_stripe_encoded(rt: HostRuntime) -> Result<(), AllocError> {
-    let alloc = rt.alloc();
-    let sources = [
-        vec![in alloc; 0x61, 0x62, 0x63]?,
-        vec![in alloc; 0, 0, 0]?,
-        vec![in alloc; 0, 0, 0]?,
-        vec![in alloc; 0, 0, 0]?,
-        vec![in alloc; 0, 0, 0]?,
-        vec![in alloc; 0, 0, 0]?,
-    ];
-    let lengths = sources.iter().all(|s| s.len() == 3);
-    assert!(&rt; lengths);
-    let stripe = encode(alloc, &sources)?;
-    let expected: [[u8; 3]; 10] = [
-        [0x61, 0x62, 0x63],
-        [0, 0, 0],
-        [0, 0, 0],
-        [0, 0, 0],
-        [0, 0, 0],
-        [0, 0, 0],
-        [0x61, 0x62, 0x63],
-        [0, 0, 0],
-        [0x99, 0x95, 0x91],
-        [0x5e, 0x6e, 0x7e],
-    ];
-    for k in 0..10usize {
-        assert_eq!(&rt;
-            stripe[k].as_slice(),
-            expected[k].as_slice(),
-            "fragment {k}"
-        );
-    }
+    assert!(&rt; is_encoded(rt.alloc())?);
     Ok(())
 }
 
@@ -243,6 +313,11 @@ fn places_of_the_codes(rt: HostRuntime) {
     assert!(&rt; Code::Narrow.others(set).len() == 9 && Code::Wide.others(set).len() == 14);
 }
 
+const WIDE_STRIPE: &[&[u8]; 16] = &[
+    b"\x01", b"\0", b"\0", b"\0", b"\0", b"\x01", b"\x02", b"\0", b"\0", b"\0", b"\0", b"\0",
+    b"\x00", b"\x02", b"\x72", b"\xa6",
+];
+
 // A fragment of one byte.
 fn byte(alloc: Global, byte: u8) -> Result<Vec<u8>, AllocError>
     ensures { IfOk result (λ v. length v.items ≡ 1) }
@@ -251,10 +326,8 @@ fn byte(alloc: Global, byte: u8) -> Result<Vec<u8>, AllocError>
     Ok(bytes)
 }
 
-// The stripe with x0 = x5 = 01, y0 = 02 and no other data.
-#[test]
-fn one_wide_stripe_encoded(rt: HostRuntime) -> Result<(), AllocError> {
-    let alloc = rt.alloc();
+// Whether the data of the wide stripe are encoded as it.
+fn is_encoded_wide(alloc: Global) -> Result<bool, AllocError> {
     let sources = [
         byte(alloc, 1)?,
         byte(alloc, 0)?,
@@ -270,14 +343,13 @@ fn one_wide_stripe_encoded(rt: HostRuntime) -> Result<(), AllocError> {
         byte(alloc, 0)?,
     ];
     let stripe = encode_wide(alloc, &sources)?;
-    let expected: [u8; 16] = [1, 0, 0, 0, 0, 1, 2, 0, 0, 0, 0, 0, 0x00, 0x02, 0x72, 0xa6];
-    for k in 0..16usize {
-        assert_eq!(&rt;
-            stripe[k].as_slice(),
-            [expected[k]].as_slice(),
-            "fragment {k}"
-        );
-    }
+    Ok(are_fragments(&stripe, WIDE_STRIPE))
+}
+
+// The stripe with x0 = x5 = 01, y0 = 02 and no other data.
+#[test]
+fn one_wide_stripe_encoded(rt: HostRuntime) -> Result<(), AllocError> {
+    assert!(&rt; is_encoded_wide(rt.alloc())?);
     Ok(())
 }
 

@@ -35,43 +35,68 @@ fn some_bytes(alloc: Global, len: usize, seed: u32) -> Result<Vec<u8>, AllocErro
     Ok(bytes)
 }
 
-const LENGTHS: [usize; 8] = [0, 1, 31, 32, 33, 64, 4_100, 65_536];
+// The sum of these terms at a place, by shifts.
+fn sum_at(place: usize, terms: &[Term]) -> Option<u8> {
+    let mut sum = 0;
+    for term in terms {
+        let byte = term.bytes.get(place)?;
+        sum ^= product_by_shifts(term.scalar.byte(), *byte);
+    }
+    Some(sum)
+}
+
+// Whether these bytes are the sums of the terms, by shifts, from a place on.
+fn are_sums(bytes: &[u8], from: usize, terms: &[Term]) -> bool {
+    let mut place = from;
+    for byte in bytes {
+        if sum_at(place, terms) != Some(*byte) {
+            return false;
+        }
+        place = place.wrapping_add(1);
+    }
+    true
+}
+
+const LENGTHS: &[usize] = &[0, 1, 31, 32, 33, 64, 4_100, 65_536];
+
+const PRODUCTS: &[(u8, u8, u8)] = &[
+    (0x02, 0x80, 0x1d),
+    (0x04, 0x80, 0x3a),
+    (0x10, 0x80, 0xe8),
+    (0x80, 0x80, 0x13),
+    (0x04, 0x08, 0x20),
+    (0x0c, 0x03, 0x14),
+    (0xff, 0x02, 0xe3),
+    (0xff, 0xff, 0xe2),
+    (0x04, 0x61, 0x99),
+    (0x10, 0x61, 0x5e),
+    (0x02, 0x8e, 0x01),
+    (0x04, 0x47, 0x01),
+    (0x04, 0x04, 0x10),
+    (0x08, 0x08, 0x40),
+    (0x0c, 0x0c, 0x50),
+    (0x00, 0xff, 0x00),
+];
 
 #[test]
 fn known_products(rt: HostRuntime) {
-    let vectors = [
-        (0x02, 0x80, 0x1d),
-        (0x04, 0x80, 0x3a),
-        (0x10, 0x80, 0xe8),
-        (0x80, 0x80, 0x13),
-        (0x04, 0x08, 0x20),
-        (0x0c, 0x03, 0x14),
-        (0xff, 0x02, 0xe3),
-        (0xff, 0xff, 0xe2),
-        (0x04, 0x61, 0x99),
-        (0x10, 0x61, 0x5e),
-        (0x02, 0x8e, 0x01),
-        (0x04, 0x47, 0x01),
-        (0x04, 0x04, 0x10),
-        (0x08, 0x08, 0x40),
-        (0x0c, 0x0c, 0x50),
-        (0x00, 0xff, 0x00),
-    ];
-    for (a, b, product) in vectors {
-        assert_eq!(&rt; Gf::new(a).mul(Gf::new(b)).byte(), product, "{a} * {b}");
+    for (a, b, product) in PRODUCTS {
+        let found = Gf::new(*a).mul(Gf::new(*b)).byte();
+        assert!(&rt; found == *product, "{a} * {b} is {found}");
     }
-    assert_eq!(&rt; Gf::new(0x61).add(Gf::new(0x99)).byte(), 0xf8);
+    assert!(&rt; Gf::new(0x61).add(Gf::new(0x99)).byte() == 0xf8);
 }
+
+const INVERSES: &[(u8, u8)] = &[(0x01, 0x01), (0x02, 0x8e), (0x04, 0x47), (0x8e, 0x02)];
 
 #[test]
 fn known_inverses(rt: HostRuntime) {
     assert!(&rt; Gf::new(0).inverse().is_none());
-    for (a, inverse) in [(0x01, 0x01), (0x02, 0x8e), (0x04, 0x47), (0x8e, 0x02)] {
-        assert_eq!(&rt;
-            Gf::new(a).inverse().map(|b| b.byte()),
-            Some(inverse),
-            "the inverse of {a}"
-        );
+    for (a, expected) in INVERSES {
+        match Gf::new(*a).inverse() {
+            Some(inverse) => assert!(&rt; inverse.byte() == *expected, "the inverse of {a}"),
+            None => assert!(&rt; false, "no inverse of {a}"),
+        }
     }
 }
 
@@ -79,51 +104,10 @@ fn known_inverses(rt: HostRuntime) {
 fn all_products(rt: HostRuntime) {
     for a in 0..=255u8 {
         for b in 0..=255u8 {
-            assert_eq!(&rt;
-                Gf::new(a).mul(Gf::new(b)).byte(),
-                product_by_shifts(a, b),
-                "{a} * {b}"
-            );
+            let found = Gf::new(a).mul(Gf::new(b)).byte();
+            assert!(&rt; found == product_by_shifts(a, b), "{a} * {b} is {found}");
         }
     }
-}
-
-#[test]
-fn sums_of_slices(rt: HostRuntime) -> Result<(), AllocError> {
-    for len in LENGTHS {
-        let src = some_bytes(rt.alloc(), len, 5)?;
-        let before = some_bytes(rt.alloc(), len, 11)?;
-        let mut dst = before.clone()?;
-        assert!(&rt; dst.len() == src.len());
-        add_into(&mut dst, &src);
-        assert!(&rt; dst.len() == len && before.len() == len && src.len() == len);
-        for i in 0..len {
-            assert_eq!(&rt; dst[i], before[i] ^ src[i], "byte {i} of {len}");
-        }
-    }
-    Ok(())
-}
-
-#[test]
-fn scaled_sums_of_slices(rt: HostRuntime) -> Result<(), AllocError> {
-    for len in LENGTHS {
-        let src = some_bytes(rt.alloc(), len, 5)?;
-        let before = some_bytes(rt.alloc(), len, 11)?;
-        for scalar in 0..=255u8 {
-            let mut dst = before.clone()?;
-            assert!(&rt; dst.len() == src.len());
-            scale_add_into(&mut dst, Gf::new(scalar), &src);
-            assert!(&rt; dst.len() == len && before.len() == len && src.len() == len);
-            for i in 0..len {
-                assert_eq!(&rt;
-                    dst[i],
-                    before[i] ^ product_by_shifts(scalar, src[i]),
-                    "byte {i} of {len}, scalar {scalar}"
-                );
-            }
-        }
-    }
-    Ok(())
 }
 
 fn term_of<'a>(scalar: u8, bytes: &'a [u8]) -> Term<'a>
@@ -136,89 +120,183 @@ fn term_of<'a>(scalar: u8, bytes: &'a [u8]) -> Term<'a>
     }
 }
 
+// Whether each byte is that of a slice and a scalar times that of another, by shifts.
+fn are_scaled_sums(bytes: &[u8], before: &[u8], scalar: u8, src: &[u8]) -> bool {
+    let len = bytes.len();
+    if before.len() != len || src.len() != len {
+        return false;
+    }
+    for i in 0..len {
+        if bytes[i] != before[i] ^ product_by_shifts(scalar, src[i]) {
+            return false;
+        }
+    }
+    true
+}
+
+// Whether a slice added into another gives the sums by shifts.
+fn adds(alloc: Global, before: &[u8], src: &[u8]) -> Result<bool, AllocError> {
+    let mut dst = before.to_vec(alloc)?;
+    if dst.len() != src.len() {
+        return Ok(false);
+    }
+    add_into(&mut dst, src);
+    Ok(are_scaled_sums(&dst, before, 0x01, src))
+}
+
+// And a scalar times the slice.
+fn scale_adds(alloc: Global, before: &[u8], scalar: u8, src: &[u8]) -> Result<bool, AllocError> {
+    let mut dst = before.to_vec(alloc)?;
+    if dst.len() != src.len() {
+        return Ok(false);
+    }
+    scale_add_into(&mut dst, Gf::new(scalar), src);
+    Ok(are_scaled_sums(&dst, before, scalar, src))
+}
+
+// Whether both are so for slices of this length, the second for each scalar.
+fn slices_are_summed(alloc: Global, len: usize) -> Result<bool, AllocError> {
+    let src = some_bytes(alloc, len, 5)?;
+    let before = some_bytes(alloc, len, 11)?;
+    for scalar in 0..=255u8 {
+        if !scale_adds(alloc, &before, scalar, &src)? {
+            return Ok(false);
+        }
+    }
+    Ok(before.len() == len && adds(alloc, &before, &src)?)
+}
+
+#[test]
+fn sums_of_slices(rt: HostRuntime) -> Result<(), AllocError> {
+    for len in LENGTHS {
+        assert!(&rt; slices_are_summed(rt.alloc(), *len)?, "{len} bytes");
+    }
+    Ok(())
+}
+
+// Whether the sums of three terms are those by shifts, and zero only where there are none.
+fn are_combined(alloc: Global, first: &[u8], second: &[u8]) -> Result<bool, AllocError> {
+    let len = first.len();
+    if second.len() != len {
+        return Ok(false);
+    }
+    let terms = [
+        term_of(0x01, first),
+        term_of(0x53, second),
+        term_of(0x00, second),
+    ];
+    let sums = combined(alloc, len, &terms)?;
+    Ok(sums.len() == len && are_sums(&sums, 0, &terms) && sums_are_zero(len, &terms) == (len == 0))
+}
+
+// Whether they are so for terms of this length, and the sums of two equal terms are zero.
+fn terms_are_combined(alloc: Global, len: usize) -> Result<bool, AllocError> {
+    let first = some_bytes(alloc, len, 5)?;
+    let second = some_bytes(alloc, len, 11)?;
+    if first.len() != len {
+        return Ok(false);
+    }
+    let twice = [term_of(0x07, &first), term_of(0x07, &first)];
+    Ok(sums_are_zero(len, &twice) && are_combined(alloc, &first, &second)?)
+}
+
 #[test]
 fn sums_of_terms(rt: HostRuntime) -> Result<(), AllocError> {
     for len in LENGTHS {
-        let first = some_bytes(rt.alloc(), len, 5)?;
-        let second = some_bytes(rt.alloc(), len, 11)?;
-        assert!(&rt; first.len() == len && second.len() == len);
-        let terms = [
-            term_of(0x01, &first),
-            term_of(0x53, &second),
-            term_of(0x00, &second),
-        ];
-        let sums = combined(rt.alloc(), len, &terms)?;
-        assert!(&rt; sums.len() == len);
-        for i in 0..len {
-            assert_eq!(&rt;
-                sums[i],
-                first[i] ^ product_by_shifts(0x53, second[i]),
-                "byte {i} of {len}"
-            );
-        }
-        assert_eq!(&rt; sums_are_zero(len, &terms), len == 0, "{len} sums");
-        let twice = [term_of(0x07, &first), term_of(0x07, &first)];
-        assert!(&rt; sums_are_zero(len, &twice), "{len} sums of equals");
+        assert!(&rt; terms_are_combined(rt.alloc(), *len)?, "{len} bytes");
     }
     Ok(())
 }
 
 // Lengths of windows: around the blocks of 32 and of 128 bytes and the parts of 1,024 and of 4,096.
-const WINDOWS: [usize; 14] = [
+const WINDOWS: &[usize] = &[
     0, 1, 31, 32, 33, 127, 128, 129, 160, 1023, 1025, 4095, 4096, 4097,
 ];
 
 // Bytes of each source, more than any window needs.
 const SOURCE: usize = 4_200;
 
-#[test]
-fn sums_of_terms_in_windows(rt: HostRuntime) -> Result<(), AllocError> {
-    let first = some_bytes(rt.alloc(), SOURCE, 5)?;
-    let second = some_bytes(rt.alloc(), SOURCE, 11)?;
-    let third = some_bytes(rt.alloc(), SOURCE, 17)?;
-    assert!(&rt; first.len() == SOURCE && second.len() == SOURCE && third.len() == SOURCE);
-    for [a, b, c] in [[0x01, 0x01, 0x01], [0x01, 0x53, 0x00]] {
-        let terms = [term_of(a, &first), term_of(b, &second), term_of(c, &third)];
-        for from in [0usize, 1, 33, 100] {
-            for len in WINDOWS {
-                let mut dst = some_bytes(rt.alloc(), len, 23)?;
-                assert!(&rt; dst.len() == len && from <= 100 && len <= 4_097);
-                combine_into(&mut dst, from, &terms);
-                assert!(&rt; dst.len() == len);
-                for i in 0..len {
-                    let place = from + i;
-                    let sum = product_by_shifts(a, first[place])
-                        ^ product_by_shifts(b, second[place])
-                        ^ product_by_shifts(c, third[place]);
-                    assert_eq!(&rt; dst[i], sum, "byte {i} of {len} from {from}, scalar {b}");
-                }
+// Whether the sums of a window are those by shifts.
+fn is_combined_into(
+    alloc: Global,
+    from: usize,
+    len: usize,
+    terms: &[Term],
+) -> Result<bool, AllocError> {
+    let mut dst = some_bytes(alloc, len, 23)?;
+    if dst.len() != len || from > 100 || len > 4_097 || terms.len() > 16 {
+        return Ok(false);
+    }
+    if !terms.iter().all(|term| term.bytes.len() >= from + len) {
+        return Ok(false);
+    }
+    combine_into(&mut dst, from, terms);
+    Ok(dst.len() == len && are_sums(&dst, from, terms))
+}
+
+// Whether they are so in all windows, with these scalars of the second and the third term.
+fn windows_are_combined(alloc: Global, b: u8, c: u8) -> Result<bool, AllocError> {
+    let first = some_bytes(alloc, SOURCE, 5)?;
+    let second = some_bytes(alloc, SOURCE, 11)?;
+    let third = some_bytes(alloc, SOURCE, 17)?;
+    let terms = [
+        term_of(0x01, &first),
+        term_of(b, &second),
+        term_of(c, &third),
+    ];
+    for from in [0usize, 1, 33, 100] {
+        for len in WINDOWS {
+            if !is_combined_into(alloc, from, *len, &terms)? {
+                return Ok(false);
             }
         }
     }
+    Ok(true)
+}
+
+#[test]
+fn sums_of_terms_in_windows(rt: HostRuntime) -> Result<(), AllocError> {
+    assert!(&rt; windows_are_combined(rt.alloc(), 0x01, 0x01)?);
+    assert!(&rt; windows_are_combined(rt.alloc(), 0x53, 0x00)?);
     Ok(())
+}
+
+// Whether two terms that differ at one place have zero sums in just the windows without it.
+fn differ_at(changed: usize, terms: &[Term; 2]) -> bool {
+    for from in [0usize, 1, 33, 100, 1_024] {
+        for to in [0usize, 32, 128, 133, 1_024, 1_025, 4_096, 4_097, 4_200] {
+            if !terms.iter().all(|term| term.bytes.len() >= to) {
+                return false;
+            }
+            if sums_are_zero_between(from, to, terms) != (changed < from || to <= changed) {
+                return false;
+            }
+        }
+    }
+    true
+}
+
+// Whether they have, where the second differs from the first at this place.
+fn windows_are_zero(alloc: Global, changed: usize) -> Result<bool, AllocError> {
+    let first = some_bytes(alloc, SOURCE, 5)?;
+    let mut second = first.clone()?;
+    let Some(byte) = second.get_mut(changed) else {
+        return Ok(false);
+    };
+    *byte ^= 0x40;
+    Ok(
+        differ_at(changed, &[term_of(0x01, &first), term_of(0x01, &second)])
+            && differ_at(changed, &[term_of(0x53, &first), term_of(0x53, &second)]),
+    )
 }
 
 #[test]
 fn zero_sums_in_windows(rt: HostRuntime) -> Result<(), AllocError> {
-    let first = some_bytes(rt.alloc(), SOURCE, 5)?;
     for changed in [0usize, 31, 32, 127, 128, 1_023, 1_024, 4_095, 4_096, 4_199] {
-        let mut second = first.clone()?;
-        assert!(&rt; first.len() == SOURCE && second.len() == SOURCE && changed < SOURCE);
-        second[changed] ^= 0x40;
-        assert!(&rt; second.len() == SOURCE);
-        for scalar in [0x01, 0x53] {
-            let terms = [term_of(scalar, &first), term_of(scalar, &second)];
-            for from in [0usize, 1, 33, 100, 1_024] {
-                for to in [0usize, 32, 128, 133, 1_024, 1_025, 4_096, 4_097, 4_200] {
-                    assert!(&rt; to <= SOURCE);
-                    assert_eq!(&rt;
-                        sums_are_zero_between(from, to, &terms),
-                        changed < from || to <= changed,
-                        "{from} to {to}, changed at {changed}"
-                    );
-                }
-            }
-        }
+        assert!(&rt;
+            windows_are_zero(rt.alloc(), changed)?,
+            "changed at {changed}"
+        );
     }
     Ok(())
 }

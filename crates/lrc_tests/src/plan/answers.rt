@@ -1,5 +1,5 @@
 //! `solve` against worked requests.
-use super::fixtures::{Answer, CASES, request_of};
+use super::fixtures::{Answer, CASES, Case, request_of};
 use bumpalo::Bump;
 use lrc_code::{Outcome, Request};
 use lrc_plan::solve;
@@ -21,25 +21,22 @@ fn is_answered<A: Allocator + Clone>(
     })
 }
 
+// Whether a case is, with the plan in the heap and in an arena.
+fn is_worked(alloc: Global, case: &Case) -> Result<bool, AllocError> {
+    let Some(request) = request_of(alloc, case)? else {
+        return Ok(false);
+    };
+    let bump = Bump::new(alloc);
+    Ok(
+        is_answered(alloc, alloc, &request, case.answer)?
+            && is_answered(alloc, &bump, &request, case.answer)?,
+    )
+}
+
 #[test]
 fn worked_requests_are_answered(rt: HostRuntime) -> Result<(), AllocError> {
-    let alloc = rt.alloc();
     for case in &CASES {
-        let Some(request) = request_of(alloc, case)? else {
-            assert!(&rt; false, "{} is refused", case.name);
-            return Ok(());
-        };
-        assert!(&rt;
-            is_answered(alloc, alloc, &request, case.answer)?,
-            "{}",
-            case.name
-        );
-        let bump = Bump::new(alloc);
-        assert!(&rt;
-            is_answered(alloc, &bump, &request, case.answer)?,
-            "{}, in an arena",
-            case.name
-        );
+        assert!(&rt; is_worked(rt.alloc(), case)?, "{}", case.name);
     }
     Ok(())
 }

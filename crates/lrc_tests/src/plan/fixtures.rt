@@ -27,7 +27,7 @@ pub struct Case {
 }
 
 /// Most are over the stripe with x 01 02 03, y 04 05 06, px 00, py 07, p0 04 and p1 6E, worked out by hand.
-pub const CASES: [Case; 17] = [
+pub static CASES: [Case; 17] = [
     Case {
         name: "the three others of the group alone",
         target: Place::X0,

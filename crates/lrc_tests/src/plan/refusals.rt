@@ -1,6 +1,6 @@
 //! Each allocation refused in turn, by heaps that grow until nothing is refused. The allocations of a call are
 //! numbered from 0; how many fit a heap is measured, and number k is the refused one where exactly k fit.
-use super::fixtures::{CASES, are_same, request_of, scaled_leaf, sum_of_leaves};
+use super::fixtures::{CASES, Case, are_same, request_of, scaled_leaf, sum_of_leaves};
 use linked_list_allocator::LocalHeap;
 use lrc_code::{Code, Place, PlaceSet};
 use lrc_field::Gf;
@@ -92,9 +92,29 @@ fn sample<A: Allocator + Clone>(alloc: A) -> Result<Tree<A>, AllocError> {
     Ok(Tree::Scale(Gf::new(0x03), Box::new(alloc, sum)?))
 }
 
-#[test]
-fn copy_in_refused_leaves_its_source(rt: HostRuntime) -> Result<(), AllocError> {
-    let alloc = rt.alloc();
+// How a call ended in a heap.
+#[derive(Drop)]
+enum Ended {
+    Refused,
+    Granted,
+    Wrongly,
+}
+
+// How a copy of one of two same trees ends in this heap.
+fn copy_in_heap(heap: &LocalHeap, source: &Tree<Global>, same: &Tree<Global>) -> Ended {
+    let copy = source.copy_in(heap);
+    if !are_same(source, same) {
+        return Ended::Wrongly;
+    }
+    match copy {
+        Ok(copy) if are_same(&copy, same) => Ended::Granted,
+        Ok(_) => Ended::Wrongly,
+        Err(AllocError) => Ended::Refused,
+    }
+}
+
+// Whether the copy is refused at each of its three allocations in turn, and its source stays as it is.
+fn copies_in_turn(alloc: Global) -> Result<bool, AllocError> {
     let source = sample(alloc)?;
     let same = sample(alloc)?;
     let mut refused = Refused { next: 0 };
@@ -103,27 +123,19 @@ fn copy_in_refused_leaves_its_source(rt: HostRuntime) -> Result<(), AllocError> 
             continue;
         };
         let number = fitting(&heap, 0);
-        let copy = source.copy_in(&heap);
-        assert!(&rt; are_same(&source, &same));
-        match copy {
-            Ok(copy) => {
-                assert!(&rt; are_same(&copy, &same));
-                assert!(&rt; refused.next == 3);
-                return Ok(());
-            }
-            Err(AllocError) => assert!(&rt; refused.follows(number), "{size} bytes"),
+        match copy_in_heap(&heap, &source, &same) {
+            Ended::Granted => return Ok(refused.next == 3),
+            Ended::Refused if refused.follows(number) => {}
+            _ => return Ok(false),
         }
     }
-    assert!(&rt; false, "it was never granted");
-    Ok(())
+    Ok(false)
 }
 
-// How a call ended in a heap.
-#[derive(Drop)]
-enum Ended {
-    Refused,
-    Granted,
-    Wrongly,
+#[test]
+fn copy_in_refused_leaves_its_source(rt: HostRuntime) -> Result<(), AllocError> {
+    assert!(&rt; copies_in_turn(rt.alloc())?);
+    Ok(())
 }
 
 // How a graft of 02 * x2 for both leaves of x1 + x1 ends in this heap; the trees are in the other one.
@@ -152,9 +164,8 @@ fn are_given_back<A: Allocator, B: Allocator>(
     }
 }
 
-#[test]
-fn graft_refused_gives_both_trees_back(rt: HostRuntime) -> Result<(), AllocError> {
-    let alloc = rt.alloc();
+// Whether the graft is refused at each of its three allocations in turn, and gives both trees back.
+fn grafts_in_turn(alloc: Global) -> Result<bool, AllocError> {
     let roomy = LocalHeap::new(alloc, LARGEST)?;
     let mut refused = Refused { next: 0 };
     for size in (0..LARGEST).step_by(8) {
@@ -163,15 +174,17 @@ fn graft_refused_gives_both_trees_back(rt: HostRuntime) -> Result<(), AllocError
         };
         let number = fitting(&heap, 2);
         match graft_in(&heap, &roomy)? {
-            Ended::Granted => {
-                assert!(&rt; refused.next == 3);
-                return Ok(());
-            }
-            Ended::Refused => assert!(&rt; refused.follows(number), "{size} bytes"),
-            Ended::Wrongly => assert!(&rt; false, "{size} bytes"),
+            Ended::Granted => return Ok(refused.next == 3),
+            Ended::Refused if refused.follows(number) => {}
+            _ => return Ok(false),
         }
     }
-    assert!(&rt; false, "it was never granted");
+    Ok(false)
+}
+
+#[test]
+fn graft_refused_gives_both_trees_back(rt: HostRuntime) -> Result<(), AllocError> {
+    assert!(&rt; grafts_in_turn(rt.alloc())?);
     Ok(())
 }
 
@@ -213,19 +226,18 @@ fn plan_in_heap<A: Allocator>(
     }
 }
 
+// Whether the plan of a case is.
+fn case_in_turn(alloc: Global, case: &Case) -> Result<bool, AllocError> {
+    match request_of(alloc, case)? {
+        Some(request) => plans_in_turn(alloc, request.survivors(), case.target),
+        None => Ok(false),
+    }
+}
+
 #[test]
 fn plan_refused_answers_want_of_memory(rt: HostRuntime) -> Result<(), AllocError> {
-    let alloc = rt.alloc();
     for case in &CASES {
-        let Some(request) = request_of(alloc, case)? else {
-            assert!(&rt; false, "{} is refused", case.name);
-            return Ok(());
-        };
-        assert!(&rt;
-            plans_in_turn(alloc, request.survivors(), case.target)?,
-            "{}",
-            case.name
-        );
+        assert!(&rt; case_in_turn(rt.alloc(), case)?, "{}", case.name);
     }
     Ok(())
 }
