@@ -1,5 +1,6 @@
 //! Files that a folder's shelf reads ahead, in one thread to sixteen.
-use farm_files::{FolderShelf, MemoryShelf, Shelf, ShelfFault};
+use crate::shared::{fails, has_none, reads, shelf_of, written};
+use farm_files::{FolderShelf, Shelf};
 use std::alloc::{AllocError, Global};
 use std::fs;
 use std::rt::Files;
@@ -20,15 +21,23 @@ fn make_files<R: Files>(rt: &R, alloc: Global, folder: &str) -> Result<bool, All
     Ok(true)
 }
 
+// The bytes of the file of that number.
 fn bytes_of(number: usize) -> &'static [u8] {
-    let bytes = b"abcdef";
-    &bytes[..(number % 7).min(bytes.len())]
+    match number % 7 {
+        0 => b"",
+        1 => b"a",
+        2 => b"ab",
+        3 => b"abc",
+        4 => b"abcd",
+        5 => b"abcde",
+        _ => b"abcdef",
+    }
 }
 
-// The names of these files, each with a limit of 4 bytes.
-fn names(alloc: Global) -> Result<Vec<(String, usize)>, AllocError> {
+// The names of the files of these numbers, each with a limit of 4 bytes.
+fn names(alloc: Global, first: usize, end: usize) -> Result<Vec<(String, usize)>, AllocError> {
     let mut names = Vec::new(alloc);
-    for number in 0..300usize {
+    for number in first..end {
         names.push((format!(in alloc; "{number}")?, 4))?;
     }
     Ok(names)
@@ -36,29 +45,40 @@ fn names(alloc: Global) -> Result<Vec<(String, usize)>, AllocError> {
 
 // Whether a file's first bytes, four at most, are told, or that it isn't there.
 fn tells<S: Shelf>(shelf: &mut S, alloc: Global, number: usize) -> Result<bool, AllocError> {
-    if shelf.failures() > 9 {
-        return Ok(false);
-    }
     let name = format!(in alloc; "{number}")?;
-    let bytes = bytes_of(number);
-    Ok(match shelf.read(alloc, name.as_str(), 4) {
-        Ok(Some(read)) => number % 10 != 7 && read.as_slice() == &bytes[..bytes.len().min(4)],
-        Ok(None) => number % 10 == 7,
-        Err(_) => false,
-    })
+    if number % 10 == 7 {
+        return Ok(has_none(shelf, alloc, name.as_str(), 4));
+    }
+    let front = bytes_of((number % 7).min(4));
+    Ok(reads(shelf, alloc, name.as_str(), 4, front))
 }
+
+// The same of several, in turn.
+fn tells_each<S: Shelf>(
+    shelf: &mut S,
+    alloc: Global,
+    numbers: &[usize],
+) -> Result<bool, AllocError> {
+    for number in numbers {
+        if !tells(shelf, alloc, *number)? {
+            return Ok(false);
+        }
+    }
+    Ok(true)
+}
+
+// How many files are read ahead.
+const COUNTS: &[usize] = &[0, 1, 5, 300];
 
 #[test]
 fn files_read_ahead(rt: HostRuntime) -> Result<(), AllocError> {
     let alloc = rt.alloc();
     assert!(&rt; make_files(&rt, alloc, "ahead/many")?);
-    let names = names(alloc)?;
-    assert!(&rt; names.len() == 300);
     for threads in 0..17usize {
         let mut shelf = FolderShelf::open(&rt, alloc, "ahead/many")?;
-        for count in [0, 1, 5, 300usize] {
-            shelf.read_ahead(&rt, alloc, &names[..count], threads)?;
-            for number in 0..count {
+        for count in COUNTS {
+            shelf.read_ahead(&rt, alloc, names(alloc, 0, *count)?.as_slice(), threads)?;
+            for number in 0..*count {
                 assert!(&rt; tells(&mut shelf, alloc, number)?);
             }
         }
@@ -72,56 +92,40 @@ fn files_read_ahead(rt: HostRuntime) -> Result<(), AllocError> {
 fn another_read_or_a_write(rt: HostRuntime) -> Result<(), AllocError> {
     let alloc = rt.alloc();
     assert!(&rt; make_files(&rt, alloc, "ahead/other")?);
-    let names = names(alloc)?;
-    assert!(&rt; names.len() == 300);
+    let all = names(alloc, 0, 300)?;
+    let second = names(alloc, 1, 2)?;
     let mut shelf = FolderShelf::open(&rt, alloc, "ahead/other")?;
-    shelf.read_ahead(&rt, alloc, names.as_slice(), 4)?;
-    assert!(&rt; tells(&mut shelf, alloc, 0)?);
-    assert!(&rt; tells(&mut shelf, alloc, 2)?);
-    assert!(&rt; tells(&mut shelf, alloc, 1)?);
-    assert!(&rt; tells(&mut shelf, alloc, 1)?);
-    shelf.read_ahead(&rt, alloc, names.as_slice(), 4)?;
+    shelf.read_ahead(&rt, alloc, all.as_slice(), 4)?;
+    assert!(&rt; tells_each(&mut shelf, alloc, &[0, 2, 1, 1])?);
+    shelf.read_ahead(&rt, alloc, all.as_slice(), 4)?;
+    assert!(&rt; written(&mut shelf, alloc, "0", b"new") == Ok(()));
+    assert!(&rt; reads(&mut shelf, alloc, "0", 4, b"new"));
+    shelf.read_ahead(&rt, alloc, second.as_slice(), 4)?;
+    assert!(&rt; reads(&mut shelf, alloc, "1", 0, b""));
     assert!(&rt; shelf.failures() == 0);
-    assert_eq!(&rt; shelf.write(alloc, "0", b"new"), Ok(()));
-    assert!(&rt; shelf.failures() == 0);
-    assert!(&rt;
-        shelf.read(alloc, "0", 4).is_ok_and(|read| read.is_some_and(|bytes| bytes.as_slice()
-            == b"new".as_slice()))
-    );
-    shelf.read_ahead(&rt, alloc, &names[1..2], 4)?;
-    assert!(&rt; shelf.failures() == 0);
-    assert!(&rt;
-        shelf
-            .read(alloc, "1", 0)
-            .is_ok_and(|read| read.is_some_and(|bytes| bytes.is_empty()))
-    );
     Ok(())
 }
+
+// Numbers of threads that meet a failure.
+const THREADS: &[usize] = &[1, 4, 16];
 
 // A folder in a file's place can't be read: each read of it fails, and counts.
 #[test]
 fn failures_of_reads_ahead(rt: HostRuntime) -> Result<(), AllocError> {
     let alloc = rt.alloc();
     assert!(&rt; make_files(&rt, alloc, "ahead/failing")?);
-    for folder in ["ahead/failing/300", "ahead/failing/301"] {
-        assert!(&rt; fs::create_dir_all(&rt, folder).is_ok());
-    }
-    let mut names = names(alloc)?;
-    names.push((String::from_str(alloc, "300")?, 4))?;
-    names.push((String::from_str(alloc, "301")?, 4))?;
-    assert!(&rt; names.len() == 302);
-    for threads in [1, 4, 16usize] {
+    assert!(&rt; fs::create_dir_all(&rt, "ahead/failing/300").is_ok());
+    assert!(&rt; fs::create_dir_all(&rt, "ahead/failing/301").is_ok());
+    let names = names(alloc, 290, 302)?;
+    for threads in THREADS {
         let mut shelf = FolderShelf::open(&rt, alloc, "ahead/failing")?;
-        shelf.read_ahead(&rt, alloc, &names[290..], threads)?;
-        assert!(&rt; shelf.failures() == 0);
+        shelf.read_ahead(&rt, alloc, names.as_slice(), *threads)?;
         for number in 290..300usize {
             assert!(&rt; tells(&mut shelf, alloc, number)?);
         }
-        for (count, name) in ["300", "301"].into_iter().enumerate() {
-            assert!(&rt; shelf.failures() == count as u64);
-            assert_eq!(&rt; shelf.read(alloc, name, 4).err(), Some(ShelfFault::Device));
-        }
-        assert!(&rt; shelf.failures() == 2);
+        assert!(&rt; shelf.failures() == 0);
+        assert!(&rt; fails(&mut shelf, alloc, "300", 4) && shelf.failures() == 1);
+        assert!(&rt; fails(&mut shelf, alloc, "301", 4) && shelf.failures() == 2);
     }
     Ok(())
 }
@@ -130,15 +134,11 @@ fn failures_of_reads_ahead(rt: HostRuntime) -> Result<(), AllocError> {
 #[test]
 fn memory_reads_nothing_ahead(rt: HostRuntime) -> Result<(), AllocError> {
     let alloc = rt.alloc();
-    let mut shelf = MemoryShelf::new(alloc);
-    shelf.place(alloc, "0", b"")?;
-    shelf.place(alloc, "1", b"a")?;
+    let mut shelf = shelf_of(alloc, &[("0", b""), ("1", b"a")])?;
     shelf.fail_at(1);
-    shelf.read_ahead(&rt, alloc, names(alloc)?.as_slice(), 4)?;
-    assert!(&rt; tells(&mut shelf, alloc, 0)?);
-    assert!(&rt; shelf.failures() == 0);
-    assert_eq!(&rt; shelf.read(alloc, "1", 4).err(), Some(ShelfFault::Device));
-    assert!(&rt; tells(&mut shelf, alloc, 1)?);
-    assert!(&rt; shelf.failures() == 1);
+    shelf.read_ahead(&rt, alloc, names(alloc, 0, 300)?.as_slice(), 4)?;
+    assert!(&rt; tells(&mut shelf, alloc, 0)? && shelf.failures() == 0);
+    assert!(&rt; fails(&mut shelf, alloc, "1", 4));
+    assert!(&rt; tells(&mut shelf, alloc, 1)? && shelf.failures() == 1);
     Ok(())
 }

@@ -132,12 +132,16 @@ fn batches_of_one_request(rt: HostRuntime) -> Result<(), AllocError> {
     Ok(())
 }
 
+const WORKERS: &[usize] = &[1, 3, 16];
+
+const MOST: &[u64] = &[0, 3, 6, 9, 11, 12, 24, 27, u64::MAX];
+
 // A batch is a request, two, three, a list, two racks or all; a rack with two feeds is never cut.
 #[test]
 fn batches_of_any_size(rt: HostRuntime) -> Result<(), AllocError> {
-    for workers in [1, 3, 16] {
-        for most in [0, 3, 6, 9, 11, 12, 24, 27, u64::MAX] {
-            let answered = answer(&rt, rt.alloc(), workers, most, &NoPause)?;
+    for workers in WORKERS {
+        for most in MOST {
+            let answered = answer(&rt, rt.alloc(), *workers, *most, &NoPause)?;
             assert!(&rt; are_of_racks(&answered));
         }
     }
@@ -185,45 +189,69 @@ impl Pause for Told {
     }
 }
 
-// However the racks are cut, a pause is told each request once, by its rack's number and its own, and each close.
-#[test]
-fn a_pause_is_told_the_numbers_of_all_lists(rt: HostRuntime) -> Result<(), AllocError> {
-    for most in [1, 6, 12, u64::MAX] {
-        let told = Told {
+// The numbers that tell each request in front of a close once, and each request and close.
+const TOLD_REQUESTS: u64 = 11_110_111_101_111;
+
+const TOLD_ALL: u64 = 111_111_111_111_111;
+
+impl Told {
+    fn new() -> Told {
+        Told {
             before: AtomicU64::new(0),
             after: AtomicU64::new(0),
             ahead: AtomicU64::new(0),
             behind: AtomicU64::new(0),
-        };
-        let answered = answer(&rt, rt.alloc(), 2, most, &told)?;
-        assert!(&rt; are_of_racks(&answered));
-        assert!(&rt; told.before.load(Ordering::SeqCst) == 11_110_111_101_111);
-        assert!(&rt; told.after.load(Ordering::SeqCst) == 11_110_111_101_111);
-        assert!(&rt; told.ahead.load(Ordering::SeqCst) == 111_111_111_111_111);
-        assert!(&rt; told.behind.load(Ordering::SeqCst) == 111_111_111_111_111);
+        }
+    }
+
+    fn is_told_all(&self) -> bool {
+        self.before.load(Ordering::SeqCst) == TOLD_REQUESTS
+            && self.after.load(Ordering::SeqCst) == TOLD_REQUESTS
+            && self.ahead.load(Ordering::SeqCst) == TOLD_ALL
+            && self.behind.load(Ordering::SeqCst) == TOLD_ALL
+    }
+}
+
+const CUTS: &[u64] = &[1, 6, 12, u64::MAX];
+
+// However the racks are cut, a pause is told each request once, by its rack's number and its own, and each close.
+#[test]
+fn a_pause_is_told_the_numbers_of_all_lists(rt: HostRuntime) -> Result<(), AllocError> {
+    for most in CUTS {
+        let told = Told::new();
+        let answered = answer(&rt, rt.alloc(), 2, *most, &told)?;
+        assert!(&rt; are_of_racks(&answered) && told.is_told_all());
     }
     Ok(())
+}
+
+// Twice a hundred requests whose survivors are absent, and a small one behind them.
+fn long_list(alloc: Global) -> Result<Vec<u8>, AllocError> {
+    let mut list = Vec::from_slice(alloc, HEADER)?;
+    add_requests(&mut list, b"rebuild,a,x0,1,x1 x2 px\n")?;
+    add_requests(&mut list, b"rebuild,b,x0,1,x1 x2 px\n")?;
+    Ok(list)
+}
+
+fn add_requests(list: &mut Vec<u8>, small: &[u8]) -> Result<(), AllocError> {
+    for _request in 0..100 {
+        list.extend_from_slice(b"rebuild,none,x0,65536,x1 x2 px\n")?;
+    }
+    list.extend_from_slice(small)
 }
 
 // Two hundred requests whose survivors are absent list more than a batch. The requests between and behind them are answered.
 #[test]
 fn a_list_of_several_batches(rt: HostRuntime) -> Result<(), AllocError> {
     let mut input = shelf_of(rt.alloc(), &FRAGMENTS)?;
-    let mut list = Vec::new(rt.alloc());
-    list.extend_from_slice(HEADER)?;
-    for small in [b"rebuild,a,x0,1,x1 x2 px\n", b"rebuild,b,x0,1,x1 x2 px\n"] {
-        for _request in 0..100 {
-            list.extend_from_slice(b"rebuild,none,x0,65536,x1 x2 px\n")?;
-        }
-        list.extend_from_slice(small)?;
-    }
-    input.place(rt.alloc(), "rack0.csv", list.as_slice())?;
+    input.place(rt.alloc(), "rack0.csv", long_list(rt.alloc())?.as_slice())?;
     input.place(rt.alloc(), "rack1.csv", LIST)?;
     let run = serve_shelf(&rt, rt.alloc(), &mut input);
-    assert!(&rt; run.has_served(2, 206));
-    assert!(&rt; run.wrote("rack0-100.a.x0", b"a"));
-    assert!(&rt; run.wrote("rack0-201.b.x0", b"b"));
-    assert!(&rt; run.left_out("rack0-0.none.x0"));
-    assert!(&rt; run.wrote("rack1-3.d.x0", b"d"));
+    let files: &[(&str, &[u8])] = &[
+        ("rack0-100.a.x0", b"a"),
+        ("rack0-201.b.x0", b"b"),
+        ("rack1-3.d.x0", b"d"),
+    ];
+    assert!(&rt; run.gave(2, 206, files, &["rack0-0.none.x0"]));
     Ok(())
 }

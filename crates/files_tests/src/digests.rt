@@ -23,12 +23,14 @@ enum Lengths {
 }
 
 fn length_of(lengths: Lengths, number: u8) -> usize {
-    match (lengths, number) {
-        (Lengths::Equal, _) => 100,
-        (Lengths::Broken, 3) => 101,
-        (Lengths::Broken, 12) => 0,
-        (Lengths::Broken, _) => 64,
-        (Lengths::Mixed, _) => { if number.is_multiple_of(2) { 55 } else { 56 } }
+    match lengths {
+        Lengths::Equal => 100,
+        Lengths::Broken => match number {
+            3 => 101,
+            12 => 0,
+            _ => 64,
+        },
+        Lengths::Mixed => 55 + (number % 2) as usize,
     }
 }
 
@@ -83,14 +85,19 @@ fn plain_digests(
     Ok(digests)
 }
 
-// Whether the digests are the plain ones, for each number of fragments around one and two groups of eight.
+// How many fragments there are: around one and two groups of eight.
+const FRAGMENTS: &[u8] = &[0, 1, 7, 8, 9, 16, 17];
+
+const LENGTHS: &[Lengths] = &[Lengths::Equal, Lengths::Broken, Lengths::Mixed];
+
+// Whether the digests are the plain ones, for each number of fragments and all of their lengths.
 fn agree<R: Threads + Sync>(rt: &R, alloc: Global, threads: usize) -> Result<bool, AllocError>
     requires { 0 < threads }
 {
     let mut agree = true;
-    for lengths in [Lengths::Equal, Lengths::Broken, Lengths::Mixed] {
-        for fragments in [0u8, 1, 7, 8, 9, 16, 17] {
-            let racks = racks_of(alloc, lengths, fragments)?;
+    for lengths in LENGTHS {
+        for fragments in FRAGMENTS {
+            let racks = racks_of(alloc, *lengths, *fragments)?;
             let made = digests_of_racks(rt, alloc, racks.as_slice(), threads)?;
             let plain = plain_digests(alloc, racks.as_slice())?;
             agree = agree && made.as_slice() == plain.as_slice();
@@ -107,6 +114,19 @@ fn digests_of_several_lengths(rt: HostRuntime) -> Result<(), AllocError> {
     Ok(())
 }
 
+// Whether every other digest, from the first on, is that of `abc`, and there are no others.
+fn are_of_abc(digests: &[Option<[u8; 32]>]) -> bool {
+    let mut index = 0usize;
+    for digest in digests {
+        let expected = if index % 2 == 0 { Some(ABC) } else { None };
+        if *digest != expected {
+            return false;
+        }
+        index = index.saturating_add(1);
+    }
+    index == 34
+}
+
 // Two groups of eight and one alone, each in a thread of its own where one can be made.
 #[test]
 fn digests_in_three_threads(rt: HostRuntime) -> Result<(), AllocError> {
@@ -118,13 +138,6 @@ fn digests_in_three_threads(rt: HostRuntime) -> Result<(), AllocError> {
     }
     let racks = vec![in rt.alloc(); rack]?;
     let made = digests_of_racks(&rt, rt.alloc(), racks.as_slice(), 3)?;
-    assert!(&rt; made.len() == 34);
-    for (index, digest) in made.as_slice().iter().enumerate() {
-        if index % 2 == 0 {
-            assert!(&rt; *digest == Some(ABC));
-        } else {
-            assert!(&rt; *digest == None);
-        }
-    }
+    assert!(&rt; are_of_abc(made.as_slice()));
     Ok(())
 }

@@ -1,9 +1,11 @@
 //! Racks that are fed by several lists.
-use crate::shared::{FRAGMENTS, LIST, REPORT, Run, input_of, serve_shelf, shelf_of};
-use farm_core::{Pause, Settings};
-use farm_files::{ListFault, MemoryShelf, ServeFault, Shelf, serve};
+use crate::shared::{
+    FRAGMENTS, LIST, REPORT, Run, has_file, has_served, input_with, serve_failing, serve_shelf,
+    serve_with, shelf_of,
+};
+use farm_core::Pause;
+use farm_files::{ListFault, MemoryShelf, ServeFault};
 use std::alloc::{AllocError, Global};
-use std::process::Abort;
 use std::sync::Wait;
 use std::sync::atomic::{AtomicBool, Ordering};
 use std::thread::{self, Threads};
@@ -17,19 +19,19 @@ const FED_REPORT: &[u8] = b"number,feed,stripe,target,length,outcome,digest,unre
 
 const EMPTY_FED_REPORT: &[u8] = b"number,feed,stripe,target,length,outcome,digest,unread\n";
 
+const EMPTY_WIDE_FED_REPORT: &[u8] =
+    b"number,feed,stripe,target,length,outcome,digest,unread,code\n";
+
+// A list of a close alone.
+const CLOSE: &[u8] = b"order,stripe,target,length,survivors\nclose,,,,\n";
+
+// The number of a call that no run here makes.
+const NO_CALL: u64 = 1000;
+
 // One request of the (12,2,2) code.
 const WIDE_LIST: &[u8] = b"order,stripe,target,length,survivors,code
 rebuild,abc,x0,3,x1 x2 x3 x4 x5 px,12-2-2
 ";
-
-// The shelf of a list and its fragments, with more lists.
-fn input_with(alloc: Global, lists: &[(&str, &[u8])]) -> Result<MemoryShelf, AllocError> {
-    let mut input = input_of(alloc, LIST)?;
-    for (name, list) in lists {
-        input.place(alloc, name, list)?;
-    }
-    Ok(input)
-}
 
 // Whether the report of rack 0 is one of these.
 fn reported_one_of(run: &Run, reports: &[&[u8]]) -> bool {
@@ -41,44 +43,67 @@ fn reported_one_of(run: &Run, reports: &[&[u8]]) -> bool {
     false
 }
 
+// Lists beside that of rack 0, and the report where its request alone is answered. Feeds behind one that is absent aren't read.
+const WITHOUT_REQUESTS: &[(&[(&str, &[u8])], &[u8])] = &[
+    (&[("rack0.feed1.csv", HEADER)], FED_REPORT),
+    (
+        &[
+            ("rack0.feed1.csv", HEADER),
+            ("rack0.feed2.csv", HEADER),
+            ("rack0.feed3.csv", HEADER),
+        ],
+        FED_REPORT,
+    ),
+    (
+        &[("rack0.feed2.csv", b"x"), ("rack0.feed4.csv", b"x")],
+        REPORT,
+    ),
+];
+
 #[test]
-fn second_feed_without_requests(rt: HostRuntime) -> Result<(), AllocError> {
-    let mut input = input_with(rt.alloc(), &[("rack0.feed1.csv", HEADER)])?;
-    let run = serve_shelf(&rt, rt.alloc(), &mut input);
-    assert!(&rt; run.has_served(1, 1));
-    assert!(&rt; run.wrote("rack0.report.csv", FED_REPORT));
-    assert!(&rt; run.wrote("rack0-0.abc.x0", b"abc"));
-    assert!(&rt; run.left_out("rack0-1.abc.x0"));
+fn feeds_without_requests(rt: HostRuntime) -> Result<(), AllocError> {
+    for (lists, report) in WITHOUT_REQUESTS {
+        let run = serve_failing(&rt, rt.alloc(), lists, NO_CALL)?;
+        let files = [("rack0.report.csv", *report), ("rack0-0.abc.x0", b"abc")];
+        assert!(&rt; run.gave(1, 1, &files, &["rack0-1.abc.x0"]));
+    }
     Ok(())
+}
+
+// The reports where either feed is answered behind the other, or the second alone.
+const SECOND: &[u8] = b"number,feed,stripe,target,length,outcome,digest,unread
+0,1,abc,x0,3,rebuilt,ba7816bf8f01cfea414140de5dae2223b00361a396177a9cb410ff61f20015ad,
+";
+
+const FIRST_THEN_SECOND: &[u8] = b"number,feed,stripe,target,length,outcome,digest,unread
+0,0,abc,x0,3,rebuilt,ba7816bf8f01cfea414140de5dae2223b00361a396177a9cb410ff61f20015ad,
+1,1,abc,x0,3,rebuilt,ba7816bf8f01cfea414140de5dae2223b00361a396177a9cb410ff61f20015ad,
+";
+
+const SECOND_THEN_FIRST: &[u8] = b"number,feed,stripe,target,length,outcome,digest,unread
+0,1,abc,x0,3,rebuilt,ba7816bf8f01cfea414140de5dae2223b00361a396177a9cb410ff61f20015ad,
+1,0,abc,x0,3,rebuilt,ba7816bf8f01cfea414140de5dae2223b00361a396177a9cb410ff61f20015ad,
+";
+
+// Whether one feed was answered and the other closed the rack ahead of it.
+fn answered_one(run: &Run) -> bool {
+    run.gave(1, 1, &[], &["rack0-1.abc.x0"]) && reported_one_of(run, &[FED_REPORT, SECOND])
+}
+
+// Whether one feed was answered behind the other.
+fn answered_both(run: &Run) -> bool {
+    run.gave(1, 2, &[("rack0-1.abc.x0", b"abc")], &[])
+        && reported_one_of(run, &[FIRST_THEN_SECOND, SECOND_THEN_FIRST])
 }
 
 // Each feed has a close behind one request. Either feed is whole, and of the other none or one is answered, in any order.
 #[test]
 fn two_feeds_with_closes(rt: HostRuntime) -> Result<(), AllocError> {
-    const SECOND: &[u8] = b"number,feed,stripe,target,length,outcome,digest,unread
-0,1,abc,x0,3,rebuilt,ba7816bf8f01cfea414140de5dae2223b00361a396177a9cb410ff61f20015ad,
-";
-    const FIRST_THEN_SECOND: &[u8] = b"number,feed,stripe,target,length,outcome,digest,unread
-0,0,abc,x0,3,rebuilt,ba7816bf8f01cfea414140de5dae2223b00361a396177a9cb410ff61f20015ad,
-1,1,abc,x0,3,rebuilt,ba7816bf8f01cfea414140de5dae2223b00361a396177a9cb410ff61f20015ad,
-";
-    const SECOND_THEN_FIRST: &[u8] = b"number,feed,stripe,target,length,outcome,digest,unread
-0,1,abc,x0,3,rebuilt,ba7816bf8f01cfea414140de5dae2223b00361a396177a9cb410ff61f20015ad,
-1,0,abc,x0,3,rebuilt,ba7816bf8f01cfea414140de5dae2223b00361a396177a9cb410ff61f20015ad,
-";
     let mut input = input_with(rt.alloc(), &[("rack0.feed1.csv", LIST)])?;
     for _ in 0..20 {
         let run = serve_shelf(&rt, rt.alloc(), &mut input);
-        assert!(&rt; run.wrote("rack0-0.abc.x0", b"abc"));
-        if run.has_served(1, 1) {
-            assert!(&rt; reported_one_of(&run, &[FED_REPORT, SECOND]));
-            assert!(&rt; run.left_out("rack0-1.abc.x0"));
-        } else {
-            assert!(&rt; run.has_served(1, 2));
-            assert!(&rt; reported_one_of(&run, &[FIRST_THEN_SECOND, SECOND_THEN_FIRST]));
-            assert!(&rt; run.wrote("rack0-1.abc.x0", b"abc"));
-        }
-        assert!(&rt; run.left_out("rack0-2.abc.x0"));
+        assert!(&rt; answered_one(&run) || answered_both(&run));
+        assert!(&rt; run.wrote("rack0-0.abc.x0", b"abc") && run.left_out("rack0-2.abc.x0"));
     }
     Ok(())
 }
@@ -115,87 +140,68 @@ impl Pause for FirstCloses {
     }
 }
 
-// Serves a rack whose first feed closes it ahead of the second, which has this list: no request is answered. The report is to be this.
-fn closed_by_first<R: Abort + Threads + Wait + Sync>(
+// Whether no request is answered of a rack whose first feed closes it ahead of the second, which has this list, and the report is this.
+fn is_closed_by_first<R: Threads + Wait + Sync>(
     rt: &R,
     alloc: Global,
     second: &[u8],
     report: &[u8],
-) -> Result<(), AllocError> {
-    let mut input = input_with(alloc, &[("rack0.feed1.csv", second)])?;
-    input.place(
-        alloc,
-        "rack0.csv",
-        b"order,stripe,target,length,survivors\nclose,,,,\n",
-    )?;
+) -> Result<bool, AllocError> {
+    let mut input = shelf_of(alloc, &[("rack0.csv", CLOSE), ("rack0.feed1.csv", second)])?;
+    for (name, bytes) in &FRAGMENTS {
+        input.place(alloc, name, bytes)?;
+    }
     let mut output = MemoryShelf::new(alloc);
     let pause = FirstCloses {
         behind: AtomicBool::new(false),
         missed: AtomicBool::new(false),
     };
-    let Ok(settings) = Settings::new(3, 1) else {
-        panic!(rt; "three workers are refused");
-    };
-    if input.failures() > 0 || output.failures() > 0 {
-        panic!(rt; "a new shelf has failed");
-    }
-    let served = serve(rt, alloc, &mut input, &mut output, settings, &pause);
-    assert!(rt; served.is_ok_and(|served| served.racks == 1 && served.answers == 0));
-    assert!(rt; !pause.missed.load(Ordering::SeqCst));
-    assert!(rt; output.file("rack0.report.csv") == Some(report));
-    Ok(())
+    let served = serve_with(rt, alloc, (3, 1), &mut input, &mut output, &pause);
+    Ok(
+        has_served(&served, 1, 0)
+            && !pause.missed.load(Ordering::SeqCst)
+            && has_file(&output, "rack0.report.csv", report),
+    )
 }
 
 // The close of a feed is handed on. A request that is left without an answer still tells that its rack has codes.
 #[test]
 fn close_of_a_feed_is_handed_on(rt: HostRuntime) -> Result<(), AllocError> {
-    closed_by_first(&rt, rt.alloc(), LIST, EMPTY_FED_REPORT)?;
-    closed_by_first(
-        &rt,
-        rt.alloc(),
-        WIDE_LIST,
-        b"number,feed,stripe,target,length,outcome,digest,unread,code\n",
-    )
+    assert!(&rt; is_closed_by_first(&rt, rt.alloc(), LIST, EMPTY_FED_REPORT)?);
+    assert!(&rt; is_closed_by_first(&rt, rt.alloc(), WIDE_LIST, EMPTY_WIDE_FED_REPORT)?);
+    Ok(())
 }
 
-#[test]
-fn fifth_feed(rt: HostRuntime) -> Result<(), AllocError> {
-    let mut input = input_with(
-        rt.alloc(),
+// Lists beside that of rack 0, a call of their device that fails, and the fault. A list that is refused is told before the next
+// feed's, or the next rack's, is read; that of a fifth feed isn't tested.
+const REFUSED: &[(&[(&str, &[u8])], u64, ServeFault)] = &[
+    (
         &[
             ("rack0.feed1.csv", HEADER),
             ("rack0.feed2.csv", HEADER),
             ("rack0.feed3.csv", HEADER),
+            ("rack0.feed4.csv", b"x"),
+            ("rack1.csv", b"x"),
         ],
-    )?;
-    let run = serve_shelf(&rt, rt.alloc(), &mut input);
-    assert!(&rt; run.has_served(1, 1));
-    assert!(&rt; run.wrote("rack0.report.csv", FED_REPORT));
-
-    // Its list isn't tested, nor is the next rack's.
-    input.place(rt.alloc(), "rack0.feed4.csv", b"x")?;
-    input.place(rt.alloc(), "rack1.csv", b"x")?;
-    let run = serve_shelf(&rt, rt.alloc(), &mut input);
-    assert_eq!(&rt; run.served, Err(ServeFault::BadFeeds));
-    assert!(&rt; run.left_out("rack0.report.csv"));
-
-    // A refused list of a feed ahead of it comes first.
-    input.place(rt.alloc(), "rack0.feed3.csv", b"x")?;
-    let run = serve_shelf(&rt, rt.alloc(), &mut input);
-    let fault = ServeFault::List {
-        rack: 0,
-        feed: 3,
-        fault: ListFault::BadHeader,
-    };
-    assert_eq!(&rt; run.served, Err(fault));
-    Ok(())
-}
-
-// A list that is refused is told before the next feed's, or the next rack's, is read.
-#[test]
-fn refused_list_of_a_feed(rt: HostRuntime) -> Result<(), AllocError> {
-    let mut input = input_with(
-        rt.alloc(),
+        NO_CALL,
+        ServeFault::BadFeeds,
+    ),
+    (
+        &[
+            ("rack0.feed1.csv", HEADER),
+            ("rack0.feed2.csv", HEADER),
+            ("rack0.feed3.csv", b"x"),
+            ("rack0.feed4.csv", b"x"),
+            ("rack1.csv", b"x"),
+        ],
+        NO_CALL,
+        ServeFault::List {
+            rack: 0,
+            feed: 3,
+            fault: ListFault::BadHeader,
+        },
+    ),
+    (
         &[
             (
                 "rack0.feed1.csv",
@@ -204,101 +210,102 @@ fn refused_list_of_a_feed(rt: HostRuntime) -> Result<(), AllocError> {
             ("rack0.feed2.csv", b"x"),
             ("rack1.csv", b"x"),
         ],
-    )?;
-    input.fail_at(2);
-    let run = serve_shelf(&rt, rt.alloc(), &mut input);
-    let fault = ServeFault::List {
-        rack: 0,
-        feed: 1,
-        fault: ListFault::BadRecord { number: 2 },
-    };
-    assert_eq!(&rt; run.served, Err(fault));
-    assert!(&rt; run.left_out("rack0.report.csv"));
-    assert!(&rt; input.failures() == 0);
+        2,
+        ServeFault::List {
+            rack: 0,
+            feed: 1,
+            fault: ListFault::BadRecord { number: 2 },
+        },
+    ),
+    (
+        &[("rack1.csv", LIST), ("rack1.feed1.csv", b"")],
+        NO_CALL,
+        ServeFault::List {
+            rack: 1,
+            feed: 1,
+            fault: ListFault::BadHeader,
+        },
+    ),
+];
 
-    let mut input = input_with(rt.alloc(), &[("rack1.csv", LIST), ("rack1.feed1.csv", b"")])?;
-    let run = serve_shelf(&rt, rt.alloc(), &mut input);
-    let fault = ServeFault::List {
-        rack: 1,
-        feed: 1,
-        fault: ListFault::BadHeader,
-    };
-    assert_eq!(&rt; run.served, Err(fault));
-    Ok(())
-}
-
-// Feeds behind one that is absent aren't read.
 #[test]
-fn feed_behind_an_absent_one(rt: HostRuntime) -> Result<(), AllocError> {
-    let mut input = input_with(
-        rt.alloc(),
-        &[("rack0.feed2.csv", b"x"), ("rack0.feed4.csv", b"x")],
-    )?;
-    let run = serve_shelf(&rt, rt.alloc(), &mut input);
-    assert!(&rt; run.has_served(1, 1));
-    assert!(&rt; run.wrote("rack0.report.csv", REPORT));
+fn refused_feeds(rt: HostRuntime) -> Result<(), AllocError> {
+    for (lists, call, fault) in REFUSED {
+        let run = serve_failing(&rt, rt.alloc(), lists, *call)?;
+        assert!(&rt; run.ended_with(*fault, &["rack0.report.csv"]), "{fault}");
+        assert!(&rt; run.failures == 0, "{fault}");
+    }
     Ok(())
 }
+
+// Reports of the first feed where the read of one survivor fails.
+const REPORTS: &[(u64, &[u8])] = &[
+    (
+        4,
+        b"number,feed,stripe,target,length,outcome,digest,unread\n0,0,abc,x0,3,several,,x1\n",
+    ),
+    (
+        5,
+        b"number,feed,stripe,target,length,outcome,digest,unread\n0,0,abc,x0,3,several,,x2\n",
+    ),
+    (
+        6,
+        b"number,feed,stripe,target,length,outcome,digest,unread\n0,0,abc,x0,3,several,,px\n",
+    ),
+];
 
 // The reads of a rack of two feeds are of its two lists, of a third feed and of a second rack, which are absent, and of three fragments.
 #[test]
 fn failed_reads_with_two_feeds(rt: HostRuntime) -> Result<(), AllocError> {
-    for (call, left_out) in [(4, "x1"), (5, "x2"), (6, "px")] {
-        let mut input = input_with(rt.alloc(), &[("rack0.feed1.csv", HEADER)])?;
-        input.fail_at(call);
-        let run = serve_shelf(&rt, rt.alloc(), &mut input);
-        let report = format!(in rt.alloc();
-            "number,feed,stripe,target,length,outcome,digest,unread\n0,0,abc,x0,3,several,,{left_out}\n"
-        )?;
-        assert!(&rt; run.has_served(1, 1), "call {call}");
-        assert!(&rt;
-            run.wrote("rack0.report.csv", report.as_bytes()),
-            "call {call}"
-        );
-        assert!(&rt; input.failures() == 1, "call {call}");
+    for (call, report) in REPORTS {
+        let run = serve_failing(&rt, rt.alloc(), &[("rack0.feed1.csv", HEADER)], *call)?;
+        let gave = run.gave(1, 1, &[("rack0.report.csv", report)], &[]);
+        assert!(&rt; gave && run.failures == 1, "call {call}");
     }
     for call in 0..4 {
-        let mut input = input_with(rt.alloc(), &[("rack0.feed1.csv", HEADER)])?;
-        input.fail_at(call);
-        let run = serve_shelf(&rt, rt.alloc(), &mut input);
-        assert!(&rt; run.served == Err(ServeFault::Device), "call {call}");
-        assert!(&rt; run.left_out("rack0.report.csv"), "call {call}");
-        assert!(&rt; input.failures() == 1, "call {call}");
+        let run = serve_failing(&rt, rt.alloc(), &[("rack0.feed1.csv", HEADER)], call)?;
+        let ended = run.ended_with(ServeFault::Device, &["rack0.report.csv"]);
+        assert!(&rt; ended && run.failures == 1, "call {call}");
     }
     Ok(())
 }
 
-// Sixteen racks of four feeds each: each rack's reads are five, and there is one behind them all.
-#[test]
-fn most_feeds(rt: HostRuntime) -> Result<(), AllocError> {
-    let mut input = MemoryShelf::new(rt.alloc());
+// Sixteen racks of four feeds each.
+fn most_lists(alloc: Global) -> Result<MemoryShelf, AllocError> {
+    let mut input = MemoryShelf::new(alloc);
     for rack in 0..16 {
-        let name = format!(in rt.alloc(); "rack{rack}.csv")?;
-        input.place(rt.alloc(), &name, HEADER)?;
+        let name = format!(in alloc; "rack{rack}.csv")?;
+        input.place(alloc, &name, HEADER)?;
         for feed in 1..4 {
-            let name = format!(in rt.alloc(); "rack{rack}.feed{feed}.csv")?;
-            input.place(rt.alloc(), &name, HEADER)?;
+            let name = format!(in alloc; "rack{rack}.feed{feed}.csv")?;
+            input.place(alloc, &name, HEADER)?;
         }
     }
+    Ok(input)
+}
+
+// Each rack's reads are five, and there is one behind them all.
+#[test]
+fn most_feeds(rt: HostRuntime) -> Result<(), AllocError> {
+    let mut input = most_lists(rt.alloc())?;
     input.fail_at(81);
     let run = serve_shelf(&rt, rt.alloc(), &mut input);
-    assert!(&rt; run.has_served(16, 0));
-    assert!(&rt; run.wrote("rack15.report.csv", EMPTY_FED_REPORT));
+    assert!(&rt; run.gave(16, 0, &[("rack15.report.csv", EMPTY_FED_REPORT)], &[]));
     input.fail_at(80);
     let run = serve_shelf(&rt, rt.alloc(), &mut input);
-    assert_eq!(&rt; run.served, Err(ServeFault::Device));
+    assert!(&rt; run.ended_with(ServeFault::Device, &[]));
     input.place(rt.alloc(), "rack16.csv", HEADER)?;
     let run = serve_shelf(&rt, rt.alloc(), &mut input);
-    assert_eq!(&rt; run.served, Err(ServeFault::TooManyRacks));
+    assert!(&rt; run.ended_with(ServeFault::TooManyRacks, &[]));
     Ok(())
 }
 
 // The fragments of both codes that give 61 62 63 at x0, and these lists.
 fn input_of_both_codes(alloc: Global, lists: &[(&str, &[u8])]) -> Result<MemoryShelf, AllocError> {
     let mut input = shelf_of(alloc, &FRAGMENTS)?;
-    for name in ["abc.x3", "abc.x4", "abc.x5"] {
-        input.place(alloc, name, &[0, 0, 0])?;
-    }
+    input.place(alloc, "abc.x3", &[0, 0, 0])?;
+    input.place(alloc, "abc.x4", &[0, 0, 0])?;
+    input.place(alloc, "abc.x5", &[0, 0, 0])?;
     for (name, list) in lists {
         input.place(alloc, name, list)?;
     }
@@ -307,71 +314,95 @@ fn input_of_both_codes(alloc: Global, lists: &[(&str, &[u8])]) -> Result<MemoryS
 
 // Racks of both codes: a list of the (12,2,2) code alone, behind one without requests, and one of the (6,2,2) code; and a list whose
 // (12,2,2) request stands behind its close.
-#[test]
-fn codes_of_feeds(rt: HostRuntime) -> Result<(), AllocError> {
-    let lists: [(&str, &[u8]); 6] = [
-        ("rack0.csv", WIDE_LIST),
-        ("rack1.csv", HEADER),
-        ("rack1.feed1.csv", WIDE_LIST),
-        ("rack2.csv", LIST),
-        (
-            "rack3.csv",
-            b"order,stripe,target,length,survivors,code
+const LISTS_OF_CODES: &[(&str, &[u8])] = &[
+    ("rack0.csv", WIDE_LIST),
+    ("rack1.csv", HEADER),
+    ("rack1.feed1.csv", WIDE_LIST),
+    ("rack2.csv", LIST),
+    (
+        "rack3.csv",
+        b"order,stripe,target,length,survivors,code
 rebuild,abc,x0,3,x1 x2 px,6-2-2
 close,,,,,
 rebuild,abc,x0,3,x1 x2 x3 x4 x5 px,12-2-2
 ",
-        ),
-        ("rack3.feed1.csv", HEADER),
-    ];
-    let mut input = input_of_both_codes(rt.alloc(), &lists)?;
-    let run = serve_shelf(&rt, rt.alloc(), &mut input);
-    assert!(&rt; run.has_served(4, 4));
-    let wide: &[u8] = b"number,stripe,target,length,outcome,digest,unread,code
+    ),
+    ("rack3.feed1.csv", HEADER),
+];
+
+// What is written for these.
+const FILES_OF_CODES: &[(&str, &[u8])] = &[
+    (
+        "rack0.report.csv",
+        b"number,stripe,target,length,outcome,digest,unread,code
 0,abc,x0,3,rebuilt,ba7816bf8f01cfea414140de5dae2223b00361a396177a9cb410ff61f20015ad,,12-2-2
-";
-    assert!(&rt; run.wrote("rack0.report.csv", wide));
-    let fed: &[u8] = b"number,feed,stripe,target,length,outcome,digest,unread,code
+",
+    ),
+    (
+        "rack1.report.csv",
+        b"number,feed,stripe,target,length,outcome,digest,unread,code
 0,1,abc,x0,3,rebuilt,ba7816bf8f01cfea414140de5dae2223b00361a396177a9cb410ff61f20015ad,,12-2-2
-";
-    assert!(&rt; run.wrote("rack1.report.csv", fed));
-    assert!(&rt; run.wrote("rack2.report.csv", REPORT));
-    assert!(&rt; run.wrote("rack3.report.csv", FED_REPORT));
-    for name in ["rack0-0.abc.x0", "rack1-0.abc.x0", "rack3-0.abc.x0"] {
-        assert!(&rt; run.wrote(name, b"abc"));
-    }
+",
+    ),
+    ("rack2.report.csv", REPORT),
+    ("rack3.report.csv", FED_REPORT),
+    ("rack0-0.abc.x0", b"abc"),
+    ("rack1-0.abc.x0", b"abc"),
+    ("rack3-0.abc.x0", b"abc"),
+];
+
+#[test]
+fn codes_of_feeds(rt: HostRuntime) -> Result<(), AllocError> {
+    let mut input = input_of_both_codes(rt.alloc(), LISTS_OF_CODES)?;
+    let run = serve_shelf(&rt, rt.alloc(), &mut input);
+    assert!(&rt; run.gave(4, 4, FILES_OF_CODES, &[]));
     Ok(())
 }
 
-// A feed of either code, without a close: both requests are answered, in either order, each in the row of its own code. A fragment that
-// only the (12,2,2) request lists is absent in the second run.
-#[test]
-fn feeds_of_both_codes(rt: HostRuntime) -> Result<(), AllocError> {
-    const NARROW_FIRST: &[u8] = b"number,feed,stripe,target,length,outcome,digest,unread,code
+// The lists of a rack with a feed of either code, without a close.
+const EITHER_CODE: &[(&str, &[u8])] = &[
+    (
+        "rack0.csv",
+        b"order,stripe,target,length,survivors\nrebuild,abc,x0,3,x1 x2 px\n",
+    ),
+    ("rack0.feed1.csv", WIDE_LIST),
+];
+
+// The reports on it, and where a fragment that only the (12,2,2) request lists is absent.
+const NARROW_FIRST: &[u8] = b"number,feed,stripe,target,length,outcome,digest,unread,code
 0,0,abc,x0,3,rebuilt,ba7816bf8f01cfea414140de5dae2223b00361a396177a9cb410ff61f20015ad,,6-2-2
 1,1,abc,x0,3,rebuilt,ba7816bf8f01cfea414140de5dae2223b00361a396177a9cb410ff61f20015ad,,12-2-2
 ";
-    const WIDE_FIRST: &[u8] = b"number,feed,stripe,target,length,outcome,digest,unread,code
+
+const WIDE_FIRST: &[u8] = b"number,feed,stripe,target,length,outcome,digest,unread,code
 0,1,abc,x0,3,rebuilt,ba7816bf8f01cfea414140de5dae2223b00361a396177a9cb410ff61f20015ad,,12-2-2
 1,0,abc,x0,3,rebuilt,ba7816bf8f01cfea414140de5dae2223b00361a396177a9cb410ff61f20015ad,,6-2-2
 ";
-    const NARROW_FIRST_WITHOUT_X4: &[u8] =
-        b"number,feed,stripe,target,length,outcome,digest,unread,code
+
+const NARROW_FIRST_WITHOUT_X4: &[u8] = b"number,feed,stripe,target,length,outcome,digest,unread,code
 0,0,abc,x0,3,rebuilt,ba7816bf8f01cfea414140de5dae2223b00361a396177a9cb410ff61f20015ad,,6-2-2
 1,1,abc,x0,3,several,,x4,12-2-2
 ";
-    const WIDE_FIRST_WITHOUT_X4: &[u8] =
-        b"number,feed,stripe,target,length,outcome,digest,unread,code
+
+const WIDE_FIRST_WITHOUT_X4: &[u8] = b"number,feed,stripe,target,length,outcome,digest,unread,code
 0,1,abc,x0,3,several,,x4,12-2-2
 1,0,abc,x0,3,rebuilt,ba7816bf8f01cfea414140de5dae2223b00361a396177a9cb410ff61f20015ad,,6-2-2
 ";
-    let narrow = b"order,stripe,target,length,survivors\nrebuild,abc,x0,3,x1 x2 px\n";
-    let lists: [(&str, &[u8]); 2] = [("rack0.csv", narrow), ("rack0.feed1.csv", WIDE_LIST)];
-    let mut input = input_of_both_codes(rt.alloc(), &lists)?;
+
+// Both requests of the feeds are answered, in either order, each in the row of its own code.
+#[test]
+fn feeds_of_both_codes(rt: HostRuntime) -> Result<(), AllocError> {
+    let mut input = input_of_both_codes(rt.alloc(), EITHER_CODE)?;
     let run = serve_shelf(&rt, rt.alloc(), &mut input);
-    assert!(&rt; run.has_served(1, 2));
+    assert!(&rt;
+        run.gave(
+            1,
+            2,
+            &[("rack0-0.abc.x0", b"abc"), ("rack0-1.abc.x0", b"abc")],
+            &[]
+        )
+    );
     assert!(&rt; reported_one_of(&run, &[NARROW_FIRST, WIDE_FIRST]));
-    assert!(&rt; run.wrote("rack0-0.abc.x0", b"abc") && run.wrote("rack0-1.abc.x0", b"abc"));
 
     input.place(rt.alloc(), "abc.x4", b"")?;
     let run = serve_shelf(&rt, rt.alloc(), &mut input);
@@ -383,16 +414,19 @@ fn feeds_of_both_codes(rt: HostRuntime) -> Result<(), AllocError> {
 // The text of a fault names the feed's file.
 #[test]
 fn texts_of_faults(rt: HostRuntime) -> Result<(), AllocError> {
-    for (rack, feed, name) in [(0, 0, "rack0.csv"), (11, 3, "rack11.feed3.csv")] {
-        let fault = ServeFault::List {
-            rack,
-            feed,
-            fault: ListFault::BadHeader,
-        };
-        let reason = ListFault::BadHeader;
-        let expected = format!(in rt.alloc(); "{name}: {reason}")?;
-        let text = format!(in rt.alloc(); "{fault}")?;
-        assert!(&rt; text == expected);
-    }
+    assert!(&rt; is_named(rt.alloc(), 0, 0, "rack0.csv")?);
+    assert!(&rt; is_named(rt.alloc(), 11, 3, "rack11.feed3.csv")?);
     Ok(())
+}
+
+fn is_named(alloc: Global, rack: usize, feed: usize, name: &str) -> Result<bool, AllocError> {
+    let reason = ListFault::BadHeader;
+    let fault = ServeFault::List {
+        rack,
+        feed,
+        fault: reason,
+    };
+    let expected = format!(in alloc; "{name}: {reason}")?;
+    let text = format!(in alloc; "{fault}")?;
+    Ok(text.as_str() == expected.as_str())
 }

@@ -1,7 +1,7 @@
 //! One run over real folders, which the test makes where it runs.
-use crate::shared::{FRAGMENTS, LIST, REPORT};
-use farm_core::{NoPause, Settings};
-use farm_files::{FolderShelf, ServeFault, Shelf, ShelfFault, serve};
+use crate::shared::{FRAGMENTS, LIST, REPORT, has_none, has_served, reads, serve_with, written};
+use farm_core::NoPause;
+use farm_files::{FolderShelf, ServeFault, Shelf, ShelfFault};
 use farm_shelves::read_front;
 use std::alloc::{AllocError, Global};
 use std::fs;
@@ -11,85 +11,61 @@ use std::sync::atomic::{AtomicU64, Ordering};
 
 // A folder with the list and its fragments, and an empty one.
 fn make_folders<R: Files>(rt: &R, alloc: Global) -> bool {
-    for folder in ["served/in", "served/out"] {
-        if fs::create_dir_all(rt, folder).is_err() {
-            return false;
-        }
+    if fs::create_dir_all(rt, "served/in").is_err()
+        || fs::create_dir_all(rt, "served/out").is_err()
+    {
+        return false;
     }
-    for (name, bytes) in FRAGMENTS {
+    for (name, bytes) in &FRAGMENTS {
         let Ok(path) = format!(in alloc; "served/in/{name}") else {
             return false;
         };
-        if fs::write(rt, path.as_str(), bytes).is_err() {
+        if fs::write(rt, path.as_str(), *bytes).is_err() {
             return false;
         }
     }
     fs::write(rt, "served/in/rack0.csv", LIST).is_ok()
 }
 
-// Whether the bytes of a file, as far as the limit, are these, and the device was never seen to fail.
-fn reads<S: Shelf>(shelf: &mut S, alloc: Global, name: &str, limit: usize, bytes: &[u8]) -> bool {
-    if shelf.failures() != 0 {
-        return false;
-    }
-    match shelf.read(alloc, name, limit) {
-        Ok(Some(read)) => read.as_slice() == bytes,
-        _ => false,
-    }
-}
-
 #[test]
 fn one_run_over_folders(rt: HostRuntime) -> Result<(), AllocError> {
-    assert!(&rt; make_folders(&rt, rt.alloc()));
-    let mut input = FolderShelf::open(&rt, rt.alloc(), "served/in")?;
-    let mut output = FolderShelf::open(&rt, rt.alloc(), "served/out")?;
-    let Ok(settings) = Settings::new(1, 1) else {
-        panic!(&rt; "one worker is refused");
-    };
-    assert!(&rt; input.failures() == 0 && output.failures() == 0);
-    let served = serve(&rt, rt.alloc(), &mut input, &mut output, settings, &NoPause);
-    assert!(&rt; served.is_ok_and(|served| served.racks == 1 && served.answers == 1));
-    assert!(&rt; reads(&mut output, rt.alloc(), "rack0.report.csv", 1000, REPORT));
-    assert!(&rt; reads(&mut output, rt.alloc(), "rack0-0.abc.x0", 2, b"ab"));
+    let alloc = rt.alloc();
+    assert!(&rt; make_folders(&rt, alloc));
+    let mut input = FolderShelf::open(&rt, alloc, "served/in")?;
+    let mut output = FolderShelf::open(&rt, alloc, "served/out")?;
+    let served = serve_with(&rt, alloc, (1, 1), &mut input, &mut output, &NoPause);
+    assert!(&rt; has_served(&served, 1, 1));
+    assert!(&rt; reads(&mut output, alloc, "rack0.report.csv", 1000, REPORT));
+    assert!(&rt; reads(&mut output, alloc, "rack0-0.abc.x0", 2, b"ab"));
+    assert!(&rt; output.failures() == 0);
     Ok(())
 }
 
 // A list that is a folder can't be read: that is a failure of the input's device, and nothing is written.
 #[test]
 fn a_list_that_is_a_folder(rt: HostRuntime) -> Result<(), AllocError> {
-    for folder in ["unread/in/rack0.csv", "unread/out"] {
-        assert!(&rt; fs::create_dir_all(&rt, folder).is_ok());
-    }
-    let mut input = FolderShelf::open(&rt, rt.alloc(), "unread/in")?;
-    let mut output = FolderShelf::open(&rt, rt.alloc(), "unread/out")?;
-    let Ok(settings) = Settings::new(1, 1) else {
-        panic!(&rt; "one worker is refused");
-    };
-    assert!(&rt; input.failures() == 0 && output.failures() == 0);
-    let served = serve(&rt, rt.alloc(), &mut input, &mut output, settings, &NoPause);
-    assert_eq!(&rt; served, Err(ServeFault::Device));
+    let alloc = rt.alloc();
+    assert!(&rt; fs::create_dir_all(&rt, "unread/in/rack0.csv").is_ok());
+    assert!(&rt; fs::create_dir_all(&rt, "unread/out").is_ok());
+    let mut input = FolderShelf::open(&rt, alloc, "unread/in")?;
+    let mut output = FolderShelf::open(&rt, alloc, "unread/out")?;
+    let served = serve_with(&rt, alloc, (1, 1), &mut input, &mut output, &NoPause);
+    assert!(&rt; served == Err(ServeFault::Device));
     assert!(&rt; input.failures() == 1 && output.failures() == 0);
-    let report = output.read(rt.alloc(), "rack0.report.csv", 1000);
-    assert!(&rt; report.is_ok_and(|read| read.is_none()));
+    assert!(&rt; has_none(&mut output, alloc, "rack0.report.csv", 1000));
     Ok(())
 }
 
 // A folder that isn't there has no files, and can't be written.
 #[test]
-fn a_folder_that_is_absent(rt: HostRuntime) {
-    let shelf = FolderShelf::open(&rt, rt.alloc(), "no such folder");
-    assert!(&rt; shelf.is_ok());
-    if let Ok(mut shelf) = shelf {
-        assert!(&rt; shelf.failures() == 0);
-        assert!(&rt;
-            shelf
-                .read(rt.alloc(), "a", 10)
-                .is_ok_and(|read| read.is_none())
-        );
-        assert!(&rt; shelf.failures() == 0);
-        assert_eq!(&rt; shelf.write(rt.alloc(), "a", b"x"), Err(ShelfFault::Device));
-        assert!(&rt; shelf.failures() == 1);
-    }
+fn a_folder_that_is_absent(rt: HostRuntime) -> Result<(), AllocError> {
+    let alloc = rt.alloc();
+    let mut shelf = FolderShelf::open(&rt, alloc, "no such folder")?;
+    assert!(&rt; shelf.failures() == 0);
+    assert!(&rt; has_none(&mut shelf, alloc, "a", 10) && shelf.failures() == 0);
+    assert!(&rt; written(&mut shelf, alloc, "a", b"x") == Err(ShelfFault::Device));
+    assert!(&rt; shelf.failures() == 1);
+    Ok(())
 }
 
 // A reader that gives so many bytes, at most so many a call, and counts its calls.
@@ -129,34 +105,33 @@ fn read_drip(
     (read, calls.load(Ordering::SeqCst))
 }
 
+// How many bytes a file gives, how many of them in a call at most, and the limit; then how many are read, and in how many calls.
+const DRIPS: &[(usize, usize, usize, usize, u64)] = &[
+    (65_536, 65_537, 65_537, 65_536, 2),
+    (1, 65_537, 2, 1, 2),
+    (65_537, 65_537, 65_537, 65_537, 1),
+    (5, 65_537, 0, 0, 0),
+    (1_000_000, 65_537, 1_048_577, 1_000_000, 17),
+    (1_048_577, 1_048_577, 1_048_577, 1_048_577, 5),
+];
+
 // A fragment takes two reads, and one that is longer than listed takes one. A list that outgrows the first room is read on.
 #[test]
 fn two_reads_of_a_fragment(rt: HostRuntime) {
-    let alloc = rt.alloc();
-    assert_eq!(&rt; read_drip(alloc, 65_536, 65_537, 65_537), (Ok(65_536), 2));
-    assert_eq!(&rt; read_drip(alloc, 1, 65_537, 2), (Ok(1), 2));
-    assert_eq!(&rt; read_drip(alloc, 65_537, 65_537, 65_537), (Ok(65_537), 1));
-    assert_eq!(&rt; read_drip(alloc, 5, 65_537, 0), (Ok(0), 0));
-    assert_eq!(&rt;
-        read_drip(alloc, 1_000_000, 65_537, 1_048_577),
-        (Ok(1_000_000), 17)
-    );
-    assert_eq!(&rt;
-        read_drip(alloc, 1_048_577, 1_048_577, 1_048_577),
-        (Ok(1_048_577), 5)
-    );
+    for (left, step, limit, count, calls) in DRIPS {
+        let read = read_drip(rt.alloc(), *left, *step, *limit);
+        assert!(&rt;
+            read == (Ok(*count), *calls),
+            "{left} bytes, at most {limit}"
+        );
+    }
 }
 
 // A file that gives one byte at a time is read 16,777,216 times and no more.
 #[test]
 fn a_file_that_drips(rt: HostRuntime) {
-    let alloc = rt.alloc();
-    assert_eq!(&rt;
-        read_drip(alloc, 16_777_215, 1, usize::MAX),
-        (Ok(16_777_215), 16_777_216)
-    );
-    assert_eq!(&rt;
-        read_drip(alloc, 16_777_217, 1, usize::MAX),
-        (Err(ShelfFault::Device), 16_777_216)
-    );
+    let read = read_drip(rt.alloc(), 16_777_215, 1, usize::MAX);
+    assert!(&rt; read == (Ok(16_777_215), 16_777_216));
+    let read = read_drip(rt.alloc(), 16_777_217, 1, usize::MAX);
+    assert!(&rt; read == (Err(ShelfFault::Device), 16_777_216));
 }

@@ -1,9 +1,9 @@
 //! Serving where memory or a thread is refused.
 ghost use Rattle.std.specs.Prelude.{None};
 
-use crate::shared::{LIST, has_file, input_of};
-use farm_core::{NoPause, Settings};
-use farm_files::{MemoryShelf, ServeFault, Shelf, ShelfFault, serve};
+use crate::shared::{LIST, has_file, input_of, serve_with, written};
+use farm_core::NoPause;
+use farm_files::{MemoryShelf, ServeFault, Shelf, ShelfFault};
 use std::alloc::{AllocError, Global};
 use std::process::Abort;
 use std::sync::Wait;
@@ -54,13 +54,8 @@ fn serve_counting<R: Abort + Threads + Wait + Sync>(
         b"order,stripe,target,length,survivors\n",
     )?;
     let mut output = CountingShelf { writes: 0 };
-    let Ok(settings) = Settings::new(workers, 1) else {
-        panic!(rt; "{workers} workers are refused");
-    };
-    if input.failures() > 1000 {
-        panic!(rt; "a new shelf has failed");
-    }
-    match serve(rt, alloc, &mut input, &mut output, settings, &NoPause) {
+    let served = serve_with(rt, alloc, (workers, 1), &mut input, &mut output, &NoPause);
+    match served {
         Ok(_) => {
             assert!(rt; output.writes == 4);
             Ok(())
@@ -87,18 +82,19 @@ fn nothing_written_with_two_workers(rt: HostRuntime) -> Result<(), AllocError> {
 // A write that the device fails leaves the first half of its bytes; where memory is refused for these it changes nothing.
 #[test]
 fn failed_write_without_memory(rt: HostRuntime) -> Result<(), AllocError> {
-    let mut shelf = MemoryShelf::new(rt.alloc());
-    shelf.place(rt.alloc(), "a", b"kept")?;
+    let alloc = rt.alloc();
+    let mut shelf = MemoryShelf::new(alloc);
+    shelf.place(alloc, "a", b"kept")?;
     shelf.fail_at(0);
-    assert!(&rt; shelf.failures() == 0);
-    let written = shelf.write(rt.alloc(), "a", b"other");
-    if written == Err(ShelfFault::OutOfMemory) {
-        assert!(&rt; has_file(&shelf, "a", b"kept"));
-        assert!(&rt; shelf.failures() == 0);
-        return Err(AllocError);
+    match written(&mut shelf, alloc, "a", b"other") {
+        Err(ShelfFault::Device) => {
+            assert!(&rt; has_file(&shelf, "a", b"ot") && shelf.failures() == 1);
+            Ok(())
+        }
+        told => {
+            assert!(&rt; told == Err(ShelfFault::OutOfMemory));
+            assert!(&rt; has_file(&shelf, "a", b"kept") && shelf.failures() == 0);
+            Err(AllocError)
+        }
     }
-    assert_eq!(&rt; written, Err(ShelfFault::Device));
-    assert!(&rt; has_file(&shelf, "a", b"ot"));
-    assert!(&rt; shelf.failures() == 1);
-    Ok(())
 }

@@ -1,107 +1,126 @@
 //! Whole runs of `serve` over shelves in memory.
 use crate::shared::{
-    EMPTY_REPORT, LIST, REPORT, REPORT_WITHOUT_PX, has_file, input_of, serve_files, serve_onto,
-    serve_shelf, shelf_of,
+    EMPTY_REPORT, LIST, REPORT, REPORT_WITHOUT_PX, has_file, has_served, input_of, input_with,
+    serve_files, serve_onto, serve_shelf, serve_with, shelf_of,
 };
-use farm_core::{Pause, Settings};
-use farm_files::{ListFault, MemoryShelf, ServeFault, Shelf, serve};
+use farm_core::Pause;
+use farm_files::{ListFault, MemoryShelf, ServeFault, Shelf};
 use lrc_code::RequestFault;
 use std::alloc::{AllocError, Global};
+use std::sync::Wait;
 use std::sync::atomic::{AtomicU64, Ordering};
+use std::thread::Threads;
 
 const HEADER: &[u8] = b"order,stripe,target,length,survivors\n";
+
+// Numbers of workers, and capacities of the queue.
+const SETTINGS: &[(usize, usize)] = &[(2, 1), (1, 1), (16, 1024)];
 
 // Two requests and two closes in turn: one answer, with any settings. A report that stands there is replaced.
 #[test]
 fn one_fragment_and_its_report(rt: HostRuntime) -> Result<(), AllocError> {
-    let standing: [(&str, &[u8]); 2] = [("rack0.csv", b"kept"), ("rack0.report.csv", b"replaced")];
-    for settings in [(2, 1), (1, 1), (16, 1024)] {
+    let standing: &[(&str, &[u8])] = &[("rack0.csv", b"kept"), ("rack0.report.csv", b"replaced")];
+    let files: &[(&str, &[u8])] = &[
+        ("rack0-0.abc.x0", b"abc"),
+        ("rack0.report.csv", REPORT),
+        ("rack0.csv", b"kept"),
+    ];
+    for settings in SETTINGS {
         let mut input = input_of(rt.alloc(), LIST)?;
-        let output = shelf_of(rt.alloc(), &standing)?;
-        let run = serve_onto(&rt, rt.alloc(), settings, &mut input, output);
-        assert!(&rt; run.has_served(1, 1));
-        assert!(&rt; run.wrote("rack0-0.abc.x0", b"abc"));
-        assert!(&rt; run.wrote("rack0.report.csv", REPORT));
-        assert!(&rt; run.wrote("rack0.csv", b"kept"));
-        assert!(&rt; run.left_out("rack0-1.abc.x0"));
+        let output = shelf_of(rt.alloc(), standing)?;
+        let run = serve_onto(&rt, rt.alloc(), *settings, &mut input, output);
+        assert!(&rt; run.gave(1, 1, files, &["rack0-1.abc.x0"]));
         assert!(&rt; has_file(&input, "rack0.csv", LIST));
     }
     Ok(())
 }
 
-// A byte order mark and carriage returns change nothing.
-#[test]
-fn carriage_returns_and_a_mark(rt: HostRuntime) -> Result<(), AllocError> {
-    let mut list = Vec::from_slice(rt.alloc(), b"\xef\xbb\xbf")?;
+// The list with a byte order mark, and a carriage return in front of each line feed.
+fn marked_list(alloc: Global) -> Result<Vec<u8>, AllocError> {
+    let mut list = Vec::from_slice(alloc, b"\xef\xbb\xbf")?;
     for byte in LIST {
         if *byte == b'\n' {
             list.push(b'\r')?;
         }
         list.push(*byte)?;
     }
-    let mut input = input_of(rt.alloc(), &list)?;
+    Ok(list)
+}
+
+// A byte order mark and carriage returns change nothing.
+#[test]
+fn carriage_returns_and_a_mark(rt: HostRuntime) -> Result<(), AllocError> {
+    let mut input = input_of(rt.alloc(), marked_list(rt.alloc())?.as_slice())?;
     let run = serve_shelf(&rt, rt.alloc(), &mut input);
-    assert!(&rt; run.has_served(1, 1));
-    assert!(&rt; run.wrote("rack0.report.csv", REPORT));
+    assert!(&rt; run.gave(1, 1, &[("rack0.report.csv", REPORT)], &[]));
     Ok(())
+}
+
+// Whether the survivor px is left out and named, where these files are there beside the list and the other two survivors.
+fn leaves_px_out<R: Threads + Wait + Sync>(
+    rt: &R,
+    alloc: Global,
+    files: &[(&str, &[u8])],
+) -> Result<bool, AllocError> {
+    let mut input = shelf_of(alloc, files)?;
+    input.place(alloc, "rack0.csv", LIST)?;
+    input.place(alloc, "abc.x1", &[0, 0, 0])?;
+    input.place(alloc, "abc.x2", &[0, 0, 0])?;
+    let run = serve_shelf(rt, alloc, &mut input);
+    Ok(run.gave(
+        1,
+        1,
+        &[("rack0.report.csv", REPORT_WITHOUT_PX)],
+        &["rack0-0.abc.x0"],
+    ))
 }
 
 // A listed survivor that is absent or hasn't the listed length is left out and named.
 #[test]
 fn survivors_left_out(rt: HostRuntime) -> Result<(), AllocError> {
-    let damaged: [Option<&[u8]>; 4] = [None, Some(b""), Some(b"ab"), Some(b"abcd")];
-    for bytes in damaged {
-        let mut input = shelf_of(
-            rt.alloc(),
-            &[
-                ("rack0.csv", LIST),
-                ("abc.x1", &[0, 0, 0]),
-                ("abc.x2", &[0, 0, 0]),
-            ],
-        )?;
-        if let Some(bytes) = bytes {
-            input.place(rt.alloc(), "abc.px", bytes)?;
-        }
-        let run = serve_shelf(&rt, rt.alloc(), &mut input);
-        assert!(&rt; run.has_served(1, 1));
-        assert!(&rt; run.wrote("rack0.report.csv", REPORT_WITHOUT_PX));
-        assert!(&rt; run.left_out("rack0-0.abc.x0"));
-    }
+    let alloc = rt.alloc();
+    assert!(&rt; leaves_px_out(&rt, alloc, &[])?);
+    assert!(&rt; leaves_px_out(&rt, alloc, &[("abc.px", b"")])?);
+    assert!(&rt; leaves_px_out(&rt, alloc, &[("abc.px", b"ab")])?);
+    assert!(&rt; leaves_px_out(&rt, alloc, &[("abc.px", b"abcd")])?);
     Ok(())
 }
 
-// Contradictions and requests of several racks; the digest is that of the byte 01.
+// Contradictions and requests of several racks, and what is written for them; the digest is that of the byte 01.
+const RACKS: &[(&str, &[u8])] = &[
+    (
+        "rack0.csv",
+        b"order,stripe,target,length,survivors\nrebuild,a,x0,1,y0 y1 y2 py\nrebuild,a,x0,1,px x2 x1\n",
+    ),
+    (
+        "rack1.csv",
+        b"order,stripe,target,length,survivors\nrebuild,a,y0,1,\n",
+    ),
+    ("a.y0", &[4]),
+    ("a.y1", &[5]),
+    ("a.y2", &[6]),
+    ("a.py", &[8]),
+    ("a.x1", &[2]),
+    ("a.x2", &[3]),
+    ("a.px", &[0]),
+];
+
+const FILES_OF_RACKS: &[(&str, &[u8])] = &[
+    (
+        "rack0.report.csv",
+        b"number,stripe,target,length,outcome,digest,unread\n0,a,x0,1,contradiction,,\n1,a,x0,1,rebuilt,4bf5122f344554c53bde2ebb8cd2b7e3d1600ad631c385a5d7cce23c7785459a,\n",
+    ),
+    ("rack0-1.a.x0", &[1]),
+    (
+        "rack1.report.csv",
+        b"number,stripe,target,length,outcome,digest,unread\n0,a,y0,1,several,,\n",
+    ),
+];
+
 #[test]
 fn racks_in_order(rt: HostRuntime) -> Result<(), AllocError> {
-    let first =
-        b"order,stripe,target,length,survivors\nrebuild,a,x0,1,y0 y1 y2 py\nrebuild,a,x0,1,px x2 x1\n";
-    let second = b"order,stripe,target,length,survivors\nrebuild,a,y0,1,\n";
-    let run = serve_files(
-        &rt,
-        rt.alloc(),
-        &[
-            ("rack0.csv", first),
-            ("rack1.csv", second),
-            ("a.y0", &[4]),
-            ("a.y1", &[5]),
-            ("a.y2", &[6]),
-            ("a.py", &[8]),
-            ("a.x1", &[2]),
-            ("a.x2", &[3]),
-            ("a.px", &[0]),
-        ],
-    )?;
-    assert!(&rt; run.has_served(2, 3));
-    let report =
-        b"number,stripe,target,length,outcome,digest,unread\n0,a,x0,1,contradiction,,\n1,a,x0,1,rebuilt,4bf5122f344554c53bde2ebb8cd2b7e3d1600ad631c385a5d7cce23c7785459a,\n";
-    assert!(&rt; run.wrote("rack0.report.csv", report));
-    assert!(&rt; run.wrote("rack0-1.a.x0", &[1]));
-    assert!(&rt;
-        run.wrote(
-            "rack1.report.csv",
-            b"number,stripe,target,length,outcome,digest,unread\n0,a,y0,1,several,,\n"
-        )
-    );
+    let run = serve_files(&rt, rt.alloc(), RACKS)?;
+    assert!(&rt; run.gave(2, 3, FILES_OF_RACKS, &[]));
     Ok(())
 }
 
@@ -130,42 +149,53 @@ const THIRD_REPORT: &[u8] = b"number,stripe,target,length,outcome,digest,unread
 2,e,x0,1,rebuilt,3f79bb7b435b05321651daefd374cdc681dc06faa65e374e38337b88ca046dea,
 ";
 
+const LISTS: &[(&str, &[u8])] = &[
+    ("rack0.csv", FIRST_LIST),
+    ("rack1.csv", HEADER),
+    ("rack2.csv", THIRD_LIST),
+];
+
+const REPORTS: &[(&str, &[u8])] = &[
+    ("rack0.report.csv", FIRST_REPORT),
+    ("rack1.report.csv", EMPTY_REPORT),
+    ("rack2.report.csv", THIRD_REPORT),
+    ("rack2-2.e.x0", b"e"),
+];
+
 // Five stripes, and three racks of which one has no request.
 fn five_stripes(alloc: Global) -> Result<MemoryShelf, AllocError> {
-    let lists: [(&str, &[u8]); 3] = [
-        ("rack0.csv", FIRST_LIST),
-        ("rack1.csv", HEADER),
-        ("rack2.csv", THIRD_LIST),
-    ];
-    let mut shelf = shelf_of(alloc, &lists)?;
-    for byte in b"abcde" {
-        place_stripe(&mut shelf, alloc, *byte)?;
+    let mut shelf = shelf_of(alloc, LISTS)?;
+    for letter in b"abcde" {
+        place(&mut shelf, alloc, *letter, "x1", 0)?;
+        place(&mut shelf, alloc, *letter, "x2", 0)?;
+        place(&mut shelf, alloc, *letter, "px", *letter)?;
     }
     Ok(shelf)
 }
 
-// The fragments of the stripe that is named by a letter: x1 and x2 of the byte 00, and px of the letter's byte.
-fn place_stripe(shelf: &mut MemoryShelf, alloc: Global, letter: u8) -> Result<(), AllocError> {
+// A fragment of one byte, of the stripe that is named by a letter.
+fn place(
+    shelf: &mut MemoryShelf,
+    alloc: Global,
+    letter: u8,
+    place: &str,
+    byte: u8,
+) -> Result<(), AllocError> {
     let stripe = letter as char;
-    for (place, byte) in [("x1", 0), ("x2", 0), ("px", letter)] {
-        let name = format!(in alloc; "{stripe}.{place}")?;
-        shelf.place(alloc, &name, &[byte])?;
-    }
-    Ok(())
+    let name = format!(in alloc; "{stripe}.{place}")?;
+    shelf.place(alloc, name.as_str(), &[byte])
 }
+
+const WORKERS: &[usize] = &[1, 2, 3, 5, 16];
 
 // However many workers there are, each digest stands in the row of its own fragment.
 #[test]
 fn digests_with_any_number_of_workers(rt: HostRuntime) -> Result<(), AllocError> {
     let mut input = five_stripes(rt.alloc())?;
-    for workers in [1, 2, 3, 5, 16] {
+    for workers in WORKERS {
         let output = MemoryShelf::new(rt.alloc());
-        let run = serve_onto(&rt, rt.alloc(), (workers, 1), &mut input, output);
-        assert!(&rt; run.has_served(3, 6));
-        assert!(&rt; run.wrote("rack0.report.csv", FIRST_REPORT));
-        assert!(&rt; run.wrote("rack1.report.csv", EMPTY_REPORT));
-        assert!(&rt; run.wrote("rack2.report.csv", THIRD_REPORT));
-        assert!(&rt; run.wrote("rack2-2.e.x0", b"e"));
+        let run = serve_onto(&rt, rt.alloc(), (*workers, 1), &mut input, output);
+        assert!(&rt; run.gave(3, 6, REPORTS, &[]));
     }
     Ok(())
 }
@@ -190,19 +220,14 @@ impl Pause for CountingPause {
 // The farm is given the pause that serving is given. The two requests behind a close aren't solved.
 #[test]
 fn the_pause_is_handed_on(rt: HostRuntime) -> Result<(), AllocError> {
-    let mut input = input_of(rt.alloc(), LIST)?;
-    input.place(rt.alloc(), "rack1.csv", LIST)?;
+    let mut input = input_with(rt.alloc(), &[("rack1.csv", LIST)])?;
     let mut output = MemoryShelf::new(rt.alloc());
     let pause = CountingPause {
         before: AtomicU64::new(0),
         after: AtomicU64::new(0),
     };
-    let settings = Settings::new(2, 1);
-    assert!(&rt; settings.is_ok() && input.failures() == 0 && output.failures() == 0);
-    if let Ok(settings) = settings {
-        let served = serve(&rt, rt.alloc(), &mut input, &mut output, settings, &pause);
-        assert!(&rt; served.is_ok_and(|served| served.answers == 2));
-    }
+    let served = serve_with(&rt, rt.alloc(), (2, 1), &mut input, &mut output, &pause);
+    assert!(&rt; has_served(&served, 2, 2));
     assert!(&rt; pause.before.load(Ordering::SeqCst) == 2);
     assert!(&rt; pause.after.load(Ordering::SeqCst) == 2);
     Ok(())
@@ -212,17 +237,15 @@ fn the_pause_is_handed_on(rt: HostRuntime) -> Result<(), AllocError> {
 fn a_list_without_requests(rt: HostRuntime) -> Result<(), AllocError> {
     let mut input = input_of(rt.alloc(), HEADER)?;
     let run = serve_shelf(&rt, rt.alloc(), &mut input);
-    assert!(&rt; run.has_served(1, 0));
-    assert!(&rt; run.wrote("rack0.report.csv", EMPTY_REPORT));
+    assert!(&rt; run.gave(1, 0, &[("rack0.report.csv", EMPTY_REPORT)], &[]));
     Ok(())
 }
 
 #[test]
 fn no_list_at_all(rt: HostRuntime) -> Result<(), AllocError> {
-    let files: [(&str, &[u8]); 2] = [("rack1.csv", HEADER), ("rack00.csv", HEADER)];
-    let run = serve_files(&rt, rt.alloc(), &files)?;
-    assert_eq!(&rt; run.served, Err(ServeFault::NoRacks));
-    assert!(&rt; run.left_out("rack1.report.csv"));
+    let files: &[(&str, &[u8])] = &[("rack1.csv", HEADER), ("rack00.csv", HEADER)];
+    let run = serve_files(&rt, rt.alloc(), files)?;
+    assert!(&rt; run.ended_with(ServeFault::NoRacks, &["rack1.report.csv"]));
     Ok(())
 }
 
@@ -240,12 +263,11 @@ fn empty_lists(alloc: Global, racks: usize) -> Result<MemoryShelf, AllocError> {
 fn sixteen_racks(rt: HostRuntime) -> Result<(), AllocError> {
     let mut input = empty_lists(rt.alloc(), 16)?;
     let run = serve_shelf(&rt, rt.alloc(), &mut input);
-    assert!(&rt; run.has_served(16, 0));
+    assert!(&rt; run.gave(16, 0, &[], &["rack16.report.csv"]));
     for rack in 0..16 {
         let name = format!(in rt.alloc(); "rack{rack}.report.csv")?;
         assert!(&rt; run.wrote(&name, EMPTY_REPORT));
     }
-    assert!(&rt; run.left_out("rack16.report.csv"));
     Ok(())
 }
 
@@ -254,8 +276,7 @@ fn sixteen_racks(rt: HostRuntime) -> Result<(), AllocError> {
 fn seventeen_racks(rt: HostRuntime) -> Result<(), AllocError> {
     let mut input = empty_lists(rt.alloc(), 17)?;
     let run = serve_shelf(&rt, rt.alloc(), &mut input);
-    assert_eq!(&rt; run.served, Err(ServeFault::TooManyRacks));
-    assert!(&rt; run.left_out("rack0.report.csv"));
+    assert!(&rt; run.ended_with(ServeFault::TooManyRacks, &["rack0.report.csv"]));
 
     input.place(rt.alloc(), "rack3.csv", b"x")?;
     let run = serve_shelf(&rt, rt.alloc(), &mut input);
@@ -264,44 +285,40 @@ fn seventeen_racks(rt: HostRuntime) -> Result<(), AllocError> {
         feed: 0,
         fault: ListFault::BadHeader,
     };
-    assert_eq!(&rt; run.served, Err(fault));
-    assert!(&rt; run.left_out("rack0.report.csv"));
+    assert!(&rt; run.ended_with(fault, &["rack0.report.csv"]));
     Ok(())
 }
+
+// Lists of rack 1 that are refused.
+const REFUSED: &[(&[u8], ListFault)] = &[
+    (b"", ListFault::BadHeader),
+    (
+        b"order,stripe,target,length,survivors\nclose,,,,\nx\n",
+        ListFault::BadRecord { number: 2 },
+    ),
+    (
+        b"order,stripe,target,length,survivors\nclose,,,,\nrebuild,a,x0,1,x0\n",
+        ListFault::Refused {
+            number: 2,
+            fault: RequestFault::NotLost,
+        },
+    ),
+];
 
 // The first refused list is told, and nothing is written.
 #[test]
 fn a_refused_list(rt: HostRuntime) -> Result<(), AllocError> {
-    let rows: [(&[u8], ListFault); 3] = [
-        (b"", ListFault::BadHeader),
-        (
-            b"order,stripe,target,length,survivors\nclose,,,,\nx\n",
-            ListFault::BadRecord { number: 2 },
-        ),
-        (
-            b"order,stripe,target,length,survivors\nclose,,,,\nrebuild,a,x0,1,x0\n",
-            ListFault::Refused {
-                number: 2,
-                fault: RequestFault::NotLost,
-            },
-        ),
-    ];
-    for (bytes, fault) in rows {
-        let mut input = input_of(rt.alloc(), LIST)?;
-        input.place(rt.alloc(), "rack1.csv", bytes)?;
+    let absent: &[&str] = &["rack0-0.abc.x0", "rack0.report.csv", "rack1.report.csv"];
+    for (bytes, fault) in REFUSED {
+        let mut input = input_with(rt.alloc(), &[("rack1.csv", bytes)])?;
         let run = serve_shelf(&rt, rt.alloc(), &mut input);
-        assert_eq!(&rt;
-            run.served,
-            Err(ServeFault::List {
-                rack: 1,
-                feed: 0,
-                fault
-            })
-        );
-        assert!(&rt; input.failures() == 0 && run.output.failures() == 0);
-        assert!(&rt; run.left_out("rack0-0.abc.x0"));
-        assert!(&rt; run.left_out("rack0.report.csv"));
-        assert!(&rt; run.left_out("rack1.report.csv"));
+        let fault = ServeFault::List {
+            rack: 1,
+            feed: 0,
+            fault: *fault,
+        };
+        assert!(&rt; run.ended_with(fault, absent), "{fault}");
+        assert!(&rt; run.failures == 0 && run.output.failures() == 0);
     }
     Ok(())
 }

@@ -1,6 +1,6 @@
 //! A list, its fragments and its reports, and a call of `serve` over shelves in memory.
-use farm_core::{NoPause, Settings};
-use farm_files::{MemoryShelf, ServeFault, Served, Shelf, serve};
+use farm_core::{NoPause, Pause, Settings};
+use farm_files::{MemoryShelf, ServeFault, Served, Shelf, ShelfFault, serve};
 use std::alloc::{AllocError, Global};
 use std::sync::Wait;
 use std::thread::Threads;
@@ -60,17 +60,61 @@ pub(crate) fn input_of(alloc: Global, list: &[u8]) -> Result<MemoryShelf, AllocE
     Ok(shelf)
 }
 
-/// What serving gave, and the shelf that it wrote to.
+/// The list and its fragments, and more lists.
+pub(crate) fn input_with(
+    alloc: Global,
+    lists: &[(&str, &[u8])],
+) -> Result<MemoryShelf, AllocError> {
+    let mut shelf = input_of(alloc, LIST)?;
+    for (name, list) in lists {
+        shelf.place(alloc, name, list)?;
+    }
+    Ok(shelf)
+}
+
+/// What serving gave, the shelf that it wrote to, and how often the device failed that it read from.
 #[derive(Drop)]
 pub(crate) struct Run {
     pub(crate) served: Result<Served, ServeFault>,
     pub(crate) output: MemoryShelf,
+    pub(crate) failures: u64,
 }
 
 impl Run {
     /// Whether so many racks were served, with so many answers.
     pub(crate) fn has_served(&self, racks: usize, answers: u64) -> bool {
-        self.served == Ok(Served { racks, answers })
+        has_served(&self.served, racks, answers)
+    }
+
+    /// Whether so many racks were served, with so many answers, the files of these names have these bytes, and there are none of
+    /// the other names.
+    pub(crate) fn gave(
+        &self,
+        racks: usize,
+        answers: u64,
+        files: &[(&str, &[u8])],
+        absent: &[&str],
+    ) -> bool {
+        for (name, bytes) in files {
+            if !self.wrote(name, bytes) {
+                return false;
+            }
+        }
+        self.has_served(racks, answers) && self.left_out_all(absent)
+    }
+
+    /// Whether serving ended with this fault, and there are no files of these names.
+    pub(crate) fn ended_with(&self, fault: ServeFault, absent: &[&str]) -> bool {
+        self.served == Err(fault) && self.left_out_all(absent)
+    }
+
+    fn left_out_all(&self, absent: &[&str]) -> bool {
+        for name in absent {
+            if !self.left_out(name) {
+                return false;
+            }
+        }
+        true
     }
 
     /// Whether a file of this name was written, with these bytes.
@@ -84,12 +128,78 @@ impl Run {
     }
 }
 
+/// Whether so many racks were served, with so many answers.
+pub(crate) fn has_served(served: &Result<Served, ServeFault>, racks: usize, answers: u64) -> bool {
+    match served {
+        Ok(served) => served.racks == racks && served.answers == answers,
+        Err(_) => false,
+    }
+}
+
 /// Whether the shelf has a file of this name with these bytes.
 pub(crate) fn has_file(shelf: &MemoryShelf, name: &str, bytes: &[u8]) -> bool {
     match shelf.file(name) {
         Some(found) => found == bytes,
         None => false,
     }
+}
+
+/// Whether the first bytes of a file of the shelf, as many as the limit, are read as these.
+pub(crate) fn reads<S: Shelf>(
+    shelf: &mut S,
+    alloc: Global,
+    name: &str,
+    limit: usize,
+    bytes: &[u8],
+) -> bool {
+    if shelf.failures() > 1000 {
+        return false;
+    }
+    match shelf.read(alloc, name, limit) {
+        Ok(Some(read)) => read.as_slice() == bytes,
+        _ => false,
+    }
+}
+
+/// Whether a read tells that the shelf has no file of this name.
+pub(crate) fn has_none<S: Shelf>(shelf: &mut S, alloc: Global, name: &str, limit: usize) -> bool {
+    if shelf.failures() > 1000 {
+        return false;
+    }
+    matches!(shelf.read(alloc, name, limit), Ok(None))
+}
+
+/// Whether a read of this file fails on the device.
+pub(crate) fn fails<S: Shelf>(shelf: &mut S, alloc: Global, name: &str, limit: usize) -> bool {
+    if shelf.failures() > 1000 {
+        return false;
+    }
+    matches!(shelf.read(alloc, name, limit), Err(ShelfFault::Device))
+}
+
+/// What a write of these bytes gives on a shelf that failed a thousand times at most.
+pub(crate) fn written<S: Shelf>(
+    shelf: &mut S,
+    alloc: Global,
+    name: &str,
+    bytes: &[u8],
+) -> Result<(), ShelfFault> {
+    if shelf.failures() > 1000 {
+        return Err(ShelfFault::OutOfMemory);
+    }
+    shelf.write(alloc, name, bytes)
+}
+
+/// Serves the list, its fragments and more lists from a device that fails at this call, with two workers and a queue of one.
+pub(crate) fn serve_failing<R: Threads + Wait + Sync>(
+    rt: &R,
+    alloc: Global,
+    lists: &[(&str, &[u8])],
+    call: u64,
+) -> Result<Run, AllocError> {
+    let mut input = input_with(alloc, lists)?;
+    input.fail_at(call);
+    Ok(serve_shelf(rt, alloc, &mut input))
 }
 
 /// Serves these files with two workers and a queue of one.
@@ -120,16 +230,22 @@ pub(crate) fn serve_onto<R: Threads + Wait + Sync>(
     output: MemoryShelf,
 ) -> Run {
     let mut output = output;
-    let served = serve_with(rt, alloc, settings, input, &mut output);
-    Run { served, output }
+    let served = serve_with(rt, alloc, settings, input, &mut output, &NoPause);
+    Run {
+        served,
+        output,
+        failures: input.failures(),
+    }
 }
 
-fn serve_with<R: Threads + Wait + Sync>(
+/// The same from any shelf onto any other, with a pause. Where a device failed more than a thousand times it isn't called.
+pub(crate) fn serve_with<R: Threads + Wait + Sync, I: Shelf, O: Shelf, P: Pause>(
     rt: &R,
     alloc: Global,
     (workers, queue): (usize, usize),
-    input: &mut MemoryShelf,
-    output: &mut MemoryShelf,
+    input: &mut I,
+    output: &mut O,
+    pause: &P,
 ) -> Result<Served, ServeFault> {
     let Ok(settings) = Settings::new(workers, queue) else {
         return Err(ServeFault::NoThread);
@@ -137,5 +253,5 @@ fn serve_with<R: Threads + Wait + Sync>(
     if input.failures() > 1000 || output.failures() > 1000 {
         return Err(ServeFault::Device);
     }
-    serve(rt, alloc, input, output, settings, &NoPause)
+    serve(rt, alloc, input, output, settings, pause)
 }
