@@ -1,7 +1,6 @@
 //! The words of the command line.
 use crate::command::{Words, WordsFault, read_words};
 use std::alloc::{AllocError, Global};
-use std::process::Abort;
 
 // What words ask for.
 fn read(alloc: Global, words: &[&str]) -> Result<Words, WordsFault> {
@@ -16,37 +15,34 @@ fn strings(alloc: Global, words: &[&str]) -> Result<Vec<String>, AllocError> {
     Ok(strings)
 }
 
-// Asserts that words ask to serve the folder `a` into the folder `b`.
-fn assert_farm(rt: &(impl Abort + AllocGlobal), words: &[&str], workers: usize, queue: usize) {
-    match read(rt.alloc(), words) {
+// Whether words ask to serve the folder `a` into the folder `b`, with so many workers and a queue of that capacity.
+fn ask_for_farm(alloc: Global, words: &[&str], wanted: (usize, usize)) -> bool {
+    match read(alloc, words) {
         Ok(
             Words::Farm {
                 input,
                 output,
-                workers: read_workers,
-                queue: read_queue,
+                workers,
+                queue,
             },
-        ) => {
-            assert_eq!(rt; input.as_str(), "a");
-            assert_eq!(rt; output.as_str(), "b");
-            assert_eq!(rt; read_workers, workers);
-            assert_eq!(rt; read_queue, queue);
-        }
-        _ => panic!(rt; "no farm"),
+        ) => { input.as_str() == "a" && output.as_str() == "b" && (workers, queue) == wanted }
+        _ => false,
     }
 }
 
-fn assert_usage(rt: &(impl Abort + AllocGlobal), words: &[&str], text: &str) {
-    match read(rt.alloc(), words) {
-        Err(WordsFault::Usage(told)) => assert_eq!(rt; told.as_str(), text),
-        _ => panic!(rt; "no usage fault"),
+// Whether words are a mistake that is told by this text.
+fn are_mistaken(alloc: Global, words: &[&str], text: &str) -> bool {
+    match read(alloc, words) {
+        Err(WordsFault::Usage(told)) => told.as_str() == text,
+        _ => false,
     }
 }
 
-fn assert_shown(rt: &(impl Abort + AllocGlobal), words: &[&str], text: &str) {
-    match read(rt.alloc(), words) {
-        Ok(Words::Help(shown)) => assert_eq!(rt; shown.as_str(), text),
-        _ => panic!(rt; "nothing shown"),
+// Whether words ask for this text.
+fn ask_for_text(alloc: Global, words: &[&str], text: &str) -> bool {
+    match read(alloc, words) {
+        Ok(Words::Help(shown)) => shown.as_str() == text,
+        _ => false,
     }
 }
 
@@ -57,101 +53,102 @@ fn no_words_are_line_mode(rt: HostRuntime) {
     assert!(rt; matches!(read, Ok(Words::Lines)));
 }
 
+// Words with other numbers of workers, or capacities of the queue. Numbers out of a farm's limits are read; the settings refuse them.
+const FARMS: &[(&[&str], (usize, usize))] = &[
+    (&["farm", "a", "b"], (4, 16)),
+    (&["farm", "a", "b", "--workers", "2"], (2, 16)),
+    (&["farm", "a", "b", "--queue", "3"], (4, 3)),
+    (
+        &["farm", "a", "b", "--workers", "0", "--queue", "1"],
+        (0, 1),
+    ),
+    (&["farm", "a", "b", "--queue", "65535"], (4, 65535)),
+];
+
 #[test]
 fn farm_has_defaults(rt: HostRuntime) {
-    assert_farm(&rt, ["farm", "a", "b"].as_slice(), 4, 16);
-    assert_farm(&rt, ["farm", "a", "b", "--workers", "2"].as_slice(), 2, 16);
-    assert_farm(&rt, ["farm", "a", "b", "--queue", "3"].as_slice(), 4, 3);
+    for (words, wanted) in FARMS {
+        assert!(&rt; ask_for_farm(rt.alloc(), words, *wanted), "{words:?}");
+    }
 }
+
+// Words with 7 workers and a queue of 9.
+const OPTIONS: &[&[&str]] = &[
+    &["farm", "a", "b", "--workers", "7", "--queue", "9"],
+    &["farm", "--queue", "9", "--workers", "7", "a", "b"],
+    &["farm", "--workers=7", "a", "--queue=9", "b"],
+    &["farm", "a", "--workers", "+7", "b", "--queue=009"],
+    &["farm", "--workers=7", "--queue=9", "--", "a", "b"],
+];
 
 #[test]
 fn options_stand_anywhere(rt: HostRuntime) {
-    for words in [
-        ["farm", "a", "b", "--workers", "7", "--queue", "9"].as_slice(),
-        ["farm", "--queue", "9", "--workers", "7", "a", "b"].as_slice(),
-        ["farm", "--workers=7", "a", "--queue=9", "b"].as_slice(),
-        ["farm", "a", "--workers", "+7", "b", "--queue=009"].as_slice(),
-        ["farm", "--workers=7", "--queue=9", "--", "a", "b"].as_slice(),
-    ] {
-        assert_farm(&rt, words, 7, 9);
+    for words in OPTIONS {
+        assert!(&rt; ask_for_farm(rt.alloc(), words, (7, 9)), "{words:?}");
     }
 }
 
-/// Numbers out of a farm's limits are read; the settings refuse them.
-#[test]
-fn numbers_reach_65535(rt: HostRuntime) {
-    assert_farm(
-        &rt,
-        ["farm", "a", "b", "--workers", "0", "--queue", "1"].as_slice(),
-        0,
-        1,
-    );
-    assert_farm(
-        &rt,
-        ["farm", "a", "b", "--queue", "65535"].as_slice(),
-        4,
-        65535,
-    );
-}
+const MISTAKES: &[(&[&str], &str)] = &[
+    (
+        &["farm", "a"],
+        "error: the following required arguments were not provided:\n  <OUT>\n\nUsage: rebuild farm [OPTIONS] <IN> <OUT>\n\nFor more information, try '--help'.\n",
+    ),
+    (
+        &["farm", "a", "b", "--queue", "65536"],
+        "error: invalid value '65536' for '--queue <Q>': 65536 is not in 0..=65535\n\nFor more information, try '--help'.\n",
+    ),
+    (
+        &["shelf"],
+        "error: unrecognized subcommand 'shelf'\n\n  tip: a similar subcommand exists: 'help'\n\nUsage: rebuild [COMMAND]\n\nFor more information, try '--help'.\n",
+    ),
+    (
+        &["--"],
+        "error: rebuild takes the command farm, or no words at all\n\nFor more information, try '--help'.\n",
+    ),
+];
 
 #[test]
 fn mistakes_are_told_with_a_hint(rt: HostRuntime) {
-    assert_usage(
-        &rt,
-        ["farm", "a"].as_slice(),
-        "error: the following required arguments were not provided:\n  <OUT>\n\nUsage: rebuild farm [OPTIONS] <IN> <OUT>\n\nFor more information, try '--help'.\n",
-    );
-    assert_usage(
-        &rt,
-        ["farm", "a", "b", "--queue", "65536"].as_slice(),
-        "error: invalid value '65536' for '--queue <Q>': 65536 is not in 0..=65535\n\nFor more information, try '--help'.\n",
-    );
-    assert_usage(
-        &rt,
-        ["shelf"].as_slice(),
-        "error: unrecognized subcommand 'shelf'\n\n  tip: a similar subcommand exists: 'help'\n\nUsage: rebuild [COMMAND]\n\nFor more information, try '--help'.\n",
-    );
-    assert_usage(
-        &rt,
-        ["--"].as_slice(),
-        "error: rebuild takes the command farm, or no words at all\n\nFor more information, try '--help'.\n",
-    );
+    for (words, text) in MISTAKES {
+        assert!(&rt; are_mistaken(rt.alloc(), words, text), "{words:?}");
+    }
 }
+
+const REFUSED: &[&[&str]] = &[
+    &[""],
+    &["farm"],
+    &["farm", "a", "b", "c"],
+    &["farm", "a", "b", "--workers"],
+    &["farm", "a", "b", "--workers", "-1"],
+    &["farm", "a", "b", "--workers", "two"],
+    &["farm", "a", "b", "--workers", "1", "--workers", "1"],
+    &["farm", "a", "b", "--threads", "1"],
+    &["Farm", "a", "b"],
+];
 
 #[test]
 fn other_mistakes_are_refused(rt: HostRuntime) {
-    for words in [
-        [""].as_slice(),
-        ["farm"].as_slice(),
-        ["farm", "a", "b", "c"].as_slice(),
-        ["farm", "a", "b", "--workers"].as_slice(),
-        ["farm", "a", "b", "--workers", "-1"].as_slice(),
-        ["farm", "a", "b", "--workers", "two"].as_slice(),
-        ["farm", "a", "b", "--workers", "1", "--workers", "1"].as_slice(),
-        ["farm", "a", "b", "--threads", "1"].as_slice(),
-        ["Farm", "a", "b"].as_slice(),
-    ] {
-        assert!(rt; matches!(read(rt.alloc(), words), Err(WordsFault::Usage(_))));
+    for words in REFUSED {
+        let refused = matches!(read(rt.alloc(), words), Err(WordsFault::Usage(_)));
+        assert!(&rt; refused, "{words:?}");
     }
 }
 
+const SHOWN: &[(&[&str], &str)] = &[
+    (&["--version"], "rebuild 0.1.0\n"),
+    (&["--help"], HELP),
+    (&["-h"], HELP),
+    (&["help"], HELP),
+    (&["farm", "--help"], FARM_HELP),
+    (&["farm", "-h"], FARM_HELP),
+    (&["help", "farm"], FARM_HELP),
+    (&["farm", "a", "--help", "b"], FARM_HELP),
+];
+
 #[test]
 fn help_and_version_are_shown(rt: HostRuntime) {
-    assert_shown(&rt, ["--version"].as_slice(), "rebuild 0.1.0\n");
-    for words in [
-        ["--help"].as_slice(),
-        ["-h"].as_slice(),
-        ["help"].as_slice(),
-    ] {
-        assert_shown(&rt, words, HELP);
-    }
-    for words in [
-        ["farm", "--help"].as_slice(),
-        ["farm", "-h"].as_slice(),
-        ["help", "farm"].as_slice(),
-        ["farm", "a", "--help", "b"].as_slice(),
-    ] {
-        assert_shown(&rt, words, FARM_HELP);
+    for (words, text) in SHOWN {
+        assert!(&rt; ask_for_text(rt.alloc(), words, text), "{words:?}");
     }
 }
 
