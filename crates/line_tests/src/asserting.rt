@@ -1,7 +1,6 @@
-//! Runs of line mode over texts, and what they are to give.
+//! Runs of line mode over texts, and whether they give what they are to give.
 use line_mode::{LineCount, LineFault, line_mode};
 use std::alloc::{AllocError, Global};
-use std::process::Abort;
 
 /// What line mode writes for an input, and what it answers.
 pub(crate) fn run(alloc: Global, input: &[u8]) -> (Vec<u8>, Result<LineCount, LineFault>) {
@@ -11,21 +10,33 @@ pub(crate) fn run(alloc: Global, input: &[u8]) -> (Vec<u8>, Result<LineCount, Li
     (output, answer)
 }
 
-/// Asserts that line mode replies to an input by a text, and counts the lines that it answers and refuses.
-pub(crate) fn assert_replies(
-    rt: &(impl Abort + AllocGlobal),
+/// Whether line mode replies to an input by a text, and so counts the lines that it answers and refuses.
+pub(crate) fn replies(
+    alloc: Global,
     input: &[u8],
     text: &[u8],
     answered: u64,
     refused: u64,
-) {
-    let (output, answer) = run(rt.alloc(), input);
-    assert_eq!(rt; output.as_slice(), text);
-    assert_eq!(rt; answer, Ok(LineCount { answered, refused }));
+) -> bool {
+    let (output, answer) = run(alloc, input);
+    output.as_slice() == text && answer == Ok(LineCount { answered, refused })
 }
 
-/// A line with its line feed.
-pub(crate) fn ended(alloc: Global, line: &[u8]) -> Result<Vec<u8>, AllocError> {
+/// Whether line mode replies to a line by a reply, each without its line feed, and so counts it.
+pub(crate) fn replies_to_line(
+    alloc: Global,
+    line: &[u8],
+    reply: &[u8],
+    answered: u64,
+    refused: u64,
+) -> Result<bool, AllocError> {
+    let input = ended(alloc, line)?;
+    let text = ended(alloc, reply)?;
+    Ok(replies(alloc, &input, &text, answered, refused))
+}
+
+// A line with its line feed.
+fn ended(alloc: Global, line: &[u8]) -> Result<Vec<u8>, AllocError> {
     let mut text = Vec::from_slice(alloc, line)?;
     text.push(b'\n')?;
     Ok(text)

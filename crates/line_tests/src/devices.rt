@@ -1,5 +1,6 @@
 //! Readers and writers that give and take little, or fail.
 use line_mode::{LineCount, LineFault, line_mode, line_status};
+use std::alloc::Global;
 use std::io;
 use std::io::{ErrorKind, Read, Write};
 
@@ -99,7 +100,7 @@ struct Run {
 }
 
 // Line mode over the ten lines, by devices that move so many bytes at a call.
-fn run_ten(rt: &impl AllocGlobal, most: usize, reading: Calls, writing: Calls) -> Run {
+fn run_ten(alloc: Global, most: usize, reading: Calls, writing: Calls) -> Run {
     let mut input = PieceReader {
         rest: TEN_LINES,
         most,
@@ -107,13 +108,13 @@ fn run_ten(rt: &impl AllocGlobal, most: usize, reading: Calls, writing: Calls) -
         rule: reading,
     };
     let mut output = PieceWriter {
-        text: Vec::new(rt.alloc()),
+        text: Vec::new(alloc),
         flushed: 0,
         most,
         calls: 0,
         rule: writing,
     };
-    let answer = line_mode(rt.alloc(), &mut input, &mut output);
+    let answer = line_mode(alloc, &mut input, &mut output);
     Run {
         text: output.text,
         flushed: output.flushed,
@@ -128,33 +129,37 @@ const ALL_ANSWERED: Result<LineCount, LineFault> = Ok(LineCount {
     refused: 0,
 });
 
+// Whether a run wrote all replies and answers so.
+fn is_whole(run: &Run) -> bool {
+    run.text.as_slice() == TEN_REPLIES && run.answer == ALL_ANSWERED
+}
+
 #[test]
 fn takes_small_pieces(rt: HostRuntime) {
     for most in [1usize, 2, 7, 100, 1000] {
-        let run = run_ten(&rt, most, Calls::AllWork, Calls::AllWork);
-        assert_eq!(rt; run.text.as_slice(), TEN_REPLIES);
-        assert_eq!(rt; run.flushed, TEN_REPLIES.len());
-        assert_eq!(rt; run.answer, ALL_ANSWERED);
+        let run = run_ten(rt.alloc(), most, Calls::AllWork, Calls::AllWork);
+        assert!(rt;
+            is_whole(&run) && run.flushed == TEN_REPLIES.len(),
+            "{most} at a call"
+        );
     }
+}
+
+// Whether a run ended at a fault of a device.
+fn is_faulty(run: &Run) -> bool {
+    run.answer == Err(LineFault::Device) && line_status(&run.answer) == 3
 }
 
 /// A read that fails, whichever it is, ends line mode and leaves the writer alone.
 #[test]
 fn ends_at_failed_reads(rt: HostRuntime) {
     for most in [1usize, 100, 1000] {
-        let whole = run_ten(&rt, most, Calls::AllWork, Calls::AllWork);
+        let whole = run_ten(rt.alloc(), most, Calls::AllWork, Calls::AllWork);
         assert!(rt; 1 < whole.reads);
         for k in 0..whole.reads {
-            let run = run_ten(
-                &rt,
-                most,
-                Calls::OneFails(k, ErrorKind::Other),
-                Calls::AllWork,
-            );
-            assert_eq!(rt; run.answer, Err(LineFault::Device));
-            assert_eq!(rt; line_status(&run.answer), 3);
-            assert!(rt; run.text.is_empty());
-            assert_eq!(rt; run.writes, 0);
+            let reading = Calls::OneFails(k, ErrorKind::Other);
+            let run = run_ten(rt.alloc(), most, reading, Calls::AllWork);
+            assert!(rt; is_faulty(&run) && run.text.is_empty() && run.writes == 0);
         }
     }
 }
@@ -163,18 +168,12 @@ fn ends_at_failed_reads(rt: HostRuntime) {
 #[test]
 fn ends_at_failed_writes(rt: HostRuntime) {
     for most in [1usize, 10, 1000] {
-        let whole = run_ten(&rt, most, Calls::AllWork, Calls::AllWork);
+        let whole = run_ten(rt.alloc(), most, Calls::AllWork, Calls::AllWork);
         assert!(rt; 1 < whole.writes);
         for k in 0..whole.writes {
-            let run = run_ten(
-                &rt,
-                most,
-                Calls::AllWork,
-                Calls::OneFails(k, ErrorKind::Other),
-            );
-            assert_eq!(rt; run.answer, Err(LineFault::Device));
-            assert_eq!(rt; line_status(&run.answer), 3);
-            assert!(rt; TEN_REPLIES.starts_with(&run.text));
+            let writing = Calls::OneFails(k, ErrorKind::Other);
+            let run = run_ten(rt.alloc(), most, Calls::AllWork, writing);
+            assert!(rt; is_faulty(&run) && TEN_REPLIES.starts_with(&run.text));
         }
     }
 }
@@ -184,18 +183,10 @@ fn ends_at_failed_writes(rt: HostRuntime) {
 fn goes_on_after_interruptions(rt: HostRuntime) {
     for k in 0..3u64 {
         let interrupted = Calls::OneFails(k, ErrorKind::Interrupted);
-        let run = run_ten(&rt, 200, interrupted, Calls::AllWork);
-        assert_eq!(rt; run.text.as_slice(), TEN_REPLIES);
-        assert_eq!(rt; run.answer, ALL_ANSWERED);
+        assert!(rt; is_whole(&run_ten(rt.alloc(), 200, interrupted, Calls::AllWork)));
     }
-    let run = run_ten(
-        &rt,
-        1000,
-        Calls::AllWork,
-        Calls::OneFails(0, ErrorKind::Interrupted),
-    );
-    assert_eq!(rt; run.text.as_slice(), TEN_REPLIES);
-    assert_eq!(rt; run.answer, ALL_ANSWERED);
+    let interrupted = Calls::OneFails(0, ErrorKind::Interrupted);
+    assert!(rt; is_whole(&run_ten(rt.alloc(), 1000, Calls::AllWork, interrupted)));
 }
 
 // A reader whose calls are always interrupted, and how many there were.
@@ -217,7 +208,6 @@ fn ends_for_an_interrupted_reader(rt: HostRuntime) {
     let mut input = InterruptedReader { calls: 0 };
     let mut output = Vec::new(rt.alloc());
     let answer = line_mode(rt.alloc(), &mut input, &mut output);
-    assert_eq!(rt; answer, Err(LineFault::Device));
-    assert!(rt; output.is_empty());
-    assert_eq!(rt; input.calls, 16_777_216);
+    assert!(rt; answer == Err(LineFault::Device) && output.is_empty());
+    assert!(rt; input.calls == 16_777_216);
 }

@@ -1,10 +1,10 @@
 //! Lines and their replies, each worked out by hand.
-use crate::asserting::{assert_replies, ended, run};
+use crate::asserting::{replies, replies_to_line, run};
 use line_mode::{LineFault, line_status};
-use std::test::Fail;
+use std::alloc::{AllocError, Global};
 
 /// Lines that are answered, and their answers. Stripe a has the data 01 02 03 04 05 06.
-const ANSWERED: [(&[u8], &[u8]); 24] = [
+static ANSWERED: [(&[u8], &[u8]); 24] = [
     // The other three of a group give the lost one.
     (b"a x0 1 x1=02 x2=03 px=00", b"rebuilt 01"),
     // The local parity is lost too: the global parities give it, and two equations are left to check.
@@ -75,7 +75,7 @@ const ANSWERED: [(&[u8], &[u8]); 24] = [
 ];
 
 /// Lines that are refused, and by which number.
-const REFUSED: [(&[u8], &[u8]); 46] = [
+static REFUSED: [(&[u8], &[u8]); 46] = [
     (b"b x3 1", b"refused E22"),
     (b"code=6-2-2 b x3 1", b"refused E22"),
     (b"code=12-2-2 b x6 1", b"refused E22"),
@@ -130,21 +130,17 @@ const REFUSED: [(&[u8], &[u8]); 46] = [
 ];
 
 #[test]
-fn answers_lines(rt: HostRuntime) -> Result<(), Fail> {
-    for (line, reply) in ANSWERED {
-        let input = ended(rt.alloc(), line)?;
-        let text = ended(rt.alloc(), reply)?;
-        assert_replies(&rt, &input, &text, 1, 0);
+fn answers_lines(rt: HostRuntime) -> Result<(), AllocError> {
+    for (line, reply) in &ANSWERED {
+        assert!(rt; replies_to_line(rt.alloc(), line, reply, 1, 0)?, "{line:?}");
     }
     Ok(())
 }
 
 #[test]
-fn refuses_lines(rt: HostRuntime) -> Result<(), Fail> {
-    for (line, reply) in REFUSED {
-        let input = ended(rt.alloc(), line)?;
-        let text = ended(rt.alloc(), reply)?;
-        assert_replies(&rt, &input, &text, 0, 1);
+fn refuses_lines(rt: HostRuntime) -> Result<(), AllocError> {
+    for (line, reply) in &REFUSED {
+        assert!(rt; replies_to_line(rt.alloc(), line, reply, 0, 1)?, "{line:?}");
     }
     Ok(())
 }
@@ -152,48 +148,53 @@ fn refuses_lines(rt: HostRuntime) -> Result<(), Fail> {
 /// How an input is cut into lines, and which of them get a reply.
 #[test]
 fn cuts_lines(rt: HostRuntime) {
-    assert_replies(&rt, b"", b"", 0, 0);
+    let alloc = rt.alloc();
+    assert!(rt; replies(alloc, b"", b"", 0, 0));
     // The last line needs no line feed.
-    assert_replies(&rt, b"a x0 1 x1=02 x2=03 px=00", b"rebuilt 01\n", 1, 0);
+    assert!(rt; replies(alloc, b"a x0 1 x1=02 x2=03 px=00", b"rebuilt 01\n", 1, 0));
     // One carriage return in front of a line feed is dropped, and no other.
-    assert_replies(
-        &rt,
-        b"a x0 1\r\na x0 1\r\r\na x0 1\r",
-        b"several\nrefused E22\nrefused E22\n",
-        1,
-        2,
+    let three_lines = b"a x0 1\r\na x0 1\r\r\na x0 1\r";
+    assert!(rt;
+        replies(
+            alloc,
+            three_lines,
+            b"several\nrefused E22\nrefused E22\n",
+            1,
+            2
+        )
     );
     // Blank lines give nothing; a lone carriage return at the end is no blank line.
-    assert_replies(&rt, b"\n\n  \n\r\n   \r\n a x0 1\n   ", b"several\n", 1, 0);
-    assert_replies(&rt, b"\r", b"refused E22\n", 0, 1);
-    assert_replies(&rt, b" \r\r\n", b"refused E22\n", 0, 1);
+    let blank_lines = b"\n\n  \n\r\n   \r\n a x0 1\n   ";
+    assert!(rt; replies(alloc, blank_lines, b"several\n", 1, 0));
+    assert!(rt; replies(alloc, b"\r", b"refused E22\n", 0, 1));
+    assert!(rt; replies(alloc, b" \r\r\n", b"refused E22\n", 0, 1));
+}
+
+// The status of line mode after an input.
+fn status_of(alloc: Global, input: &[u8]) -> u8 {
+    let (_, answer) = run(alloc, input);
+    line_status(&answer)
 }
 
 /// Whether a line was refused decides between the statuses 0 and 1.
 #[test]
 fn gives_statuses(rt: HostRuntime) {
-    let inputs: [(&[u8], u8); 5] = [
-        (b"", 0),
-        (b"\n", 0),
-        (b"a x0 1", 0),
-        (b"a x0 1\na x0 0\n", 1),
-        (b"?", 1),
-    ];
-    for (input, status) in inputs {
-        let (_, answer) = run(rt.alloc(), input);
-        assert_eq!(rt; line_status(&answer), status);
-    }
+    assert!(rt; status_of(rt.alloc(), b"") == 0);
+    assert!(rt; status_of(rt.alloc(), b"\n") == 0);
+    assert!(rt; status_of(rt.alloc(), b"a x0 1") == 0);
+    assert!(rt; status_of(rt.alloc(), b"a x0 1\na x0 0\n") == 1);
+    assert!(rt; status_of(rt.alloc(), b"?") == 1);
+}
+
+// Whether a fault has this number and this status.
+fn has_numbers(fault: LineFault, number: u8, status: u8) -> bool {
+    fault.code() == number && line_status(&Err(fault)) == status
 }
 
 /// Each fault has its number and its status.
 #[test]
 fn gives_fault_numbers(rt: HostRuntime) {
-    for (fault, number, status) in [
-        (LineFault::InputTooLong, 25, 1),
-        (LineFault::Device, 24, 3),
-        (LineFault::OutOfMemory, 16, 4),
-    ] {
-        assert_eq!(rt; fault.code(), number);
-        assert_eq!(rt; line_status(&Err(fault)), status);
-    }
+    assert!(rt; has_numbers(LineFault::InputTooLong, 25, 1));
+    assert!(rt; has_numbers(LineFault::Device, 24, 3));
+    assert!(rt; has_numbers(LineFault::OutOfMemory, 16, 4));
 }
