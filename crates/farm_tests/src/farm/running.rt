@@ -1,5 +1,5 @@
 //! Runs of the farm.
-use crate::farm::requests::{Entry, GLOBAL, LOCAL, SEVERAL, are_of_racks, racks_of};
+use crate::farm::requests::{Entry, GLOBAL, LOCAL, SEVERAL, are_of_racks, list_of, racks_of};
 use farm_core::{NoPause, Pause, Racks, Settings, run};
 use lrc_code::Outcome;
 use std::alloc::{AllocError, Global};
@@ -44,6 +44,14 @@ fn requests_in_front_of_the_close(rt: HostRuntime) -> Result<(), AllocError> {
         let answers = answers_of(&rt, alloc, &racks, settings, &NoPause)?;
         assert!(rt; are_of_racks(answers.as_slice(), ANSWERS_OF_CLOSED));
     }
+    Ok(())
+}
+
+// Nothing behind the close is served.
+#[test]
+fn requests_of_a_list_that_are_served(rt: HostRuntime) -> Result<(), AllocError> {
+    let list = list_of(&rt, rt.alloc(), &[LOCAL, SEVERAL, Entry::Close, GLOBAL])?;
+    assert!(rt; list.orders().len() == 4 && list.served() == 2);
     Ok(())
 }
 
