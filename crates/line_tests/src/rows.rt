@@ -75,7 +75,7 @@ static ANSWERED: [(&[u8], &[u8]); 24] = [
 ];
 
 /// Lines that are refused, and by which number.
-static REFUSED: [(&[u8], &[u8]); 46] = [
+static REFUSED: [(&[u8], &[u8]); 47] = [
     (b"b x3 1", b"refused E22"),
     (b"code=6-2-2 b x3 1", b"refused E22"),
     (b"code=12-2-2 b x6 1", b"refused E22"),
@@ -124,6 +124,7 @@ static REFUSED: [(&[u8], &[u8]); 46] = [
     // Bytes that aren't printable.
     (b"a x0 1\0", b"refused E22"),
     (b"a\tx0 1", b"refused E22"),
+    (b"a\x1f x0 1", b"refused E22"),
     (b"a x0 1\x7f", b"refused E22"),
     (b"\xc3\xa4 x0 1", b"refused E22"),
     (b"a x0 1\r\r", b"refused E22"),
