@@ -1,5 +1,5 @@
 //! Request lists, by csv's own reading.
-ghost use Rattle.std.specs.Prelude.{◌≡◌, ◌==◌, ◌&&◌, ℕ, List, ◌≤◌, Ok, Err, OnOk, ◌++◌, ◌∷◌, [], IfOk, IfErr, IfSome, IfNone, codes, length, map, option_map};
+ghost use Rattle.std.specs.Prelude.{◌≡◌, ◌==◌, ◌&&◌, ℕ, List, ◌<◌, ◌≤◌, Ok, Err, OnOk, ◌++◌, ◌∷◌, [], IfOk, IfErr, IfSome, IfNone, codes, length, map, option_map};
 ghost use Rattle.std.specs.List.{slice_split};
 ghost use Rattle.std.specs.Cmp.Lexicographic.{pointwise};
 ghost use Rattle.std.specs.Str.{bytes_eq};
@@ -114,7 +114,7 @@ fn take_row(
     }
 }
 
-// The fields of a record of five.
+// The first five fields of a record.
 #[derive(Clone, Copy)]
 struct Fields<'a> {
     order: &'a [u8],
@@ -124,35 +124,27 @@ struct Fields<'a> {
     survivors: &'a [u8],
 }
 
+fn first_five(row: &ByteRecord) -> Option<Fields<'_>>
+    ensures first { IfSome result (λ f. (rest : List (List ℕ)) × (fields_of row.now ≡ five f ++ rest)) }
+    ensures few { IfNone result (length (fields_of row.now) < 5) }
+{
+    Some(Fields {
+        order: row.get(0)?,
+        stripe: row.get(1)?,
+        target: row.get(2)?,
+        length: row.get(3)?,
+        survivors: row.get(4)?,
+    })
+}
+
 fn five_fields(row: &ByteRecord) -> Option<Fields<'_>>
     ensures five { IfSome result (λ f. fields_of row.now ≡ five f) }
     ensures other { IfNone result (IsNotFive (fields_of row.now)) }
 {
-    let Some(order) = row.get(0) else {
+    if row.len() != 5 {
         return None;
-    };
-    let Some(stripe) = row.get(1) else {
-        return None;
-    };
-    let Some(target) = row.get(2) else {
-        return None;
-    };
-    let Some(length) = row.get(3) else {
-        return None;
-    };
-    let Some(survivors) = row.get(4) else {
-        return None;
-    };
-    match row.get(5) {
-        Some(_) => None,
-        None => Some(Fields {
-            order,
-            stripe,
-            target,
-            length,
-            survivors,
-        }),
     }
+    first_five(row)
 }
 
 // A record of six fields: the first five, and the last.
@@ -166,37 +158,12 @@ fn six_fields(row: &ByteRecord) -> Option<CodedFields<'_>>
     ensures six { IfSome result (λ f. fields_of row.now ≡ six f) }
     ensures other { IfNone result (IsNotSix (fields_of row.now)) }
 {
-    let Some(order) = row.get(0) else {
+    if row.len() != 6 {
         return None;
-    };
-    let Some(stripe) = row.get(1) else {
-        return None;
-    };
-    let Some(target) = row.get(2) else {
-        return None;
-    };
-    let Some(length) = row.get(3) else {
-        return None;
-    };
-    let Some(survivors) = row.get(4) else {
-        return None;
-    };
-    let Some(code) = row.get(5) else {
-        return None;
-    };
-    match row.get(6) {
-        Some(_) => None,
-        None => Some(CodedFields {
-            fields: Fields {
-                order,
-                stripe,
-                target,
-                length,
-                survivors,
-            },
-            code,
-        }),
     }
+    let fields = first_five(row)?;
+    let code = row.get(5)?;
+    Some(CodedFields { fields, code })
 }
 
 fn is_coded_header(row: &ByteRecord) -> bool

@@ -1,28 +1,14 @@
-use Rattle.std.proofs.Common.{rules}
+use Rattle.std.proofs.Common.{rules, ◌≡◌, length, arith}
 use Rattle.csv.specs.Records.{fields_of}
-use Rattle.farm_lists.proofs.Five.{six_of, short_of_six, long_of_six}
+use Rattle.farm_lists.specs.Listing.{IsNotSix}
+use Rattle.farm_lists.proofs.Five.{none_at, none_or, six_with}
 use Rattle.farm_lists.proofs.lists.listing.six_fields.Goals as goal
 
-pub returns-in_default-clause-other : goal.returns-in_default-clause-other
-returns-in_default-clause-other c = short_of_six (fields_of c.args.row.now) 0 (search rules) c.in_default.ensures.value
+pub returns-in_err-code-clause-other : goal.returns-in_err-code-clause-other
+returns-in_err-code-clause-other c = none_or _ (IsNotSix (fields_of c.args.row.now)) (λ six. none_at (fields_of c.args.row.now) 5 (omega (arith, six)) c.in_err-code.ensures.value)
 
-pub returns-in_default-get-clause-other : goal.returns-in_default-get-clause-other
-returns-in_default-get-clause-other c = short_of_six (fields_of c.args.row.now) 1 (search rules) c.in_default-get.ensures.value
-
-pub returns-in_default-get-2-clause-other : goal.returns-in_default-get-2-clause-other
-returns-in_default-get-2-clause-other c = short_of_six (fields_of c.args.row.now) 2 (search rules) c.in_default-get-2.ensures.value
-
-pub returns-in_default-get-3-clause-other : goal.returns-in_default-get-3-clause-other
-returns-in_default-get-3-clause-other c = short_of_six (fields_of c.args.row.now) 3 (search rules) c.in_default-get-3.ensures.value
-
-pub returns-in_default-get-4-clause-other : goal.returns-in_default-get-4-clause-other
-returns-in_default-get-4-clause-other c = short_of_six (fields_of c.args.row.now) 4 (search rules) c.in_default-get-4.ensures.value
-
-pub returns-in_default-get-5-clause-other : goal.returns-in_default-get-5-clause-other
-returns-in_default-get-5-clause-other c = short_of_six (fields_of c.args.row.now) 5 (search rules) c.in_default-get-5.ensures.value
-
-pub returns-in-Some-get-6-clause-other : goal.returns-in-Some-get-6-clause-other
-returns-in-Some-get-6-clause-other c = long_of_six (fields_of c.args.row.now) _ c.in-Some-get-6.ensures.value
-
-pub returns-in-None-clause-six : goal.returns-in-None-clause-six
-returns-in-None-clause-six c = six_of (fields_of c.args.row.now) _ _ _ _ _ _ c.in-Some.ensures.value c.in-Some-get.ensures.value c.in-Some-get-2.ensures.value c.in-Some-get-3.ensures.value c.in-Some-get-4.ensures.value c.in-Some-get-5.ensures.value c.in-None.ensures.value
+pub returns-clause-six : goal.returns-clause-six
+returns-clause-six c =
+    let first = c.in_ok-fields.ensures.first in
+    let six : length (fields_of c.args.row.now) ≡ 6 = search rules in
+    six_with (fields_of c.args.row.now) _ _ _ _ _ _ first.0 first.1 c.in_ok-code.ensures.value six
