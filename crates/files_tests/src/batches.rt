@@ -1,5 +1,5 @@
 //! Answering lists in batches: of one request, of a part of a list, and of whole racks.
-use crate::shared::{serve_shelf, shelf_of};
+use crate::shared::{MOST_FAILURES, serve_shelf, shelf_of};
 use farm_core::{NoPause, Pause, Settings};
 use farm_files::{Answered, MemoryShelf, Shelf, answer_lists, read_lists, serve};
 use lrc_code::{Outcome, Place};
@@ -57,7 +57,7 @@ fn answer<R: Threads + Wait + Sync, P: Pause>(
     let Ok(settings) = Settings::new(workers, 1) else {
         return Err(AllocError);
     };
-    if input.failures() > 1000 {
+    if input.failures() > MOST_FAILURES {
         return Err(AllocError);
     }
     let Ok(lists) = read_lists(alloc, &mut input) else {

@@ -44,6 +44,9 @@ pub(crate) const REPORT_WITHOUT_X2: &[u8] = b"number,stripe,target,length,outcom
 pub(crate) const EMPTY_REPORT: &[u8] = b"number,stripe,target,length,outcome,digest,unread
 ";
 
+/// More often than a device fails in a test: the calls ask that a shelf have room to count further failures.
+pub(crate) const MOST_FAILURES: u64 = 1000;
+
 /// A shelf with these files.
 pub(crate) fn shelf_of(alloc: Global, files: &[(&str, &[u8])]) -> Result<MemoryShelf, AllocError> {
     let mut shelf = MemoryShelf::new(alloc);
@@ -152,7 +155,7 @@ pub(crate) fn reads<S: Shelf>(
     limit: usize,
     bytes: &[u8],
 ) -> bool {
-    if shelf.failures() > 1000 {
+    if shelf.failures() > MOST_FAILURES {
         return false;
     }
     match shelf.read(alloc, name, limit) {
@@ -163,7 +166,7 @@ pub(crate) fn reads<S: Shelf>(
 
 /// Whether a read tells that the shelf has no file of this name.
 pub(crate) fn has_none<S: Shelf>(shelf: &mut S, alloc: Global, name: &str, limit: usize) -> bool {
-    if shelf.failures() > 1000 {
+    if shelf.failures() > MOST_FAILURES {
         return false;
     }
     matches!(shelf.read(alloc, name, limit), Ok(None))
@@ -171,20 +174,20 @@ pub(crate) fn has_none<S: Shelf>(shelf: &mut S, alloc: Global, name: &str, limit
 
 /// Whether a read of this file fails on the device.
 pub(crate) fn fails<S: Shelf>(shelf: &mut S, alloc: Global, name: &str, limit: usize) -> bool {
-    if shelf.failures() > 1000 {
+    if shelf.failures() > MOST_FAILURES {
         return false;
     }
     matches!(shelf.read(alloc, name, limit), Err(ShelfFault::Device))
 }
 
-/// What a write of these bytes gives on a shelf that failed a thousand times at most.
+/// What a write of these bytes gives on a shelf that failed `MOST_FAILURES` times at most.
 pub(crate) fn written<S: Shelf>(
     shelf: &mut S,
     alloc: Global,
     name: &str,
     bytes: &[u8],
 ) -> Result<(), ShelfFault> {
-    if shelf.failures() > 1000 {
+    if shelf.failures() > MOST_FAILURES {
         return Err(ShelfFault::OutOfMemory);
     }
     shelf.write(alloc, name, bytes)
@@ -250,7 +253,7 @@ pub(crate) fn serve_with<R: Threads + Wait + Sync, I: Shelf, O: Shelf, P: Pause>
     let Ok(settings) = Settings::new(workers, queue) else {
         return Err(ServeFault::NoThread);
     };
-    if input.failures() > 1000 || output.failures() > 1000 {
+    if input.failures() > MOST_FAILURES || output.failures() > MOST_FAILURES {
         return Err(ServeFault::Device);
     }
     serve(rt, alloc, input, output, settings, pause)
