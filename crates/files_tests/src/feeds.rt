@@ -1,7 +1,7 @@
 //! Racks that are fed by several lists.
 use crate::shared::{
-    FRAGMENTS, LIST, REPORT, Run, has_file, has_served, input_with, serve_failing, serve_shelf,
-    serve_with, shelf_of,
+    FRAGMENTS, LIST, REPORT, Run, has_file, has_served, input_of, input_with, serve_failing,
+    serve_shelf, serve_with, shelf_of,
 };
 use farm_core::Pause;
 use farm_files::{ListFault, MemoryShelf, ServeFault};
@@ -67,6 +67,30 @@ fn feeds_without_requests(rt: HostRuntime) -> Result<(), AllocError> {
         let files = [("rack0.report.csv", *report), ("rack0-0.abc.x0", b"abc")];
         assert!(&rt; run.gave(1, 1, &files, &["rack0-1.abc.x0"]));
     }
+    Ok(())
+}
+
+// Two requests, of which the second's fragment isn't determined, and the report where a second feed alone has them.
+const TWO_REQUESTS: &[u8] = b"order,stripe,target,length,survivors
+rebuild,abc,x0,3,x1 x2 px
+rebuild,abc,y0,3,x1 x2 px
+";
+
+const REPORT_OF_TWO: &[u8] = b"number,feed,stripe,target,length,outcome,digest,unread
+0,1,abc,x0,3,rebuilt,ba7816bf8f01cfea414140de5dae2223b00361a396177a9cb410ff61f20015ad,
+1,1,abc,y0,3,several,,
+";
+
+#[test]
+fn requests_of_a_second_feed(rt: HostRuntime) -> Result<(), AllocError> {
+    let mut input = input_of(rt.alloc(), HEADER)?;
+    input.place(rt.alloc(), "rack0.feed1.csv", TWO_REQUESTS)?;
+    let run = serve_shelf(&rt, rt.alloc(), &mut input);
+    let files = [
+        ("rack0.report.csv", REPORT_OF_TWO),
+        ("rack0-0.abc.x0", b"abc"),
+    ];
+    assert!(&rt; run.gave(1, 2, &files, &["rack0-1.abc.y0"]));
     Ok(())
 }
 
