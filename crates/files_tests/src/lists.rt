@@ -1,6 +1,6 @@
 //! Lists, record by record and fault by fault.
 use crate::shared::LIST;
-use farm_files::{ListFault, Record, read_list};
+use farm_files::{ListFault, Listed, Record, read_list};
 use lrc_code::{Code, Place, RequestFault};
 use std::alloc::{AllocError, Global};
 
@@ -365,4 +365,23 @@ fn last_survivors(list: &[Record]) -> usize {
         }
     }
     count
+}
+
+// Listed requests over (6,2,2) for a fragment of three bytes at a place, the places of their survivors, and why they are refused.
+const REFUSED: &[(Place, &[Place], RequestFault)] = &[
+    (Place::X3, &[Place::X1], RequestFault::WrongCode),
+    (Place::X0, &[Place::X1, Place::X3], RequestFault::WrongCode),
+    (Place::X0, &[Place::X1, Place::X1], RequestFault::Repeated),
+    (Place::X0, &[Place::X1, Place::X0], RequestFault::NotLost),
+];
+
+#[test]
+fn refused_listed_requests(rt: HostRuntime) -> Result<(), AllocError> {
+    for (target, places, fault) in REFUSED {
+        let stripe = String::from_str(rt.alloc(), "abc")?;
+        let survivors = Vec::from_slice(rt.alloc(), places)?;
+        let listed = Listed::new(Code::Narrow, stripe, *target, 3, survivors);
+        assert!(&rt; matches!(listed, Err(why) if why == *fault));
+    }
+    Ok(())
 }
