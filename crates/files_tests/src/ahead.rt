@@ -1,9 +1,15 @@
-//! Files that a folder's shelf reads ahead, in one thread to sixteen.
-use crate::shared::{fails, has_none, reads, shelf_of, written};
-use farm_files::{FolderShelf, Shelf};
+//! Files that a folder's shelf reads ahead, in one thread to sixteen, and what a shelf is told of them.
+ghost use Rattle.std.specs.Prelude.{None};
+
+use crate::shared::{
+    LIST, MOST_FAILURES, fails, has_none, input_of, reads, serve_with, shelf_of, written,
+};
+use farm_core::NoPause;
+use farm_files::{FolderShelf, MemoryShelf, Shelf, ShelfFault};
 use std::alloc::{AllocError, Global};
 use std::fs;
 use std::rt::Files;
+use std::thread::Threads;
 
 // A folder with files of 0 to 6 bytes, as many as are not open at once; number 7 of each ten is absent.
 fn make_files<R: Files>(rt: &R, alloc: Global, folder: &str) -> Result<bool, AllocError> {
@@ -140,5 +146,78 @@ fn memory_reads_nothing_ahead(rt: HostRuntime) -> Result<(), AllocError> {
     assert!(&rt; tells(&mut shelf, alloc, 0)? && shelf.failures() == 0);
     assert!(&rt; fails(&mut shelf, alloc, "1", 4));
     assert!(&rt; tells(&mut shelf, alloc, 1)? && shelf.failures() == 1);
+    Ok(())
+}
+
+// A shelf that compares the files that are read with those that it was told ahead, and writes none. Its device never fails.
+#[derive(Drop)]
+struct ToldShelf {
+    shelf: MemoryShelf,
+    told: Vec<(String, usize)>,
+    // How many were read as they were told, in order.
+    read: usize,
+}
+
+impl Shelf for ToldShelf {
+    ghost files = { λ s. None };
+
+    ghost failed = { λ s. 0 };
+
+    fn failures(&self) -> u64 {
+        0
+    }
+
+    fn read(
+        &mut self,
+        alloc: Global,
+        name: &str,
+        limit: usize,
+    ) -> Result<Option<Vec<u8>>, ShelfFault> {
+        if let Some((told, most)) = self.told.get(self.read) {
+            if told.as_str() == name && *most == limit {
+                self.read = self.read.saturating_add(1);
+            }
+        }
+        if self.shelf.failures() > MOST_FAILURES {
+            return Ok(None);
+        }
+        match self.shelf.read(alloc, name, limit) {
+            Ok(read) => Ok(read),
+            Err(ShelfFault::Device) => Ok(None),
+            Err(ShelfFault::OutOfMemory) => Err(ShelfFault::OutOfMemory),
+        }
+    }
+
+    fn read_ahead<H: Threads + Sync>(
+        &mut self,
+        _rt: &H,
+        alloc: Global,
+        files: &[(String, usize)],
+        _threads: usize,
+    ) -> Result<(), AllocError> {
+        let mut told = Vec::new(alloc);
+        for (name, limit) in files {
+            told.push((String::from_str(alloc, name.as_str())?, *limit))?;
+        }
+        self.told = told;
+        self.read = 0;
+        Ok(())
+    }
+
+    fn write(&mut self, _alloc: Global, _name: &str, _bytes: &[u8]) -> Result<(), ShelfFault> {
+        Ok(())
+    }
+}
+
+#[test]
+fn a_shelf_is_told_what_is_read(rt: HostRuntime) -> Result<(), AllocError> {
+    let mut input = ToldShelf {
+        shelf: input_of(rt.alloc(), LIST)?,
+        told: Vec::new(rt.alloc()),
+        read: 0,
+    };
+    let mut output = MemoryShelf::new(rt.alloc());
+    let served = serve_with(&rt, rt.alloc(), (2, 1), &mut input, &mut output, &NoPause);
+    assert!(&rt; served.is_ok() && input.told.len() == 3 && input.read == 3);
     Ok(())
 }
