@@ -344,8 +344,7 @@ fn read_feed<R: Threads + Sync, I: Shelf>(
     let requests = requests_before_close(alloc, list)?;
     // A record that isn't among the requests before the close is the close or behind it.
     let closes = requests.len() < list.len();
-    let read = read_requests(rt, alloc, input, requests.as_slice(), closes, threads)?;
-    Ok(read)
+    read_requests(rt, alloc, input, requests.as_slice(), closes, threads)
 }
 
 // The same of each feed of a rack.

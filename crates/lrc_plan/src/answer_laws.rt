@@ -12,6 +12,7 @@ pub fn request_has_one_answer(request: &Request)
 {
     let survivors = request.survivors();
     let target = request.target();
+    // The proof has what every request keeps from a call of it.
     let _ = request.length();
     let plan = plan_rows(request.code(), survivors, target);
     let sources = request.sources();

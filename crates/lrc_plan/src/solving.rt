@@ -34,6 +34,7 @@ pub fn solve<A: Allocator + Clone>(
 ) -> Result<Outcome, AllocError>
     ensures { IfOk result (IsAnswer request.now) }
 {
+    // A plan of rows takes no memory.
     let _ = plan_alloc;
     if let Some(row) = local_repair_row(request) {
         let mut terms = [
@@ -60,10 +61,10 @@ fn solve_by_plan(alloc: Global, request: &Request) -> Result<Outcome, AllocError
     let code = request.code();
     let survivors = request.survivors();
     let target = request.target();
+    // The proof has what every request keeps from a call of it.
     let _ = request.length();
     let plan = plan_by_reduction(code, survivors, target);
-    let outcome = apply(alloc, survivors, &plan, request)?;
-    Ok(outcome)
+    apply(alloc, survivors, &plan, request)
 }
 
 // The equation of the target's group without the target, where the other group's parity and both global parities are lost.
@@ -71,6 +72,7 @@ fn solve_by_plan(alloc: Global, request: &Request) -> Result<Outcome, AllocError
 fn local_repair_row(request: &Request) -> Option<[Gf; 16]>
     ensures { IfSome result (IsLocalRepairRow (tables_of request.now.code) (λ p. is_among p request.now.survivors) request.now.target) }
 {
+    // The proof has what every request keeps from a call of it.
     let _ = request.length();
     let target = request.target();
     let group = target.group()?;
@@ -118,6 +120,7 @@ fn apply(
     requires plan { IsRowPlan (tables_of request.now.code) (is_in survivors) request.now.target plan.now.value plan.now.checks }
     ensures { IfOk result (IsAnswer request.now) }
 {
+    // The proof has what every request keeps from a call of it.
     let _ = request.length();
     let sources = request.sources();
     let possible = are_zero(&plan.checks, request, &sources);

@@ -42,8 +42,7 @@ fn answer_in_arena(alloc: Global, request: &Request) -> Result<Outcome, AllocErr
     ensures { IfOk result (IsAnswer request.now) }
 {
     let arena = Bump::new(alloc);
-    let outcome = solve(alloc, &arena, request)?;
-    Ok(outcome)
+    solve(alloc, &arena, request)
 }
 
 /// The reply to a request.

@@ -25,8 +25,7 @@ pub fn plan<A: Allocator + Clone>(
     ensures shallow { IfOk result (λ r. IfSome (value_form r) IsShallow × All IsShallow (check_forms r)) }
     ensures count { IfOk result (λ r. HasCheckCount narrow (is_in survivors) (vec_len r.checks)) }
 {
-    let plan = plan_in(alloc, Code::Narrow, survivors, target)?;
-    Ok(plan)
+    plan_in(alloc, Code::Narrow, survivors, target)
 }
 
 /// The plan for a lost target of a code, which is one of its places; survivors that are not play no part (Huang et al., section 2). Where the others of the target's group survive, three
@@ -46,8 +45,7 @@ pub fn plan_in<A: Allocator + Clone>(
 {
     let lost = code.others(survivors);
     let reduced = reduce_in(code, lost);
-    let plan = plan_from(alloc, code, &reduced, survivors, target)?;
-    Ok(plan)
+    plan_from(alloc, code, &reduced, survivors, target)
 }
 
 // The plan from a reduction by the lost places.

@@ -64,8 +64,7 @@ pub(crate) fn row_tree<A: Allocator + Clone>(
         [first, rest @ ..] => {
             let others = row_tree(alloc, row, rest)?;
             let own = product(alloc.clone()?, row[first.index()], *first)?;
-            let sum = added(alloc, own, others)?;
-            Ok(sum)
+            added(alloc, own, others)
         }
     }
 }

@@ -49,8 +49,7 @@ fn tree_of_row<A: Allocator + Clone>(
 {
     let mut coefficients = row;
     coefficients[target.index()] = Gf::new(0);
-    let tree = row_tree(alloc, &coefficients, &Place::ALL)?;
-    Ok(tree)
+    row_tree(alloc, &coefficients, &Place::ALL)
 }
 
 // The target's tree from its row of the reduction.
@@ -73,8 +72,7 @@ fn row_value<A: Allocator + Clone>(
     if !determines(&coefficients, survivors, target, &Place::ALL) {
         return Ok(None);
     }
-    let tree = tree_of_row(alloc, code, coefficients, survivors, target)?;
-    Ok(tree)
+    tree_of_row(alloc, code, coefficients, survivors, target)
 }
 
 // The equation of the target's group, where all others of the group survive.
@@ -109,13 +107,7 @@ pub(crate) fn value_of<A: Allocator + Clone>(
         → IsSomeAnd (option_map form_of o) (IsLocalTree (tables_of code) target)) }
 {
     match local_row(code, survivors, target) {
-        Some(row) => {
-            let tree = tree_of_row(alloc, code, row, survivors, target)?;
-            Ok(tree)
-        }
-        None => {
-            let tree = row_value(alloc, code, reduced, survivors, target)?;
-            Ok(tree)
-        }
+        Some(row) => tree_of_row(alloc, code, row, survivors, target),
+        None => row_value(alloc, code, reduced, survivors, target),
     }
 }

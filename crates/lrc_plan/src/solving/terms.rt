@@ -25,8 +25,7 @@ pub(crate) fn row_sums(
     let length = request.length() as usize;
     let mut terms = no_terms();
     let count = fill_terms(&mut terms, row, request, sources);
-    let bytes = combined(alloc, length, &terms[..count])?;
-    Ok(bytes)
+    combined(alloc, length, &terms[..count])
 }
 
 // Whether the row's sum is 00 at every position.
@@ -116,6 +115,7 @@ fn survivor_term<'a>(request: &'a Request, k: usize, scalar: Gf) -> Option<Term<
     ensures products { IfSome result (λ t. (length t.bytes.now ≡ request.now.len) × ((i : ℕ) → product_at t i ≡ survivor_product request.now scalar k i)) }
     ensures survives { IfSome result (λ t. is_among (slice_index_or all_places k X0) request.now.survivors ≡ true) }
 {
+    // The proof has what every request keeps from a call of it.
     let _ = request.length();
     let bytes = request.bytes_at(Place::ALL[k])?;
     Some(Term { scalar, bytes })
@@ -127,6 +127,7 @@ fn term_at<'a>(request: &Request, sources: &Sources<'a>, k: usize, scalar: Gf) -
     requires sources { AreSources request.now.survivors sources.now }
     ensures { IsTermAt request.now scalar k result }
 {
+    // The proof has what every request keeps from a call of it.
     let _ = request.length();
     if scalar.byte() == 0 {
         return None;
