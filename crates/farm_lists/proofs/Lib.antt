@@ -1,7 +1,7 @@
 pub mod Parts
 pub mod Five
 pub mod Fuel
-pub mod SpacedNames
+pub mod RecordFields
 pub mod Orders
 pub mod Plain
 pub mod ReportLines

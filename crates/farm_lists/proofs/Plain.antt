@@ -24,7 +24,7 @@ use Rattle.lrc_code.specs.Requests.{is_name, is_name_byte}
 use Rattle.farm_lists.specs.Listed.{ListedRequest, listed_refusal}
 use Rattle.farm_lists.specs.declared.reports.report.ReportShape.{ReportShape}
 use Rattle.farm_lists.specs.Report.{Row, digest_text, field_if, fragment_digest, outcome_name, report_fields, report_line}
-use Rattle.farm_lists.proofs.SpacedNames.{and_left, and_right}
+use Rattle.farm_lists.proofs.RecordFields.{and_left, and_right}
 
 -- a field that calls for no quotes
 abbrev pub IsPlain : List ℕ → Type 0

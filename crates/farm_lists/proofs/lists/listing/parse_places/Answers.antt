@@ -1,7 +1,7 @@
 use Rattle.std.proofs.Common.{◌∙◌, sym, length}
 use Rattle.std.proofs.lemmas.Bool.{eqb-false}
 use Rattle.std.proofs.lemmas.Result.{IfOk-weaker}
-use Rattle.farm_lists.proofs.SpacedNames.{places_by_parts}
+use Rattle.farm_lists.proofs.RecordFields.{places_by_parts}
 use Rattle.farm_lists.proofs.lists.listing.parse_places.Goals as goal
 
 pub returns : goal.returns

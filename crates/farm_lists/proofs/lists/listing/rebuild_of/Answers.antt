@@ -1,7 +1,7 @@
 use Rattle.std.proofs.Common.{sym, subst}
 use Rattle.std.proofs.lemmas.Bool.{false≢true}
 use Rattle.std.specs.Str.{IsUtf8}
-use Rattle.farm_lists.proofs.SpacedNames.{bad_stripe}
+use Rattle.farm_lists.proofs.RecordFields.{bad_stripe}
 use Rattle.farm_lists.proofs.lists.listing.rebuild_of.Goals as goal
 
 pub returns-in_default-from_utf8-clause-err : goal.returns-in_default-from_utf8-clause-err

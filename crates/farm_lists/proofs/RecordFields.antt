@@ -1,4 +1,4 @@
--- Place names with one space between two.
+-- Laws of the fields of a list's record: its places by their parts, its stripe's name as text.
 use Rattle.std.proofs.Common.{◌≡◌, ◌<◌, ◌∙◌, Bor, ℕ, List, [], ◌∷◌, length, map, refl, sym, ap}
 use Rattle.std.proofs.lemmas.Simd.{map-map}
 use Rattle.std.specs.List.{slice_split}
