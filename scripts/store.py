@@ -12,25 +12,9 @@ import pathlib
 import random
 import sys
 
-CODES = {
-    "6-2-2": (["x0", "x1", "x2", "y0", "y1", "y2"], [0x04, 0x08, 0x0C, 0x01, 0x02, 0x03]),
-    "12-2-2": (["x0", "x1", "x2", "x3", "x4", "x5", "y0", "y1", "y2", "y3", "y4", "y5"],
-               [0x10, 0x20, 0x30, 0x40, 0x50, 0x60, 0x01, 0x02, 0x03, 0x04, 0x05, 0x06]),
-}
-
-
-def product(a, b):
-    """The product of two bytes in GF(256)."""
-    r = 0
-    while b:
-        if b & 1:
-            r ^= a
-        a <<= 1
-        if a & 0x100:
-            a ^= 0x11D
-        b >>= 1
-    return r
-
+# No compiled copy of the module is left beside it.
+sys.dont_write_bytecode = True
+from reference import CODES, product
 
 PRODUCTS = [bytes(product(a, b) for b in range(256)) for a in range(256)]
 
