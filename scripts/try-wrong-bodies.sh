@@ -8,6 +8,8 @@ trap 'rm -rf "$copy"' EXIT
 git ls-files -z --cached --others --exclude-standard | xargs -0 cp --parents -t "$copy"
 cd "$copy"
 if [ $# = 0 ]; then
+  # The program stands on every crate that another with edits stands on: proved once with all processors, they are built for each.
+  (cd crates/rebuild && rt check --jobs "$(nproc)")
   for edits in crates/*/wrong-bodies; do
     set -- "$@" "$(basename "$(dirname "$edits")")"
   done
@@ -16,4 +18,7 @@ for crate; do
   rm -r "crates/$crate/must-fail"
   mv "crates/$crate/wrong-bodies" "crates/$crate/must-fail"
 done
-rt must-fail "$@"
+# A crate's edits are tried in turn, and several crates at once, those with the most edits first.
+for crate; do
+  echo "$(find "crates/$crate/must-fail" -name '*.edit' | wc -l) $crate"
+done | sort -rn | cut -d ' ' -f 2 | xargs -P "$(nproc)" -n 1 rt must-fail
