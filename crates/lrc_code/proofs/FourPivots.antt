@@ -22,7 +22,7 @@ use Rattle.lrc_code.specs.Reduction.{row_at, coefficient, rows_by_index, IsClear
 use Rattle.lrc_code.proofs.Spanning.{equations_span, cleared_spans}
 use Rattle.lrc_code.proofs.PlaceSums.{index_of-lt, at_places}
 use Rattle.lrc_code.proofs.Clearing.{cleared_shape, cleared_same, cleared_one, cleared_zero, cleared_keeps}
-use Rattle.lrc_code.proofs.Reducing.{IsReducedTo, PivotTo, equations_shape, reduced_end}
+use Rattle.lrc_code.proofs.Reducing.{PivotTo, equations_shape, reduced_end}
 
 four_cases : (P : ℕ → Type 0) → P 0 → P 1 → P 2 → P 3 → (k : ℕ) → k < 4 → P k
 four_cases P a b c d zero h = a
