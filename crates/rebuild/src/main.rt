@@ -8,6 +8,8 @@
 //! let answered = line_mode(rt.alloc(), &mut rt.stdin(), &mut rt.stdout());
 //! ExitCode::from(line_status(&answered))
 //! ```
+//!
+//! What standard error doesn't take is lost: the status tells how it ended all the same.
 #![tactic(auto)]
 
 pub mod command;
