@@ -2,8 +2,8 @@
 ghost use Rattle.std.specs.Prelude.{◌≡◌, IfOk, IfErr, map};
 ghost use Rattle.farm_core.specs.FedLists.{AreFeeds, IsBadFeeds};
 
-pub mod lists;
-pub mod slots;
+pub(crate) mod lists;
+pub(crate) mod slots;
 
 use crate::limits::{MOST_FEEDS, MOST_RACKS};
 use crate::orders::RackList;

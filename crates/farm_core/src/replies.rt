@@ -4,9 +4,9 @@ ghost use Rattle.lrc_code.specs.Answers.{IsAnswer};
 ghost use Rattle.farm_core.specs.declared.replies.ReplyResult.TheVariants.{Done, Starved};
 ghost use Rattle.farm_core.specs.declared.replies.FinishFault.TheVariants.{OutOfMemory};
 
-pub mod board;
-pub mod collector;
-pub mod row;
+pub(crate) mod board;
+pub(crate) mod collector;
+pub(crate) mod row;
 
 use lrc_code::{Outcome, Request};
 use std::alloc::AllocError;

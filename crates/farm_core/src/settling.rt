@@ -108,7 +108,7 @@ fn conclude<'a>(all: HandedIn<'a>) -> Board<'a>
 
 /// What stands when all threads were joined.
 #[derive(Drop)]
-pub struct Joined<'a> {
+pub(crate) struct Joined<'a> {
     pub all: HandedIn<'a>,
     pub desk: TakeEnd<Reply<'a>>,
     pub desk_room: Vec<TakeEnd<Reply<'a>>>,
@@ -118,7 +118,7 @@ pub struct Joined<'a> {
 }
 
 /// Takes what is left in the lanes, settles them, and gives the board.
-pub fn settle_all<'a, R: Wait, P: Pause>(
+pub(crate) fn settle_all<'a, R: Wait, P: Pause>(
     rt: &R,
     alloc: Global,
     joined: Joined<'a>,

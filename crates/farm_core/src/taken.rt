@@ -10,9 +10,9 @@ ghost use Rattle.farm_core.specs.Ready.{IsNewGate, AreGates, AreAllGiven, ends_g
 ghost use Rattle.farm_core.specs.Limits.{all_feeds_limit, feed_limit, rack_limit};
 ghost use Rattle.farm_core.specs.Threads.{AreRackFeeders};
 
-pub mod gates;
-pub mod lanes;
-pub mod space;
+pub(crate) mod gates;
+pub(crate) mod lanes;
+pub(crate) mod space;
 
 use crate::feeds::lists::Lists;
 use crate::orders::RackList;
@@ -31,7 +31,7 @@ use std::vec::IntoIter;
 
 /// What the threads are given, and room for what they give back.
 #[derive(Drop)]
-pub struct Room<'a> {
+pub(crate) struct Room<'a> {
     pub desk: Desk<'a>,
     pub workers: Vec<WorkerEnds<'a>>,
     pub racks: Vec<RackRoom<'a>>,
@@ -136,7 +136,7 @@ fn all_feeds(lists: Lists) -> usize
 }
 
 /// All that a run needs but the threads: the board, both lanes, and the feeders.
-pub fn room_for<'a>(
+pub(crate) fn room_for<'a>(
     alloc: Global,
     lists: Lists<'a>,
     gates: &'a [Gate],

@@ -1,19 +1,19 @@
 //! What all threads of a run share, and which of them was refused.
 
-pub mod all;
-pub mod closing;
-pub mod collecting;
-pub mod feeder;
-pub mod given;
-pub mod rack_feeders;
-pub mod worker;
+pub(crate) mod all;
+pub(crate) mod closing;
+pub(crate) mod collecting;
+pub(crate) mod feeder;
+pub(crate) mod given;
+pub(crate) mod rack_feeders;
+pub(crate) mod worker;
 
 use std::alloc::Global;
 use std::sync::atomic::{AtomicBool, AtomicUsize};
 
 /// What a run was called with, and which of its threads was refused.
 #[derive(Drop)]
-pub struct Shared<'s, R, P> {
+pub(crate) struct Shared<'s, R, P> {
     pub rt: &'s R,
     pub alloc: Global,
     pub pause: &'s P,
@@ -22,7 +22,7 @@ pub struct Shared<'s, R, P> {
 
 /// Which thread was refused. What a thread was to do is then called where it was to be started, and reads it here.
 #[derive(Drop)]
-pub struct Refusals {
+pub(crate) struct Refusals {
     pub collector: AtomicBool,
     /// The number of the worker. Those in front of it may not have begun yet, and still work.
     pub worker: AtomicUsize,
@@ -32,7 +32,7 @@ pub struct Refusals {
 
 impl Refusals {
     /// No thread was refused.
-    pub fn none() -> Refusals {
+    pub(crate) fn none() -> Refusals {
         Refusals {
             collector: AtomicBool::new(false),
             worker: AtomicUsize::new(usize::MAX),

@@ -278,8 +278,8 @@ fn push_fragment_files(
     Ok(())
 }
 
-// The orders of requests with the survivors that were read, and of a close behind them where one is asked for; and for each request the
-// places of the others.
+/// The orders of requests with the survivors that were read, and of a close behind them where one is asked for; and for each request the
+/// places of the others.
 pub(crate) fn read_requests<R: Threads + Sync, I: Shelf>(
     rt: &R,
     alloc: Global,
@@ -377,7 +377,7 @@ fn read_rack<R: Threads + Sync, I: Shelf>(
     Ok((feeds, unread))
 }
 
-// The feeds of all racks with the survivors that were read, and for each request the places of the others.
+/// The feeds of all racks with the survivors that were read, and for each request the places of the others.
 pub(crate) fn read_feeds<R: Threads + Sync, I: Shelf>(
     rt: &R,
     alloc: Global,

@@ -7,7 +7,7 @@ use farm_lists::NamedFile;
 use farm_shelves::{Shelf, ShelfFault};
 use std::alloc::Global;
 
-// Writes the files in order, up to the first write that fails.
+/// Writes the files in order, up to the first write that fails.
 pub(crate) fn write_files<O: Shelf>(
     alloc: Global,
     output: &mut O,

@@ -127,8 +127,8 @@ fn take_ahead(ahead: &mut Vec<ReadAhead>, path: &str, limit: usize) -> Option<Op
     None
 }
 
-// The first bytes of a file, as many as the limit at most, in this room. The room for a fragment is taken and cleared once, so
-// that one of the listed length takes two reads: the first gives its bytes, the second finds its end.
+/// The first bytes of a file, as many as the limit at most, in this room. The room for a fragment is taken and cleared once, so
+/// that one of the listed length takes two reads: the first gives its bytes, the second finds its end.
 pub fn read_front<F: Read + Drop>(
     room: Vec<u8>,
     file: F,

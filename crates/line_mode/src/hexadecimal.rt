@@ -6,7 +6,7 @@ ghost use Rattle.hex.specs.Hex.{decode_of, encode_upper, hex_digit_value, upper_
 
 use std::alloc::{AllocError, Global};
 
-/// What no digit is worth.
+// What no digit is worth.
 const NO_DIGIT: u8 = 255;
 
 /// The bytes that pairs of digits write, in either case; none where the text is anything else.

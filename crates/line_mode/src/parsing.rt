@@ -18,7 +18,7 @@ use lrc_code::text::parse_number;
 use lrc_code::{Code, Fragment, Place, Request};
 use std::alloc::{AllocError, Global};
 
-/// How many survivors a request has at most; with room for them their list needn't grow.
+// How many survivors a request has at most; with room for them their list needn't grow.
 const MOST_SURVIVORS: usize = 15;
 
 /// The request that a line writes, or why the line is refused.

@@ -18,7 +18,7 @@ use std::alloc::{AllocError, Global};
 // What a line is replied.
 type LineReply = Result<Outcome, LineRefusal>;
 
-// Replies one after the other: their text, and how many there are of each kind.
+/// Replies one after the other: their text, and how many there are of each kind.
 #[derive(Drop)]
 pub(crate) struct Replies {
     pub(crate) text: Vec<u8>,

@@ -20,7 +20,7 @@ pub(crate) fn find_near_byte(bytes: &[u8], byte: u8) -> Option<usize>
 }
 
 /// Whether all bytes are printable characters, from a space to a tilde.
-// The loop has no branch, so that it runs over many bytes at once.
+/// The loop has no branch, so that it runs over many bytes at once.
 pub(crate) fn are_printable(bytes: &[u8]) -> bool
     ensures { result ≡ list_all is_printable bytes.now }
 {

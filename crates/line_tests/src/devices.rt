@@ -4,7 +4,7 @@ use std::alloc::Global;
 use std::io;
 use std::io::{ErrorKind, Read, Write};
 
-/// The input of the program's stored run, whose ten lines are all answered.
+// The input of the program's stored run, whose ten lines are all answered.
 const TEN_LINES: &[u8] = b"a x0 1 x1=02 x2=03 px=00\n\
 a y0 1 x0=01 x1=02 x2=03 y1=05 y2=06 px=00 p0=04 p1=6E\n\
 a x0 1 x2=03 y2=06 px=00 py=07 p0=04 p1=6E\n\
@@ -150,7 +150,7 @@ fn is_faulty(run: &Run) -> bool {
     run.answer == Err(LineFault::Device) && line_status(&run.answer) == 3
 }
 
-/// A read that fails, whichever it is, ends line mode and leaves the writer alone.
+// A read that fails, whichever it is, ends line mode and leaves the writer alone.
 #[test]
 fn ends_at_failed_reads(rt: HostRuntime) {
     for most in [1usize, 100, 1000] {
@@ -164,7 +164,7 @@ fn ends_at_failed_reads(rt: HostRuntime) {
     }
 }
 
-/// A write or a flush that fails, whichever it is, ends line mode.
+// A write or a flush that fails, whichever it is, ends line mode.
 #[test]
 fn ends_at_failed_writes(rt: HostRuntime) {
     for most in [1usize, 10, 1000] {
@@ -178,7 +178,7 @@ fn ends_at_failed_writes(rt: HostRuntime) {
     }
 }
 
-/// A read or a write that is interrupted is made again.
+// A read or a write that is interrupted is made again.
 #[test]
 fn goes_on_after_interruptions(rt: HostRuntime) {
     for k in 0..3u64 {
@@ -202,7 +202,7 @@ impl Read for InterruptedReader {
     }
 }
 
-/// Line mode ends for a reader that never gives anything, after 16,777,216 reads and no more.
+// Line mode ends for a reader that never gives anything, after 16,777,216 reads and no more.
 #[test]
 fn ends_for_an_interrupted_reader(rt: HostRuntime) {
     let mut input = InterruptedReader { calls: 0 };

@@ -2,10 +2,10 @@
 use crate::asserting::replies;
 use std::alloc::{AllocError, Global};
 
-/// Lengths around those that are read at once.
+// Lengths around those that are read at once.
 const LENGTHS: [usize; 14] = [1, 2, 7, 8, 9, 15, 16, 17, 31, 32, 33, 64, 65, 127];
 
-/// The digits, in either case, and as they are written.
+// The digits, in either case, and as they are written.
 const GIVEN: &str = "0123456789abcdefABCDEF";
 
 const WRITTEN: &str = "0123456789ABCDEFABCDEF";
@@ -37,7 +37,7 @@ fn digits_of_many_lengths(rt: HostRuntime) -> Result<(), AllocError> {
     Ok(())
 }
 
-/// A character that is no digit is found at each place.
+// A character that is no digit is found at each place.
 #[test]
 fn bad_digit_at_each_place(rt: HostRuntime) -> Result<(), AllocError> {
     let digits = cycled(rt.alloc(), GIVEN, 80)?;
@@ -67,7 +67,7 @@ fn is_read_as_digit(alloc: Global, byte: u8) -> Result<bool, AllocError> {
     Ok(replies(alloc, &line, &reply, 1, 0))
 }
 
-/// Of all bytes the 22 digits are digits, and no other.
+// Of all bytes the 22 digits are digits, and no other.
 #[test]
 fn each_byte_as_digit(rt: HostRuntime) -> Result<(), AllocError> {
     for byte in 0..=255u8 {

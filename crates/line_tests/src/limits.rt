@@ -5,7 +5,7 @@ use std::alloc::{AllocError, Global};
 use std::io;
 use std::io::Read;
 
-/// The greatest length of an input.
+// The greatest length of an input.
 const GREATEST: usize = 8_388_608;
 
 // A reader that gives so many line feeds, at most so many at each call.
@@ -91,7 +91,7 @@ fn answers_greatest_length(alloc: Global) -> Result<bool, AllocError> {
     Ok(replies(alloc, &line, &text, 1, 0))
 }
 
-/// Fragments of the greatest length.
+// Fragments of the greatest length.
 #[test]
 fn answers_long_fragments(rt: HostRuntime) -> Result<(), AllocError> {
     assert!(rt; answers_greatest_length(rt.alloc())?);
@@ -122,7 +122,7 @@ static LONG_LINES: [(&[u8], &[u8], usize, &[u8]); 8] = [
     (b"a x0 1", b"\0", 1_000_000, b"refused E22\n"),
 ];
 
-/// Long lines that are refused: each repeats a piece behind its front many times.
+// Long lines that are refused: each repeats a piece behind its front many times.
 #[test]
 fn refuses_long_lines(rt: HostRuntime) -> Result<(), AllocError> {
     for (front, piece, times, reply) in &LONG_LINES {

@@ -146,7 +146,7 @@ fn refuses_lines(rt: HostRuntime) -> Result<(), AllocError> {
     Ok(())
 }
 
-/// How an input is cut into lines, and which of them get a reply.
+// How an input is cut into lines, and which of them get a reply.
 #[test]
 fn cuts_lines(rt: HostRuntime) {
     let alloc = rt.alloc();
@@ -177,7 +177,7 @@ fn status_of(alloc: Global, input: &[u8]) -> u8 {
     line_status(&answer)
 }
 
-/// Whether a line was refused decides between the statuses 0 and 1.
+// Whether a line was refused decides between the statuses 0 and 1.
 #[test]
 fn gives_statuses(rt: HostRuntime) {
     assert!(rt; status_of(rt.alloc(), b"") == 0);
@@ -192,7 +192,7 @@ fn has_numbers(fault: LineFault, number: u8, status: u8) -> bool {
     fault.code() == number && line_status(&Err(fault)) == status
 }
 
-/// Each fault has its number and its status.
+// Each fault has its number and its status.
 #[test]
 fn gives_fault_numbers(rt: HostRuntime) {
     assert!(rt; has_numbers(LineFault::InputTooLong, 25, 1));

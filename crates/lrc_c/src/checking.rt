@@ -17,7 +17,7 @@ use lrc_code::{Code, PlaceSet};
 use lrc_field::Gf;
 use lrc_plan::check_rows;
 
-// The coefficients as bytes.
+/// The coefficients as bytes.
 pub(crate) fn bytes_of(row: &[Gf; 16]) -> [u8; 16]
     ensures { result ≡ row.now }
 {

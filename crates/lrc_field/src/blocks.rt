@@ -79,7 +79,7 @@ fn high_halves(bytes: u8x32) -> u8x32
     bytes >> u8x32::splat(4)
 }
 
-/// In each lane the table's entry at that half, read within the lane's own block of 16.
+// In each lane the table's entry at that half, read within the lane's own block of 16.
 #[inline(always)]
 fn looked_up(table: &[u8; 32], halves: u8x32) -> u8x32
     requires { (k : ℕ) → k < 32 → slice_index halves k < 16 }
@@ -94,7 +94,7 @@ fn product(scalar: Gf, byte: u8) -> u8
     scalar.mul(Gf::new(byte)).byte()
 }
 
-/// A byte in the lanes where the mask is 255, and 0 where it is 0.
+// A byte in the lanes where the mask is 255, and 0 where it is 0.
 #[inline(always)]
 fn masked(byte: u8, mask: u8x32) -> u8x32
     ensures { HasLanes result (λ k. bit_and byte (slice_index mask k)) }
@@ -102,7 +102,7 @@ fn masked(byte: u8, mask: u8x32) -> u8x32
     u8x32::splat(byte) & mask
 }
 
-/// In each lane the sum of those of four bytes that the low four bits of the lane's number choose.
+// In each lane the sum of those of four bytes that the low four bits of the lane's number choose.
 #[inline(always)]
 fn spread(first: u8, second: u8, third: u8, fourth: u8) -> u8x32
     ensures { HasLanes result (chosen_sum first second third fourth) }

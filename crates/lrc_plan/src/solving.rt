@@ -8,7 +8,7 @@ ghost use Rattle.lrc_code.specs.Sets.{is_in};
 ghost use Rattle.lrc_plan.specs.RowPlans.{IsRowPlan, IsLocalRepairRow};
 ghost use Rattle.lrc_plan.specs.Terms.{AreTerms, IsZeroRow};
 
-pub mod terms;
+pub(crate) mod terms;
 
 use crate::plans::row_plans::{RowPlan, other_parity, plan_by_reduction};
 use crate::plans::value::equation_of;
@@ -136,7 +136,7 @@ fn apply(
     }
 }
 
-// Whether all rows' sums are 00 at every position.
+/// Whether all rows' sums are 00 at every position.
 pub(crate) fn are_zero(rows: &[[Gf; 16]], request: &Request, sources: &Sources<'_>) -> bool
     requires { AreSources request.now.survivors sources.now }
     ensures yes { result ≡ true → All (IsZeroRow request.now) rows.now }

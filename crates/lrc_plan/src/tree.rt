@@ -9,10 +9,10 @@ ghost use Rattle.lrc_code.specs.Code.{combination};
 ghost use Rattle.lrc_plan.specs.Form.{leaf_total, has_leaf, meaning, AreCoefficients};
 ghost use Rattle.lrc_plan.specs.Tree.{form_of};
 
-pub mod both_branches;
-pub mod copying;
-pub mod evaluation;
-pub mod grafting;
+pub(crate) mod both_branches;
+pub(crate) mod copying;
+pub(crate) mod evaluation;
+pub(crate) mod grafting;
 
 use lrc_code::{Place, PlaceSet};
 use lrc_field::Gf;

@@ -8,14 +8,14 @@ use crate::orders::{RackList, Racks};
 
 /// The lists of racks: one for each rack, or several.
 #[derive(Clone, Copy)]
-pub enum Lists<'a> {
+pub(crate) enum Lists<'a> {
     One(&'a Racks),
     Several(&'a Feeds),
 }
 
 impl<'a> Lists<'a> {
     /// The number of racks.
-    pub fn racks(self) -> usize
+    pub(crate) fn racks(self) -> usize
         ensures count { result ≡ length (lists_of self.entry) }
         ensures limit { length (lists_of self.entry) ≤ rack_limit }
     {
@@ -26,7 +26,7 @@ impl<'a> Lists<'a> {
     }
 
     /// The feeds of a rack.
-    pub fn feeds(self, rack: usize) -> &'a [RackList]
+    pub(crate) fn feeds(self, rack: usize) -> &'a [RackList]
         requires { rack < length (lists_of self) }
         ensures all { result.now ≡ slice_index_or (lists_of self.entry) rack [] }
         ensures few { (0 < length result.now) × (length result.now ≤ feed_limit) }

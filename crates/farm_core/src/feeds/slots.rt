@@ -7,7 +7,7 @@ use crate::limits::MOST_FEEDS;
 use crate::pause::Pause;
 
 /// The slot of a feed of a rack.
-pub fn slot_number(rack: usize, feed: usize) -> usize
+pub(crate) fn slot_number(rack: usize, feed: usize) -> usize
     requires few { (rack < rack_limit) × (feed < feed_limit) }
     ensures { result ≡ slot_of rack feed }
 {
@@ -15,14 +15,14 @@ pub fn slot_number(rack: usize, feed: usize) -> usize
 }
 
 /// The rack of a slot.
-pub fn rack_of_slot(slot: usize) -> usize
+pub(crate) fn rack_of_slot(slot: usize) -> usize
     ensures { result ≡ slot_rack slot }
 {
     slot / MOST_FEEDS
 }
 
 /// The feed of a slot, by its number in its rack.
-pub fn feed_of_slot(slot: usize) -> usize
+pub(crate) fn feed_of_slot(slot: usize) -> usize
     ensures { result ≡ slot_feed slot }
 {
     slot % MOST_FEEDS
@@ -30,7 +30,7 @@ pub fn feed_of_slot(slot: usize) -> usize
 
 /// Tells a pause the racks of the slots that workers and feeders name.
 #[derive(Drop)]
-pub struct SlotPause<'p, P> {
+pub(crate) struct SlotPause<'p, P> {
     pub pause: &'p P,
 }
 

@@ -18,7 +18,7 @@ use std::marker::Model;
 
 /// Replies to the requests of racks' feeds. Contracts see the lists of each rack's feeds, and the replies that came, by rack and number.
 #[derive(Drop)]
-pub struct Board<'a> {
+pub(crate) struct Board<'a> {
     lists: Lists<'a>,
     rows: Vec<Row<'a>>,
 }
@@ -48,7 +48,7 @@ fn most_of(feeds: &[RackList]) -> usize
 
 impl<'a> Board<'a> {
     /// A board without replies; it takes all the room that replies need.
-    pub fn new(alloc: Global, lists: Lists<'a>) -> Result<Board<'a>, AllocError>
+    pub(crate) fn new(alloc: Global, lists: Lists<'a>) -> Result<Board<'a>, AllocError>
         ensures { IfOk result (HoldsNothing (lists_of lists.entry)) }
     {
         let racks = lists.racks();
@@ -60,7 +60,7 @@ impl<'a> Board<'a> {
     }
 
     /// There is a row for each rack, with a cell for each number that its feeds may draw.
-    pub fn has_rooms(&self)
+    pub(crate) fn has_rooms(&self)
         ensures { HasRooms self.now.racks self.now.table }
     {
         let _lists = &self.lists;
@@ -68,7 +68,7 @@ impl<'a> Board<'a> {
 
     /// Takes in a reply, which names a slot, by a number that the feeds of the slot's rack may draw and that has none yet. A refusal hands the reply back and changes
     /// nothing. Takes no memory.
-    pub fn accept(&mut self, reply: Reply<'a>) -> Result<(), CollectFault<'a>>
+    pub(crate) fn accept(&mut self, reply: Reply<'a>) -> Result<(), CollectFault<'a>>
         ensures accepted { OnOk result (IsHeldToo self.old (slot_rack reply.entry.rack) reply.entry.number (entry_of reply.entry) self.new) }
         ensures refused { IfErr result (λ e. IsNotHeld self.old reply.entry e) }
         ensures unchanged { OnErr result (self.new ≡ self.old) }
@@ -78,7 +78,7 @@ impl<'a> Board<'a> {
     }
 
     /// Of each rack the answers to the requests of a lawful merge of its feeds, in order, each with the feed of its slot.
-    pub fn by_feed(self, alloc: Global) -> Result<Vec<Vec<(usize, Outcome)>>, AllocError>
+    pub(crate) fn by_feed(self, alloc: Global) -> Result<Vec<Vec<(usize, Outcome)>>, AllocError>
         ensures { IfOk result (λ v. AllZip (λ row answers. AllZip IsOutcomeOf (filled row) answers.items) self.entry.table v.items) }
     {
         let Board { lists: _, rows } = self;
@@ -86,7 +86,7 @@ impl<'a> Board<'a> {
     }
 
     /// The same, without the feeds' numbers.
-    pub fn answers(self, alloc: Global) -> Result<Vec<Vec<Outcome>>, AllocError>
+    pub(crate) fn answers(self, alloc: Global) -> Result<Vec<Vec<Outcome>>, AllocError>
         ensures { IfOk result (λ v. AllZip (λ row answers. AllZip (λ e o. IsOutcomeOf e (slot_feed e.rack, o)) (filled row) answers.items) self.entry.table v.items) }
     {
         let Board { lists: _, rows } = self;
@@ -118,13 +118,13 @@ fn all_filled(alloc: Global, rows: Vec<Row>) -> Result<Vec<Vec<Outcome>>, AllocE
 
 /// What the collector's thread gives back.
 #[derive(Drop)]
-pub struct HandedIn<'a> {
+pub(crate) struct HandedIn<'a> {
     pub board: Board<'a>,
     pub fault: Option<CollectFault<'a>>,
 }
 
 /// Hands in a reply, unless one was refused before.
-pub fn hand_in<'a>(
+pub(crate) fn hand_in<'a>(
     board: &mut Board<'a>,
     fault: Option<CollectFault<'a>>,
     reply: Reply<'a>,

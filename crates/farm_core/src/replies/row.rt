@@ -15,7 +15,7 @@ use std::marker::Model;
 
 /// The replies to one rack's requests. Contracts see it as a list of entries.
 #[derive(Drop)]
-pub struct Row<'a> {
+pub(crate) struct Row<'a> {
     cells: Vec<Option<Reply<'a>>>,
 }
 
@@ -30,7 +30,7 @@ impl<'a> Model for Row<'a> {
 
 impl<'a> Row<'a> {
     /// A row with no reply, and room for this many.
-    pub fn new(alloc: Global, count: usize) -> Result<Row<'a>, AllocError>
+    pub(crate) fn new(alloc: Global, count: usize) -> Result<Row<'a>, AllocError>
         ensures { IfOk result (λ r. r ≡ replicate count None) }
     {
         let mut cells = Vec::with_capacity(alloc, count)?;
@@ -40,14 +40,14 @@ impl<'a> Row<'a> {
         Ok(Row { cells })
     }
 
-    pub fn len(&self) -> usize
+    pub(crate) fn len(&self) -> usize
         ensures { result ≡ length self.now }
     {
         self.cells.len()
     }
 
     /// Whether a reply is there.
-    pub fn has(&self, number: usize) -> bool
+    pub(crate) fn has(&self, number: usize) -> bool
         requires { number < length self.now }
         ensures { result ≡ is_some (slice_index_or self.now number None) }
     {
@@ -55,7 +55,7 @@ impl<'a> Row<'a> {
     }
 
     /// Puts a reply.
-    pub fn put(&mut self, number: usize, reply: Reply<'a>)
+    pub(crate) fn put(&mut self, number: usize, reply: Reply<'a>)
         requires { number < length self.old }
         ensures { self.new ≡ slice_set self.old number (Some (entry_of reply.entry)) }
     {
@@ -63,7 +63,7 @@ impl<'a> Row<'a> {
     }
 
     /// The first request without a reply.
-    pub fn first_missing(&self) -> Option<usize>
+    pub(crate) fn first_missing(&self) -> Option<usize>
         ensures some { IfSome result (λ k. IsFirstGap self.now k) }
         ensures none { IfNone result (HasNoGap self.now) }
     {
@@ -76,7 +76,7 @@ impl<'a> Row<'a> {
     }
 
     /// The answers, in order, where no reply says that memory was missing.
-    pub fn outcomes(self, alloc: Global) -> Result<Vec<Outcome>, FinishFault>
+    pub(crate) fn outcomes(self, alloc: Global) -> Result<Vec<Outcome>, FinishFault>
         requires { HasNoGap self }
         ensures { MatchResult result (λ v. AllZip Answers self.entry v.items) (λ e. e ≡ OutOfMemory) }
     {
@@ -95,7 +95,7 @@ impl<'a> Row<'a> {
     }
 
     /// The answers in front of the first gap, where none of the replies says that memory was missing.
-    pub fn filled(self, alloc: Global) -> Result<Vec<Outcome>, AllocError>
+    pub(crate) fn filled(self, alloc: Global) -> Result<Vec<Outcome>, AllocError>
         ensures { IfOk result (λ v. AllZip (λ e o. IsOutcomeOf e (slot_feed e.rack, o)) (filled self.entry) v.items) }
     {
         let Row { cells } = self;
@@ -113,7 +113,7 @@ impl<'a> Row<'a> {
     }
 
     /// The same, each with the feed of its slot.
-    pub fn filled_by_feed(self, alloc: Global) -> Result<Vec<(usize, Outcome)>, AllocError>
+    pub(crate) fn filled_by_feed(self, alloc: Global) -> Result<Vec<(usize, Outcome)>, AllocError>
         ensures { IfOk result (λ v. AllZip IsOutcomeOf (filled self.entry) v.items) }
     {
         let Row { cells } = self;
@@ -134,7 +134,7 @@ impl<'a> Row<'a> {
 
 /// Puts a reply in the cell of this rack and its number. Where there is no such cell, or it has a reply already, the reply is handed
 /// back and nothing changes. Takes no memory.
-pub fn enter<'a>(
+pub(crate) fn enter<'a>(
     rows: &mut [Row<'a>],
     rack: usize,
     reply: Reply<'a>,

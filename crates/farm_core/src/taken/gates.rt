@@ -22,13 +22,16 @@ fn open_gate(alloc: Global, feeds: usize) -> Result<(Gate, RackSeats), AllocErro
 
 /// The seats and the rights of a rack's gate.
 #[derive(Drop)]
-pub struct RackSeats {
+pub(crate) struct RackSeats {
     pub seats: Vec<Seat>,
     pub rights: Vec<Right>,
 }
 
 /// A gate for each rack, with one seat and one right for each of its feeds.
-pub fn gates_for(alloc: Global, lists: Lists) -> Result<(Vec<Gate>, Vec<RackSeats>), AllocError>
+pub(crate) fn gates_for(
+    alloc: Global,
+    lists: Lists,
+) -> Result<(Vec<Gate>, Vec<RackSeats>), AllocError>
     ensures { IfOk result (λ r. AreGates (lists_of lists.entry) r.0.items r.1.items) }
 {
     let racks = lists.racks();

@@ -30,7 +30,7 @@ fn open_lane<T: Send + Drop>(
 }
 
 /// The ends of a new request lane: the put ends of so many feeders, the one for the stops, and the workers' take ends.
-pub fn request_lane<'a>(
+pub(crate) fn request_lane<'a>(
     alloc: Global,
     capacity: usize,
     feeders: usize,
@@ -48,7 +48,7 @@ pub fn request_lane<'a>(
 }
 
 /// The ends of a new reply lane: the workers' put ends, and the collector's take end.
-pub fn reply_lane<'a>(
+pub(crate) fn reply_lane<'a>(
     alloc: Global,
     capacity: usize,
     workers: usize,
@@ -65,7 +65,7 @@ pub fn reply_lane<'a>(
 }
 
 /// A pair of ends for each worker.
-pub fn worker_ends<'a>(
+pub(crate) fn worker_ends<'a>(
     alloc: Global,
     takes: Vec<TakeEnd<Job<'a>>>,
     puts: Vec<PutEnd<Reply<'a>>>,

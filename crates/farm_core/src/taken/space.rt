@@ -11,7 +11,7 @@ use std::alloc::{AllocError, Global};
 
 /// Empty lists with room for the ends that so many racks and workers give back.
 #[derive(Drop)]
-pub struct EndSpace<'a> {
+pub(crate) struct EndSpace<'a> {
     pub racks: usize,
     pub workers: usize,
     pub put_ends: Vec<EndedPut<Job<'a>>>,
@@ -25,7 +25,7 @@ pub struct EndSpace<'a> {
 
 /// Empty lists with room for the threads of so many racks and workers, and for their ends.
 #[derive(Drop)]
-pub struct Space<'a> {
+pub(crate) struct Space<'a> {
     pub working: Vec<Worker<'a>>,
     pub feeding: Vec<RackFeeders<'a>>,
     pub ends: EndSpace<'a>,
@@ -52,7 +52,11 @@ fn end_space_for<'a>(
 }
 
 /// Empty lists with room for so many racks and workers.
-pub fn space_for<'a>(alloc: Global, racks: usize, workers: usize) -> Result<Space<'a>, AllocError>
+pub(crate) fn space_for<'a>(
+    alloc: Global,
+    racks: usize,
+    workers: usize,
+) -> Result<Space<'a>, AllocError>
     requires { racks ≤ rack_limit }
     ensures { IfOk result (λ s. (s.ends.racks ≡ racks) × (s.ends.workers ≡ workers)) }
 {

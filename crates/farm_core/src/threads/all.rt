@@ -25,7 +25,7 @@ use std::thread::{PromisedHandle, Scope, Threads};
 
 /// The threads that were started, the end for the stops, and an end to take by where no worker was started.
 #[derive(Drop)]
-pub struct Started<'a> {
+pub(crate) struct Started<'a> {
     pub all: bool,
     pub collecting: PromisedHandle<Cleared<'a>, ClearOf<'a>>,
     pub working: Vec<Worker<'a>>,
@@ -38,7 +38,7 @@ pub struct Started<'a> {
 
 /// What became of starting the workers and the feeders.
 #[derive(Drop)]
-pub struct Starts<'a> {
+pub(crate) struct Starts<'a> {
     pub all: bool,
     pub left: Option<Vec<FeederHandle<'a>>>,
     pub taker: Option<TakeEnd<Job<'a>>>,
@@ -46,7 +46,7 @@ pub struct Starts<'a> {
 
 /// Starts the feeders rack by rack. After a refusal no further one is started, and the ends of the others are ended here: the workers
 /// take their marks. Gives nothing where none was refused, else the threads of the rack in which one was.
-pub fn start_racks<'s, 'a: 's, E, R: Threads + Wait + Sync, P: Pause>(
+pub(crate) fn start_racks<'s, 'a: 's, E, R: Threads + Wait + Sync, P: Pause>(
     shared: &'s Shared<'s, R, P>,
     scope: &Scope<'s, E>,
     racks: Vec<RackRoom<'a>>,
@@ -85,7 +85,7 @@ pub fn start_racks<'s, 'a: 's, E, R: Threads + Wait + Sync, P: Pause>(
 }
 
 /// Ends the put ends of the feeders of racks, as `end_feeders` does.
-pub fn end_racks<'a, R: Wait>(
+pub(crate) fn end_racks<'a, R: Wait>(
     rt: &R,
     racks: Vec<RackRoom<'a>>,
     taker: &mut Option<TakeEnd<Job<'a>>>,
@@ -97,7 +97,7 @@ pub fn end_racks<'a, R: Wait>(
 }
 
 /// Starts the workers, and where none is refused the feeders; the put ends of the threads that weren't started are ended.
-pub fn start_all<'s, 'a: 's, E, R: Threads + Wait + Sync, P: Pause>(
+pub(crate) fn start_all<'s, 'a: 's, E, R: Threads + Wait + Sync, P: Pause>(
     shared: &'s Shared<'s, R, P>,
     scope: &Scope<'s, E>,
     ends: Vec<WorkerEnds<'a>>,
@@ -130,7 +130,7 @@ pub fn start_all<'s, 'a: 's, E, R: Threads + Wait + Sync, P: Pause>(
 }
 
 /// Joins the feeders rack by rack, and puts their ends in order. Says whether each has fed.
-pub fn join_racks<'a, R: Threads>(
+pub(crate) fn join_racks<'a, R: Threads>(
     rt: &R,
     racks: Vec<RackFeeders<'a>>,
     put_ends: &mut Vec<EndedPut<Job<'a>>>,
@@ -170,7 +170,11 @@ fn join_left<'a, R: Threads>(rt: &R, left: Option<Vec<FeederHandle<'a>>>) {
 }
 
 /// Puts so many jobs that say to stop, and ends.
-pub fn put_stops<'a, R: Wait>(rt: &R, stops: PutEnd<Job<'a>>, count: usize) -> EndedPut<Job<'a>>
+pub(crate) fn put_stops<'a, R: Wait>(
+    rt: &R,
+    stops: PutEnd<Job<'a>>,
+    count: usize,
+) -> EndedPut<Job<'a>>
     requires unused { IsUnusedPut stops }
     requires few { count ≤ worker_limit }
     ensures stops { HasPutStops stops.entry result }
@@ -184,7 +188,7 @@ pub fn put_stops<'a, R: Wait>(rt: &R, stops: PutEnd<Job<'a>>, count: usize) -> E
 }
 
 /// Joins the feeders, lets the workers stop, and joins them and the collector. Gives nothing where a thread was refused.
-pub fn join_all<'a, R: Threads + Wait>(
+pub(crate) fn join_all<'a, R: Threads + Wait>(
     rt: &R,
     started: Started<'a>,
     space: EndSpace<'a>,
@@ -230,7 +234,7 @@ pub fn join_all<'a, R: Threads + Wait>(
 }
 
 /// Ends all put ends of both lanes, where no thread was started, and takes each mark.
-pub fn end_all<'a, R: Wait>(
+pub(crate) fn end_all<'a, R: Wait>(
     rt: &R,
     desk: TakeEnd<Reply<'a>>,
     workers: Vec<WorkerEnds<'a>>,

@@ -47,7 +47,7 @@ fn keep(rights: &mut Vec<Right>, right: Option<Right>)
 }
 
 /// Joins what a rack's feeders gave back: the put ends in order. What they drew is a lawful merge of their lists.
-pub fn close_rack<'a>(
+pub(crate) fn close_rack<'a>(
     gate: &Gate,
     feds: Vec<Fed<'a>>,
     rights: Vec<Right>,

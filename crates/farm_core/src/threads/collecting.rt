@@ -16,7 +16,7 @@ use std::thread::{Promise, PromisedHandle, Scope};
 
 /// A board, the end that its replies come from, and how many workers will end.
 #[derive(Drop)]
-pub struct Desk<'a> {
+pub(crate) struct Desk<'a> {
     pub board: Board<'a>,
     pub replies: TakeEnd<Reply<'a>>,
     pub workers: usize,
@@ -24,13 +24,13 @@ pub struct Desk<'a> {
 
 /// What the collector's thread gives back.
 #[derive(Drop)]
-pub struct Cleared<'a> {
+pub(crate) struct Cleared<'a> {
     pub all: HandedIn<'a>,
     pub replies: TakeEnd<Reply<'a>>,
 }
 
 /// Puts the replies on the board until every worker's end has come.
-pub fn clear<'a, R: Wait>(rt: &R, desk: Desk<'a>) -> Cleared<'a>
+pub(crate) fn clear<'a, R: Wait>(rt: &R, desk: Desk<'a>) -> Cleared<'a>
     requires empty { HoldsNothing desk.board.racks desk.board }
     requires unused { IsUnusedTake desk.replies }
     ensures { HasCleared desk.entry.board.racks desk.entry.replies result.all.board result.all.fault result.replies }
@@ -61,7 +61,7 @@ pub fn clear<'a, R: Wait>(rt: &R, desk: Desk<'a>) -> Cleared<'a>
 
 /// The desk that the collector's thread was given.
 #[derive(Drop)]
-pub struct ClearOf<'a>(pub Snapshot<Desk<'a>>);
+pub(crate) struct ClearOf<'a>(pub Snapshot<Desk<'a>>);
 
 impl<'a> Promise<Cleared<'a>> for ClearOf<'a> {
     ghost use Rattle.farm_core.specs.Settled.{HasCleared};
@@ -96,7 +96,7 @@ fn clear_with<'a, R: Wait, P: Pause>(shared: &Shared<R, P>, desk: Desk<'a>) -> C
 }
 
 /// Starts the collector's thread. Where no thread can be made, its desk is left as it was.
-pub fn start_collector<'s, 'a: 's, E, R: Wait + Sync, P: Pause>(
+pub(crate) fn start_collector<'s, 'a: 's, E, R: Wait + Sync, P: Pause>(
     shared: &'s Shared<'s, R, P>,
     scope: &Scope<'s, E>,
     desk: Desk<'a>,

@@ -96,7 +96,7 @@ pub fn feed<'a, R: Wait, P: Pause>(
 
 /// What a feeder was given.
 #[derive(Drop)]
-pub struct FeedOf<'a>(pub Snapshot<Feeder<'a>>);
+pub(crate) struct FeedOf<'a>(pub Snapshot<Feeder<'a>>);
 
 impl<'a> Promise<Option<Fed<'a>>> for FeedOf<'a> {
     ghost use Rattle.std.specs.Prelude.{IfSome};
@@ -106,7 +106,7 @@ impl<'a> Promise<Option<Fed<'a>>> for FeedOf<'a> {
 }
 
 /// A feeder's thread. It gives nothing where a feeder was refused before it began; its end is ended all the same.
-pub type FeederHandle<'a> = PromisedHandle<Option<Fed<'a>>, FeedOf<'a>>;
+pub(crate) type FeederHandle<'a> = PromisedHandle<Option<Fed<'a>>, FeedOf<'a>>;
 
 // What a feeder does: it feeds its list, unless a feeder was refused before it began.
 fn feed_with<'a, R: Wait, P: Pause>(shared: &Shared<R, P>, feeder: Feeder<'a>) -> Option<Fed<'a>>
@@ -163,7 +163,7 @@ fn start_feeder<'s, 'a: 's, E, R: Threads + Wait + Sync, P: Pause>(
 
 /// Starts the feeders of a rack, in order. After a refusal no further one is started, and the ends of the others are ended here:
 /// the workers take their marks. Says whether none was refused.
-pub fn start_feeders<'s, 'a: 's, E, R: Threads + Wait + Sync, P: Pause>(
+pub(crate) fn start_feeders<'s, 'a: 's, E, R: Threads + Wait + Sync, P: Pause>(
     shared: &'s Shared<'s, R, P>,
     scope: &Scope<'s, E>,
     feeders: Vec<Feeder<'a>>,
@@ -191,7 +191,7 @@ pub fn start_feeders<'s, 'a: 's, E, R: Threads + Wait + Sync, P: Pause>(
 }
 
 /// Joins the feeders of a rack, and puts what they left in order. Says whether each has fed.
-pub fn join_feeders<'a, R: Threads>(
+pub(crate) fn join_feeders<'a, R: Threads>(
     rt: &R,
     handles: Vec<FeederHandle<'a>>,
     feds: &mut Vec<Fed<'a>>,
@@ -213,7 +213,7 @@ pub fn join_feeders<'a, R: Threads>(
 
 /// Ends the put ends of feeders. Where an end is given, no worker takes from the lane, and each mark is taken by it, so that a
 /// queue of one has room for the next.
-pub fn end_feeders<'a, R: Wait>(
+pub(crate) fn end_feeders<'a, R: Wait>(
     rt: &R,
     feeders: Vec<Feeder<'a>>,
     taker: &mut Option<TakeEnd<Job<'a>>>,

@@ -10,7 +10,7 @@ use farm_lanes::{Gate, PutEnd, Right, Seat, TakeEnd};
 
 /// A worker's ends. Nothing was done with them yet.
 #[derive(Drop)]
-pub struct WorkerEnds<'a> {
+pub(crate) struct WorkerEnds<'a> {
     pub jobs: TakeEnd<Job<'a>>,
     pub replies: PutEnd<Reply<'a>>,
     pub ghost unused_jobs: { IsUnusedTake jobs },
@@ -19,7 +19,7 @@ pub struct WorkerEnds<'a> {
 
 /// A feed's list, with its rack's gate, and the seat, the right and the end of its feeder. Nothing was done with them yet.
 #[derive(Drop)]
-pub struct Feeder<'a> {
+pub(crate) struct Feeder<'a> {
     pub gate: &'a Gate,
     pub seat: Seat,
     pub right: Right,

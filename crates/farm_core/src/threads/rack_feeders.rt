@@ -10,7 +10,7 @@ use farm_lanes::{Gate, Right};
 
 /// The threads of a rack's feeders, with their gate, and room for what they give back.
 #[derive(Drop)]
-pub struct RackFeeders<'a> {
+pub(crate) struct RackFeeders<'a> {
     pub gate: &'a Gate,
     pub handles: Vec<FeederHandle<'a>>,
     pub feds: Vec<Fed<'a>>,
@@ -22,7 +22,7 @@ pub struct RackFeeders<'a> {
 
 /// A rack's feeders before their threads start, with their gate, and room for what they give back.
 #[derive(Drop)]
-pub struct RackRoom<'a> {
+pub(crate) struct RackRoom<'a> {
     pub gate: &'a Gate,
     pub feeders: Vec<Feeder<'a>>,
     pub handles: Vec<FeederHandle<'a>>,

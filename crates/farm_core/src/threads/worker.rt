@@ -107,7 +107,11 @@ pub fn work<'a, R: Wait, P: Pause>(
 }
 
 /// Takes nothing and puts the end mark: what a worker does that no thread was made for.
-pub fn idle<'a, R: Wait>(rt: &R, jobs: TakeEnd<Job<'a>>, replies: PutEnd<Reply<'a>>) -> Worked<'a>
+pub(crate) fn idle<'a, R: Wait>(
+    rt: &R,
+    jobs: TakeEnd<Job<'a>>,
+    replies: PutEnd<Reply<'a>>,
+) -> Worked<'a>
     requires unused { IsUnusedTake jobs × IsUnusedPut replies }
     ensures { HasWorked jobs.entry replies.entry result.jobs result.replies }
 {
@@ -119,7 +123,7 @@ pub fn idle<'a, R: Wait>(rt: &R, jobs: TakeEnd<Job<'a>>, replies: PutEnd<Reply<'
 
 /// The ends that a worker was given.
 #[derive(Drop)]
-pub struct WorkOf<'a>(pub Snapshot<WorkerEnds<'a>>);
+pub(crate) struct WorkOf<'a>(pub Snapshot<WorkerEnds<'a>>);
 
 impl<'a> Promise<Worked<'a>> for WorkOf<'a> {
     ghost use Rattle.farm_core.specs.Jobs.{HasWorked};
@@ -127,7 +131,7 @@ impl<'a> Promise<Worked<'a>> for WorkOf<'a> {
     ghost kept_by = { λ p w. HasWorked p.0.value.jobs p.0.value.replies w.jobs w.replies };
 }
 
-pub type Worker<'a> = PromisedHandle<Worked<'a>, WorkOf<'a>>;
+pub(crate) type Worker<'a> = PromisedHandle<Worked<'a>, WorkOf<'a>>;
 
 // What the worker of this number does: it works, unless it is the one that no thread was made for.
 fn work_with<'a, R: Wait, P: Pause>(
@@ -170,7 +174,7 @@ fn start_worker<'s, 'a: 's, E, R: Threads + Wait + Sync, P: Pause>(
 
 /// Starts a worker for each pair of ends, in order. After a refusal no further one is started, and the others end here; of the
 /// last of these the end is given back by which it was to take.
-pub fn start_workers<'s, 'a: 's, E, R: Threads + Wait + Sync, P: Pause>(
+pub(crate) fn start_workers<'s, 'a: 's, E, R: Threads + Wait + Sync, P: Pause>(
     shared: &'s Shared<'s, R, P>,
     scope: &Scope<'s, E>,
     ends: Vec<WorkerEnds<'a>>,
@@ -198,7 +202,7 @@ pub fn start_workers<'s, 'a: 's, E, R: Threads + Wait + Sync, P: Pause>(
 }
 
 /// Joins the workers, and puts their ends in order.
-pub fn join_workers<'a, R: Threads>(
+pub(crate) fn join_workers<'a, R: Threads>(
     rt: &R,
     handles: Vec<Worker<'a>>,
     job_ends: &mut Vec<TakeEnd<Job<'a>>>,
@@ -216,14 +220,14 @@ pub fn join_workers<'a, R: Threads>(
 }
 
 /// Takes the mark of an end where no worker does.
-pub fn take_mark<'a, R: Wait>(rt: &R, taker: &mut Option<TakeEnd<Job<'a>>>) {
+pub(crate) fn take_mark<'a, R: Wait>(rt: &R, taker: &mut Option<TakeEnd<Job<'a>>>) {
     if let Some(end) = taker.as_mut() {
         let _mark = end.take(rt);
     }
 }
 
 /// Ends a worker's reply end and takes its mark. The end that the worker was to take by is given back.
-pub fn end_worker<'a, R: Wait>(
+pub(crate) fn end_worker<'a, R: Wait>(
     rt: &R,
     ends: WorkerEnds<'a>,
     desk: &mut TakeEnd<Reply<'a>>,

@@ -2,7 +2,7 @@
 use std::collections::LinkedList;
 
 /// What one seat has done, and what it may still do.
-pub struct SeatRecord {
+pub(crate) struct SeatRecord {
     /// How many draws it may make in all.
     pub share: u64,
 
@@ -27,7 +27,7 @@ pub struct SeatRecord {
 
 /// The sum of all shares at the opening of a gate, and the number of its rights.
 #[derive(Drop)]
-pub struct GateSize {
+pub(crate) struct GateSize {
     pub total: u64,
     pub rights: u64,
 }

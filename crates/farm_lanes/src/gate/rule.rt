@@ -3,7 +3,8 @@ use crate::gate::record::{GateSize, SeatRecord};
 use atomic_table::{Join, Play, Split, TableRule};
 use std::marker::{Brand, PhantomData};
 
-pub struct GateRule;
+/// The rule between a gate's word and what its seats know of it.
+pub(crate) struct GateRule;
 
 impl TableRule<u8, SeatRecord, GateSize> for GateRule {
     ghost use Rattle.std.specs.Prelude.{false};
@@ -16,7 +17,7 @@ impl TableRule<u8, SeatRecord, GateSize> for GateRule {
 }
 
 /// What a step is made with: the gate's size, and the share and the rights that a cut moves over.
-pub trait StepValues {
+pub(crate) trait StepValues {
     ghost use Rattle.std.specs.Prelude.{ℕ};
     ghost use Rattle.farm_lanes.specs.declared.gate.record.GateSize.{GateSize};
 
@@ -35,7 +36,8 @@ impl StepValues for Brand {
     ghost held = { 0 };
 }
 
-pub struct Draw<Z>(PhantomData<Z>);
+/// A seat draws the next number, or learns that the gate is closed.
+pub(crate) struct Draw<Z>(PhantomData<Z>);
 
 impl<Z: StepValues> Play<u8, SeatRecord> for Draw<Z> {
     ghost use Rattle.farm_lanes.specs.GateRule.{Draws};
@@ -43,7 +45,8 @@ impl<Z: StepValues> Play<u8, SeatRecord> for Draw<Z> {
     ghost then = { Draws Z.size };
 }
 
-pub struct Close<Z>(PhantomData<Z>);
+/// A closing right is spent.
+pub(crate) struct Close<Z>(PhantomData<Z>);
 
 impl<Z: StepValues> Play<u8, SeatRecord> for Close<Z> {
     ghost use Rattle.farm_lanes.specs.GateRule.{Closes};
@@ -51,7 +54,8 @@ impl<Z: StepValues> Play<u8, SeatRecord> for Close<Z> {
     ghost then = { Closes Z.size };
 }
 
-pub struct Look<Z>(PhantomData<Z>);
+/// A step that changes nothing, and tells that the record is sound.
+pub(crate) struct Look<Z>(PhantomData<Z>);
 
 impl<Z: StepValues> Play<u8, SeatRecord> for Look<Z> {
     ghost use Rattle.farm_lanes.specs.GateRule.{Looks};
@@ -59,7 +63,8 @@ impl<Z: StepValues> Play<u8, SeatRecord> for Look<Z> {
     ghost then = { Looks Z.size };
 }
 
-pub struct Cut<Z>(PhantomData<Z>);
+/// A share and rights move into a record of their own.
+pub(crate) struct Cut<Z>(PhantomData<Z>);
 
 impl<Z: StepValues> Split<SeatRecord> for Cut<Z> {
     ghost use Rattle.farm_lanes.specs.SeatChanges.{fresh, without};
@@ -69,7 +74,8 @@ impl<Z: StepValues> Split<SeatRecord> for Cut<Z> {
     ghost right = { λ s. fresh Z.share Z.held s.knows };
 }
 
-pub struct Together;
+/// Two records become one.
+pub(crate) struct Together;
 
 impl Join<SeatRecord> for Together {
     ghost use Rattle.std.specs.Prelude.{false};

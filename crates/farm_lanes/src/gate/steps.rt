@@ -11,16 +11,16 @@ use crate::gate::rule::{Close, Cut, Draw, GateRule, Look, StepValues, Together};
 use atomic_table::{Seat, Shared};
 
 /// A token of no bytes in which a seat's record stands.
-pub type RawSeat = Seat<u8, SeatRecord>;
+pub(crate) type RawSeat = Seat<u8, SeatRecord>;
 
 /// The word of a gate.
-pub type RawGate = Shared<u8, SeatRecord, GateSize, GateRule>;
+pub(crate) type RawGate = Shared<u8, SeatRecord, GateSize, GateRule>;
 
 /// The bit of the word that is set once the gate is closed.
-pub const CLOSED: u64 = 1 << 63;
+pub(crate) const CLOSED: u64 = 1 << 63;
 
 /// One draw: the word as it was before, which then counts one draw more.
-pub fn raw_draw<Z: StepValues>(gate: &RawGate, seat: &mut RawSeat) -> u64
+pub(crate) fn raw_draw<Z: StepValues>(gate: &RawGate, seat: &mut RawSeat) -> u64
     requires own { (seat.old.table_id ≡ gate.now.table_id) × (gate.now.table_id.words ≡ 1) }
     requires size { gate.now.key ≡ Z.size }
     requires budget { seat.old.me.0.draws < seat.old.me.0.share }
@@ -31,7 +31,7 @@ pub fn raw_draw<Z: StepValues>(gate: &RawGate, seat: &mut RawSeat) -> u64
 }
 
 /// One close, for which the seat's right is used up: the word as it was before.
-pub fn raw_close<Z: StepValues>(gate: &RawGate, seat: &mut RawSeat) -> u64
+pub(crate) fn raw_close<Z: StepValues>(gate: &RawGate, seat: &mut RawSeat) -> u64
     requires own { (seat.old.table_id ≡ gate.now.table_id) × (gate.now.table_id.words ≡ 1) }
     requires size { gate.now.key ≡ Z.size }
     requires right { 0 < seat.old.me.0.held }
@@ -42,7 +42,7 @@ pub fn raw_close<Z: StepValues>(gate: &RawGate, seat: &mut RawSeat) -> u64
 }
 
 /// Reads the word, so that the seat's record is known to be sound.
-pub fn raw_look<Z: StepValues>(gate: &RawGate, seat: &mut RawSeat)
+pub(crate) fn raw_look<Z: StepValues>(gate: &RawGate, seat: &mut RawSeat)
     requires own { (seat.old.table_id ≡ gate.now.table_id) × (gate.now.table_id.words ≡ 1) }
     requires size { gate.now.key ≡ Z.size }
     ensures own { (seat.new.table_id ≡ seat.old.table_id) × (seat.new.me ≡ seat.old.me) }
@@ -52,7 +52,12 @@ pub fn raw_look<Z: StepValues>(gate: &RawGate, seat: &mut RawSeat)
 }
 
 /// Cuts a share and rights off a seat.
-pub fn raw_cut<Z: StepValues>(gate: &RawGate, seat: &mut RawSeat, share: u64, held: u64) -> RawSeat
+pub(crate) fn raw_cut<Z: StepValues>(
+    gate: &RawGate,
+    seat: &mut RawSeat,
+    share: u64,
+    held: u64,
+) -> RawSeat
     requires own { (seat.old.table_id ≡ gate.now.table_id) × (gate.now.table_id.words ≡ 1) }
     requires values { (share ≡ Z.share) × (held ≡ Z.held) }
     requires part { (share + seat.old.me.0.draws ≤ seat.old.me.0.share) × (held ≤ seat.old.me.0.held) }
@@ -63,7 +68,7 @@ pub fn raw_cut<Z: StepValues>(gate: &RawGate, seat: &mut RawSeat, share: u64, he
 }
 
 /// Joins another seat to this one.
-pub fn raw_join(gate: &RawGate, seat: &mut RawSeat, other: RawSeat)
+pub(crate) fn raw_join(gate: &RawGate, seat: &mut RawSeat, other: RawSeat)
     requires own { (seat.old.table_id ≡ gate.now.table_id) × (other.table_id ≡ gate.now.table_id) × (gate.now.table_id.words ≡ 1) × (other.me.1 ≡ []) }
     ensures own { (seat.new.table_id ≡ seat.old.table_id) × (seat.new.me ≡ (joined seat.old.me.0 other.me.0, seat.old.me.1)) }
 {

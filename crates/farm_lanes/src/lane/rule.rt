@@ -6,14 +6,15 @@ use std::marker::{Brand, PhantomData};
 
 /// What is known of one end, or of several together: the list that each sender put, by sender, and what was taken. `parts` of the
 /// lane's `ends` are in it. It exists in proofs alone: no value of it is made.
-pub struct EndRecord<T> {
+pub(crate) struct EndRecord<T> {
     pub ends: u64,
     pub parts: u64,
     pub puts: LinkedList<(u64, LinkedList<Item<T>>)>,
     pub taken: LinkedList<Item<T>>,
 }
 
-pub struct LaneRule;
+/// The rule between what a lane holds and what its ends know of it.
+pub(crate) struct LaneRule;
 
 impl<T> Protocol<Item<T>, EndRecord<T>> for LaneRule {
     ghost use Rattle.std.specs.Prelude.{[]};
@@ -24,7 +25,8 @@ impl<T> Protocol<Item<T>, EndRecord<T>> for LaneRule {
     ghost first = { end_record 1 1 [] [] };
 }
 
-pub struct Puts;
+/// An end puts an item: it joins the list of its sender.
+pub(crate) struct Puts;
 
 impl<T> Outcome<Item<T>, EndRecord<T>> for Puts {
     ghost use Rattle.farm_lanes.specs.LaneRule as lane;
@@ -36,7 +38,8 @@ impl<T> Lesson<Item<T>, EndRecord<T>> for Puts {
     ghost fact = { λ _ _. Unit {0} };
 }
 
-pub struct Takes;
+/// An end takes an item: it joins what was taken.
+pub(crate) struct Takes;
 
 impl<T> Outcome<Item<T>, EndRecord<T>> for Takes {
     ghost use Rattle.farm_lanes.specs.LaneRule as lane;
@@ -49,7 +52,7 @@ impl<T> Lesson<Item<T>, EndRecord<T>> for Takes {
 }
 
 /// A read by which who holds all parts learns the whole.
-pub struct Tells;
+pub(crate) struct Tells;
 
 impl<T> Lesson<Item<T>, EndRecord<T>> for Tells {
     ghost use Rattle.farm_lanes.specs.LaneRule as lane;
@@ -58,7 +61,7 @@ impl<T> Lesson<Item<T>, EndRecord<T>> for Tells {
 }
 
 /// How many ends a new lane has, and how many of them are put ends.
-pub trait EndCounts {
+pub(crate) trait EndCounts {
     ghost use Rattle.std.specs.Prelude.{ℕ};
 
     ghost ends: { ℕ };
@@ -73,7 +76,7 @@ impl EndCounts for Brand {
 }
 
 /// The first cut of a lane, which names its ends and senders.
-pub struct NameEnds<Z>(PhantomData<Z>);
+pub(crate) struct NameEnds<Z>(PhantomData<Z>);
 
 impl<T, Z: EndCounts> Split<EndRecord<T>> for NameEnds<Z> {
     ghost use Rattle.std.specs.Prelude.{[]};
@@ -84,7 +87,8 @@ impl<T, Z: EndCounts> Split<EndRecord<T>> for NameEnds<Z> {
     ghost right = { λ _. end_record 0 0 [] [] };
 }
 
-pub struct CutPut;
+/// A put end of its own, with the list of the first sender that is left.
+pub(crate) struct CutPut;
 
 impl<T> Split<EndRecord<T>> for CutPut {
     ghost use Rattle.std.specs.Prelude.{◌-◌, []};
@@ -95,7 +99,8 @@ impl<T> Split<EndRecord<T>> for CutPut {
     ghost right = { λ v. end_record v.ends 1 (puts_first v.puts) [] };
 }
 
-pub struct CutTake;
+/// A take end of its own, which has taken nothing.
+pub(crate) struct CutTake;
 
 impl<T> Split<EndRecord<T>> for CutTake {
     ghost use Rattle.std.specs.Prelude.{◌-◌, []};
@@ -106,7 +111,8 @@ impl<T> Split<EndRecord<T>> for CutTake {
     ghost right = { λ v. end_record v.ends 1 [] [] };
 }
 
-pub struct Together;
+/// What is known of two ends becomes what is known of both.
+pub(crate) struct Together;
 
 impl<T> Join<EndRecord<T>> for Together {
     ghost use Rattle.std.specs.Prelude.{[]};

@@ -16,16 +16,16 @@ use std::alloc::Allocator;
 use std::sync::Wait;
 
 /// A token of no bytes in which an end's record stands.
-pub type LanePass<T> = Pass<Item<T>, EndRecord<T>>;
+pub(crate) type LanePass<T> = Pass<Item<T>, EndRecord<T>>;
 
 /// The back of a lane's queue.
-pub type LaneSender<T, A> = RuledSender<Item<T>, EndRecord<T>, LaneRule, A>;
+pub(crate) type LaneSender<T, A> = RuledSender<Item<T>, EndRecord<T>, LaneRule, A>;
 
 /// The front of a lane's queue.
-pub type LaneReceiver<T, A> = RuledReceiver<Item<T>, EndRecord<T>, LaneRule, A>;
+pub(crate) type LaneReceiver<T, A> = RuledReceiver<Item<T>, EndRecord<T>, LaneRule, A>;
 
 /// Puts an item at the back. A send that did nothing is made again until it is done.
-pub fn send<T: Drop, A: Allocator, R: Wait>(
+pub(crate) fn send<T: Drop, A: Allocator, R: Wait>(
     rt: &R,
     sends: &LaneSender<T, A>,
     pass: &mut LanePass<T>,
@@ -49,7 +49,7 @@ pub fn send<T: Drop, A: Allocator, R: Wait>(
 }
 
 /// Takes the item at the front. A receive that did nothing is made again until it is done.
-pub fn receive<T: Drop, A: Allocator, R: Wait>(
+pub(crate) fn receive<T: Drop, A: Allocator, R: Wait>(
     rt: &R,
     takes: &LaneReceiver<T, A>,
     pass: &mut LanePass<T>,
@@ -69,7 +69,7 @@ pub fn receive<T: Drop, A: Allocator, R: Wait>(
 }
 
 /// Names the ends and the senders of a new lane in its first pass.
-pub fn name_ends<T: Drop, A: Allocator, Z: EndCounts>(
+pub(crate) fn name_ends<T: Drop, A: Allocator, Z: EndCounts>(
     sends: &LaneSender<T, A>,
     pass: &mut LanePass<T>,
     ends: usize,
@@ -85,7 +85,7 @@ pub fn name_ends<T: Drop, A: Allocator, Z: EndCounts>(
 }
 
 /// Cuts a put end's pass off, with the list of the first sender.
-pub fn cut_put<T: Drop, A: Allocator>(
+pub(crate) fn cut_put<T: Drop, A: Allocator>(
     sends: &LaneSender<T, A>,
     pass: &mut LanePass<T>,
 ) -> LanePass<T>
@@ -99,7 +99,7 @@ pub fn cut_put<T: Drop, A: Allocator>(
 }
 
 /// Cuts a take end's pass off.
-pub fn cut_take<T: Drop, A: Allocator>(
+pub(crate) fn cut_take<T: Drop, A: Allocator>(
     sends: &LaneSender<T, A>,
     pass: &mut LanePass<T>,
 ) -> LanePass<T>
@@ -114,7 +114,7 @@ pub fn cut_take<T: Drop, A: Allocator>(
 }
 
 /// Joins another pass to this one.
-pub fn take_in<T: Drop, A: Allocator>(
+pub(crate) fn take_in<T: Drop, A: Allocator>(
     sends: &LaneSender<T, A>,
     pass: &mut LanePass<T>,
     other: LanePass<T>,
@@ -128,7 +128,7 @@ pub fn take_in<T: Drop, A: Allocator>(
 }
 
 /// Reads the queue by the pass that has all parts.
-pub fn learn<T: Drop, A: Allocator>(sends: &LaneSender<T, A>, pass: &mut LanePass<T>)
+pub(crate) fn learn<T: Drop, A: Allocator>(sends: &LaneSender<T, A>, pass: &mut LanePass<T>)
     requires seated { IsSeatAt (sends_on sends.now) pass.old }
     requires all { (0 < (view pass.old).parts) × ((view pass.old).parts ≡ (view pass.old).ends) }
     ensures seated { IsSeatAt (sends_on sends.now) pass.new }

@@ -55,8 +55,8 @@ fn accepts<'a>(collector: &mut Collector<'a>, reply: Reply<'a>) -> bool
     }
 }
 
-// What a collector ends with that gets the replies to rack 0's requests of these numbers, in this order. Those that are
-// starved say that memory was wanting.
+/// What a collector ends with that gets the replies to rack 0's requests of these numbers, in this order. Those that are
+/// starved say that memory was wanting.
 pub(crate) fn gathered(
     alloc: Global,
     racks: &Racks,
@@ -175,7 +175,7 @@ fn strangers_and_second_replies(rt: HostRuntime) -> Result<(), AllocError> {
     Ok(())
 }
 
-/// Refused replies leave a collector as it was: it still tells the reply that is missing.
+// Refused replies leave a collector as it was: it still tells the reply that is missing.
 #[test]
 fn refused_replies_and_a_missing_one(rt: HostRuntime) -> Result<(), AllocError> {
     let alloc = rt.alloc();

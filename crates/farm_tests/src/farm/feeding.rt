@@ -140,7 +140,7 @@ fn are_of_both(answers: &[(usize, Outcome)]) -> bool {
     }
 }
 
-/// Each row a hundred times, with 3 workers and queue 1.
+// Each row a hundred times, with 3 workers and queue 1.
 #[test]
 fn two_feeds(rt: HostRuntime) -> Result<(), AllocError> {
     let alloc = rt.alloc();
@@ -183,7 +183,7 @@ fn answers_with_first<R: Abort + Threads + Wait + Sync>(
     }
 }
 
-/// The feeders of a rack run at the same time: either may go first.
+// The feeders of a rack run at the same time: either may go first.
 #[test]
 fn either_feed_may_go_first(rt: HostRuntime) -> Result<(), AllocError> {
     let alloc = rt.alloc();
@@ -275,7 +275,7 @@ fn fills<R: Abort + Threads + Wait + Sync>(
     Ok(())
 }
 
-/// With one worker no more jobs wait than the queue holds, and no fewer.
+// With one worker no more jobs wait than the queue holds, and no fewer.
 #[test]
 fn jobs_wait_in_the_queue_alone(rt: HostRuntime) -> Result<(), AllocError> {
     let alloc = rt.alloc();

@@ -161,7 +161,7 @@ const SIXTEEN: &[&[Entry]] = &[&[LOCAL; 16]];
 
 const ANSWERS_OF_SIXTEEN: &[&[Option<u8>]] = &[&[Some(0x01); 16]];
 
-/// As many workers are started as are set: sixteen requests are worked on at once.
+// As many workers are started as are set: sixteen requests are worked on at once.
 #[test]
 fn all_sixteen_workers_meet(rt: HostRuntime) -> Result<(), AllocError> {
     let alloc = rt.alloc();
@@ -177,7 +177,7 @@ fn all_sixteen_workers_meet(rt: HostRuntime) -> Result<(), AllocError> {
     Ok(())
 }
 
-/// The collector waits for the worker that ends last: in a queue of one its reply and its mark have no room together.
+// The collector waits for the worker that ends last: in a queue of one its reply and its mark have no room together.
 #[test]
 fn one_worker_ends_late(rt: HostRuntime) -> Result<(), AllocError> {
     let alloc = rt.alloc();

@@ -94,7 +94,7 @@ fn is_end<'a>(rt: &impl Wait, replies: &mut TakeEnd<Reply<'a>>) -> bool {
     matches!(replies.take(rt), Item::End { .. })
 }
 
-/// The gate is closed at 2, the first worker replies to both requests and the second to none.
+// The gate is closed at 2, the first worker replies to both requests and the second to none.
 #[test]
 fn a_feeder_and_two_workers(rt: HostRuntime) -> Result<(), Fail> {
     let alloc = rt.alloc();

@@ -94,7 +94,7 @@ const SEVEN_FEEDS: &[&[&[Entry]]] = &[
     &[&[], &[LOCAL], &[LOCAL], &[GLOBAL, LOCAL]],
 ];
 
-/// Racks of one, two and four feeds.
+// Racks of one, two and four feeds.
 #[test]
 fn orders_of_seven_feeds(rt: HostRuntime) -> Result<(), AllocError> {
     let alloc = rt.alloc();
@@ -107,7 +107,7 @@ fn orders_of_seven_feeds(rt: HostRuntime) -> Result<(), AllocError> {
 
 const TWO_LISTS: &[&[Entry]] = &[&[LOCAL], &[GLOBAL]];
 
-/// Racks of one list each: a list is its rack's feed 0.
+// Racks of one list each: a list is its rack's feed 0.
 #[test]
 fn orders_of_two_lists(rt: HostRuntime) -> Result<(), AllocError> {
     let alloc = rt.alloc();

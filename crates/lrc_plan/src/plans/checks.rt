@@ -13,7 +13,7 @@ use crate::tree::Tree;
 use lrc_code::{Code, Place, PlaceSet, Reduced};
 use std::alloc::{AllocError, Allocator};
 
-// One check for each row without a pivot.
+/// One check for each row without a pivot.
 pub(crate) fn checks_of<A: Allocator + Clone>(
     alloc: &A,
     code: Code,

@@ -44,7 +44,7 @@ fn from_first_term<'a>(row: &[Gf; 16], places: &'a [Place]) -> &'a [Place]
     }
 }
 
-// The sum of a row's products over places, with no tree where all coefficients are 0.
+/// The sum of a row's products over places, with no tree where all coefficients are 0.
 pub(crate) fn row_tree<A: Allocator + Clone>(
     alloc: &A,
     row: &[Gf; 16],

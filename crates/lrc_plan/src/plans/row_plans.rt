@@ -39,7 +39,7 @@ pub fn plan_rows(code: Code, survivors: PlaceSet, target: Place) -> RowPlan
     plan_by_reduction(code, survivors, target)
 }
 
-// The plan from the equations solved for the lost places.
+/// The plan from the equations solved for the lost places.
 pub(crate) fn plan_by_reduction(code: Code, survivors: PlaceSet, target: Place) -> RowPlan
     requires lost { is_in survivors target ≡ false }
     requires place { has_place (tables_of code) target ≡ true }
@@ -79,7 +79,7 @@ fn row_in_group(code: Code, survivors: PlaceSet, target: Place) -> Option<[Gf; 1
     Some(cut_row(code, row, survivors, target))
 }
 
-// The local parity of the other group.
+/// The local parity of the other group.
 pub(crate) fn other_parity(group: Group) -> Place
     ensures { result ≡ other_parity_of group }
 {

@@ -10,7 +10,7 @@ ghost use Rattle.lrc_plan.specs.Planned.{rows_without_pivot};
 use lrc_code::{Place, PlaceSet, Reduced};
 use lrc_field::Gf;
 
-// The coefficients of a row.
+/// The coefficients of a row.
 pub(crate) fn row_of(reduced: &Reduced, row: usize) -> [Gf; 16]
     requires { row < 4 }
     ensures { (p : Place) → slice_index result (index_of p) ≡ coef_of reduced.now row p }
@@ -18,7 +18,7 @@ pub(crate) fn row_of(reduced: &Reduced, row: usize) -> [Gf; 16]
     reduced.row(row)
 }
 
-// The number of rows without a pivot.
+/// The number of rows without a pivot.
 pub(crate) fn count_without_pivot(reduced: &Reduced) -> usize
     ensures { result ≡ rows_without_pivot (pivot_of reduced.now) 4 }
 {
@@ -31,7 +31,7 @@ pub(crate) fn count_without_pivot(reduced: &Reduced) -> usize
     count
 }
 
-// The row whose pivot the place is.
+/// The row whose pivot the place is.
 pub(crate) fn row_with_pivot(reduced: &Reduced, place: Place) -> Option<usize>
     ensures { MatchOption result
         ((r : ℕ) → r < 4 → pivot_of reduced.now r ≢ Some place)
@@ -45,7 +45,7 @@ pub(crate) fn row_with_pivot(reduced: &Reduced, place: Place) -> Option<usize>
     None
 }
 
-// Whether the row is 00 at each lost place but the target, and so gives the target from survivors.
+/// Whether the row is 00 at each lost place but the target, and so gives the target from survivors.
 pub(crate) fn determines(
     row: &[Gf; 16],
     survivors: PlaceSet,

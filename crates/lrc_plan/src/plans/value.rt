@@ -19,7 +19,7 @@ use lrc_code::{Code, Group, Place, PlaceSet, Reduced};
 use lrc_field::Gf;
 use std::alloc::{AllocError, Allocator};
 
-// The equation of a group: 01 at its places in the code, 00 elsewhere.
+/// The equation of a group: 01 at its places in the code, 00 elsewhere.
 pub(crate) fn equation_of(code: Code, group: Group) -> [Gf; 16]
     ensures { result ≡ group_row (tables_of code) (Some group) }
 {
@@ -75,7 +75,7 @@ fn row_value<A: Allocator + Clone>(
     tree_of_row(alloc, code, coefficients, survivors, target)
 }
 
-// The equation of the target's group, where all others of the group survive.
+/// The equation of the target's group, where all others of the group survive.
 pub(crate) fn local_row(code: Code, survivors: PlaceSet, target: Place) -> Option<[Gf; 16]>
     requires { has_place (tables_of code) target ≡ true }
     ensures { MatchOption result
@@ -90,7 +90,7 @@ pub(crate) fn local_row(code: Code, survivors: PlaceSet, target: Place) -> Optio
     None
 }
 
-// The target's tree: from the equation of its group where the others survive, else from its row of the reduction.
+/// The target's tree: from the equation of its group where the others survive, else from its row of the reduction.
 pub(crate) fn value_of<A: Allocator + Clone>(
     alloc: &A,
     code: Code,

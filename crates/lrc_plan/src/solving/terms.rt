@@ -12,7 +12,7 @@ use lrc_code::{Place, Request, Sources};
 use lrc_field::{Gf, Term, combined, sums_are_zero};
 use std::alloc::{AllocError, Global};
 
-// The row's sum at each position.
+/// The row's sum at each position.
 pub(crate) fn row_sums(
     alloc: Global,
     row: &[Gf; 16],
@@ -28,7 +28,7 @@ pub(crate) fn row_sums(
     combined(alloc, length, &terms[..count])
 }
 
-// Whether the row's sum is 00 at every position.
+/// Whether the row's sum is 00 at every position.
 pub(crate) fn is_zero(row: &[Gf; 16], request: &Request, sources: &Sources<'_>) -> bool
     requires { AreSources request.now.survivors sources.now }
     ensures yes { result ≡ true → IsZeroRow request.now row.now }
@@ -82,7 +82,7 @@ fn fill_terms<'a>(
     count
 }
 
-// The same of at most six terms where all that the row reads survive, else none: a group has no more than six others.
+/// The same of at most six terms where all that the row reads survive, else none: a group has no more than six others.
 pub(crate) fn fill_surviving<'a>(
     terms: &mut [Term<'a>; 6],
     row: &[Gf; 16],

@@ -25,7 +25,7 @@ pub fn evaluate<A: Allocator>(
     evaluate_scaled(alloc, tree, Gf::new(1), request)
 }
 
-// A factor times the tree's value at each position.
+/// A factor times the tree's value at each position.
 pub(crate) fn evaluate_scaled<A: Allocator>(
     alloc: Global,
     tree: &Tree<A>,
