@@ -12,6 +12,7 @@ pub(crate) struct Lines<'a> {
 }
 
 impl<'a> Lines<'a> {
+    /// All lines of the input.
     pub(crate) fn new(input: &'a [u8]) -> Lines<'a>
         ensures { result.rest.now ≡ input.now }
     {

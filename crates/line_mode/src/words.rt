@@ -10,6 +10,7 @@ pub(crate) struct LineWords<'a> {
 }
 
 impl<'a> LineWords<'a> {
+    /// All words of the line.
     pub(crate) fn new(line: &'a [u8]) -> LineWords<'a>
         ensures { result.rest.now ≡ line.now }
     {

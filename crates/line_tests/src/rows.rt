@@ -3,7 +3,7 @@ use crate::asserting::{replies, replies_to_line, run};
 use line_mode::{LineFault, line_status};
 use std::alloc::{AllocError, Global};
 
-/// Lines that are answered, and their answers. Stripe a has the data 01 02 03 04 05 06.
+// Lines that are answered, and their answers. Stripe a has the data 01 02 03 04 05 06.
 static ANSWERED: [(&[u8], &[u8]); 24] = [
     // The other three of a group give the lost one.
     (b"a x0 1 x1=02 x2=03 px=00", b"rebuilt 01"),
@@ -74,7 +74,7 @@ static ANSWERED: [(&[u8], &[u8]); 24] = [
     (b"code=6-2-2 a x0 1 x1=02 x2=03 px=00", b"rebuilt 01"),
 ];
 
-/// Lines that are refused, and by which number.
+// Lines that are refused, and by which number.
 static REFUSED: [(&[u8], &[u8]); 47] = [
     (b"b x3 1", b"refused E22"),
     (b"code=6-2-2 b x3 1", b"refused E22"),

@@ -2,7 +2,7 @@
 use crate::asserting::replies_to_line;
 use std::alloc::{AllocError, Global};
 
-/// Those of the 400 lines in `cases/reference` that hold at most 56 bytes.
+// Those of the 400 lines in `cases/reference` that hold at most 56 bytes.
 static VECTORS: [(&[u8], &[u8]); 89] = [
     (
         b"a px 0000001  y0=4F y1=00 py=4E p1=0A p0=44 x1=00  y2=01",

@@ -58,6 +58,7 @@ pub(crate) fn store(bytes: &mut [u8], i: usize, v: u8x32)
     v.copy_to_slice(&mut bytes[i..]);
 }
 
+/// The sums of two blocks of 32 bytes.
 #[inline(always)]
 pub(crate) fn added(a: u8x32, b: u8x32) -> u8x32
     ensures { HasLanes result (λ k. bit_xor (slice_index a k) (slice_index b k)) }
@@ -141,6 +142,7 @@ fn spread(first: u8, second: u8, third: u8, fourth: u8) -> u8x32
 }
 
 impl Tables {
+    /// The tables of a scalar's products.
     pub(crate) fn new(scalar: Gf) -> Tables
         ensures { result ≡ scalar }
     {
@@ -185,6 +187,7 @@ impl Tables {
     }
 }
 
+/// 32 bytes 00.
 #[inline(always)]
 pub(crate) fn zeros() -> u8x32
     ensures { HasLanes result (λ k. 0) }
@@ -192,6 +195,7 @@ pub(crate) fn zeros() -> u8x32
     u8x32::splat(0)
 }
 
+/// 128 bytes 00.
 #[inline(always)]
 pub(crate) fn zero_quad() -> Quad
     ensures { HasQuad result (λ k. 0) }
@@ -218,6 +222,7 @@ pub(crate) fn load_quad(bytes: &[u8], i: usize) -> Quad
     }
 }
 
+/// The sums of two blocks of 128 bytes.
 #[inline(always)]
 pub(crate) fn added_quad(p: Quad, q: Quad) -> Quad
     ensures { (f g : ℕ → ℕ) → HasQuad p f → HasQuad q g → HasQuad result (λ k. bit_xor (f k) (g k)) }

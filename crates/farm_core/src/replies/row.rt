@@ -40,6 +40,7 @@ impl<'a> Row<'a> {
         Ok(Row { cells })
     }
 
+    /// How many replies the row is for.
     pub(crate) fn len(&self) -> usize
         ensures { result ≡ length self.now }
     {

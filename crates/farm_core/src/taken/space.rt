@@ -5,7 +5,7 @@ ghost use Rattle.farm_core.specs.Limits.{feed_limit, rack_limit};
 use crate::limits::MOST_FEEDS;
 use crate::replies::Reply;
 use crate::threads::rack_feeders::RackFeeders;
-use crate::threads::worker::{Job, Worker};
+use crate::threads::worker::{Job, WorkerHandle};
 use farm_lanes::{EndedPut, TakeEnd};
 use std::alloc::{AllocError, Global};
 
@@ -26,7 +26,7 @@ pub(crate) struct EndSpace<'a> {
 /// Empty lists with room for the threads of so many racks and workers, and for their ends.
 #[derive(Drop)]
 pub(crate) struct Space<'a> {
-    pub working: Vec<Worker<'a>>,
+    pub working: Vec<WorkerHandle<'a>>,
     pub feeding: Vec<RackFeeders<'a>>,
     pub ends: EndSpace<'a>,
     pub ghost threads: { (working.items ≡ []) × (ends.workers ≤ vec_capacity working) × (feeding.items ≡ []) × (ends.racks ≤ vec_capacity feeding) },

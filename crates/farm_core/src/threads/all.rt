@@ -14,21 +14,23 @@ use crate::settling::Joined;
 use crate::taken::space::EndSpace;
 use crate::threads::Shared;
 use crate::threads::closing::close_rack;
-use crate::threads::collecting::{ClearOf, Cleared};
+use crate::threads::collecting::{Cleared, CollectorHandle};
 use crate::threads::feeder::{FeederHandle, end_feeders, join_feeders, start_feeders};
 use crate::threads::given::WorkerEnds;
 use crate::threads::rack_feeders::{RackFeeders, RackRoom};
-use crate::threads::worker::{Job, Worker, end_worker, join_workers, start_workers, take_mark};
+use crate::threads::worker::{
+    Job, WorkerHandle, end_worker, join_workers, start_workers, take_mark,
+};
 use farm_lanes::{EndedPut, PutEnd, TakeEnd};
 use std::sync::Wait;
-use std::thread::{PromisedHandle, Scope, Threads};
+use std::thread::{Scope, Threads};
 
 /// The threads that were started, the end for the stops, and an end to take by where no worker was started.
 #[derive(Drop)]
 pub(crate) struct Started<'a> {
     pub all: bool,
-    pub collecting: PromisedHandle<Cleared<'a>, ClearOf<'a>>,
-    pub working: Vec<Worker<'a>>,
+    pub collecting: CollectorHandle<'a>,
+    pub working: Vec<WorkerHandle<'a>>,
     pub feeding: Vec<RackFeeders<'a>>,
     /// The feeders of the rack in which a thread was refused.
     pub left: Option<Vec<FeederHandle<'a>>>,
@@ -102,7 +104,7 @@ pub(crate) fn start_all<'s, 'a: 's, E, R: Threads + Wait + Sync, P: Pause>(
     scope: &Scope<'s, E>,
     ends: Vec<WorkerEnds<'a>>,
     racks: Vec<RackRoom<'a>>,
-    workers: &mut Vec<Worker<'a>>,
+    workers: &mut Vec<WorkerHandle<'a>>,
     feeding: &mut Vec<RackFeeders<'a>>,
 ) -> Starts<'a>
     requires empty { (workers.old.items ≡ []) × (feeding.old.items ≡ []) }

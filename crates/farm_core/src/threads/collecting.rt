@@ -69,6 +69,9 @@ impl<'a> Promise<Cleared<'a>> for ClearOf<'a> {
     ghost kept_by = { λ p c. HasCleared p.0.value.board.racks p.0.value.replies c.all.board c.all.fault c.replies };
 }
 
+/// The collector that was started, to be joined.
+pub(crate) type CollectorHandle<'a> = PromisedHandle<Cleared<'a>, ClearOf<'a>>;
+
 // What the collector's thread does. Where no thread was made for it, it waits for no worker and takes nothing.
 fn clear_with<'a, R: Wait, P: Pause>(shared: &Shared<R, P>, desk: Desk<'a>) -> Cleared<'a>
     requires empty { HoldsNothing desk.board.racks desk.board }
@@ -100,7 +103,7 @@ pub(crate) fn start_collector<'s, 'a: 's, E, R: Wait + Sync, P: Pause>(
     shared: &'s Shared<'s, R, P>,
     scope: &Scope<'s, E>,
     desk: Desk<'a>,
-) -> Result<PromisedHandle<Cleared<'a>, ClearOf<'a>>, Cleared<'a>>
+) -> Result<CollectorHandle<'a>, Cleared<'a>>
     requires empty { HoldsNothing desk.board.racks desk.board }
     requires unused { IsUnusedTake desk.replies }
     ensures { IfOk result (λ h. h.promise.0.value ≡ desk.entry) }

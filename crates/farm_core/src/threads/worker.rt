@@ -131,7 +131,8 @@ impl<'a> Promise<Worked<'a>> for WorkOf<'a> {
     ghost kept_by = { λ p w. HasWorked p.0.value.jobs p.0.value.replies w.jobs w.replies };
 }
 
-pub(crate) type Worker<'a> = PromisedHandle<Worked<'a>, WorkOf<'a>>;
+/// A worker that was started, to be joined.
+pub(crate) type WorkerHandle<'a> = PromisedHandle<Worked<'a>, WorkOf<'a>>;
 
 // What the worker of this number does: it works, unless it is the one that no thread was made for.
 fn work_with<'a, R: Wait, P: Pause>(
@@ -155,7 +156,7 @@ fn start_worker<'s, 'a: 's, E, R: Threads + Wait + Sync, P: Pause>(
     scope: &Scope<'s, E>,
     number: usize,
     ends: WorkerEnds<'a>,
-) -> Result<Worker<'a>, Worked<'a>>
+) -> Result<WorkerHandle<'a>, Worked<'a>>
     ensures started { IfOk result (λ h. h.promise.0.value ≡ ends.entry) }
     ensures ended { IfErr result (λ w. HasWorked ends.entry.jobs ends.entry.replies w.jobs w.replies) }
 {
@@ -178,7 +179,7 @@ pub(crate) fn start_workers<'s, 'a: 's, E, R: Threads + Wait + Sync, P: Pause>(
     shared: &'s Shared<'s, R, P>,
     scope: &Scope<'s, E>,
     ends: Vec<WorkerEnds<'a>>,
-    handles: &mut Vec<Worker<'a>>,
+    handles: &mut Vec<WorkerHandle<'a>>,
 ) -> Option<TakeEnd<Job<'a>>>
     requires empty { handles.old.items ≡ [] }
     requires room { vec_len ends ≤ vec_capacity handles.old }
@@ -204,7 +205,7 @@ pub(crate) fn start_workers<'s, 'a: 's, E, R: Threads + Wait + Sync, P: Pause>(
 /// Joins the workers, and puts their ends in order.
 pub(crate) fn join_workers<'a, R: Threads>(
     rt: &R,
-    handles: Vec<Worker<'a>>,
+    handles: Vec<WorkerHandle<'a>>,
     job_ends: &mut Vec<TakeEnd<Job<'a>>>,
     reply_ends: &mut Vec<EndedPut<Reply<'a>>>,
 )

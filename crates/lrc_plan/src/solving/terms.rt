@@ -161,6 +161,7 @@ fn no_terms<'a>() -> [Term<'a>; 16] {
     ]
 }
 
+/// A term that no source was put in.
 pub(crate) fn no_term<'a>() -> Term<'a> {
     Term {
         scalar: Gf::new(0),
