@@ -344,7 +344,9 @@ fn read_feed<R: Threads + Sync, I: Shelf>(
     let requests = requests_before_close(alloc, list)?;
     // A record that isn't among the requests before the close is the close or behind it.
     let closes = requests.len() < list.len();
-    read_requests(rt, alloc, input, requests.as_slice(), closes, threads)
+    // Named, since the proof speaks of it.
+    let read = read_requests(rt, alloc, input, requests.as_slice(), closes, threads)?;
+    Ok(read)
 }
 
 // The same of each feed of a rack.

@@ -64,7 +64,9 @@ pub(crate) fn row_tree<A: Allocator + Clone>(
         [first, rest @ ..] => {
             let others = row_tree(alloc, row, rest)?;
             let own = product(alloc.clone()?, row[first.index()], *first)?;
-            added(alloc, own, others)
+            // Named, since the proof speaks of it.
+            let sum = added(alloc, own, others)?;
+            Ok(sum)
         }
     }
 }

@@ -49,7 +49,9 @@ fn tree_of_row<A: Allocator + Clone>(
 {
     let mut coefficients = row;
     coefficients[target.index()] = Gf::new(0);
-    row_tree(alloc, &coefficients, &Place::ALL)
+    // Named, since the proof speaks of it.
+    let tree = row_tree(alloc, &coefficients, &Place::ALL)?;
+    Ok(tree)
 }
 
 // The target's tree from its row of the reduction.
@@ -107,7 +109,11 @@ pub(crate) fn value_of<A: Allocator + Clone>(
         → IsSomeAnd (option_map form_of o) (IsLocalTree (tables_of code) target)) }
 {
     match local_row(code, survivors, target) {
-        Some(row) => tree_of_row(alloc, code, row, survivors, target),
+        Some(row) => {
+            // Named, since the proof speaks of it.
+            let tree = tree_of_row(alloc, code, row, survivors, target)?;
+            Ok(tree)
+        }
         None => row_value(alloc, code, reduced, survivors, target),
     }
 }

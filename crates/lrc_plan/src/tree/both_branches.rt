@@ -26,7 +26,9 @@ pub fn evaluate_both<R: Threads + Sync, A: Allocator + Sync>(
 {
     // The proof has what every request keeps from a call of it.
     let _ = request.length();
-    evaluate_forked(rt, alloc, tree, Gf::new(1), request, forks.min(4))
+    // Named, since the proof speaks of it.
+    let bytes = evaluate_forked(rt, alloc, tree, Gf::new(1), request, forks.min(4))?;
+    Ok(bytes)
 }
 
 // A factor times the tree's value, each branch of a sum in a vector of its own while forks are left.
@@ -46,14 +48,11 @@ fn evaluate_forked<R: Threads + Sync, A: Allocator + Sync>(
     }
     match tree {
         Tree::Leaf(_) => evaluate_scaled(alloc, tree, factor, request),
-        Tree::Scale(scalar, below) => evaluate_forked(
-            rt,
-            alloc,
-            below,
-            factor.mul(*scalar),
-            request,
-            forks,
-        ),
+        Tree::Scale(scalar, below) => {
+            // Named, since the proof speaks of it.
+            let bytes = evaluate_forked(rt, alloc, below, factor.mul(*scalar), request, forks)?;
+            Ok(bytes)
+        }
         Tree::Sum(left, right) => {
             let fewer = forks - 1;
             let (first, second) = join(

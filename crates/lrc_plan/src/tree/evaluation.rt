@@ -22,7 +22,9 @@ pub fn evaluate<A: Allocator>(
 {
     // The proof has what every request keeps from a call of it.
     let _ = request.length();
-    evaluate_scaled(alloc, tree, Gf::new(1), request)
+    // Named, since the proof speaks of it.
+    let bytes = evaluate_scaled(alloc, tree, Gf::new(1), request)?;
+    Ok(bytes)
 }
 
 /// A factor times the tree's value at each position.
