@@ -190,28 +190,42 @@ fn sets_of_three_and_four_lost_places(rt: HostRuntime) -> Result<(), AllocError>
     Ok(())
 }
 
-// The plan of x0 in the (12,2,2) code from the six others of its group: six leaves.
+// The others of the group of x0 in the (12,2,2) code.
+const SIX: [Place; 6] = [
+    Place::X1,
+    Place::X2,
+    Place::X3,
+    Place::X4,
+    Place::X5,
+    Place::Px,
+];
+
+// Whether the plan of x0 in the (12,2,2) code has these six leaves, and so many checks.
+fn is_plan_of_six(alloc: Global, survivors: PlaceSet, checks: usize) -> Result<bool, AllocError> {
+    if survivors.has(Place::X0) {
+        return Ok(false);
+    }
+    let plan = plan_in(alloc, Code::Wide, survivors, Place::X0)?;
+    match &plan.value {
+        Some(value) => {
+            let leaves = value.leaves();
+            Ok(
+                plan.checks.len() == checks
+                    && value.leaf_count() == 6
+                    && leaves.len() == 6
+                    && SIX.iter().all(|place| leaves.has(*place)),
+            )
+        }
+        None => Ok(false),
+    }
+}
+
+// There is no check where only the six survive, and there are three where all others do.
 #[test]
 fn local_plan_of_six(rt: HostRuntime) -> Result<(), AllocError> {
     let alloc = rt.alloc();
-    let six = [
-        Place::X1,
-        Place::X2,
-        Place::X3,
-        Place::X4,
-        Place::X5,
-        Place::Px,
-    ];
-    let survivors = set_of(&six);
-    if !survivors.has(Place::X0) {
-        let plan = plan_in(alloc, Code::Wide, survivors, Place::X0)?;
-        assert!(&rt; plan.checks.len() == 0);
-        assert!(&rt; plan.value.is_some());
-        if let Some(value) = &plan.value {
-            let leaves = value.leaves();
-            assert!(&rt; value.leaf_count() == 6 && leaves.len() == 6);
-            assert!(&rt; six.iter().all(|place| leaves.has(*place)));
-        }
-    }
+    assert!(&rt; is_plan_of_six(alloc, set_of(&SIX), 0)?);
+    let others = Code::Wide.others(PlaceSet::empty().with(Place::X0));
+    assert!(&rt; is_plan_of_six(alloc, others, 3)?);
     Ok(())
 }
