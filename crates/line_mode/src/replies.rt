@@ -12,7 +12,7 @@ use crate::lines::Lines;
 use crate::parsing::parse_line;
 use crate::refusals::LineRefusal;
 use lrc_code::Outcome;
-use lrc_plan::solve;
+use lrc_plan::RememberedPlans;
 use std::alloc::{AllocError, Global};
 
 // What a line is replied.
@@ -61,9 +61,10 @@ pub(crate) fn reply_to_lines(alloc: Global, input: &[u8]) -> Result<Replies, All
     ensures { IfOk result (λ r. (replies : List LineReply) × AreReplies input.now replies × Holds r replies) }
 {
     let mut replies = Replies::new(alloc);
+    let mut plans = RememberedPlans::new();
     for line in Lines::new(input) {
         if !is_blank(line) {
-            replies.add(alloc, &reply_to_line(alloc, line)?)?;
+            replies.add(alloc, &reply_to_line(alloc, &mut plans, line)?)?;
         }
     }
     Ok(replies)
@@ -76,11 +77,15 @@ fn is_blank(line: &[u8]) -> bool
 }
 
 // The reply to a line that isn't blank.
-fn reply_to_line(alloc: Global, line: &[u8]) -> Result<LineReply, AllocError>
+fn reply_to_line(
+    alloc: Global,
+    plans: &mut RememberedPlans,
+    line: &[u8],
+) -> Result<LineReply, AllocError>
     ensures { IfOk result (IsReply line.now) }
 {
     match parse_line(alloc, line)? {
-        Ok(request) => Ok(Ok(solve(alloc, alloc, &request)?)),
+        Ok(request) => Ok(Ok(plans.solve(alloc, &request)?)),
         Err(refusal) => Ok(Err(refusal)),
     }
 }

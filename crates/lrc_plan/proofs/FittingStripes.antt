@@ -24,7 +24,7 @@ use Rattle.lrc_plan.specs.Form.{Form}
 use Rattle.lrc_plan.specs.Planned.{Extends, LeavesSurvive, ExtensionsDiffer}
 use Rattle.lrc_plan.specs.Evaluation.{byte_at, CanEvaluate}
 use Rattle.lrc_plan.specs.EvaluationParts.{AreWhole}
-use Rattle.lrc_plan.specs.RowPlans.{AreCheckRows, IsValueRow}
+use Rattle.lrc_plan.specs.RowPlans.{GivesTarget, TellExtensions}
 use Rattle.lrc_plan.specs.Terms.{AreRowSums, IsZeroRow}
 
 -- a stripe that equals survivors has at their places what survives there
@@ -156,18 +156,18 @@ module _ (r : Asked) (accepted : refusal r ≡ None) (bytes : All (λ s. AreByte
             subst (λ n. i < n) (length-made e y.place) lt in made_at e i y.place 0 h
             ∙ (x i h).kept y.place (same y.place ∙ a))
 
-    module _ (checks : List (List ℕ)) (of_survivors : AreCheckRows code survives checks) where
+    module _ (checks : List (List ℕ)) (possible : TellExtensions code survives checks) where
       -- ---- some check isn't 0
 
       pub contradiction : (¬ All (IsZeroRow r) checks) → IsAnswer r Contradiction
-      contradiction n st f = n (λ k d lt i h. (of_survivors.possible (byte_at r i) (byte_at-lt i)).0
+      contradiction n st f = n (λ k d lt i h. (possible (byte_at r i) (byte_at-lt i)).0
           (trimmed st i, fits_extends st f i h) k d lt)
 
       -- ---- all checks are 0
 
       module _ (zero_checks : All (IsZeroRow r) checks) where
         extension : (i : ℕ) → i < r.len → (e : Place → ℕ) × Extends code survives (byte_at r i) e
-        extension i h = (of_survivors.possible (byte_at r i) (byte_at-lt i)).1 (λ k d lt. zero_checks k d lt i h)
+        extension i h = (possible (byte_at r i) (byte_at-lt i)).1 (λ k d lt. zero_checks k d lt i h)
 
         pick : (i : ℕ) → (i < r.len) ⊎ (r.len ≤ i) → Place → ℕ
         pick i (inl lt) = (extension i lt).0
@@ -186,14 +186,14 @@ module _ (r : Asked) (accepted : refusal r ≡ None) (bytes : All (λ s. AreByte
         unfolding chosen pick
         chosen_is i h = pick_is i (cases_lt i r.len) h
 
-        pub rebuilt : (row out : List ℕ) → IsValueRow code survives r.target row → AreRowSums r row out → IsAnswer r (Rebuilt out)
+        pub rebuilt : (row out : List ℕ) → GivesTarget code survives r.target row → AreRowSums r row out → IsAnswer r (Rebuilt out)
         rebuilt row out value v = (
           (made chosen, made_fits chosen chosen_is),
           (λ st f.
               let long = (fits_at st f r.target (accepted_target r accepted)).0 in
               ext_get_or 0 (st r.target) out (long ∙ sym v.len)
               (λ i lt. let h : i < r.len = subst (λ n. i < n) long lt in
-              sym (v.at i h ∙ value.right (byte_at r i) (trimmed st i) (byte_at-lt i) (fits_extends st f i h) ∙ target_at st i))),
+              sym (v.at i h ∙ value (byte_at r i) (trimmed st i) (byte_at-lt i) (fits_extends st f i h) ∙ target_at st i))),
         )
 
         -- a second stripe: the first and the sum of two extensions that differ

@@ -3,7 +3,6 @@ pub mod ReductionRows
 pub mod RowLemmas
 pub mod Extension
 pub mod Values
-pub mod CheckRows
 pub mod EvaluationSteps
 pub mod FittingStripes
 pub mod Grafts
@@ -14,4 +13,5 @@ pub mod TermRows
 pub mod RowPlanLaws
 pub mod UncheckedRows
 pub mod AnswerLaws
-pub mod LocalRepairs
+pub mod RowTrees
+pub mod CheckCounts

@@ -27,50 +27,10 @@ use Rattle.lrc_code.proofs.CodeTables.{at_index, combination-at, own_places}
 use Rattle.lrc_code.proofs.Words.{word, word_small, word_apart, word_solves}
 use Rattle.lrc_plan.specs.Form.{Form, meaning, has_leaf}
 use Rattle.lrc_plan.specs.Rows.{AreReduced, GiveTarget, HaveOtherLost, dot}
-use Rattle.lrc_plan.specs.PlanParts.{group_coefficient, group_row, IsTargetRow, HasRowLeaves, cut}
+use Rattle.lrc_plan.specs.PlanParts.{group_coefficient, group_row, IsTargetRow}
 use Rattle.lrc_plan.specs.Planned.{Extends, ExtensionsDiffer, IsTargetValue, IsLocal, IsLocalTree, group_others, same_group}
 use Rattle.lrc_plan.specs.Sums.{sum_meaning, some_leaf, some_leaf_total}
 use Rattle.lrc_plan.proofs.Extension.{determined}
-
--- a tree that is right leaves no two extensions that differ
-right_is_one : (code : Code) (survives : Place → Bool) (target : Place) (t : Form)
-    → ((s e : Place → ℕ) → GivesBytes s → Extends code survives s e → meaning s t ≡ e target)
-    → IsNone (Some t) ↔ ExtensionsDiffer code survives target
-right_is_one code survives target t r =
-    (λ n. none_some n, λ (s, d, e, h, x, y, apart). absurd (apart (sym (r s d h x) ∙ r s e h y)))
-  where
-    none_some : IsNone (Some t) → ExtensionsDiffer code survives target
-    none_some n = cc
-
--- the tree of a row that determines the target
-pub determined_value : (code : CodeName) (survives : Place → Bool) (t : Place) (c cut : Place → ℕ) (value : Option Form)
-    → survives t ≡ false → IsTargetRow (tables_of code) survives t c
-    → ((p : Place) → cut p ≡ cond (same_place t p) 0 (c p))
-    → ((b : Place → ℕ) → GivesBytes b → sum_meaning b value ≡ dot cut b)
-    → IfSome value (λ f. (p : Place) → has_leaf f p ≡ true → cut p ≢ 0)
-    → IsTargetValue (tables_of code) survives t value
-determined_value code survives t c cut value lost row is sum leaves = given value sum leaves
-  where
-    means : (v : Option Form) → ((b : Place → ℕ) → GivesBytes b → sum_meaning b v ≡ dot cut b)
-        → (s d : Place → ℕ) → GivesBytes s → Extends (tables_of code) survives s d → sum_meaning s v ≡ d t
-    means v k s d h x =
-        k s h ∙ sum_over-same all_places _ _ (λ p. ap (λ y. times y (s p)) (is p))
-        ∙ determined (tables_of code) survives c t row.one row.clear s d (row.holds d x.bytes x.solves) x
-
-    zero_lost : (p : Place) (u : Bool) → same_place t p ≡ u → survives p ≡ false → cut p ≡ 0
-    zero_lost p true k l = is p ∙ ap (λ b. cond b 0 (c p)) k
-    zero_lost p false k l = is p ∙ ap (λ b. cond b 0 (c p)) k ∙ row.clear p l k
-
-    given : (v : Option Form) → ((b : Place → ℕ) → GivesBytes b → sum_meaning b v ≡ dot cut b)
-        → IfSome v (λ f. (p : Place) → has_leaf f p ≡ true → cut p ≢ 0) → IsTargetValue (tables_of code) survives t v
-    given None k l = absurd (word_apart code t
-        (sym (means None k (word code) (word code) (word_small code)
-        (record { bytes = word_small code; solves = word_solves code; kept = λ p h. refl }))))
-    given (Some f) k l = record {
-      leaves = λ p h. true_from_ne_false (survives p) (λ n. l p h (zero_lost p (same_place t p) refl n));
-      right = λ s d h x. means (Some f) k s d h x;
-      several = right_is_one (tables_of code) survives t f (λ s d h x. means (Some f) k s d h x);
-    }
 
 -- the row of the reduction whose pivot the target is
 pub pivot_row : (code : Code) (survives : Place → Bool) (coef : ℕ → Place → ℕ) (pivot : ℕ → Option Place)
@@ -83,27 +43,6 @@ pivot_row code survives coef pivot red r t row h e is z = record {
   clear = z;
   holds = λ d bytes solves. sum_over-same all_places _ _ (λ p. ap (λ c. times c (d p)) (is p)) ∙ (red.same d bytes).0 solves r h;
 }
-
--- equal tests count the same
-count_from : (p q : Place → Bool) → ((x : Place) → p x ≡ q x) → (a : ℕ) (xs : List Place)
-    → fold (λ a x. a + cond (p x) 1 0) a xs ≡ fold (λ a x. a + cond (q x) 1 0) a xs
-count_from p q h a [] = refl
-count_from p q h a (x ∷ xs) = ap (λ b. fold (λ a y. a + cond (p y) 1 0) (a + cond b 1 0) xs) (h x) ∙ count_from p q h (a + cond (q x) 1 0) xs
-
--- the leaves of the tree of a row without the target's coefficient
-pub row_leaves_of : (t : Place) (c d : Place → ℕ) (value : Option Form) → ((p : Place) → d p ≡ cond (same_place t p) 0 (c p))
-    → some_leaf_total value ≡ count_by (λ p. not (d p == 0)) all_places
-    → ((k : ℕ) (e : Place) → k < 16 → d (get_or all_places k e) ≢ 0 → some_leaf value (get_or all_places k e) ≡ true)
-    → HasRowLeaves t c value
-row_leaves_of t c d value is total all = record {
-  total = total ∙ count_from (λ p. not (d p == 0)) (λ p. not (cut c t p == 0)) (λ p. ap (λ n. not (n == 0)) (is p)) 0 all_places;
-  all = λ p n. at_places (λ p. d p ≢ 0 → some_leaf value p ≡ true) all p (λ z. n (sym (is p) ∙ z));
-}
-
--- no tree
-pub none_value : (code : Code) (survives : Place → Bool) (t : Place) → ExtensionsDiffer code survives t
-    → IsTargetValue code survives t None
-none_value code survives t d = record { leaves = tt; right = tt; several = (λ n. d, λ x. refl) }
 
 -- ---- the equation of a group
 
@@ -158,88 +97,6 @@ group_target_row code survives t g row own in_group is z = record {
     at : (p : Place) → slice_index row (index_of p) ≡ group_coefficient (tables_of code) (Some g) p
     at p = ap (λ xs. slice_index xs (index_of p)) is ∙ at_index (group_coefficient (tables_of code) (Some g)) p
 
--- ---- the local tree
-
--- as many coefficients beside the target's as the group has other members
-local_count : (code : CodeName) (t : Place) → IsSome (group_of t)
-    → count_by (λ p. not (cut (λ q. slice_index (group_row (tables_of code) (group_of t)) (index_of q)) t p == 0)) all_places ≡ length (group_others (tables_of code) t)
-local_count Narrow X0 h = refl
-local_count Narrow X1 h = refl
-local_count Narrow X2 h = refl
-local_count Narrow Y0 h = refl
-local_count Narrow Y1 h = refl
-local_count Narrow Y2 h = refl
-local_count Narrow Px h = refl
-local_count Narrow Py h = refl
-local_count Narrow P0 h = cc
-local_count Narrow P1 h = cc
-local_count Narrow X3 h = refl
-local_count Narrow X4 h = refl
-local_count Narrow X5 h = refl
-local_count Narrow Y3 h = refl
-local_count Narrow Y4 h = refl
-local_count Narrow Y5 h = refl
-local_count Wide X0 h = refl
-local_count Wide X1 h = refl
-local_count Wide X2 h = refl
-local_count Wide Y0 h = refl
-local_count Wide Y1 h = refl
-local_count Wide Y2 h = refl
-local_count Wide Px h = refl
-local_count Wide Py h = refl
-local_count Wide P0 h = cc
-local_count Wide P1 h = cc
-local_count Wide X3 h = refl
-local_count Wide X4 h = refl
-local_count Wide X5 h = refl
-local_count Wide Y3 h = refl
-local_count Wide Y4 h = refl
-local_count Wide Y5 h = refl
-
--- and it has others
-local_some : (code : CodeName) (t : Place) → IsSome (group_of t) → 0 < length (group_others (tables_of code) t)
-local_some Narrow X0 h = lit< tt
-local_some Narrow X1 h = lit< tt
-local_some Narrow X2 h = lit< tt
-local_some Narrow Y0 h = lit< tt
-local_some Narrow Y1 h = lit< tt
-local_some Narrow Y2 h = lit< tt
-local_some Narrow Px h = lit< tt
-local_some Narrow Py h = lit< tt
-local_some Narrow P0 h = cc
-local_some Narrow P1 h = cc
-local_some Narrow X3 h = lit< tt
-local_some Narrow X4 h = lit< tt
-local_some Narrow X5 h = lit< tt
-local_some Narrow Y3 h = lit< tt
-local_some Narrow Y4 h = lit< tt
-local_some Narrow Y5 h = lit< tt
-local_some Wide X0 h = lit< tt
-local_some Wide X1 h = lit< tt
-local_some Wide X2 h = lit< tt
-local_some Wide Y0 h = lit< tt
-local_some Wide Y1 h = lit< tt
-local_some Wide Y2 h = lit< tt
-local_some Wide Px h = lit< tt
-local_some Wide Py h = lit< tt
-local_some Wide P0 h = cc
-local_some Wide P1 h = cc
-local_some Wide X3 h = lit< tt
-local_some Wide X4 h = lit< tt
-local_some Wide X5 h = lit< tt
-local_some Wide Y3 h = lit< tt
-local_some Wide Y4 h = lit< tt
-local_some Wide Y5 h = lit< tt
-
--- along the members of a list that pass a test
-All-filter : (P Q : Place → Type 0) (q : Place → Bool) (ps : List Place) → All Q ps → ((p : Place) → Q p → q p ≡ true → P p) → All P (filter q ps)
-All-filter P Q q [] h f = All-nil P
-All-filter P Q q (p ∷ ps) h f = at (All-filter P Q q ps (λ k d lt. h (suc k) d (omega arith)) f) (q p) refl
-  where
-    at : All P (filter q ps) → (b : Bool) → q p ≡ b → All P (cond b (p ∷ filter q ps) (filter q ps))
-    at rest true e = All-cons P p (filter q ps) (f p (h 0 p (omega arith)) e) rest
-    at rest false e = rest
-
 -- at a member of the list that passes it
 filter-at : (P : Place → Type 0) (q : Place → Bool) (ps : List Place) → All P (filter q ps) → (p : Place) → list_any (same_place p) ps ≡ true → q p ≡ true → P p
 filter-at P q [] h p a e = absurd (cc)
@@ -255,47 +112,6 @@ filter-at P q (r ∷ ps) h p a e = at (λ g. filter-at P q ps g p) (q r) refl h
     at : (All P (filter q ps) → list_any (same_place p) ps ≡ true → q p ≡ true → P p) → (b : Bool) → q r ≡ b → All P (cond b (r ∷ filter q ps) (filter q ps)) → P p
     at more true k g = later (same_place p r) refl (more (λ j d lt. g (suc j) d (omega arith))) (λ m. subst P (sym (same_place-eq p r m)) (g 0 r (omega arith)))
     at more false k g = later (same_place p r) refl (more g) (λ m. absurd (apart (sym (ap q (same_place-eq p r m) ∙ k) ∙ e)))
-
-one_of : (a b : Bool) → a ≡ true → b ≡ true → ◌≡◌ {A = ℕ} (if a && b then 1 else 0) 1
-one_of a b h k = ap (λ x. if x && b then 1 else 0) h ∙ ap (λ x. if x then 1 else 0) k
-
-both : (a b : Bool) → (a && b) ≡ true → (a ≡ true) × (b ≡ true)
-both true b h = (refl, h)
-both false b h = absurd (cc)
-
-pub local_tree : (code : CodeName) (t : Place) (row : List ℕ) (value : Option Form) → row ≡ group_row (tables_of code) (group_of t) → IsSome (group_of t)
-    → HasRowLeaves t (λ p. slice_index row (index_of p)) value → IsSomeAnd value (IsLocalTree (tables_of code) t)
-local_tree code t row value is some leaves = at value moved
-  where
-    row_is : (p : Place) → slice_index row (index_of p) ≡ group_coefficient (tables_of code) (group_of t) p
-    row_is p = ap (λ xs. slice_index xs (index_of p)) is ∙ at_index (group_coefficient (tables_of code) (group_of t)) p
-
-    nonzero : (p : Place) → has_place (tables_of code) p ≡ true → (same_group (group_of p) (group_of t) && not (same_place p t)) ≡ true
-        → cut (λ q. slice_index row (index_of q)) t p ≢ 0
-    nonzero p own e z =
-        let parts = both (same_group (group_of p) (group_of t)) (not (same_place p t)) e in
-        absurd (omega (
-          arith,
-          sym (one_of (has_place (tables_of code) p) (same_group (group_of p) (group_of t)) own parts.0) ∙ sym (row_is p)
-              ∙ sym (ap (λ b. if b then 0 else slice_index row (index_of p)) (same_place-comm t p ∙ not_true (same_place p t) parts.1)) ∙ z,
-        ))
-      where
-        not_true : (b : Bool) → not b ≡ true → b ≡ false
-        not_true true h = absurd (cc)
-        not_true false h = refl
-
-    moved : (some_leaf_total value ≡ length (group_others (tables_of code) t)) × All (λ p. some_leaf value p ≡ true) (group_others (tables_of code) t)
-    moved = (
-      leaves.total ∙ ap (λ xs. count_by (λ p. not (cut (λ q. slice_index xs (index_of q)) t p == 0)) all_places) is ∙ local_count code t some,
-      All-filter (λ p. some_leaf value p ≡ true) (λ p. has_place (tables_of code) p ≡ true)
-          (λ p. same_group (group_of p) (group_of t) && not (same_place p t)) (tables_of code).places (own_places code)
-          (λ p own e. leaves.all p (nonzero p own e)),
-    )
-
-    at : (v : Option Form) → (some_leaf_total v ≡ length (group_others (tables_of code) t)) × All (λ p. some_leaf v p ≡ true) (group_others (tables_of code) t)
-        → IsSomeAnd v (IsLocalTree (tables_of code) t)
-    at None m = absurd (omega (arith, m.0, local_some code t some))
-    at (Some f) m = m
 
 -- where another place of the group is lost the target isn't local
 pub not_local : (code : CodeName) (survives : Place → Bool) (t : Place) (row : List ℕ) → row ≡ group_row (tables_of code) (group_of t)
@@ -340,8 +156,3 @@ cut_is row i z t p e k = elim (eqb_tells (index_of t) (index_of p)) as
       | inr w ↦ get_or-set_other row i (index_of p) z 0 (λ x. w.1 (sym (x ∙ e))) ∙ ap
           (λ b. cond b 0 (slice_index row (index_of p))) (sym w.0)
     ]
-
-pub some_map : {X : Type 0} (f : X → Form) (P : Form → Type 0) (o : Option X) → IfSome o (λ t. P (f t))
-    → IfSome (option_map f o) P
-some_map f P None h = tt
-some_map f P (Some t) h = h

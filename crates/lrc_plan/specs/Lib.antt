@@ -9,3 +9,5 @@ pub mod PlanParts
 pub mod Sums
 pub mod Terms
 pub mod RowPlans
+pub mod RowTrees
+pub mod Remembered

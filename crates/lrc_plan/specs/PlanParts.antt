@@ -33,17 +33,3 @@ pub record IsTargetRow (code : Code) (survives : Place → Bool) (target : Place
 -- the coefficients without the target's
 abbrev pub cut : (Place → ℕ) → Place → Place → ℕ
 cut c t p = if same_place t p then 0 else c p
-
--- a leaf for each place but the target whose coefficient isn't 0
-pub record HasRowLeaves (target : Place) (c : Place → ℕ) (value : Option Form) : Type 0 where
-  pub total : some_leaf_total value ≡ count_by (λ p. not (cut c target p == 0)) all_places
-  pub all : (p : Place) → cut c target p ≢ 0 → some_leaf value p ≡ true
-
--- the checks of the first n rows
-pub record AreChecksBelow (survives : Place → Bool) (coef : ℕ → Place → ℕ) (pivot : ℕ → Option Place)
-    (n : ℕ) (checks : List Form) : Type 0 where
-  pub leaves : All (LeavesSurvive survives) checks
-  pub means : (s : Place → ℕ) → GivesBytes s
-      → All (λ t. meaning s t ≡ 0) checks ↔ ((r : ℕ) → r < n → pivot r ≡ None → row_sum coef r s ≡ 0)
-  pub shallow : All IsShallow checks
-  pub count : length checks ≡ rows_without_pivot pivot n

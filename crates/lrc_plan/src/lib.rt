@@ -26,6 +26,7 @@ mod tree;
 
 pub use plans::Plan;
 pub use plans::planning::{plan, plan_in};
+pub use plans::remembered::RememberedPlans;
 pub use plans::row_plans::{RowPlan, check_rows, plan_rows};
 pub use solving::solve;
 pub use tree::Tree;

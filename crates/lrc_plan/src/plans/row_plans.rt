@@ -1,23 +1,22 @@
 //! Plans as rows of coefficients, which take no memory.
-ghost use Rattle.std.specs.Prelude.{◌≡◌, ◌<◌, true, false, not, is_none, length, slice_index, IfSome, MatchOption, Some, replicate, if◌then◌else◌};
+ghost use Rattle.std.specs.Prelude.{◌≡◌, ◌<◌, true, false, not, IfSome, IsSomeAnd, MatchOption, Some, replicate};
 ghost use Rattle.lrc_code.specs.declared.places.Place.{Place};
 ghost use Rattle.lrc_code.specs.Code.{has_place};
 ghost use Rattle.lrc_code.specs.Codes.{tables_of};
-ghost use Rattle.lrc_code.specs.Places.{index_of};
 ghost use Rattle.lrc_code.specs.Reduction.{IsReduction};
 ghost use Rattle.lrc_code.specs.Sets.{is_in};
 ghost use Rattle.lrc_plan.specs.Rows.{coef_of, pivot_of, AreReduced};
-ghost use Rattle.lrc_plan.specs.Planned.{ExtensionsDiffer};
-ghost use Rattle.lrc_plan.specs.PlanParts.{IsTargetRow, other_parity as other_parity_of};
-ghost use Rattle.lrc_plan.specs.RowPlans.{IsCheckRow, IsValueRow, AreCheckRows, IsRowPlan};
+ghost use Rattle.lrc_plan.specs.Planned.{ExtensionsDiffer, HasCheckCount, IsLocal};
+ghost use Rattle.lrc_plan.specs.RowPlans.{AreCheckRows, IsCheckRow, IsGroupRow, IsRowPlan, IsValueRow, rows_with_terms};
 
+use crate::plans::group_rows::{cut_row, local_row, other_parity};
 use crate::plans::rows::{determines, row_of, row_with_pivot};
-use crate::plans::value::local_row;
-use lrc_code::{Code, Group, Place, PlaceSet, Reduced, reduce_in};
+use lrc_code::{Code, Place, PlaceSet, Reduced, reduce_in};
 use lrc_field::Gf;
 
-/// How a lost fragment is rebuilt from survivors: coefficients by the places' indexes, 00 at places that don't survive.
-#[derive(Drop)]
+/// How a lost fragment is rebuilt from survivors: coefficients by the places' indexes, 00 at places that don't survive. Where the others of the
+/// target's group survive, the value reads these alone.
+#[derive(Clone, Copy)]
 pub struct RowPlan {
     /// What the survivors' bytes are multiplied with to give the target's byte; none where two stripes with the same
     /// survivors differ there.
@@ -75,18 +74,7 @@ fn row_in_group(code: Code, survivors: PlaceSet, target: Place) -> Option<[Gf; 1
     if !lost.has(other_parity(group)) || !lost.has(Place::P0) || !lost.has(Place::P1) {
         return None;
     }
-    let row = local_row(code, survivors, target)?;
-    Some(cut_row(code, row, survivors, target))
-}
-
-/// The local parity of the other group.
-pub(crate) fn other_parity(group: Group) -> Place
-    ensures { result ≡ other_parity_of group }
-{
-    match group {
-        Group::X => Place::Py,
-        Group::Y => Place::Px,
-    }
+    local_row(code, survivors, target)
 }
 
 /// Rows that give 00 at every position, all of them, exactly where the survivors are those of a stripe; survivors that
@@ -115,7 +103,8 @@ fn rows_from(code: Code, reduced: &Reduced, survivors: PlaceSet, target: Place) 
 // The checks from a reduction by the lost places.
 fn checks_from(code: Code, reduced: &Reduced, survivors: PlaceSet) -> [[Gf; 16]; 4]
     requires { IsReduction (tables_of code) (λ p. not (is_in survivors p)) reduced.now }
-    ensures { AreCheckRows (tables_of code) (is_in survivors) result }
+    ensures checks { AreCheckRows (tables_of code) (is_in survivors) result }
+    ensures count { HasCheckCount (tables_of code) (is_in survivors) (rows_with_terms result) }
 {
     [
         check_row(reduced, 0),
@@ -142,12 +131,13 @@ fn value_row(code: Code, reduced: &Reduced, survivors: PlaceSet, target: Place) 
     requires place { has_place (tables_of code) target ≡ true }
     requires lost { is_in survivors target ≡ false }
     requires reduced { AreReduced (tables_of code) (is_in survivors) (coef_of reduced.now) (pivot_of reduced.now) }
-    ensures { MatchOption result
+    ensures value { MatchOption result
         (ExtensionsDiffer (tables_of code) (is_in survivors) target)
         (IsValueRow (tables_of code) (is_in survivors) target) }
+    ensures local { IsLocal (tables_of code) (is_in survivors) target → IsSomeAnd result (IsGroupRow (tables_of code) target) }
 {
     if let Some(row) = local_row(code, survivors, target) {
-        return Some(cut_row(code, row, survivors, target));
+        return Some(row);
     }
     let Some(pivot_row) = row_with_pivot(reduced, target) else {
         return None;
@@ -157,15 +147,4 @@ fn value_row(code: Code, reduced: &Reduced, survivors: PlaceSet, target: Place) 
         return None;
     }
     Some(cut_row(code, row, survivors, target))
-}
-
-// A row that determines the target, without the target's own coefficient.
-fn cut_row(code: Code, row: [Gf; 16], survivors: PlaceSet, target: Place) -> [Gf; 16]
-    requires lost { is_in survivors target ≡ false }
-    requires row { IsTargetRow (tables_of code) (is_in survivors) target (λ p. slice_index row (index_of p)) }
-    ensures { IsValueRow (tables_of code) (is_in survivors) target result }
-{
-    let mut coefficients = row;
-    coefficients[target.index()] = Gf::new(0);
-    coefficients
 }

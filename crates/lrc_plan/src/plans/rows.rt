@@ -5,7 +5,6 @@ ghost use Rattle.lrc_code.specs.declared.places.Place.{Place};
 ghost use Rattle.lrc_code.specs.Places.{index_of, all_places};
 ghost use Rattle.lrc_code.specs.Sets.{is_in};
 ghost use Rattle.lrc_plan.specs.Rows.{coef_of, pivot_of, GiveTarget, HaveOtherLost};
-ghost use Rattle.lrc_plan.specs.Planned.{rows_without_pivot};
 
 use lrc_code::{Place, PlaceSet, Reduced};
 use lrc_field::Gf;
@@ -16,19 +15,6 @@ pub(crate) fn row_of(reduced: &Reduced, row: usize) -> [Gf; 16]
     ensures { (p : Place) → slice_index result (index_of p) ≡ coef_of reduced.now row p }
 {
     reduced.row(row)
-}
-
-/// The number of rows without a pivot.
-pub(crate) fn count_without_pivot(reduced: &Reduced) -> usize
-    ensures { result ≡ rows_without_pivot (pivot_of reduced.now) 4 }
-{
-    let mut count = 0;
-    for row in 0..4usize {
-        if reduced.pivot(row).is_none() {
-            count += 1;
-        }
-    }
-    count
 }
 
 /// The row whose pivot the place is.

@@ -4,7 +4,6 @@ ghost use Rattle.std.specs.List.{list_all};
 ghost use Rattle.lrc_code.specs.declared.places.Place.TheVariants.{X0};
 ghost use Rattle.lrc_code.specs.Places.{all_places};
 ghost use Rattle.lrc_code.specs.Requests.{AreSources, is_among};
-ghost use Rattle.lrc_plan.specs.RowPlans.{ReadsSurvivors};
 ghost use Rattle.lrc_field.specs.Combined.{product_at};
 ghost use Rattle.lrc_plan.specs.Terms.{AreRowSums, AreTerms, IsTermAt, IsZeroRow, survivor_product};
 
@@ -52,8 +51,8 @@ fn is_zero_sum(row: &[Gf; 16], request: &Request, sources: &Sources<'_>) -> bool
     sums_are_zero(length, &terms[..count])
 }
 
-// Whether all coefficients are 00, as where a row of a reduction has a pivot.
-fn is_blank(row: &[Gf; 16]) -> bool
+/// Whether all coefficients are 00, as where a row of a reduction has a pivot.
+pub(crate) fn is_blank(row: &[Gf; 16]) -> bool
     ensures { result ≡ list_all (λ c. c == 0) row.now }
 {
     row.iter().all(|c| c.byte() == 0)
@@ -80,45 +79,6 @@ fn fill_terms<'a>(
         }
     }
     count
-}
-
-/// The same of at most six terms where all that the row reads survive, else none: a group has no more than six others.
-pub(crate) fn fill_surviving<'a>(
-    terms: &mut [Term<'a>; 6],
-    row: &[Gf; 16],
-    request: &'a Request,
-) -> Option<usize>
-    requires { length terms.old ≡ 6 }
-    ensures count { IfSome result (λ n. n ≤ 6) }
-    ensures reads { IfSome result (λ n. ReadsSurvivors (λ p. is_among p request.now.survivors) row.now) }
-    ensures terms { IfSome result (λ n. AreTerms request.now row.now (take n terms.new)) }
-{
-    let mut count = 0;
-    for k in 0..16 {
-        if row[k].byte() != 0 {
-            if count == 6 {
-                return None;
-            }
-            let Some(term) = survivor_term(request, k, row[k]) else {
-                return None;
-            };
-            terms[count] = term;
-            count += 1;
-        }
-    }
-    Some(count)
-}
-
-// The survivor's bytes at the place of an index, with a scalar.
-fn survivor_term<'a>(request: &'a Request, k: usize, scalar: Gf) -> Option<Term<'a>>
-    requires { k < 16 }
-    ensures products { IfSome result (λ t. (length t.bytes.now ≡ request.now.len) × ((i : ℕ) → product_at t i ≡ survivor_product request.now scalar k i)) }
-    ensures survives { IfSome result (λ t. is_among (slice_index_or all_places k X0) request.now.survivors ≡ true) }
-{
-    // The proof has what every request keeps from a call of it.
-    let _ = request.length();
-    let bytes = request.bytes_at(Place::ALL[k])?;
-    Some(Term { scalar, bytes })
 }
 
 // The survivor's bytes at the place of an index, with a scalar. None only where their products are 00.

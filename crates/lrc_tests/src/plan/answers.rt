@@ -1,8 +1,8 @@
-//! `solve` against worked requests.
+//! `solve` and remembered plans against worked requests.
 use super::fixtures::{Answer, CASES, Case, request_of};
 use bumpalo::Bump;
 use lrc_code::{Outcome, Request};
-use lrc_plan::solve;
+use lrc_plan::{RememberedPlans, solve};
 use std::alloc::{AllocError, Allocator, Global};
 
 // Whether `solve` gives the expected answer, with its plan in an allocator.
@@ -13,12 +13,17 @@ fn is_answered<A: Allocator + Clone>(
     answer: Answer,
 ) -> Result<bool, AllocError> {
     let outcome = solve(alloc, plan_alloc, request)?;
-    Ok(match (outcome, answer) {
+    Ok(is_outcome(&outcome, answer))
+}
+
+/// Whether the outcome is the expected answer.
+pub fn is_outcome(outcome: &Outcome, answer: Answer) -> bool {
+    match (outcome, answer) {
         (Outcome::Rebuilt(bytes), Answer::Rebuilt(expected)) => bytes.as_slice() == expected,
         (Outcome::Contradiction, Answer::Contradiction) => true,
         (Outcome::Several, Answer::Several) => true,
         _ => false,
-    })
+    }
 }
 
 // Whether a case is, with the plan in the heap and in an arena.
@@ -38,5 +43,30 @@ fn worked_requests_are_answered(rt: HostRuntime) -> Result<(), AllocError> {
     for case in &CASES {
         assert!(&rt; is_worked(rt.alloc(), case)?, "{}", case.name);
     }
+    Ok(())
+}
+
+// Whether each case is answered by plans that remember those of the cases before it.
+fn are_remembered(alloc: Global, plans: &mut RememberedPlans) -> Result<bool, AllocError> {
+    for case in &CASES {
+        let Some(request) = request_of(alloc, case)? else {
+            return Ok(false);
+        };
+        // The second time the plan is one that is remembered.
+        for _ in 0..2u8 {
+            if !is_outcome(&plans.solve(alloc, &request)?, case.answer) {
+                return Ok(false);
+            }
+        }
+    }
+    Ok(true)
+}
+
+// There are more cases than plans that are remembered, so some are forgotten and made again.
+#[test]
+fn worked_requests_are_answered_by_remembered_plans(rt: HostRuntime) -> Result<(), AllocError> {
+    let mut plans = RememberedPlans::new();
+    assert!(&rt; are_remembered(rt.alloc(), &mut plans)?);
+    assert!(&rt; are_remembered(rt.alloc(), &mut plans)?);
     Ok(())
 }

@@ -1,10 +1,11 @@
 //! Each allocation refused in turn, by heaps that grow until nothing is refused. The allocations of a call are
 //! numbered from 0; how many fit a heap is measured, and number k is the refused one where exactly k fit.
-use super::fixtures::{CASES, Case, are_same, request_of, scaled_leaf, sum_of_leaves};
+use super::answers::is_outcome;
+use super::fixtures::{Answer, CASES, Case, are_same, request_of, scaled_leaf, sum_of_leaves};
 use linked_list_allocator::LocalHeap;
-use lrc_code::{Code, Place, PlaceSet};
+use lrc_code::{Code, Place, PlaceSet, Request};
 use lrc_field::Gf;
-use lrc_plan::{Plan, Tree, plan};
+use lrc_plan::{Plan, Tree, plan, solve};
 use std::alloc::{AllocError, Allocator, Global};
 
 // Heaps of 0, 8, 16 and so on up to so many bytes are tried.
@@ -238,6 +239,49 @@ fn case_in_turn(alloc: Global, case: &Case) -> Result<bool, AllocError> {
 fn plan_refused_answers_want_of_memory(rt: HostRuntime) -> Result<(), AllocError> {
     for case in &CASES {
         assert!(&rt; case_in_turn(rt.alloc(), case)?, "{}", case.name);
+    }
+    Ok(())
+}
+
+// How solving ends with its plan in this heap.
+fn solve_in_heap(alloc: Global, heap: &LocalHeap, request: &Request, answer: Answer) -> Ended {
+    match solve(alloc, heap, request) {
+        Ok(outcome) if is_outcome(&outcome, answer) => Ended::Granted,
+        Ok(_) => Ended::Wrongly,
+        Err(AllocError) => Ended::Refused,
+    }
+}
+
+// Whether a case's request is refused at each allocation of its plan in turn, and then is answered.
+fn solves_in_turn(alloc: Global, case: &Case) -> Result<bool, AllocError> {
+    let Some(request) = request_of(alloc, case)? else {
+        return Ok(false);
+    };
+    let survivors = request.survivors();
+    if survivors.has(case.target) || !Code::Narrow.has(case.target) {
+        return Ok(false);
+    }
+    let same = plan(alloc, survivors, case.target)?;
+    let mut refused = Refused { next: 0 };
+    for size in (0..LARGEST).step_by(8) {
+        let Ok(heap) = LocalHeap::new(alloc, size) else {
+            continue;
+        };
+        let number = fitting(&heap, same.checks.len());
+        match solve_in_heap(alloc, &heap, &request, case.answer) {
+            Ended::Granted => return Ok(refused.next == allocations(&same)),
+            Ended::Refused if refused.follows(number) => {}
+            _ => return Ok(false),
+        }
+    }
+    Ok(false)
+}
+
+// A plan that is made elsewhere than in the heap meets fewer refusals than it has allocations.
+#[test]
+fn plans_of_answers_are_made_where_asked(rt: HostRuntime) -> Result<(), AllocError> {
+    for case in &CASES {
+        assert!(&rt; solves_in_turn(rt.alloc(), case)?, "{}", case.name);
     }
     Ok(())
 }

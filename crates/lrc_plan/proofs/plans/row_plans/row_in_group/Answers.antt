@@ -5,7 +5,7 @@ use Rattle.lrc_code.specs.Code.{has_place}
 use Rattle.lrc_code.specs.Codes.{tables_of}
 use Rattle.lrc_code.specs.Sets.{is_in}
 use Rattle.lrc_plan.specs.PlanParts.{other_parity}
-use Rattle.lrc_plan.proofs.UncheckedRows.{no_checks}
+use Rattle.lrc_plan.proofs.UncheckedRows.{repair_plan}
 use Rattle.lrc_plan.proofs.plans.row_plans.row_in_group.Goals as goal
 
 is_lost : (here survives : Bool) → here ≡ true → survives ≡ false → (here && not survives) ≡ true
@@ -18,10 +18,7 @@ returns c =
     let other : is_in c.others-lost.result (other_parity c.in_ok-group.group) ≡ true = ap (is_in c.others-lost.result) (sym c.other_parity.ensures) ∙ sym c.has.ensures ∙ c.if-not-has.false in
     let p0 : is_in c.others-lost.result P0 ≡ true = sym c.has-else-not-has.ensures ∙ c.if-not-has-2.false in
     let p1 : is_in c.others-lost.result P1 ≡ true = sym c.has-else-not-has-2.ensures ∙ c.if-not-has-3.false in
-    record {
-      of_target = c.cut_row.ensures;
-      of_survivors = no_checks c.args.code (is_in c.args.survivors) c.others-lost.result c.in_ok-group.group c.args.target c.others-lost.ensures c.requires.place
-          (sym c.in_ok-group.ensures)
-          (c.others-lost.ensures c.args.target ∙ is_lost (has_place (tables_of c.args.code) c.args.target) (is_in c.args.survivors c.args.target) c.requires.place c.requires.lost)
-          other p0 p1 0 refl;
-    }
+    let target : is_in c.others-lost.result c.args.target ≡ true = c.others-lost.ensures c.args.target
+    ∙ is_lost (has_place (tables_of c.args.code) c.args.target) (is_in c.args.survivors c.args.target) c.requires.place c.requires.lost in
+    repair_plan c.args.code (is_in c.args.survivors) c.others-lost.result c.in_ok-group.group c.args.target c.others-lost.ensures c.requires.place
+    (sym c.in_ok-group.ensures) target other p0 p1 c.local_row.result c.local_row.ensures

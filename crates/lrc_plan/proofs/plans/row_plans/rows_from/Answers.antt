@@ -9,6 +9,8 @@ value_row-requires-clause-reduced c = reduced_rows c.args.code (is_in c.args.sur
 
 pub returns : goal.returns
 returns c = record {
-  of_target = value_either (tables_of c.args.code) (is_in c.args.survivors) c.args.target c.value_row.result c.value_row.ensures;
-  of_survivors = c.checks_from.ensures;
+  of_target = value_either (tables_of c.args.code) (is_in c.args.survivors) c.args.target c.value_row.result c.value_row.ensures.value;
+  of_survivors = c.checks_from.ensures.checks;
+  local = c.value_row.ensures.local;
+  count = c.checks_from.ensures.count;
 }

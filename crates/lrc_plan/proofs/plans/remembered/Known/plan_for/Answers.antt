@@ -1,0 +1,74 @@
+use Rattle.std.proofs.Common.{◌≡◌, Bool, true, false, List, [], ◌∷◌, Option, ℕ, nat_eq, refl, sym, ◌∙◌, ap, ap₂, subst}
+use Rattle.std.specs.Prelude.{◌&&◌}
+use Rattle.std.proofs.Math.Bool.{beq}
+use lib.Pointwise.{pointwise}
+use Rattle.lrc_code.specs.declared.codes.Code.{Code}
+use Rattle.lrc_code.specs.declared.codes.Code.TheVariants.{Narrow, Wide}
+use Rattle.lrc_code.specs.declared.places.Place.{Place}
+use Rattle.lrc_code.specs.Codes.{tables_of}
+use Rattle.lrc_code.specs.declared.places.Place.TheVariants.{X0, X1, X2, X3, X4, X5, Y0, Y1, Y2, Y3, Y4, Y5, Px, Py, P0, P1}
+use Rattle.lrc_code.specs.Places.{index_of}
+use Rattle.lrc_code.specs.Sets.{is_in}
+use Rattle.lrc_code.proofs.PlaceSums.{same_place-eq}
+use Rattle.lrc_plan.specs.RowPlans.{IsRowPlan}
+use Rattle.lrc_plan.proofs.plans.remembered.Known.plan_for.Goals as goal
+
+same_bool : (a b : Bool) → beq a b ≡ true → a ≡ b
+same_bool true true h = refl
+same_bool true false h = absurd (cc)
+same_bool false true h = absurd (cc)
+same_bool false false h = refl
+
+both : (a b : Bool) → (a && b) ≡ true → (a ≡ true) × (b ≡ true)
+both true b h = (refl, h)
+both false b h = absurd (cc)
+
+same_list : (xs ys : List Bool) → pointwise beq xs ys ≡ true → xs ≡ ys
+same_list [] [] h = refl
+same_list [] (y ∷ ys) h = absurd (cc)
+same_list (x ∷ xs) [] h = absurd (cc)
+same_list (x ∷ xs) (y ∷ ys) h =
+    let parts = both (beq x y) (pointwise beq xs ys) h in
+    ap₂ (λ z zs. z ∷ zs) (same_bool x y parts.0) (same_list xs ys parts.1)
+
+-- a plan for these is the plan for the same
+moved : (value : Option (List ℕ)) (checks : List (List ℕ)) (a b : Code) (s t : List Bool) (p q : Place) → a ≡ b → s ≡ t → p ≡ q
+    → IsRowPlan (tables_of a) (is_in s) p value checks → IsRowPlan (tables_of b) (is_in t) q value checks
+moved value checks a b s t p q code survivors target plan =
+    subst (λ r. IsRowPlan (tables_of b) (is_in t) r value checks) target
+    (subst (λ l. IsRowPlan (tables_of b) (is_in l) p value checks) survivors
+    (subst (λ c. IsRowPlan (tables_of c) (is_in s) p value checks) code plan))
+
+same_code : (a b : Code) → true ≡ denote.Enum.Bare.sameb Rattle.lrc_code.specs.contracts.codes.Code.the_type a b → a ≡ b
+same_code Narrow Narrow h = refl
+same_code Narrow Wide h = absurd (cc)
+same_code Wide Narrow h = absurd (cc)
+same_code Wide Wide h = refl
+
+-- the places' tags are their indexes
+index_is : (p : Place) → denote.Enum.Declared.tag_of Rattle.lrc_code.specs.contracts.places.Place.the_type p ≡ index_of p
+index_is X0 = refl
+index_is X1 = refl
+index_is X2 = refl
+index_is X3 = refl
+index_is X4 = refl
+index_is X5 = refl
+index_is Y0 = refl
+index_is Y1 = refl
+index_is Y2 = refl
+index_is Y3 = refl
+index_is Y4 = refl
+index_is Y5 = refl
+index_is Px = refl
+index_is Py = refl
+index_is P0 = refl
+index_is P1 = refl
+
+same_target : (p q : Place) → true ≡ denote.Enum.Bare.sameb Rattle.lrc_code.specs.contracts.places.Place.the_type p q → p ≡ q
+same_target p q h = same_place-eq p q (sym (ap₂ nat_eq (index_is p) (index_is q)) ∙ sym h)
+
+pub returns-then-eq-3 : goal.returns-then-eq-3
+returns-then-eq-3 c =
+    moved c.self.inside.plan.value c.self.inside.plan.checks c.self.inside.code c.args.code c.self.inside.survivors c.args.survivors c.self.inside.target c.args.target
+    (same_code c.self.inside.code c.args.code c.if-eq.ensures) (same_list c.self.inside.survivors c.args.survivors (sym c.if-eq-3.ensures))
+    (same_target c.self.inside.target c.args.target c.if-eq-2.ensures) c.self.invariant

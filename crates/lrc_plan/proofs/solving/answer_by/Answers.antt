@@ -1,0 +1,40 @@
+use Rattle.std.proofs.Common.{◌≡◌, ℕ, Bool, List, Option, Some, None, refl, sym, subst}
+use Rattle.lrc_code.specs.declared.places.Place.{Place}
+use Rattle.lrc_code.specs.declared.outcomes.Outcome.TheVariants.{Rebuilt}
+use Rattle.lrc_code.specs.Answers.{IsAnswer}
+use Rattle.lrc_code.specs.Code.{Code}
+use Rattle.lrc_code.specs.Codes.{tables_of}
+use Rattle.lrc_code.specs.Requests.{is_among}
+use Rattle.lrc_plan.specs.RowPlans.{AnswerBy, TellExtensions}
+use Rattle.lrc_plan.proofs.FittingStripes.{contradiction, rebuilt, several}
+use Rattle.lrc_plan.proofs.solving.answer_by.Goals as goal
+
+tells : (code : Code) (survives : Place → Bool) (t : Place) (value : Option (List ℕ)) (checks : List (List ℕ))
+    → AnswerBy code survives t value checks → TellExtensions code survives checks
+tells code survives t None checks h = h.1
+tells code survives t (Some row) checks h = h.1
+
+pub returns-then-not-possible : goal.returns-then-not-possible
+returns-then-not-possible c =
+    let r = c.args.request.now in
+    contradiction r c.length.ensures.accepted c.length.ensures.bytes
+    (λ p. is_among p r.survivors) (λ p. refl) c.args.plan.now.checks
+    (tells (tables_of r.code) (λ p. is_among p r.survivors) r.target c.args.plan.now.value c.args.plan.now.checks c.requires)
+    (c.are_zero-possible.ensures.no c.if-not-possible.true)
+
+pub returns-in_ok-bytes-in-Some : goal.returns-in_ok-bytes-in-Some
+returns-in_ok-bytes-in-Some c =
+    let r = c.args.request.now in
+    let by = subst (λ v. AnswerBy (tables_of r.code) (λ p. is_among p r.survivors) r.target v c.args.plan.now.checks) c.in-Some.is c.requires in
+    subst (λ f. IsAnswer r (Rebuilt f)) (sym c.new.ensures)
+    (rebuilt r c.length.ensures.accepted c.length.ensures.bytes
+    (λ p. is_among p r.survivors) (λ p. refl) c.args.plan.now.checks by.1
+    (c.are_zero-possible.ensures.yes c.if-not-possible.false) _ _ by.0 c.in_ok-bytes-in-Some.ensures)
+
+pub returns-in-None : goal.returns-in-None
+returns-in-None c =
+    let r = c.args.request.now in
+    let by = subst (λ v. AnswerBy (tables_of r.code) (λ p. is_among p r.survivors) r.target v c.args.plan.now.checks) c.in-None.is c.requires in
+    several r c.length.ensures.accepted c.length.ensures.bytes
+    (λ p. is_among p r.survivors) (λ p. refl) c.args.plan.now.checks by.1
+    (c.are_zero-possible.ensures.yes c.if-not-possible.false) by.0
