@@ -16,9 +16,9 @@ LIBRARY := crates/lrc_c/out
 
 .PHONY: build demo install uninstall library install-library uninstall-library test wrong-bodies scale bench
 
-# Proves the program and what it stands on, and builds crates/rebuild/out/rebuild.
+# Proves the program and what it stands on, and builds crates/rebuild/out/rebuild. JOBS=N has it use N processors.
 build:
-	@scripts/build.sh $(CPU)
+	@scripts/build.py rebuild $(CPU) $(JOBS)
 
 demo: build
 	@scripts/demo.sh
@@ -41,11 +41,11 @@ uninstall:
 	rm -f "$(PLACE)/share/zsh/site-functions/_rebuild"
 	rm -f "$(PLACE)/share/fish/vendor_completions.d/rebuild.fish"
 
-# Proves the C library and what it stands on, and builds it: crates/lrc_c/out/liblrc_c.a and the shared object. JOBS=N has each proof
-# use N processors.
+# Proves the C library and what it stands on, and builds it: crates/lrc_c/out/liblrc_c.a and the shared object. JOBS=N as above.
 library:
-	cd crates/lrc_c && rt lib $(if $(JOBS),--jobs $(JOBS)) --cpu=$(CPU)
-	$(CC) -shared -o $(LIBRARY)/$(SONAME) -Wl,--whole-archive $(LIBRARY)/liblrc_c.a -Wl,--no-whole-archive -Wl,-z,defs -Wl,-soname,$(SONAME)
+	@scripts/build.py lrc_c $(CPU) $(JOBS)
+	@test $(LIBRARY)/$(SONAME) -nt $(LIBRARY)/liblrc_c.a || $(CC) -shared -o $(LIBRARY)/$(SONAME) \
+	  -Wl,--whole-archive $(LIBRARY)/liblrc_c.a -Wl,--no-whole-archive -Wl,-z,defs -Wl,-soname,$(SONAME)
 
 # Builds nothing, as `install`.
 install-library:
@@ -76,6 +76,7 @@ test:
 
 # A proof was seen to take 3 GB at most, less than rt allows for, so RT_JOBS has it run one on each processor.
 proofs:
+	scripts/build.py settle
 	RT_JOBS=$(shell nproc) rt ci
 
 .PHONY: proofs library.sh $(BEHIND)

@@ -1,0 +1,373 @@
+#!/usr/bin/env python3
+"""Proves a crate with all that it stands on, and builds it: the program (`rebuild`) or the C library (`lrc_c`).
+
+    build.py NAME LEVEL [JOBS]      for a level of the processor, as x86-64-v3, with JOBS processors (all that there are)
+    build.py settle                 puts back what a build that was killed has left
+
+Crates are proved beside each other, each as soon as those that it stands on are there. The crate with the longest way to the end
+has all processors; the others have one each, at a lower priority. A crate whose sources, and those of the crates below it,
+are as they were when it was proved is not proved again, and a build that was interrupted goes on where it was.
+
+`rt` locks every crate that it reads, so two crates above a third can't be proved at once in one place. So each is proved in a room
+of its own below out/: a copy of its sources and of those below it, with the libraries below it as hard links."""
+
+import fcntl
+import functools
+import hashlib
+import os
+import pathlib
+import re
+import shutil
+import signal
+import subprocess
+import sys
+import time
+
+ROOT = pathlib.Path(__file__).resolve().parent.parent
+ROOMS = ROOT / "out" / "rooms"
+PARTS = ("src", "specs", "proofs")
+# What stands in a crate's out/ beside the record of the build: the prover's work, the library, and what is built.
+WORK = ("incremental", "rlib")
+# The memory of a proof with one job, and of each further job; the most that was seen is 3 GB and half of that.
+FIRST, FURTHER = 3_000_000_000, 1_500_000_000
+# More jobs than this a proof doesn't use.
+MOST_JOBS = 8
+# The minutes that the first build takes on four idle processors, which README tells too.
+MINUTES = {"rebuild": 16, "lrc_c": 7}
+# How many lines of what rt said are shown where it fails.
+SHOWN = 40
+
+
+def stop(why):
+    print(f"build: {why}", file=sys.stderr)
+    sys.exit(1)
+
+
+class Crate:
+    """A crate of crates.txt: its line there, and the crates below it."""
+
+    def __init__(self, name, line, below):
+        self.name, self.line, self.below = name, line, below
+        self.folder = ROOT / "crates" / name
+        self.is_program = (self.folder / "src/main.rt").is_file()
+        self.is_static = "staticlib" in line.partition(":")[0].split()
+
+    def all_below(self):
+        found = []
+        for it in self.below:
+            found += [one for one in [*it.all_below(), it] if one not in found]
+        return found
+
+    def lines(self):
+        """How long its proof is, about."""
+        return sum(file.read_bytes().count(b"\n") for part in PARTS for file in (self.folder / part).rglob("*.*t"))
+
+    def built(self):
+        """The file that building it makes, by which a record is held to what was built."""
+        if self.is_program:
+            return self.folder / "out" / self.name
+        return self.folder / "out" / (f"lib{self.name}.a" if self.is_static else "rlib/stamp")
+
+    def command(self, level, jobs):
+        verb = "run" if self.is_program else "lib"
+        return ["rt", verb, "--jobs", str(jobs), *([f"--cpu={level}"] if self.is_program or self.is_static else [])]
+
+    @functools.lru_cache(maxsize=None)
+    def inputs(self, root, level, kit):
+        """A sum of all that it is made from: the toolchain, its line, its sources and the sums of the crates below it."""
+        found = hashlib.sha256(repr((kit, self.line, level if self.is_program or self.is_static else "")).encode())
+        for part in PARTS:
+            for file in sorted(path for path in (root / self.name / part).rglob("*") if path.is_file()):
+                found.update(repr((str(file.relative_to(root)), file.read_bytes())).encode())
+        for it in self.below:
+            found.update(it.inputs(root, level, kit).encode())
+        return found.hexdigest()
+
+    def record(self, inputs):
+        """What the record of a build from these inputs says, or None where nothing is built."""
+        return f"{inputs} {sum_of(self.built())}\n" if self.built().is_file() else None
+
+    def is_built(self, inputs):
+        file = self.folder / "out" / "built"
+        return file.is_file() and file.read_text() == self.record(inputs)
+
+
+def sum_of(file):
+    return hashlib.sha256(file.read_bytes()).hexdigest()
+
+
+def read_crates():
+    """The crates of crates.txt by their names."""
+    lines = {}
+    for line in (ROOT / "crates.txt").read_text().splitlines():
+        line = " ".join(line.partition("#")[0].split())
+        if line:
+            lines[line.partition(":")[0].split()[0]] = line
+    crates = {}
+
+    def crate(name):
+        if name not in crates:
+            below = lines[name].partition(":")[2].split()
+            crates[name] = Crate(name, lines[name], [crate(it) for it in below if it in lines])
+        return crates[name]
+
+    for name in lines:
+        crate(name)
+    return crates
+
+
+def number_in(file, pattern):
+    try:
+        return int(re.search(pattern, pathlib.Path(file).read_text())[1])
+    except (OSError, TypeError):
+        return None
+
+
+def processors():
+    """How many processors there are to use: those of this process, or fewer by the quota of its control group."""
+    found = len(os.sched_getaffinity(0))
+    quota = number_in("/sys/fs/cgroup/cpu.max", r"^(\d+)")
+    period = number_in("/sys/fs/cgroup/cpu.max", r"^\d+ (\d+)")
+    return min(found, max(quota // period, 1)) if quota and period else found
+
+
+def memory():
+    """The memory that is free, under the control group's limit too, of which some is left."""
+    found = [1024 * number_in("/proc/meminfo", r"MemAvailable:\s+(\d+)")]
+    limit, held = number_in("/sys/fs/cgroup/memory.max", r"^(\d+)"), number_in("/sys/fs/cgroup/memory.current", r"^(\d+)")
+    if limit and held is not None:
+        found.append(limit - held)
+    return 0.85 * min(found)
+
+
+class Run:
+    """The proof of a crate in a room of its own."""
+
+    def __init__(self, crate, lock, level, jobs, is_first, kit):
+        self.crate, self.lock, self.jobs, self.start = crate, lock, jobs, time.monotonic()
+        self.room = ROOMS / crate.name
+        make_room(crate, self.room)
+        self.inputs = crate.inputs(self.room / "crates", level, kit)
+        self.said = self.room / "said"
+        # The lock goes to what is started too, so that it is held until that ends, however this process ends.
+        how = {"cwd": self.room / "crates" / crate.name, "stdin": subprocess.DEVNULL, "pass_fds": [lock]}
+        with open(self.said, "w") as said:
+            how["preexec_fn"] = None if is_first else lower_priority
+            self.process = subprocess.Popen(crate.command(level, jobs), stdout=said, stderr=subprocess.STDOUT, **how)
+
+    def need(self):
+        return FIRST + FURTHER * (self.jobs - 1)
+
+    def seconds(self):
+        return int(time.monotonic() - self.start)
+
+    def end(self):
+        """Takes what was made out of the room, and gives back the lock; whether all is well, and what rt said."""
+        said = self.said.read_text(errors="replace")
+        is_well = self.process.returncode == 0
+        leave_room(self.crate, self.room)
+        if is_well:
+            (self.crate.folder / "out" / "built").write_text(self.crate.record(self.inputs))
+        os.close(self.lock)
+        return is_well, said
+
+    def stop(self):
+        """Ends the proof. What it has proved stays, and the next build goes on from there."""
+        self.process.terminate()
+        self.process.wait()
+        self.end()
+
+
+def lower_priority():
+    os.nice(10)
+
+
+def lock_of(folder):
+    """Takes the lock by which rt keeps two runs out of one folder, or gives None where another has it."""
+    held = os.open(folder, os.O_RDONLY)
+    try:
+        fcntl.flock(held, fcntl.LOCK_EX | fcntl.LOCK_NB)
+    except BlockingIOError:
+        os.close(held)
+        return None
+    return held
+
+
+def make_room(crate, room):
+    """Makes a room for the proof of a crate, and moves into it what earlier proofs have left."""
+    leave_room(crate, room)
+    room.mkdir(parents=True)
+    those = [*crate.all_below(), crate]
+    (room / "crates.txt").write_text("".join(f"{it.line}\n" for it in those))
+    for it in those:
+        to = room / "crates" / it.name
+        for part in PARTS:
+            if (it.folder / part).is_dir():
+                shutil.copytree(it.folder / part, to / part)
+        if it is not crate and (it.folder / "out/rlib").is_dir():
+            shutil.copytree(it.folder / "out/rlib", to / "out/rlib", copy_function=os.link)
+    out = room / "crates" / crate.name / "out"
+    out.mkdir()
+    (crate.folder / "out").mkdir(exist_ok=True)
+    for name in WORK:
+        if (crate.folder / "out" / name).is_dir():
+            os.rename(crate.folder / "out" / name, out / name)
+    (crate.folder / "out" / "built").unlink(missing_ok=True)
+
+
+def leave_room(crate, room):
+    """Moves what a proof has made out of its room, and removes the room."""
+    made, to = room / "crates" / crate.name / "out", crate.folder / "out"
+    if made.is_dir():
+        to.mkdir(exist_ok=True)
+        for it in made.iterdir():
+            remove(to / it.name)
+            os.rename(it, to / it.name)
+    remove(room)
+
+
+def remove(path):
+    if path.is_dir():
+        shutil.rmtree(path)
+    else:
+        path.unlink(missing_ok=True)
+
+
+def settle(crates):
+    """Puts back what a build that was killed has left in its rooms."""
+    for room in ROOMS.iterdir() if ROOMS.is_dir() else []:
+        crate = crates.get(room.name)
+        lock = lock_of(crate.folder) if crate else None
+        if crate and lock is None:
+            stop(f"another run works in crates/{crate.name}: wait for its end")
+        if crate:
+            leave_room(crate, room)
+            os.close(lock)
+        else:
+            remove(room)
+    for it in (ROOMS, ROOMS.parent):
+        if it.is_dir() and not os.listdir(it):
+            it.rmdir()
+
+
+class Build:
+    """The crates that are to be proved, and those that are being proved."""
+
+    def __init__(self, crates, level, jobs, kit):
+        self.level, self.jobs, self.kit = level, jobs, kit
+        self.inputs = {it: it.inputs(ROOT / "crates", level, kit) for it in crates}
+        self.left = [it for it in crates if not it.is_built(self.inputs[it])]
+        self.done = [it for it in crates if it not in self.left]
+        self.running, self.memory, self.told, self.waits = [], memory(), "", set()
+        # The lines from a crate to the end of the build.
+        self.way = {}
+        for it in reversed(crates):
+            self.way[it] = it.lines() + max((self.way[above] for above in crates if it in above.below), default=0)
+
+    def start_all(self):
+        """Starts each crate whose libraries are there, as far as processors and memory go."""
+        ready = [it for it in self.left if all(below in self.done for below in it.below)]
+        for crate in sorted(ready, key=lambda it: -self.way[it]):
+            is_first = all(self.way[crate] > self.way[it.crate] for it in self.running)
+            free = self.memory - sum(it.need() for it in self.running)
+            if self.running and (free < FIRST or len(self.running) >= self.jobs):
+                return
+            jobs = min(self.jobs, MOST_JOBS, 1 + int(max(free - FIRST, 0) // FURTHER)) if is_first else 1
+            lock = lock_of(crate.folder)
+            if lock is None:
+                if crate not in self.waits:
+                    self.say(f"crates/{crate.name} is waited for: another run works there")
+                self.waits.add(crate)
+                continue
+            self.left.remove(crate)
+            self.running.append(Run(crate, lock, self.level, jobs, is_first, self.kit))
+
+    def say(self, line):
+        """Tells a line, in the place of that on what runs."""
+        if sys.stdout.isatty():
+            print("\r\033[K", end="")
+        print(line, flush=True)
+
+    def say_running(self):
+        """Tells what runs: once, or in a terminal over and over in one line."""
+        if sys.stdout.isatty():
+            now = ", ".join(f"{it.crate.name} {it.seconds()} s" for it in self.running)
+            print(f"\r\033[Know: {now}", end="", flush=True)
+        else:
+            now = ", ".join(it.crate.name for it in self.running)
+            if now != self.told and now:
+                print(f"  now: {now}", flush=True)
+            self.told = now
+
+    def end(self, run):
+        """Takes in a proof that has ended."""
+        self.running.remove(run)
+        is_well, said = run.end()
+        if not is_well:
+            self.say(f"{run.crate.name:<13} NOT PROVED; what rt said last:")
+            print(*said.splitlines()[-SHOWN:], sep="\n")
+            sys.exit(1)
+        found = re.findall(r"^logic=proved functions=(\d+)", said, re.M)
+        told = f"{int(found[-1]):4} functions proved" if found else "as it was proved"
+        self.say(f"{run.crate.name:<13} {told:<21} {run.seconds():4} s")
+        self.done.append(run.crate)
+
+    def run(self):
+        try:
+            while self.left or self.running:
+                self.start_all()
+                self.say_running()
+                ended = [it for it in self.running if it.process.poll() is not None]
+                for run in ended:
+                    self.end(run)
+                if not ended:
+                    time.sleep(0.2)
+        finally:
+            for run in self.running:
+                run.stop()
+
+
+def minutes(seconds):
+    return f"{seconds // 60} minutes and {seconds % 60} seconds"
+
+
+def main(name, level, jobs):
+    start = time.monotonic()
+    crates = read_crates()
+    top = crates[name]
+    what = "program" if top.is_program else "library"
+    lock = lock_of(ROOT / "crates")
+    if lock is None:
+        stop("another build runs here: wait for its end")
+    settle(crates)
+    kit = subprocess.run(["rt", "version"], check=True, capture_output=True, text=True).stdout
+    build = Build([*top.all_below(), top], level, jobs, kit)
+    if not build.left:
+        print(f"{top.built().relative_to(ROOT)} is as it was built for {level}: nothing has changed since")
+        return
+    print(f"Proving the {what} and the {len(top.all_below())} crates that it stands on, then building it for {level}; processors: {jobs}.")
+    if build.done:
+        print(f"As they were proved before: {', '.join(it.name for it in build.done)}")
+    elif name in MINUTES:
+        print(f"The first time this takes some {MINUTES[name]} minutes on four processors. After a change only what changed is proved again.")
+    sys.stdout.flush()
+    try:
+        build.run()
+    finally:
+        settle(crates)
+    print(f"{top.built().relative_to(ROOT)} is built, {minutes(int(time.monotonic() - start))} in all")
+
+
+if __name__ == "__main__":
+    for number in (signal.SIGTERM, signal.SIGHUP):
+        signal.signal(number, lambda *_: sys.exit(1))
+    if sys.argv[1:] == ["settle"]:
+        settle(read_crates())
+    elif len(sys.argv) in (3, 4) and sys.argv[1] in read_crates():
+        try:
+            main(sys.argv[1], sys.argv[2], int(sys.argv[3]) if sys.argv[3:] else processors())
+        except KeyboardInterrupt:
+            print("\nbuild: stopped; what is proved stays, and the next build goes on from there", file=sys.stderr)
+            sys.exit(130)
+    else:
+        sys.exit(__doc__)
