@@ -25,6 +25,7 @@ TESTS = {
     "farm_shelves": "files_tests",
     "farm_files": "files_tests",
     "line_mode": "line_tests",
+    "command_line": "line_tests",
 }
 
 # Tests that a wrong body keeps from ending are stopped after so many seconds, and have noticed it.

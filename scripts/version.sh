@@ -1,13 +1,13 @@
 #!/usr/bin/env bash
 # Compares the versions that are told: what the built program says is that of its source, of both manual pages, of
-# the C library's header and of the newest heading of the changelog. Its source (crates/rebuild/src/command/definition.rt) is
+# the C library's header and of the newest heading of the changelog. Its source (crates/command_line/src/definition.rt) is
 # where a version is changed.
 set -euo pipefail
 cd "$(dirname "$0")/.."
 scratch=$(mktemp -d)
 trap 'rm -rf "$scratch"' EXIT
 
-version=$(sed -n 's/^const VERSION: &str = "\(.*\)";$/\1/p' crates/rebuild/src/command/definition.rt)
+version=$(sed -n 's/^const VERSION: &str = "\(.*\)";$/\1/p' crates/command_line/src/definition.rt)
 if ! [[ $version =~ ^[0-9]+\.[0-9]+\.[0-9]+$ ]]; then
   echo "version: the source has \"$version\", which is no version"
   exit 1

@@ -1,5 +1,5 @@
-//! Tests of the public calls of `line_mode`. They stand in a crate of their own, so that a check of that crate proves it once and not a
-//! second time with its tests.
+//! Tests of the public calls of `line_mode` and `command_line`. They stand in a crate of their own, so that a check of those crates
+//! proves them once and not a second time with their tests.
 #![tactic(auto)]
 
 #[cfg(test)]
@@ -14,3 +14,5 @@ mod limits;
 mod rows;
 #[cfg(test)]
 mod vectors;
+#[cfg(test)]
+mod words;

@@ -12,12 +12,11 @@
 //! What standard error doesn't take is lost: the status tells how it ended all the same.
 #![tactic(auto)]
 
-pub mod command;
 pub mod farm_faults;
 #[cfg(test)]
 mod tests;
 
-use command::{Words, WordsFault, read_words};
+use command_line::{Words, WordsFault, read_words};
 use farm_core::{NoPause, Settings, SettingsFault};
 use farm_faults::{farm_status, fault_line};
 use farm_files::{FolderShelf, ServeFault, Served, serve};

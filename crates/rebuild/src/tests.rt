@@ -1,3 +1,2 @@
-//! Tests of the command line and of how the command `farm` ends.
+//! Tests of how the command `farm` ends.
 mod ends;
-mod words;

@@ -1,0 +1,17 @@
+//! The words of the program's command line: what they ask for, and the text of help or of a mistake. It stands on clap alone, so it is
+//! proved beside the codes and the farm.
+//!
+//! ```rust
+//! match read_words(alloc, words)? {
+//!     Words::Lines => ..,
+//!     Words::Farm { input, output, workers, queue } => ..,
+//!     Words::Help(text) => ..,
+//! }
+//! ```
+#![tactic(auto)]
+
+mod definition;
+mod values;
+pub mod words;
+
+pub use words::{Words, WordsFault, read_words};

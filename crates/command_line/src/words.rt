@@ -1,0 +1,100 @@
+//! The words of the command line, and what they ask for.
+ghost use Rattle.std.specs.Prelude.{◌≡◌, [], IfOk, IfErr, map, string_bytes};
+ghost use Rattle.clap.specs.Words.{kind_of, subcommand_rows_of};
+ghost use Rattle.command_line.specs.Command.{AreLines, Asks, MatchesFault, MatchesWords, Refuses, Shows, ShowsFault};
+ghost use Rattle.command_line.specs.declared.words.WordsFault.TheVariants as words_fault;
+
+use crate::definition::program;
+use crate::values::FarmValues;
+use clap::error::ErrorKind;
+use clap::{ArgMatches, Error as ParseError};
+use std::alloc::{AllocError, Global};
+use thiserror::Error;
+
+const NO_COMMAND: &str =
+    "error: rebuild takes the command farm, or no words at all\n\nFor more information, try '--help'.\n";
+
+/// What the words of the command line ask for.
+#[derive(Debug, Drop)]
+pub enum Words {
+    /// There are no words: line mode.
+    Lines,
+    /// To serve the folder `input` into the folder `output`, with this many workers and queues of this capacity. Both
+    /// numbers are at most 65,535, and not yet tested against the limits of a farm.
+    Farm {
+        input: String,
+        output: String,
+        workers: usize,
+        queue: usize,
+    },
+    /// To show this text: help, or the version.
+    Help(String),
+}
+
+/// Why words are refused.
+#[derive(Debug, Drop, Error)]
+pub enum WordsFault {
+    /// The words have a mistake, or no command. The text says which, and where help is.
+    #[error("{0}")]
+    Usage(String),
+    /// E16: memory was refused.
+    #[error("memory was refused")]
+    OutOfMemory,
+}
+
+impl From<AllocError> for WordsFault {
+    ghost from_gives = { λ _ e. e ≡ words_fault.OutOfMemory };
+
+    fn from(_: AllocError) -> Self {
+        WordsFault::OutOfMemory
+    }
+}
+
+/// What words ask for, which don't hold the program's name. No words take no memory.
+///
+/// An option's number may have a plus sign. An option stands before or behind the folders, and its value behind a
+/// space or an equals sign.
+pub fn read_words(alloc: Global, words: &[String]) -> Result<Words, WordsFault>
+    ensures none { words.now ≡ [] → AreLines result }
+    ensures asked { IfOk result (λ w. Asks w (map string_bytes words.now)) }
+    ensures refused { IfErr result (λ f. Refuses f (map string_bytes words.now)) }
+{
+    if words.is_empty() {
+        return Ok(Words::Lines);
+    }
+    let program = program(alloc)?;
+    match program.try_get_matches_from(words) {
+        Ok(matches) => farm_words(alloc, &matches),
+        Err(error) => shown_words(alloc, &error),
+    }
+}
+
+// What matches ask for.
+fn farm_words(alloc: Global, matches: &ArgMatches<'_>) -> Result<Words, WordsFault>
+    ensures asked { IfOk result (MatchesWords (subcommand_rows_of matches.now)) }
+    ensures refused { IfErr result (MatchesFault (subcommand_rows_of matches.now)) }
+{
+    match FarmValues::of(matches) {
+        Some(values) => Ok(Words::Farm {
+            input: String::from_str(alloc, values.input)?,
+            output: String::from_str(alloc, values.output)?,
+            workers: values.workers as usize,
+            queue: values.queue as usize,
+        }),
+        None => Err(WordsFault::Usage(String::from_str(alloc, NO_COMMAND)?)),
+    }
+}
+
+// The text of help, of the version or of a mistake.
+fn shown_words(alloc: Global, error: &ParseError) -> Result<Words, WordsFault>
+    ensures asked { IfOk result (Shows (kind_of error.now)) }
+    ensures refused { IfErr result (ShowsFault (kind_of error.now)) }
+{
+    match error.kind() {
+        ErrorKind::OutOfMemory => Err(WordsFault::OutOfMemory),
+        ErrorKind::DisplayHelp | ErrorKind::DisplayVersion => {
+            Ok(Words::Help(format!(in alloc; "{error}")?))
+        }
+        _ => Err(WordsFault::Usage(format!(in alloc; "{error}")?)),
+    }
+}
