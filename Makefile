@@ -1,4 +1,4 @@
-# `make demo` proves, builds and runs the program on the sample in demo/; `make test` is the gate, `make wrong-bodies` tries the wrong
+# `make try` runs line mode unproved; `make demo` proves, builds and runs the program on the sample in demo/; `make test` is the gate, `make wrong-bodies` tries the wrong
 # bodies that it leaves out, and `make scale` runs what docs/SCALE.md shows of several jobs.
 
 # The processor level that programs are built for: v3 has 32-byte vectors (AVX2), v2 those of 16 bytes.
@@ -14,7 +14,7 @@ LIBRARY_VERSION := $(shell sed -n 's/^.define LRC_VERSION "\(.*\)"$$/\1/p' inclu
 SONAME := liblrc.so.0
 LIBRARY := crates/lrc_c/out
 
-.PHONY: build demo install uninstall library install-library uninstall-library test wrong-bodies scale bench
+.PHONY: build demo try install uninstall library install-library uninstall-library test wrong-bodies scale bench
 
 # Proves the program and what it stands on, and builds crates/rebuild/out/rebuild. JOBS=N has it use N processors.
 build:
@@ -22,6 +22,10 @@ build:
 
 demo: build
 	@scripts/demo.sh
+
+# Runs line mode on a few requests by the toolchain's interpreter, which takes one to two minutes and proves nothing.
+try:
+	@scripts/try.sh
 
 # Builds nothing, so that it can be run by an administrator who has no toolchain.
 install:
