@@ -13,7 +13,7 @@ passed=0
 ends() {
   local name=$1 status=$2 output=$3 told=$4 ended=0
   shift 4
-  "$program" "$@" > "$scratch/output" 2> "$scratch/told" || ended=$?
+  timeout 60 "$program" "$@" > "$scratch/output" 2> "$scratch/told" || ended=$?
   compare "$name" "$status" "$ended" "$told"
   [ "$(head -c 1000 "$scratch/output")" = "$output" ] || fail "$name" "wrote $(head -c 300 "$scratch/output")"
 }
@@ -108,4 +108,50 @@ ends longer-fragment 0 'served 1 racks, 1 answers' '' farm "$scratch/greatest" "
 grep -qx '0,a,x0,65536,several,,px' "$scratch/rebuilt/rack0.report.csv" || fail longer-fragment 'took it'
 echo >> "$list"
 ends longer-list 1 '' 'rack0.csv: E25' farm "$scratch/greatest" "$scratch/rebuilt"
+
+# What is no regular file is not read, and no run waits for it. Links that lead to each other are something that can't be read.
+header=order,stripe,target,length,survivors
+mkdir "$scratch/no-files" "$scratch/no-files-out"
+mkfifo "$scratch/fifo"
+python3 -c 'import socket, sys; socket.socket(socket.AF_UNIX).bind(sys.argv[1])' "$scratch/socket"
+printf '%s\nrebuild,a,x0,1,x1 x2 px\n' $header > "$scratch/list"
+ln -s rack1.csv "$scratch/loop"
+for bad in fifo socket loop no-files /dev/zero; do
+  [ "$bad" = /dev/zero ] || bad=$scratch/$bad
+  for name in rack0.csv rack0.feed1.csv rack1.csv; do
+    cp "$scratch/list" "$scratch/no-files/rack0.csv"
+    ln -sfn "$bad" "$scratch/no-files/$name"
+    ends "list-${bad##*/}-$name" 3 '' E24 farm "$scratch/no-files" "$scratch/no-files-out"
+    rm "$scratch/no-files/$name"
+  done
+  cp "$scratch/list" "$scratch/no-files/rack0.csv"
+  ln -s "$bad" "$scratch/no-files/a.x1"
+  ends "survivor-${bad##*/}" 0 'served 1 racks, 1 answers' '' farm "$scratch/no-files" "$scratch/no-files-out"
+  grep -qx '0,a,x0,1,several,,x1 x2 px' "$scratch/no-files-out/rack0.report.csv" || fail "survivor-${bad##*/}" 'took it'
+  rm "$scratch/no-files/a.x1" "$scratch/no-files-out/"*
+done
+ln -s rack1.csv "$scratch/no-files/rack0.csv" -f
+ln -s rack0.csv "$scratch/no-files/rack1.csv"
+ends lists-that-loop 3 '' E24 farm "$scratch/no-files" "$scratch/no-files-out"
+
+# A hundred requests where 40 files may be open.
+mkdir "$scratch/hundred" "$scratch/hundred-out"
+echo $header > "$scratch/hundred/rack0.csv"
+for number in $(seq 100); do
+  echo "rebuild,s$number,x0,1,x1 x2 px" >> "$scratch/hundred/rack0.csv"
+  for place in x1 x2 px; do
+    printf '%b' "\\x$(printf %02x "$number")" > "$scratch/hundred/s$number.$place"
+  done
+done
+files=$(ulimit -S -n)
+for workers in 1 16; do
+  ulimit -S -n 40
+  ends "few-open-files-$workers" 0 'served 1 racks, 100 answers' '' farm "$scratch/hundred" "$scratch/hundred-out" --workers "$workers"
+  ulimit -S -n "$files"
+  [ "$(grep -c ',rebuilt,' "$scratch/hundred-out/rack0.report.csv")" = 100 ] || fail few-open-files 'left survivors out'
+  for number in $(seq 100); do
+    cmp -s "$scratch/hundred/s$number.px" "$scratch/hundred-out/rack0-$((number - 1)).s$number.x0" || fail few-open-files "rebuilt another s$number.x0"
+  done
+  rm "$scratch/hundred-out/"*
+done
 echo "ends: $passed runs ended as they must"

@@ -1,7 +1,7 @@
 //! A shelf over a folder of the system.
 ghost use Rattle.std.specs.Prelude.{◌≡◌, ◌+◌, ◌<◌, ◌≤◌, ℕ, None, IfOk, IfSome, OnErr, OnOk, drop, length, take};
 ghost use Rattle.std.specs.Io.KnownBytes.{Consumes, IsAtEnd, Keeps};
-ghost use Rattle.farm_shelves.specs.Folder.{folder_failed};
+ghost use Rattle.farm_shelves.specs.Folder.{folder_failed, found, kind_fault};
 
 use crate::shelf::{Shelf, ShelfFault};
 use std::alloc::{AllocError, Global};
@@ -21,6 +21,10 @@ const READ_TURNS: u32 = 16_777_216;
 
 /// A shelf over a folder of the system. Contracts see only how often it failed, since other programs may change the
 /// folder's files.
+///
+/// It reads regular files, also by links. A read of anything else (a folder, a FIFO, a socket or a device) is a failure of the
+/// device: such a file is not opened, since opening a FIFO waits for a writer. What a name is, is asked before it is opened, so a
+/// program that puts a FIFO there between the two can still make a read wait.
 #[derive(Drop)]
 pub struct FolderShelf<R: Drop> {
     rt: R,
@@ -30,15 +34,23 @@ pub struct FolderShelf<R: Drop> {
     ahead: Vec<ReadAhead>,
 }
 
-// A file that is to be read ahead: its path and limit, the room for its bytes, the file while it is open, and what was read: none
-// where it isn't there. A read ahead that fails tells nothing, and is made again by the read that it was for.
+// A file that is read ahead: its path, its limit and how far it is.
 #[derive(Drop)]
 struct ReadAhead {
     path: String,
     limit: usize,
-    room: Vec<u8>,
-    file: Option<fs::File>,
-    read: Option<Option<Vec<u8>>>,
+    state: State,
+}
+
+// How far a file is that is read ahead.
+#[derive(Drop)]
+enum State {
+    // It is open, and this is the room for its bytes.
+    Open(fs::File, Vec<u8>),
+    // Its first bytes; none where there is no such file.
+    Read(Option<Vec<u8>>),
+    // It could not be read. The read that it was for reads it again, and says why.
+    Unread,
 }
 
 impl<R: Files + Clone + Drop> FolderShelf<R> {
@@ -60,59 +72,95 @@ impl<R: Files + Clone + Drop> FolderShelf<R> {
         let path = &self.path;
         format!(in alloc; "{path}/{name}")
     }
+}
 
-    // The paths of files that are to be read ahead, the first one last, with room for the bytes of a fragment of each. One
-    // thread takes all of it: the system's allocator makes threads that take and return it at once wait for each other.
-    fn make_rooms(
+impl<R: Files<File = fs::File> + Clone + Drop> FolderShelf<R> {
+    // Opens files that are to be read ahead, the last one first. This is no work for the threads: no proof speaks of a type
+    // parameter's files in several threads, and the system's allocator makes threads that take and return memory at once wait for
+    // each other.
+    fn open_each(
         &self,
         alloc: Global,
         files: &[(String, usize)],
     ) -> Result<Vec<ReadAhead>, AllocError> {
         let mut ahead = Vec::new(alloc);
         for (name, limit) in files.iter().rev() {
-            ahead.push(ReadAhead {
-                path: self.full_path(alloc, name.as_str())?,
-                limit: *limit,
-                room: Vec::with_capacity(alloc, FIRST_ROOM.min(*limit))?,
-                file: None,
-                read: None,
-            })?;
+            let path = self.full_path(alloc, name.as_str())?;
+            ahead.push(open_ahead(&self.rt, alloc, path, *limit)?)?;
         }
         Ok(ahead)
     }
 }
 
-// Opens files, one after the other. This is no work for the threads: no proof speaks of a type parameter's files in several threads.
-fn open_each<R: Files<File = fs::File>>(rt: &R, files: &mut [ReadAhead]) {
-    for file in files.iter_mut() {
-        match fs::open(rt, file.path.as_str()) {
-            Ok(opened) => file.file = Some(opened),
-            Err(e) => {
-                if e.kind() == ErrorKind::NotFound {
-                    file.read = Some(None);
-                }
-            }
-        }
+// What an error of the system is for a reader.
+fn fault_of(kind: ErrorKind) -> ShelfFault
+    ensures { result ≡ kind_fault kind }
+{
+    match kind {
+        ErrorKind::OutOfMemory => ShelfFault::OutOfMemory,
+        _ => ShelfFault::Device,
     }
 }
 
+// What the system found under a name: there is no such file exactly where it says that it was not found. Any other error is a
+// fault, as too many open files, or links that loop.
+fn if_there<T: Drop>(answer: io::Result<T>) -> Result<Option<T>, ShelfFault>
+    ensures { result ≡ found answer }
+{
+    match answer {
+        Ok(there) => Ok(Some(there)),
+        Err(e) => match e.kind() {
+            ErrorKind::NotFound => Ok(None),
+            kind => Err(fault_of(kind)),
+        },
+    }
+}
+
+// The regular file at a path, open; none where there is no file.
+fn open_regular<R: Files<File = fs::File>>(
+    rt: &R,
+    path: &str,
+) -> Result<Option<fs::File>, ShelfFault> {
+    match if_there(fs::metadata(rt, path))? {
+        Some(metadata) if metadata.is_file() => if_there(fs::open(rt, path)),
+        Some(_) => Err(ShelfFault::Device),
+        None => Ok(None),
+    }
+}
+
+// Opens a file that is to be read ahead, and takes room for its bytes if it is there.
+fn open_ahead<R: Files<File = fs::File>>(
+    rt: &R,
+    alloc: Global,
+    path: String,
+    limit: usize,
+) -> Result<ReadAhead, AllocError> {
+    let state = match open_regular(rt, path.as_str()) {
+        Ok(Some(file)) => State::Open(file, Vec::with_capacity(alloc, FIRST_ROOM.min(limit))?),
+        Ok(None) => State::Read(None),
+        Err(_) => State::Unread,
+    };
+    Ok(ReadAhead { path, limit, state })
+}
+
 // Reads the files that are open, in at most so many threads. A thread that is refused leaves its part to the others.
-fn read_opened<R: Threads + Sync>(rt: &R, alloc: Global, files: &mut [ReadAhead], threads: usize) {
+fn read_opened<R: Threads + Sync>(rt: &R, files: &mut [ReadAhead], threads: usize) {
     let size = files.len().div_ceil(threads.max(1)).max(1);
-    let part = |_start: usize, chunk: &mut [ReadAhead]| read_each(alloc, chunk);
+    let part = |_start: usize, chunk: &mut [ReadAhead]| read_each(chunk);
     thread::for_each_chunk_mut(rt, files, size, &part);
 }
 
 // Reads the files that are open, one after the other, each into its room, and closes them.
-fn read_each(alloc: Global, files: &mut [ReadAhead]) {
+fn read_each(files: &mut [ReadAhead]) {
     for file in files.iter_mut() {
-        let Some(opened) = file.file.take() else {
-            continue;
+        let limit = file.limit;
+        file.state = match mem::replace(&mut file.state, State::Unread) {
+            State::Open(opened, room) => match read_front(room, opened, limit) {
+                Ok(bytes) => State::Read(Some(bytes)),
+                Err(_) => State::Unread,
+            },
+            state => state,
         };
-        let room = mem::replace(&mut file.room, Vec::new(alloc));
-        if let Ok(bytes) = read_front(room, opened, file.limit) {
-            file.read = Some(Some(bytes));
-        }
     }
 }
 
@@ -120,11 +168,17 @@ fn read_each(alloc: Global, files: &mut [ReadAhead]) {
 // since what comes then isn't known.
 fn take_ahead(ahead: &mut Vec<ReadAhead>, path: &str, limit: usize) -> Option<Option<Vec<u8>>> {
     let next = ahead.pop()?;
-    if next.path.as_str() == path && next.limit == limit {
-        return next.read;
+    let is_next = next.path.as_str() == path && next.limit == limit;
+    if !is_next {
+        ahead.clear();
+        return None;
     }
-    ahead.clear();
-    None
+    let ReadAhead { state, .. } = next;
+    match state {
+        State::Read(read) => Some(read),
+        State::Open(_file, _room) => None,
+        State::Unread => None,
+    }
 }
 
 /// The first bytes of a file, as many as the limit at most, in this room. The room for a fragment is taken and cleared once, so
@@ -153,10 +207,12 @@ pub fn read_front<F: Read + Drop>(
             Ok(count) => got += count,
             Err(e) => match e.kind() {
                 ErrorKind::Interrupted => {}
-                ErrorKind::OutOfMemory => return Err(ShelfFault::OutOfMemory),
-                _ => return Err(ShelfFault::Device),
+                kind => return Err(fault_of(kind)),
             },
         }
+    }
+    if got == limit {
+        return Ok(bytes);
     }
     Err(ShelfFault::Device)
 }
@@ -211,14 +267,10 @@ impl<R: Files<File = fs::File> + Clone + Drop> Shelf for FolderShelf<R> {
         if let Some(read) = take_ahead(&mut self.ahead, path.as_str(), limit) {
             return Ok(read);
         }
-        let read = match fs::open(&self.rt, path.as_str()) {
-            Ok(file) => read_front(Vec::new(alloc), file, limit),
-            Err(e) => {
-                if e.kind() == ErrorKind::NotFound {
-                    return Ok(None);
-                }
-                Err(ShelfFault::Device)
-            }
+        let read = match open_regular(&self.rt, path.as_str()) {
+            Ok(Some(file)) => read_front(Vec::new(alloc), file, limit),
+            Ok(None) => return Ok(None),
+            Err(fault) => Err(fault),
         };
         match read {
             Ok(bytes) => Ok(Some(bytes)),
@@ -238,10 +290,11 @@ impl<R: Files<File = fs::File> + Clone + Drop> Shelf for FolderShelf<R> {
         threads: usize,
     ) -> Result<(), AllocError> {
         self.ahead.clear();
-        let mut ahead = self.make_rooms(alloc, files)?;
-        for files in ahead.chunks_mut(MOST_OPEN) {
-            open_each(&self.rt, files);
-            read_opened(rt, alloc, files, threads);
+        let mut ahead = Vec::new(alloc);
+        for part in files.rchunks(MOST_OPEN) {
+            let mut opened = self.open_each(alloc, part)?;
+            read_opened(rt, opened.as_mut_slice(), threads);
+            ahead.append(&mut opened)?;
         }
         self.ahead = ahead;
         Ok(())

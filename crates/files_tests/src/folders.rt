@@ -5,7 +5,7 @@ use farm_files::{FolderShelf, ServeFault, Shelf, ShelfFault};
 use farm_shelves::read_front;
 use std::alloc::{AllocError, Global};
 use std::fs;
-use std::io::{self, Read};
+use std::io::{self, ErrorKind, Read};
 use std::rt::Files;
 use std::sync::atomic::{AtomicU64, Ordering};
 
@@ -127,11 +127,77 @@ fn two_reads_of_a_fragment(rt: HostRuntime) {
     }
 }
 
-// A file that gives one byte at a time is read 16,777,216 times and no more.
+// A file that gives one byte at a time is read 16,777,216 times and no more. It is a failure only if more are needed.
 #[test]
 fn a_file_that_drips(rt: HostRuntime) {
     let read = read_drip(rt.alloc(), 16_777_215, 1, usize::MAX);
     assert!(&rt; read == (Ok(16_777_215), 16_777_216));
+    let read = read_drip(rt.alloc(), 16_777_217, 1, 16_777_216);
+    assert!(&rt; read == (Ok(16_777_216), 16_777_216));
     let read = read_drip(rt.alloc(), 16_777_217, 1, usize::MAX);
     assert!(&rt; read == (Err(ShelfFault::Device), 16_777_216));
+}
+
+// A reader that gives three bytes, one a call, and whose call of one number fails with an error of this kind.
+#[derive(Drop)]
+struct Failing {
+    given: u8,
+    calls: u64,
+    fails_at: u64,
+    kind: ErrorKind,
+}
+
+impl Read for Failing {
+    fn read(&mut self, buf: &mut [u8]) -> io::Result<usize> {
+        let call = self.calls;
+        self.calls = call.saturating_add(1);
+        if call == self.fails_at {
+            return Err(io::Error::from(self.kind));
+        }
+        if self.given >= 3 || buf.is_empty() {
+            return Ok(0);
+        }
+        self.given = self.given.saturating_add(1);
+        buf[0] = self.given;
+        Ok(1)
+    }
+}
+
+// What is read of three bytes where a call fails.
+fn read_failing(alloc: Global, fails_at: u64, kind: ErrorKind) -> Result<Vec<u8>, ShelfFault> {
+    let file = Failing {
+        given: 0,
+        calls: 0,
+        fails_at,
+        kind,
+    };
+    read_front(Vec::new(alloc), file, 10)
+}
+
+// What a failed read is, by the kind of its error.
+const FAULTS: &[(ErrorKind, ShelfFault)] = &[
+    (ErrorKind::OutOfMemory, ShelfFault::OutOfMemory),
+    (ErrorKind::IsADirectory, ShelfFault::Device),
+    (ErrorKind::NotFound, ShelfFault::Device),
+    (ErrorKind::Other, ShelfFault::Device),
+];
+
+// A read that is interrupted is made again; any other failed read is a fault.
+#[test]
+fn a_read_that_fails(rt: HostRuntime) {
+    for fails_at in 0..4u64 {
+        match read_failing(rt.alloc(), fails_at, ErrorKind::Interrupted) {
+            Ok(bytes) => assert!(&rt;
+                bytes.as_slice() == [1u8, 2, 3].as_slice(),
+                "call {fails_at}"
+            ),
+            Err(_) => panic!(&rt; "call {fails_at} is interrupted"),
+        }
+        for (kind, fault) in FAULTS {
+            match read_failing(rt.alloc(), fails_at, *kind) {
+                Ok(_) => panic!(&rt; "call {fails_at} fails"),
+                Err(e) => assert!(&rt; e == *fault, "call {fails_at}"),
+            }
+        }
+    }
 }

@@ -15,6 +15,8 @@ mod feeds;
 #[cfg(test)]
 mod folders;
 #[cfg(test)]
+mod links;
+#[cfg(test)]
 mod lists;
 #[cfg(test)]
 mod refusals;
