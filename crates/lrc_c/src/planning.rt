@@ -42,6 +42,7 @@ pub extern "C" fn lrc_plan_into(code: u8, survivors: u32, target: u8, plan: &mut
     ensures answer { (c : Code) (p : Place) → IsLost code survivors target c p
         → ((result ≡ 0) × IsRowPlan (tables_of c) (is_set survivors) p (Some plan.new.value) plan.new.checks)
         ⊎ ((result ≡ 2) × IsRowPlan (tables_of c) (is_set survivors) p None plan.new.checks) }
+    ensures kept { result ≡ 2 → plan.new.value ≡ plan.old.value }
     ensures refused { ((c : Code) (p : Place) → ¬ IsLost code survivors target c p) → (result ≡ 3) × (plan.new ≡ plan.old) }
 {
     let Some(lost) = lost_place(code, survivors, target) else {
