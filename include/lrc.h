@@ -25,10 +25,15 @@
  * Statuses. Each function tests its numbers and lengths, and answers LRC_BAD_ARGUMENT, with nothing written, where they are
  * not what it asks. No function aborts, and each returns.
  *
+ * Length 0. The calls that rebuild refuse it; the others answer LRC_OK, and write no byte of a fragment.
+ *
  * What it cannot test is the caller's part:
- *   - a pointer points to as many bytes as the length beside it says, and is not null, also where that length is 0;
+ *   - a pointer points to as many bytes as the length beside it says, and is not null, also where that length is 0 or where it
+ *     is not read: of the sixteen entries of a table `at` none is null;
  *   - a buffer that is written overlaps no other argument.
- * Of the functions in "the library's functions" the answers are proved, of those behind it not: they fill the tables. */
+ * Of the functions in "the library's functions" the answers are proved. Those after it fill the tables, and are tested. They
+ * take arrays of pointers to const; C, unlike C++, wants a cast for an array of other pointers:
+ *     lrc_verify(code, (const uint8_t *const *)stripe, length) */
 #ifndef LRC_H
 #define LRC_H
 
@@ -39,7 +44,7 @@
 /* 10,000 times the first number, 100 times the second, and the third: what lrc_version answers of a library of this header. */
 #define LRC_VERSION_NUMBER 100
 
-/* Stands among the targets of lrc_rebuild_many_into where there is none. */
+/* Among the targets of lrc_rebuild_many_into: no target. */
 #define LRC_NO_PLACE 255
 
 #ifdef __cplusplus
@@ -99,26 +104,27 @@ uint32_t lrc_combine(const uint8_t *coefficients, size_t count, const lrc_bytes 
                      size_t length);
 
 /* Writes the four parities of the data fragments, which stand in the order x0, x1, .., y0, y1, .. LRC_BAD_ARGUMENT where
- * the number is no code's, `count` is not 6 or 12 as the code says, or the lengths are not all one. */
+ * the number is no code's, `count` is not 6 or 12 as the code says, or the lengths differ. */
 uint32_t lrc_encode_into(uint8_t code, const lrc_bytes *data, size_t count, uint8_t *px, size_t px_length, uint8_t *py,
                          size_t py_length, uint8_t *p0, size_t p0_length, uint8_t *p1, size_t p1_length);
 
 /* Writes the plan for a lost place: bit p of `survivors` says that place p survives. LRC_OK, or LRC_SEVERAL where the
- * survivors do not determine the target; then the checks alone are written. LRC_BAD_ARGUMENT where the number is
- * no code's, the code has no such place, or it survives. Bits 16 and higher, and those of places that the code has not, play
- * no part. */
+ * survivors do not determine the target; then the checks alone are written, and `value` keeps its bytes. LRC_BAD_ARGUMENT where
+ * the number is no code's, the code has no such place, or it survives. Bits 16 and higher, and those of places that the code
+ * has not, play no part. */
 uint32_t lrc_plan_into(uint8_t code, uint32_t survivors, uint8_t target, lrc_plan *plan);
 
 /* Writes what a row of a plan gives: the sum of row[p] times the bytes at[p]. With a plan's value these are the target's bytes
  * in each stripe that has the survivors' bytes; with a check they are all 0 where there is such a stripe. Pieces of any length
- * may be passed, and bytes whose coefficient is 0 are not read. LRC_BAD_ARGUMENT where others have another length than `out`. */
+ * may be passed. Bytes whose coefficient is 0 are not read, and may have any length; all sixteen pointers are not null.
+ * LRC_BAD_ARGUMENT where others have another length than `out`. */
 uint32_t lrc_apply(const uint8_t row[LRC_PLACES], const lrc_bytes at[LRC_PLACES], uint8_t *out, size_t length);
 
 /* Writes the fragment at a lost place: LRC_OK, and each stripe that has the survivors' bytes has those in `out` there, and there
  * is one; LRC_CONTRADICTION, and there is none; or LRC_SEVERAL. All checks are tested in any case. With the last two `out`
- * holds anything. at[p] is read where bit p of `survivors` is set, and has the length of `out` then, which is not 0; elsewhere
- * its pointer is not null. LRC_BAD_ARGUMENT where that is not so, where a bit is set of a place that the code has not, or where
- * lrc_plan_into answers it. */
+ * holds anything. at[p] is read where bit p of `survivors` is set. LRC_BAD_ARGUMENT where it then has another length than
+ * `out`, that length is 0, a bit is set of a place that the code has not, or lrc_plan_into answers it. Bits 16 and higher play
+ * no part. */
 uint32_t lrc_rebuild_into(uint8_t code, uint32_t survivors, const lrc_bytes at[LRC_PLACES], uint8_t target, uint8_t *out,
                           size_t length);
 
@@ -131,8 +137,9 @@ uint32_t lrc_rebuild_many_into(uint8_t code, uint32_t survivors, const lrc_bytes
                                size_t c_length, uint8_t *d, size_t d_length, uint32_t statuses[4]);
 
 /* Whether the survivors are those of a stripe, or with all places of the code, whether they are a stripe: LRC_OK or
- * LRC_CONTRADICTION; of no bytes LRC_OK. LRC_BAD_ARGUMENT where the number is no code's, a bit is set of a place that the code has not, or the
- * bytes of one have another length. */
+ * LRC_CONTRADICTION. LRC_BAD_ARGUMENT where the number is no code's, a bit is set of a place that the code has not, or the
+ * bytes of one have another length. Where the survivors have no check, as any six of the (6,2,2) code that determine the others,
+ * all bytes are those of a stripe: LRC_OK then says nothing of them. */
 uint32_t lrc_verify_at(uint8_t code, uint32_t survivors, const lrc_bytes at[LRC_PLACES], size_t length);
 
 /* ---- names and numbers */
@@ -236,7 +243,8 @@ static inline uint32_t lrc_survivors(const uint8_t *const fragments[LRC_PLACES],
     return survivors;
 }
 
-/* Writes the four parities of a stripe; the fragments at the code's data places are read. LRC_OK or LRC_BAD_ARGUMENT. */
+/* Writes the four parities of a stripe; the fragments at the code's data places are read. LRC_OK, or LRC_BAD_ARGUMENT where the
+ * code is none, or a pointer to one of its fragments is null. */
 static inline uint32_t lrc_encode(enum lrc_code code, uint8_t *const fragments[LRC_PLACES], size_t length)
 {
     lrc_bytes data[12];
@@ -255,7 +263,7 @@ static inline uint32_t lrc_encode(enum lrc_code code, uint8_t *const fragments[L
                            fragments[LRC_P0], length, fragments[LRC_P1], length);
 }
 
-/* lrc_rebuild_into: the fragment at `target`, which is lost, goes to `out`. */
+/* lrc_rebuild_into: the fragment at `target`, which is lost, goes to `out`. LRC_BAD_ARGUMENT also where `out` is null. */
 static inline uint32_t lrc_rebuild(enum lrc_code code, const uint8_t *const fragments[LRC_PLACES], enum lrc_place target,
                                    uint8_t *out, size_t length)
 {
@@ -266,8 +274,8 @@ static inline uint32_t lrc_rebuild(enum lrc_code code, const uint8_t *const frag
     return lrc_rebuild_into((uint8_t)code, survivors, at, (uint8_t)target, out, length);
 }
 
-/* lrc_rebuild_many_into for any number of targets, four in a pass: targets[i] goes to outs[i], and its status to statuses[i].
- * The answer is the greatest status. With LRC_BAD_ARGUMENT, earlier fours may be written. */
+/* lrc_rebuild_many_into for one target or more, four in a pass: targets[i] goes to outs[i], and its status to statuses[i]. The
+ * answer is the greatest status. LRC_BAD_ARGUMENT where there is no target, or lrc_rebuild answers it of one of them. */
 static inline uint32_t lrc_rebuild_many(enum lrc_code code, const uint8_t *const fragments[LRC_PLACES],
                                         const enum lrc_place *targets, uint8_t *const *outs, uint32_t *statuses, size_t count,
                                         size_t length)
@@ -277,7 +285,7 @@ static inline uint32_t lrc_rebuild_many(enum lrc_code code, const uint8_t *const
     if ((code != LRC_6_2_2 && code != LRC_12_2_2) || count == 0)
         return LRC_BAD_ARGUMENT;
     for (size_t i = 0; i < count; i++)
-        if ((unsigned)targets[i] >= LRC_PLACES || outs[i] == NULL)
+        if (!lrc_has_place(code, targets[i]) || fragments[targets[i]] != NULL || outs[i] == NULL)
             return LRC_BAD_ARGUMENT;
     for (size_t from = 0; from < count; from += 4) {
         uint8_t none[4], numbers[4], *rooms[4];

@@ -115,7 +115,7 @@ mkdir "$scratch/no-files" "$scratch/no-files-out"
 mkfifo "$scratch/fifo"
 python3 -c 'import socket, sys; socket.socket(socket.AF_UNIX).bind(sys.argv[1])' "$scratch/socket"
 printf '%s\nrebuild,a,x0,1,x1 x2 px\n' $header > "$scratch/list"
-ln -s rack1.csv "$scratch/loop"
+ln -s loop "$scratch/loop"
 for bad in fifo socket loop no-files /dev/zero; do
   [ "$bad" = /dev/zero ] || bad=$scratch/$bad
   for name in rack0.csv rack0.feed1.csv rack1.csv; do
@@ -130,7 +130,7 @@ for bad in fifo socket loop no-files /dev/zero; do
   grep -qx '0,a,x0,1,several,,x1 x2 px' "$scratch/no-files-out/rack0.report.csv" || fail "survivor-${bad##*/}" 'took it'
   rm "$scratch/no-files/a.x1" "$scratch/no-files-out/"*
 done
-ln -s rack1.csv "$scratch/no-files/rack0.csv" -f
+ln -sf rack1.csv "$scratch/no-files/rack0.csv"
 ln -s rack0.csv "$scratch/no-files/rack1.csv"
 ends lists-that-loop 3 '' E24 farm "$scratch/no-files" "$scratch/no-files-out"
 

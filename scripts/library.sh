@@ -65,6 +65,14 @@ fi
 quietly 'the tests' "$compiler" -std=c11 -O2 "${warnings[@]}" -Iinclude -o "$scratch/test" library/test.c "$archive"
 "$scratch/test" > "$scratch/told" || fail "$(tail -n 1 "$scratch/told")"
 echo "library: $(tail -n 1 "$scratch/told")"
+# rebuilt CODE: how many sets of four lost fragments the tests counted, and how many of them are rebuilt. The page says the same.
+rebuilt() {
+  sed -n "s/^$1: of \([0-9]*\) sets of 4 lost fragments \([0-9]*\) are rebuilt$/\1 \2/p" "$scratch/told"
+}
+read -r narrow narrow_rebuilt < <(rebuilt '(6,2,2)')
+read -r wide wide_rebuilt < <(rebuilt '(12,2,2)')
+counted="four lost ones $narrow_rebuilt of $narrow sets in the (6,2,2) code and $wide_rebuilt of $wide in the (12,2,2) code"
+tr -d , < docs/LIBRARY.md | grep -qF "${counted//,/}" || fail "docs/LIBRARY.md doesn't say: of $counted"
 quietly 'the sanitizers' "$compiler" -std=c11 -O1 -g -fsanitize=address,undefined -fno-sanitize-recover=all -Iinclude -DSHORT \
   -o "$scratch/sanitized" library/test.c "$archive"
 quietly 'the tests with sanitizers' "$scratch/sanitized"
