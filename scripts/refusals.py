@@ -2,7 +2,7 @@
 """Refuses the built program its memory and its threads, and sees that every run ends as it must.
 
 Each allocation is refused in a run of its own, 1, 2, 3 and so on until a run meets no refusal, and so is each thread, by
-refuse.c, which is preloaded. Then address space is limited. It runs what was built last: crates/rebuild/out/rebuild, and
+refuse.c, which is preloaded. The threads of a run are counted, too. Then address space is limited. It runs what was built last: crates/rebuild/out/rebuild, and
 the tests out/<crate>_tests of the crates that TESTS names.
 """
 
@@ -25,24 +25,31 @@ ROOT = pathlib.Path(__file__).resolve().parent.parent
 PROGRAM = ROOT / "crates/rebuild/out/rebuild"
 DEMO = ROOT / "demo"
 
-# Tests that end with want of memory where an allocation or a thread is refused, and else pass.
+# Tests that end with want of memory where an allocation is refused, and else pass; and how many threads each starts at least.
 TESTS = [
-    ("lrc_tests", "worked_requests_are_answered"),
-    ("lrc_tests", "value_trees_give_the_same_bytes_at_any_forks"),
-    ("lrc_tests", "evaluate_both_at_two_forks"),
-    ("farm_tests", "two_workers_and_a_queue_of_one"),
-    ("farm_tests", "six_feeds_with_two_workers"),
-    ("farm_tests", "collector_takes_its_room"),
-    ("files_tests", "nothing_written_before_all_texts_are_made"),
-    ("files_tests", "nothing_written_with_two_workers"),
-    ("files_tests", "batches_of_one_request"),
-    ("files_tests", "digests_in_three_threads"),
-    ("files_tests", "failed_write_without_memory"),
+    ("lrc_tests", "worked_requests_are_answered", 0),
+    ("lrc_tests", "value_trees_give_the_same_bytes_at_any_forks", 1),
+    ("lrc_tests", "evaluate_both_at_two_forks", 1),
+    ("farm_tests", "two_workers_and_a_queue_of_one", 4),
+    ("farm_tests", "six_feeds_with_two_workers", 9),
+    ("farm_tests", "collector_takes_its_room", 0),
+    ("files_tests", "nothing_written_before_all_texts_are_made", 3),
+    ("files_tests", "nothing_written_with_two_workers", 4),
+    ("files_tests", "batches_of_one_request", 3),
+    ("files_tests", "digests_in_three_threads", 2),
+    ("files_tests", "failed_write_without_memory", 0),
 ]
+
+# Those whose work is done by the others where a thread is refused: they pass then. The other tests may end with want of memory.
+PASSING = {"value_trees_give_the_same_bytes_at_any_forks", "evaluate_both_at_two_forks", "digests_in_three_threads"}
 
 # Limits of address space, in KiB: from where the program is hardly loaded to where all of its threads have room.
 ROOMS = [6_000, 8_000, 10_000, 12_000, 16_000, 20_000, 30_000, 40_000, 60_000]
 ROOMS += [80_000, 100_000, 120_000, 150_000, 200_000, 250_000, 300_000, 400_000]
+
+# How many requests are listed where threads are counted, and of how many files the survivors are read by all threads at once.
+COUNTED = 256
+OPEN = 128
 
 # A run that takes longer hangs, and a walk that is longer has no end.
 SECONDS = 20
@@ -278,6 +285,8 @@ class Walk:
     rest: bool
     attempt: typing.Callable
     ends: set
+    # All ends that there may be, if not any.
+    only: set = None
 
 
 def make(walk, pool):
@@ -309,6 +318,8 @@ def make(walk, pool):
         raise Fault(f"{name}: {len(kinds)} refused, and {asked} asked for")
     if not walk.ends <= set(kinds):
         raise Fault(f"{name}: no {what} refused led to {walk.ends - set(kinds)}: {tally(kinds)}")
+    if walk.only is not None and not set(kinds) <= walk.only:
+        raise Fault(f"{name}: {what}s refused led to other ends than {walk.only}: {tally(kinds)}")
     turns = "with all behind it" if walk.rest else "in turn"
     print(f"refusals {name}: {len(kinds)} {what}s refused, each {turns}: {tally(kinds)}", flush=True)
 
@@ -370,11 +381,46 @@ def farm_walks(library):
 
 def test_walks(library):
     """Tests of the libraries."""
-    for crate, name in TESTS:
+    for crate, name, threads in TESTS:
         test = Test(library, crate, name)
         yield Walk(name, "allocation", False, test, {"AllocError"})
-        if library.run(test.words).threads:
-            yield Walk(name, "thread", False, test, set())
+        started = library.run(test.words).threads
+        if started < threads:
+            raise Fault(f"{name}: started {started} threads, and not {threads}")
+        if started:
+            yield Walk(name, "thread", False, test, set(), {"answered"} if name in PASSING else None)
+
+
+def rack_of(folder, survivors):
+    """A rack of as many requests as COUNTED, with these survivors of each and no others."""
+    rows = ["order,stripe,target,length,survivors"]
+    for number in range(COUNTED):
+        rows.append(f"rebuild,s{number},x0,1,x1 x2 px")
+        for place in survivors:
+            (folder / f"s{number}.{place}").write_bytes(bytes([number % 256]))
+    (folder / "rack0.csv").write_text("\n".join(rows) + "\n")
+
+
+def count_threads(library):
+    """The program starts as many threads as `--workers` says: for the farm the collector's, one for each worker and one for the
+    feeder; for each part of the survivors and for the digests one fewer than workers, since the thread that waits takes a share.
+    """
+    with tempfile.TemporaryDirectory(dir=library.folder) as folder:
+        folder = pathlib.Path(folder)
+        (folder / "out").mkdir()
+        for name, survivors in [("several", ["x1", "x2"]), ("rebuilt", ["x1", "x2", "px"])]:
+            (folder / name).mkdir()
+            rack_of(folder / name, survivors)
+            for workers in [1, 2, 3, 4, 5, 7, 16]:
+                words = [PROGRAM, "farm", folder / name, folder / "out", "--workers", str(workers), "--queue", "6"]
+                ran = library.run([str(it) for it in words])
+                if (ran.status, ran.out) != (0, b"served 1 racks, %d answers\n" % COUNTED):
+                    raise Fault(f"threads of {name}: {ran.told()}")
+                shared = 3 * COUNTED // OPEN + (name == "rebuilt")
+                wanted = 2 + workers + shared * (workers - 1)
+                if ran.threads != wanted:
+                    raise Fault(f"threads of {name}: {workers} workers started {ran.threads} threads, and not {wanted}")
+    print("refusals threads: as many as --workers says, for survivors, requests and digests", flush=True)
 
 
 def main():
@@ -384,6 +430,7 @@ def main():
         library = Library(pathlib.Path(folder))
         try:
             test_the_library(library)
+            count_threads(library)
             for walk in itertools.chain(text_walks(library), farm_walks(library), test_walks(library)):
                 make(walk, pool)
             limit_rooms(pool, library)
