@@ -26,3 +26,5 @@ mod reports;
 mod serving;
 #[cfg(test)]
 mod shared;
+#[cfg(test)]
+mod texts;
