@@ -200,4 +200,5 @@ def main():
             print(told)
 
 
-main()
+if __name__ == '__main__':
+    main()

@@ -1,0 +1,150 @@
+#!/usr/bin/env python3
+"""Compares the numbers that the documents say with those of the sources: the coefficients of both codes, the field's polynomial, and
+the limits. The coefficients are those of lrc_code/src/tables.rt and of the independent computation reference.py; the manual page of the
+formats is compared with docs/FORMATS.md by manual.sh."""
+
+import pathlib
+import re
+import sys
+
+sys.dont_write_bytecode = True
+import reference  # noqa: E402
+
+ROOT = pathlib.Path(__file__).resolve().parent.parent
+CODES = {"(6,2,2)": ("6-2-2", "NARROW_PARITIES"), "(12,2,2)": ("12-2-2", "WIDE_PARITIES")}
+ROWS = ["local X", "local Y", "global 0", "global 1"]
+compared = 0
+
+
+def text(path):
+    return (ROOT / path).read_text(encoding="utf-8")
+
+
+def compare(what, found, wanted):
+    global compared
+    compared += 1
+    if found != wanted:
+        sys.exit(f"numbers: {what}: {found}, and not {wanted}")
+
+
+def constant(path, name):
+    """The number that a source gives a constant."""
+    found = re.search(rf"const {name}: \w+ = ([0-9_]+);", text(path))
+    if not found:
+        sys.exit(f"numbers: crates/{path} has no constant {name}")
+    return int(found[1].replace("_", ""))
+
+
+def tables(document):
+    """The tables of a document whose head has the places of data fragments: each as its places and its rows by name."""
+    found, rows = [], None
+    for line in text(document).splitlines():
+        cells = [cell.strip(" `") for cell in line.strip("|").split("|")]
+        if not line.startswith("|"):
+            rows = None
+        elif cells[1:3] == ["x0", "x1"]:
+            rows = {}
+            found.append((cells[0], cells[1:], rows))
+        elif rows is not None and not cells[1].startswith("-"):
+            rows[cells[0]] = [int(cell, 16) for cell in cells[1:]]
+    return found
+
+
+def compare_codes():
+    shown = {heading: (places, rows) for heading, places, rows in tables("README.md")}
+    compare("the codes of README.md", list(shown), list(CODES))
+    equations = tables("docs/FORMATS.md")
+    compare("how many codes docs/FORMATS.md has", len(equations), len(CODES))
+    for (heading, (name, table)), (_, places, rows) in zip(CODES.items(), equations):
+        body = re.search(rf"{table}: [^=]*= \[(.*?)\n\];", text("crates/lrc_code/src/tables.rt"), re.S)[1]
+        numbers = [int(number, 0) for number in re.findall(r"0x[0-9a-f]+|\d+", body)]
+        count = len(numbers) // 4
+        source = [numbers[count * k : count * (k + 1)] for k in range(4)]
+        all_places, all_rows = reference.code_of(name)
+        compare(f"{heading} in reference.py", [row[:count] for row in all_rows], source)
+        compare(f"the places of {heading} in docs/FORMATS.md", places, all_places)
+        compare(f"the equations of {heading} in docs/FORMATS.md", [rows[row] for row in ROWS], all_rows)
+        compare(f"the places of {heading} in README.md", shown[heading][0], all_places[:count])
+        compare(f"{heading} in README.md", [shown[heading][1][row] for row in ("p0", "p1")], source[2:])
+
+
+def compare_polynomial():
+    """The polynomial in which reference.py reduces: a product whose factors have the degrees 7 and 1."""
+    number = 0x100 ^ reference.product(0x80, 2)
+    powers = {0: "1", 1: "x"}
+    written = " + ".join(powers.get(k, f"x^{k}") for k in reversed(range(9)) if number >> k & 1)
+    for path in ("README.md", "docs/FORMATS.md"):
+        compare(f"the polynomial of {path}", re.search(r"polynomial ([x^0-9 +]*) \((\w+) in hexadecimal\)", text(path)).groups(),
+                (written, f"{number:X}"))
+    page = text("man/rebuild.5").replace(r"\(ha", "^")
+    compare("the polynomial of rebuild.5", f"{written}, which is {number:X} in hexadecimal." in page, True)
+    compare("the polynomial of lrc.h", f"polynomial {number:X};" in text("include/lrc.h"), True)
+
+
+def limits():
+    """What each document says of the limits, one line each."""
+    farm, lists = "crates/farm_core/src/limits.rt", "crates/farm_lists/src/lists/listing.rt"
+    racks, feeds = constant(farm, "MOST_RACKS"), constant(farm, "MOST_FEEDS")
+    workers, queue = constant(farm, "MOST_WORKERS"), constant(farm, "MOST_QUEUE")
+    records, list_bytes = constant(lists, "MOST_RECORDS"), constant(lists, "MOST_LIST_BYTES")
+    length = constant("crates/lrc_code/src/requests.rt", "MOST_LENGTH")
+    name = constant("crates/lrc_code/src/requests.rt", "MOST_NAME_CHARACTERS")
+    lines = constant("crates/line_mode/src/input.rt", "INPUT_LIMIT")
+    batch = constant("crates/farm_files/src/batches.rt", "MOST_BATCH_BYTES")
+    compare("orders of a rack", constant(farm, "MOST_ORDERS"), records)
+    return {
+        "README.md": [
+            f"| racks in a folder, feeds of a rack | {racks}, {feeds} |",
+            f"| records in a list; bytes of a list | {records:,}; {list_bytes:,} |",
+            f"| bytes of a fragment | 1 to {length:,} |",
+            f"| bytes of line mode's input | {lines:,} |",
+            f"| 1 to {workers} (else 4), 1 to {queue:,} (else 16) |",
+            f"A fragment has at most {length:,} bytes.",
+            f"{batch // 2**20} MiB",
+        ],
+        "docs/FORMATS.md": [
+            f"| 1 to {workers}, else E11 | 4 |",
+            f"| 1 to {queue:,}, else E12 | 16 |",
+            f"A stripe's name has 1 to {name} characters",
+            f"a fragment has 1 to {length:,} bytes",
+            f"An input holds at most {lines:,} bytes",
+            f"A folder has 1 to {racks} racks",
+            f"A list holds at most {list_bytes:,} bytes",
+            f"{length + 1:,} bytes of it are read",
+            f"| E11 | the number of workers isn't 1 to {workers} |",
+            f"| E12 | the queue isn't 1 to {queue:,} |",
+            f"| E18 | there are more than {racks} racks |",
+            f"| E26 | a list has more than {records:,} records |",
+        ],
+        "man/rebuild.1": [
+            f"1 to {racks} racks",
+            f"threads that rebuild fragments, 1 to {workers}.",
+            f"1 to {queue:,}.",
+            f"An input holds at most {lines:,} bytes.",
+            f"A list has more than {records:,} records.",
+            f"A list is longer than {list_bytes:,} bytes",
+            f"A length isn't 1 to {length:,}.",
+        ],
+        "man/rebuild.5": [
+            f"has 1 to {name} characters",
+            f"A fragment has 1 to {length:,} bytes.",
+            f"1 to {racks} racks",
+            f"A list holds at most {list_bytes:,} bytes.",
+            f"at most {lines:,} bytes",
+            f"At most {length + 1:,} bytes of it are read.",
+        ],
+    }
+
+
+def main():
+    compare_codes()
+    compare_polynomial()
+    for path, sentences in limits().items():
+        said = " ".join(text(path).split())
+        for sentence in sentences:
+            compare(f"{path} says {sentence!r}", sentence in said, True)
+    print(f"numbers: {compared} of the documents are those of the sources")
+
+
+if __name__ == "__main__":
+    main()
