@@ -1,5 +1,5 @@
 -- What a rack answers that is fed by several lists, with laws of merges.
-use Rattle.std.specs.Prelude.{◌≡◌, ℕ, ◌<◌, ◌==◌, ◌⊎◌, if◌then◌else◌, List, [], ◌∷◌, length, take, map}
+use Rattle.std.specs.Prelude.{◌≡◌, ℕ, ◌<◌, ◌==◌, ◌⊎◌, ◌++◌, if◌then◌else◌, List, [], ◌∷◌, length, take, map}
 use Rattle.std.specs.List.{All, AllZip}
 use mathlib.Core.Option.{some}
 use lib.ListN.{get_elem?}
@@ -19,6 +19,14 @@ of_feed feed (x ∷ xs) = if x.0 == feed then x.1 ∷ of_feed feed xs else of_fe
 -- of this feed the merge has all requests in front of its close
 abbrev pub IsWhole : List (ℕ × Asked) → ℕ → List Order → Type 0
 IsWhole merge feed list = of_feed feed merge ≡ before_close list
+
+-- no feed has a close
+abbrev pub AreOpen : List (List Order) → Type 0
+AreOpen feeds = EachAt (λ _ list. ¬ HasClose list) feeds
+
+-- some feed has a close
+abbrev pub HaveClose : List (List Order) → Type 0
+HaveClose feeds = (feed : ℕ) × (list : List Order) × (get_elem? feeds feed ≡ some list) × HasClose list
 
 -- no feed has a close, and the merge has each of them whole; or it has some feed whole that has a close
 abbrev pub IsEnded : List (List Order) → List (ℕ × Asked) → Type 0
@@ -52,3 +60,18 @@ MergeOfOneIsIt = (list : List Order) (merge : List (ℕ × Asked)) → IsLawfulM
 -- so the answers of a rack with one feed are the answers to its list
 abbrev pub AnswersOfOneAreIts : Type 0
 AnswersOfOneAreIts = (list : List Order) (answers : List (ℕ × Outcome)) → AreMergedAnswers (list ∷ []) answers → AreAnswers (before_close list) (map (λ x. x.1) answers)
+
+-- lists, each with the one of the same number behind it, where there is one
+abbrev pub joined : {A : Type 0} → List (List A) → List (List A) → List (List A)
+joined [] behind = []
+joined (xs ∷ lists) [] = xs ∷ lists
+joined (xs ∷ lists) (ys ∷ behind) = (xs ++ ys) ∷ joined lists behind
+
+-- Lawful merges of consecutive pieces of feeds, of which the first has no close, joined are a lawful merge of the feeds.
+abbrev pub PiecesJoin : Type 0
+PiecesJoin = (feeds behind : List (List Order)) (merge more : List (ℕ × Asked)) → length feeds ≡ length behind → AreOpen feeds
+    → IsLawfulMerge feeds merge → IsLawfulMerge behind more → IsLawfulMerge (joined feeds behind) (merge ++ more)
+
+-- A lawful merge of feeds of which one has a close is one too of these feeds with whatever stands behind them.
+abbrev pub CloseEndsAll : Type 0
+CloseEndsAll = (feeds behind : List (List Order)) (merge : List (ℕ × Asked)) → HaveClose feeds → IsLawfulMerge feeds merge → IsLawfulMerge (joined feeds behind) merge
