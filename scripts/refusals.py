@@ -269,6 +269,8 @@ class Test:
             return ran, "answered"
         if ran.status > 0 and b"Error: AllocError" in ran.err + ran.out:
             return ran, "AllocError"
+        if ran.status > 0 and b"starved" in ran.err + ran.out:
+            return ran, "starved"
         raise Fault(ran.told())
 
 
@@ -287,6 +289,8 @@ class Walk:
     ends: set
     # All ends that there may be, if not any.
     only: set = None
+    # How many of the runs come to each of the ends at least.
+    least: int = 1
 
 
 def make(walk, pool):
@@ -316,8 +320,9 @@ def make(walk, pool):
     asked = whole.allocations if what == "allocation" else whole.threads
     if len(kinds) < max(asked // 2, 1):
         raise Fault(f"{name}: {len(kinds)} refused, and {asked} asked for")
-    if not walk.ends <= set(kinds):
-        raise Fault(f"{name}: no {what} refused led to {walk.ends - set(kinds)}: {tally(kinds)}")
+    few = {kind for kind in walk.ends if kinds.count(kind) < walk.least}
+    if few:
+        raise Fault(f"{name}: fewer than {walk.least} {what}s refused led to {few}: {tally(kinds)}")
     if walk.only is not None and not set(kinds) <= walk.only:
         raise Fault(f"{name}: {what}s refused led to other ends than {walk.only}: {tally(kinds)}")
     turns = "with all behind it" if walk.rest else "in turn"
@@ -391,6 +396,12 @@ def test_walks(library):
             yield Walk(name, "thread", False, test, set(), {"answered"} if name in PASSING else None)
 
 
+def worker_walk(library):
+    """A worker that is refused the memory of its plan's arena, and that of its answer."""
+    test = Test(library, "farm_tests", "a_worker_without_memory")
+    return Walk("a_worker_without_memory", "allocation", False, test, {"AllocError", "starved"}, least=2)
+
+
 def rack_of(folder, survivors):
     """A rack of as many requests as COUNTED, with these survivors of each and no others."""
     rows = ["order,stripe,target,length,survivors"]
@@ -431,7 +442,7 @@ def main():
         try:
             test_the_library(library)
             count_threads(library)
-            for walk in itertools.chain(text_walks(library), farm_walks(library), test_walks(library)):
+            for walk in itertools.chain(text_walks(library), farm_walks(library), test_walks(library), [worker_walk(library)]):
                 make(walk, pool)
             limit_rooms(pool, library)
         except Fault as fault:

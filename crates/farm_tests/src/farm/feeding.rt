@@ -6,7 +6,7 @@ use lrc_code::Outcome;
 use std::alloc::{AllocError, Global};
 use std::process::Abort;
 use std::sync::Wait;
-use std::sync::atomic::{AtomicBool, Ordering};
+use std::sync::atomic::{AtomicBool, AtomicU64, Ordering};
 use std::thread::{self, Threads};
 
 const MOST_TURNS: u64 = 1_000_000;
@@ -76,6 +76,8 @@ struct Held {
     first: usize,
     behind: AtomicBool,
     missed: AtomicBool,
+    // How often it was told that an order is behind.
+    told: AtomicU64,
 }
 
 impl Pause for Held {
@@ -97,6 +99,7 @@ impl Pause for Held {
     }
 
     fn behind(&self, _rack: usize, feed: usize, _position: usize) {
+        self.told.fetch_add(1, Ordering::SeqCst);
         if feed == self.first {
             self.behind.store(true, Ordering::SeqCst);
         }
@@ -174,9 +177,12 @@ fn answers_with_first<R: Abort + Threads + Wait + Sync>(
         first,
         behind: AtomicBool::new(false),
         missed: AtomicBool::new(false),
+        told: AtomicU64::new(0),
     };
     let racks = answers_of_feeds(rt, alloc, &feeds, settings_of(rt, 3, 1), &held)?;
     assert!(rt; !held.missed.load(Ordering::SeqCst));
+    // A draw that is refused is told too.
+    assert_eq!(rt; held.told.load(Ordering::SeqCst), 2);
     match racks.as_slice() {
         [only] => Ok(only.len()),
         _ => panic!(rt; "not one rack"),
@@ -280,5 +286,7 @@ fn fills<R: Abort + Threads + Wait + Sync>(
 fn jobs_wait_in_the_queue_alone(rt: HostRuntime) -> Result<(), AllocError> {
     let alloc = rt.alloc();
     fills(&rt, alloc, &[&[&[LOCAL; 4]]], 1, &[Some(0x01); 4])?;
-    fills(&rt, alloc, &[&[&[LOCAL; 7]]], 4, &[Some(0x01); 7])
+    fills(&rt, alloc, &[&[&[LOCAL; 7]]], 4, &[Some(0x01); 7])?;
+    fills(&rt, alloc, &[&[&[LOCAL; 8]]], 5, &[Some(0x01); 8])?;
+    fills(&rt, alloc, &[&[&[LOCAL; 10]]], 7, &[Some(0x01); 10])
 }

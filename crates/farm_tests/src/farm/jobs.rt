@@ -4,9 +4,9 @@ ghost use Rattle.farm_lanes.specs.LaneEnds.{IsUnusedPut, IsUnusedTake};
 
 use crate::farm::requests::{Entry, GLOBAL, LOCAL, SEVERAL, is_answer, list_of};
 use crate::gates::{Alone, open_alone};
-use farm_core::{Job, NoPause, RackList, Reply, feed, work};
+use farm_core::{Job, NoPause, RackList, Reply, ReplyResult, feed, work};
 use farm_lanes::{Item, Lane, LaneError, PutEnd, TakeEnd};
-use std::alloc::Global;
+use std::alloc::{AllocError, Global};
 use std::process::Abort;
 use std::sync::Wait;
 use std::test::Fail;
@@ -109,5 +109,33 @@ fn a_feeder_and_two_workers(rt: HostRuntime) -> Result<(), Fail> {
     assert!(rt; is_next(&rt, &mut taker, 0, None));
     assert!(rt; is_next(&rt, &mut taker, 1, Some(0x01)));
     assert!(rt; is_end(&rt, &mut taker));
+    Ok(())
+}
+
+// How a worker replies to one request, by two lanes and a stop.
+fn reply_to_one<R: Abort + Wait>(rt: &R, alloc: Global) -> Result<ReplyResult, Fail> {
+    let list = list_of(rt, alloc, &[LOCAL])?;
+    let Ok(Alone { gate, seat, right }) = open_alone(alloc) else {
+        return Err(Fail::from(AllocError));
+    };
+    let jobs = two_to_two(alloc)?;
+    let replies = two_to_two(alloc)?;
+    let _fed = feed(rt, &gate, seat, right, 0, 0, &list, jobs.first, &NoPause);
+    stops_both(rt, jobs.second);
+    works(rt, alloc, jobs.taker, replies.first, 3, 2);
+    let mut taker = replies.taker;
+    match taker.take(rt) {
+        Item::Value { value, .. } => Ok(value.result),
+        Item::End { .. } => panic!(rt; "no reply"),
+    }
+}
+
+// Where a script refuses the memory of the plan's arena or that of the answer, the reply says so.
+#[test]
+fn a_worker_without_memory(rt: HostRuntime) -> Result<(), Fail> {
+    match reply_to_one(&rt, rt.alloc())? {
+        ReplyResult::Done(outcome) => assert!(rt; is_answer(&outcome, Some(0x01))),
+        ReplyResult::Starved => return Err(Fail::from("starved")),
+    }
     Ok(())
 }
