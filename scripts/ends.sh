@@ -47,6 +47,10 @@ head -c 8388608 /dev/zero | tr '\0' '\n' > "$scratch/feeds"
 ends greatest-input 0 '' '' < "$scratch/feeds"
 echo >> "$scratch/feeds"
 ends longer-input 1 '' E25 < "$scratch/feeds"
+# As many survivors as the input has room for: a search that calls itself for each of them ends in a signal.
+{ printf 'a x0 1'; yes ' x1=' | head -n 2000000 | tr -d '\n'; } > "$scratch/many"
+ends many-survivors 1 'refused E3' '' < "$scratch/many"
+rm "$scratch/many"
 
 ends version 0 'rebuild 0.1.0' '' --version
 ends_full help-full 3 '' --help
