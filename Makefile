@@ -69,7 +69,7 @@ uninstall-library:
 # What the gate runs behind the proofs, over the programs and tests that they leave in each crate's out/. No two of these share a file
 # that one of them writes, so several run at once.
 BEHIND := refusals.py no-compile.sh reference-lines.sh ends.sh demo.sh examples.py manual.sh completions.sh install.sh version.sh \
-  split-lists-test.py numbers.py
+  split-lists-test.py numbers.py growth.py
 
 # library.sh builds in a copy of its own, so it runs beside the proofs.
 test:

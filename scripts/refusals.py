@@ -29,7 +29,7 @@ DEMO = ROOT / "demo"
 TESTS = [
     ("lrc_tests", "worked_requests_are_answered", 0),
     ("lrc_tests", "value_trees_give_the_same_bytes_at_any_forks", 1),
-    ("lrc_tests", "evaluate_both_at_two_forks", 1),
+    ("lrc_tests", "evaluate_both_at_two_forks", 2),
     ("farm_tests", "two_workers_and_a_queue_of_one", 4),
     ("farm_tests", "six_feeds_with_two_workers", 9),
     ("farm_tests", "collector_takes_its_room", 0),
@@ -40,8 +40,11 @@ TESTS = [
     ("files_tests", "failed_write_without_memory", 0),
 ]
 
-# Those whose work is done by the others where a thread is refused: they pass then. The other tests may end with want of memory.
+# Those of which the other threads do the work where one is refused, so that they pass then.
 PASSING = {"value_trees_give_the_same_bytes_at_any_forks", "evaluate_both_at_two_forks", "digests_in_three_threads"}
+
+# Those that start just as many threads, and no more.
+EXACT = {"evaluate_both_at_two_forks", "digests_in_three_threads"}
 
 # Limits of address space, in KiB: from where the program is hardly loaded to where all of its threads have room.
 ROOMS = [6_000, 8_000, 10_000, 12_000, 16_000, 20_000, 30_000, 40_000, 60_000]
@@ -390,7 +393,7 @@ def test_walks(library):
         test = Test(library, crate, name)
         yield Walk(name, "allocation", False, test, {"AllocError"})
         started = library.run(test.words).threads
-        if started < threads:
+        if started < threads or (name in EXACT and started != threads):
             raise Fault(f"{name}: started {started} threads, and not {threads}")
         if started:
             yield Walk(name, "thread", False, test, set(), {"answered"} if name in PASSING else None)
