@@ -42,6 +42,13 @@ class Library:
             getattr(self.lrc, function).restype = ctypes.c_uint32
 
     @staticmethod
+    def known(code):
+        """The number of a code; ctypes would pass 256 as 0."""
+        if code not in DATA:
+            raise ValueError("no number of a code")
+        return code
+
+    @staticmethod
     def table(fragments):
         """The table of all places and the survivors' bits. The bytes are borrowed: keep `fragments` as long as the table."""
         nothing = ctypes.cast(ctypes.c_char_p(b"\0"), ctypes.c_void_p).value
@@ -55,6 +62,7 @@ class Library:
 
     def encode(self, code, data):
         """The parities of the data fragments, which are bytes by name."""
+        self.known(code)
         length = len(data["x0"])
         kept = [data[name] for name in DATA[code]]
         sources = (Bytes * len(kept))(*[Bytes(ctypes.cast(ctypes.c_char_p(one), ctypes.c_void_p).value, len(one)) for one in kept])
@@ -68,7 +76,7 @@ class Library:
         """The coefficients of the survivors that give the target, by name; none where they don't determine it."""
         plan = Plan()
         bits = sum(1 << PLACES.index(name) for name in survivors)
-        status = self.lrc.lrc_plan_into(code, bits, PLACES.index(target), plan)
+        status = self.lrc.lrc_plan_into(self.known(code), bits, PLACES.index(target), plan)
         if status == BAD_ARGUMENT:
             raise ValueError("a lost place of the code")
         return {PLACES[p]: c for p, c in enumerate(plan.value) if c} if status == OK else None
@@ -78,11 +86,11 @@ class Library:
         length = len(next(iter(fragments.values())))
         table, survivors = self.table(fragments)
         room = ctypes.create_string_buffer(length)
-        return self.lrc.lrc_rebuild_into(code, survivors, table, PLACES.index(target), room, length), room.raw
+        return self.lrc.lrc_rebuild_into(self.known(code), survivors, table, PLACES.index(target), room, length), room.raw
 
     def verify(self, code, fragments):
         table, survivors = self.table(fragments)
-        return self.lrc.lrc_verify_at(code, survivors, table, len(next(iter(fragments.values()))))
+        return self.lrc.lrc_verify_at(self.known(code), survivors, table, len(next(iter(fragments.values()))))
 
 
 def main():
@@ -105,4 +113,5 @@ def main():
         assert library.plan(code, few, "x0") is None and library.rebuild(code, few, "x0")[0] == SEVERAL
 
 
-main()
+if __name__ == "__main__":
+    main()
