@@ -93,6 +93,12 @@ fn a_plan(rt: HostRuntime) {
         plan.value,
         [0, 1, 1, 0, 0, 0, 1, 0, 0, 0, 0, 0, 0, 0, 0, 0]
     );
+    let mut kept = Plan {
+        value: [7; 16],
+        checks: [[9; 16]; 4],
+    };
+    assert_eq!(&rt; lrc_plan_into(0, 0x02, 0, &mut kept), 2);
+    assert_eq!(&rt; kept.value, [7; 16]);
 }
 
 #[test]
