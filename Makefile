@@ -1,5 +1,5 @@
-# `make try` runs line mode unproved; `make demo` proves, builds and runs the program on the sample in demo/; `make test` is the gate, `make wrong-bodies` tries the wrong
-# bodies that it leaves out, and `make scale` runs what docs/SCALE.md shows of several jobs.
+# `make try` runs line mode unproved; `make demo` proves, builds and runs the program on the sample in demo/; `make test` is the gate,
+# `make wrong-bodies` tries the wrong bodies that it leaves out, and `make scale` runs what docs/SCALE.md shows of several jobs.
 
 # The processor level that programs are built for: v3 has 32-byte vectors (AVX2), v2 those of 16 bytes.
 CPU := $(shell grep -q avx2 /proc/cpuinfo && echo x86-64-v3 || echo x86-64-v2)
@@ -68,8 +68,8 @@ uninstall-library:
 
 # What the gate runs behind the proofs, over the programs and tests that they leave in each crate's out/. No two of these share a file
 # that one of them writes, so several run at once.
-BEHIND := refusals.py no-compile.sh reference-lines.sh ends.sh demo.sh examples.py manual.sh completions.sh install.sh version.sh \
-  split-lists-test.py numbers.py growth.py
+BEHIND := refusals.py try.sh no-compile.sh reference-lines.sh ends.sh demo.sh examples.py manual.sh completions.sh install.sh \
+  version.sh numbers.py growth.py split-lists-test.py
 
 # library.sh builds in a copy of its own, so it runs beside the proofs.
 test:
