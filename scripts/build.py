@@ -349,7 +349,7 @@ def main(name, level, jobs):
     if build.done:
         print(f"As they were proved before: {', '.join(it.name for it in build.done)}")
     elif name in MINUTES:
-        print(f"The first time this takes some {MINUTES[name]} minutes on four processors. After a change only what changed is proved again.")
+        print(f"The first time this takes some {MINUTES[name]} minutes on four processors; after a change what changed is proved.")
     sys.stdout.flush()
     try:
         build.run()
