@@ -35,6 +35,7 @@ pub struct Served {
 /// All names and bytes are made before the first write, so a fault before it leaves the output untouched; a
 /// fault in a write leaves the files before it whole and those after it untouched. A listed survivor that is absent,
 /// hasn't exactly the listed length or isn't given by the device is left out of its request, and named in the report.
+/// Requests are answered in batches, one after the other: a `Pause` that holds a request until one of a later batch begins waits in vain.
 ///
 /// ```
 /// let served = serve(&rt, alloc, &mut input, &mut output, Settings::new(4, 16)?, &NoPause)?;
