@@ -32,8 +32,6 @@ WORK = ("incremental", "rlib")
 FIRST, FURTHER = 3_000_000_000, 1_500_000_000
 # More jobs than this a proof doesn't use.
 MOST_JOBS = 8
-# The minutes that the first build takes on four idle processors, which README tells too.
-MINUTES = {"rebuild": 16, "lrc_c": 7}
 # How many lines of what rt said are shown where it fails.
 SHOWN = 40
 
@@ -348,8 +346,8 @@ def main(name, level, jobs):
     print(f"Proving the {what} and the {len(top.all_below())} crates that it stands on, then building it for {level}; processors: {jobs}.")
     if build.done:
         print(f"As they were proved before: {', '.join(it.name for it in build.done)}")
-    elif name in MINUTES:
-        print(f"The first time this takes some {MINUTES[name]} minutes on four processors; after a change what changed is proved.")
+    else:
+        print("The first time this takes minutes, the program more than ten on four processors; after a change what changed is proved.")
     sys.stdout.flush()
     try:
         build.run()
