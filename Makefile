@@ -31,7 +31,9 @@ try:
 install:
 	@test -x crates/rebuild/out/rebuild || { echo "The program isn't built: run 'make build' first." >&2; exit 1; }
 	install -D -m 755 crates/rebuild/out/rebuild "$(PLACE)/bin/rebuild"
+	install -D -m 755 companion/rebuild-lists "$(PLACE)/bin/rebuild-lists"
 	install -D -m 644 man/rebuild.1 "$(PLACE)/share/man/man1/rebuild.1"
+	install -D -m 644 man/rebuild-lists.1 "$(PLACE)/share/man/man1/rebuild-lists.1"
 	install -D -m 644 man/rebuild.5 "$(PLACE)/share/man/man5/rebuild.5"
 	install -D -m 644 completions/rebuild.bash "$(PLACE)/share/bash-completion/completions/rebuild"
 	install -D -m 644 completions/_rebuild "$(PLACE)/share/zsh/site-functions/_rebuild"
@@ -39,8 +41,8 @@ install:
 
 # Removes these files and nothing else: folders stay.
 uninstall:
-	rm -f "$(PLACE)/bin/rebuild"
-	rm -f "$(PLACE)/share/man/man1/rebuild.1" "$(PLACE)/share/man/man5/rebuild.5"
+	rm -f "$(PLACE)/bin/rebuild" "$(PLACE)/bin/rebuild-lists"
+	rm -f "$(PLACE)/share/man/man1/rebuild.1" "$(PLACE)/share/man/man1/rebuild-lists.1" "$(PLACE)/share/man/man5/rebuild.5"
 	rm -f "$(PLACE)/share/bash-completion/completions/rebuild"
 	rm -f "$(PLACE)/share/zsh/site-functions/_rebuild"
 	rm -f "$(PLACE)/share/fish/vendor_completions.d/rebuild.fish"
@@ -69,7 +71,7 @@ uninstall-library:
 # What the gate runs behind the proofs, over the programs and tests that they leave in each crate's out/. No two of these share a file
 # that one of them writes, so several run at once.
 BEHIND := refusals.py try.sh no-compile.sh reference-lines.sh ends.sh demo.sh examples.py manual.sh completions.sh install.sh \
-  version.sh numbers.py growth.py split-lists-test.py
+  version.sh numbers.py growth.py companion-test.py
 
 # library.sh builds in a copy of its own, so it runs beside the proofs.
 test:

@@ -1,5 +1,5 @@
 #!/usr/bin/env bash
-# The job of a Slurm array: each task serves the folder of its number, of those that scripts/split-lists.py made in the folder
+# The job of a Slurm array: each task serves the folder of its number, of those that companion/rebuild-lists made in the folder
 # of the first word. `sbatch` is called in the folder of this repository, which all nodes must have, as they must have the
 # store and the split folders. docs/SCALE.md tells what to ask for as memory.
 #SBATCH --job-name=rebuild

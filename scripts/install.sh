@@ -17,8 +17,10 @@ fail() {
 wanted() {
   cat << END
 755 $1/bin/rebuild crates/rebuild/out/rebuild
+755 $1/bin/rebuild-lists companion/rebuild-lists
 644 $1/share/bash-completion/completions/rebuild completions/rebuild.bash
 644 $1/share/fish/vendor_completions.d/rebuild.fish completions/rebuild.fish
+644 $1/share/man/man1/rebuild-lists.1 man/rebuild-lists.1
 644 $1/share/man/man1/rebuild.1 man/rebuild.1
 644 $1/share/man/man5/rebuild.5 man/rebuild.5
 644 $1/share/zsh/site-functions/_rebuild completions/_rebuild
@@ -51,10 +53,10 @@ try "$scratch/packed root" /usr "DESTDIR=$scratch/packed root" PREFIX=/usr
 try "$scratch/own" '' "PREFIX=$scratch/own"
 
 mkdir "$scratch/unbuilt"
-cp -r Makefile man completions "$scratch/unbuilt"
+cp -r Makefile companion man completions "$scratch/unbuilt"
 ended=0
 make -s -C "$scratch/unbuilt" install "DESTDIR=$scratch/none" > "$scratch/said" 2>&1 || ended=$?
 [ "$ended" = 2 ] || fail "without the program it ends with status $ended"
 grep -qx "The program isn't built: run 'make build' first." "$scratch/said" || fail "without the program it says $(cat "$scratch/said")"
 [ ! -e "$scratch/none" ] || fail 'without the program it installs something'
-echo 'install: the 6 files come and go with each of 3 folders to install in'
+echo 'install: the 8 files come and go with each of 3 folders to install in'

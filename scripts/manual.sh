@@ -9,7 +9,7 @@ scratch=$(mktemp -d)
 trap 'rm -rf "$scratch"' EXIT
 
 if command -v mandoc > "$scratch/log"; then
-  mandoc -Tlint -Wwarning man/rebuild.1 man/rebuild.5
+  mandoc -Tlint -Wwarning man/rebuild.1 man/rebuild-lists.1 man/rebuild.5
   echo 'manual: mandoc finds no fault in the pages'
 else
   echo "manual: mandoc is not installed (Debian's mandoc): the form of the pages isn't tested"
@@ -34,7 +34,7 @@ def plain(line):
 
 
 formats = open('docs/FORMATS.md', encoding='ascii').read()
-pages = {name: open('man/' + name, encoding='ascii').read() for name in ('rebuild.1', 'rebuild.5')}
+pages = {name: open('man/' + name, encoding='ascii').read() for name in ('rebuild.1', 'rebuild-lists.1', 'rebuild.5')}
 
 rows = [[cell.strip() for cell in line.strip('|').split('|')] for line in formats.splitlines()]
 tables = [' '.join(row) for row in rows if len(row) in (11, 17)]
@@ -82,6 +82,7 @@ PY
 
 mkdir "$scratch/bin"
 ln -s "$program" "$scratch/bin/rebuild"
+ln -s "$PWD/companion/rebuild-lists" "$scratch/bin/rebuild-lists"
 ran=0
 for commands in "$scratch"/*.commands; do
   example=${commands%.commands}

@@ -27,7 +27,7 @@ fail() {
 skipped=()
 
 # The commands run in a folder that has this repository's folders, so that they stand in the document as they are called.
-for name in scripts deploy crates; do
+for name in companion scripts deploy crates; do
   ln -s "$repository/$name" "$scratch/$name"
 done
 scripts/shown.py "$document" 'A store to try' "$scratch"
@@ -106,7 +106,7 @@ times() {
   trap 'rm -rf "$timed"; finish' EXIT
   scripts/store.py "$timed" 800 65536 0
   { cat "$timed/list.csv"; for _ in 2 3 4 5; do tail -n +2 "$timed/list.csv"; done; } > "$timed/long.csv"
-  scripts/split-lists.py split "$timed/long.csv" "$timed/store" "$timed/work" --racks 1 --requests $((4000 / folders))
+  companion/rebuild-lists split "$timed/long.csv" "$timed/store" "$timed/work" --racks 1 --requests $((4000 / folders))
   cat <<END
 
 $folders folders of $((4000 / folders)) requests each for 64 KiB, from files in $place, each served by one worker. MB/s: 10^6 rebuilt bytes a

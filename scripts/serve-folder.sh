@@ -1,10 +1,10 @@
 #!/usr/bin/env bash
-# Serves one folder that scripts/split-lists.py made: WORK/in/NUMBER into WORK/out/NUMBER, by as many workers as WORKERS says
+# Serves one folder that companion/rebuild-lists made: WORK/in/NUMBER into WORK/out/NUMBER, by as many workers as WORKERS says
 # (else 1). Each run writes into a folder of its own, which gets its name at the end, so WORK/out/NUMBER is always whole, and
 # two runs never write one file. A folder that is served already is left as it is. The program is the one that REBUILD
 # names, or that of the repository. The exit status is the program's.
 set -euo pipefail
-work=${1:?'the folder that split-lists.py made'}
+work=${1:?'the folder that rebuild-lists made'}
 number=${2:?'the number of a folder in it'}
 program=${REBUILD:-$(dirname "$0")/../crates/rebuild/out/rebuild}
 out=$work/out/$number

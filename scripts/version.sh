@@ -25,7 +25,8 @@ for word in --version -V; do
   crates/rebuild/out/rebuild "$word" > "$scratch/told"
   compare "rebuild $word" "$(sed 's/^rebuild //' "$scratch/told")"
 done
-for page in man/rebuild.1 man/rebuild.5; do
+compare 'rebuild-lists --version' "$(companion/rebuild-lists --version | sed 's/^rebuild-lists //')"
+for page in man/rebuild.1 man/rebuild-lists.1 man/rebuild.5; do
   compare "$page" "$(sed -n 's/^\.Os rebuild //p' "$page")"
 done
 compare include/lrc.h "$(sed -n 's/^#define LRC_VERSION "\(.*\)"$/\1/p' include/lrc.h)"
