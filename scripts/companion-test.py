@@ -368,7 +368,8 @@ in: good: 1 racks, 1 lists, 1 requests; 8 notes
         (self.store / "rack2.csv").mkdir()
         told = self.call("check", "in")
         self.assertEqual(told.returncode, 1)
-        for mistake in ["rack0.csv: line 4098, record 4097: E26:", "rack0.feed4.csv: E28:", "rack1.csv: E25:", "rack2.csv: E24:", "rack16.csv: E18:"]:
+        for mistake in ["rack0.csv: line 4098, record 4097: E26:", "rack0.feed4.csv: E28:", "rack1.csv: E25:", "rack2.csv: E24:",
+                            "rack16.csv: E18:"]:
             self.assertIn(f"mistake: {mistake}", told.stdout)
 
     def test_no_list_and_no_folder(self):
@@ -387,12 +388,14 @@ class RandomFolders(Folder):
         code = chance.choice(["6-2-2", "12-2-2"]) if coded else "6-2-2"
         places = self.SIX_PLACES if code == "6-2-2" else self.TWELVE_PLACES
         target, *others = chance.sample(places, chance.randint(1, 8))
-        row = ["rebuild", chance.choice(["abc", "wide", "a-1", "z" * 32]), target, chance.choice(["3", "2", "0065536", "0003", "1"]), " ".join(others)]
+        row = ["rebuild", chance.choice(["abc", "wide", "a-1", "z" * 32]), target, chance.choice(["3", "2", "0065536", "0003", "1"]),
+                            " ".join(others)]
         return row + [code] * coded
 
     def damage(self, chance, row):
         """Puts a value into a field that may be a mistake or none."""
-        value = chance.choice(["", "x0", "x5", "px px", " ", "x1  x2", "A", "z" * 33, "0", "65537", "00000001", "+1", "\xe9", "close", "6-2-2", "7", "a\"b",
+        value = chance.choice(["", "x0", "x5", "px px", " ", "x1  x2", "A", "z" * 33, "0", "65537", "00000001", "+1", "\xe9", "close",
+                            "6-2-2", "7", "a\"b",
                                "\u00b2", "12-2-2", "x1 x0", "x1 ", "a\nb", "rebuild"])
         row[chance.randrange(len(row))] = value
         if chance.random() < 0.1:
@@ -489,7 +492,8 @@ out/rack0-1.abc.y0: of an earlier run: no report says rebuilt of it
         self.refused(self.call("tell", "out"), "out: has no report")
         header = "number,stripe,target,length,outcome,digest,unread\n"
         for text, told in [("", "line 1: not the header of a report"), (header + "0,a,x0,3,several,\n", "line 2: not an answer"),
-                           (header + "0,../a,x0,3,several,,\n", "line 2: not an answer"), (header + "0,a,x0,3,rebuilt,,\n", "line 2: not an answer")]:
+                           (header + "0,../a,x0,3,several,,\n", "line 2: not an answer"), (header + "0,a,x0,3,rebuilt,,\n",
+                                               "line 2: not an answer")]:
             (self.at / "out/rack0.report.csv").write_text(text)
             self.refused(self.call("tell", "out"), f"out/rack0.report.csv: {told}")
 
@@ -501,9 +505,11 @@ class Put(Folder):
 
     def test_put_twice_and_over_other_bytes(self):
         self.served()
-        self.done(self.call("put", "in", "out"), "put 1 fragments into in, 0 of them over other bytes; 0 were there already; 1 requests weren't rebuilt")
+        self.done(self.call("put", "in", "out"),
+                            "put 1 fragments into in, 0 of them over other bytes; 0 were there already; 1 requests weren't rebuilt")
         self.assertEqual((self.store / "abc.x0").read_bytes(), b"abc")
-        self.done(self.call("put", "in", "out"), "put 0 fragments into in, 0 of them over other bytes; 1 were there already; 1 requests weren't rebuilt")
+        self.done(self.call("put", "in", "out"),
+                            "put 0 fragments into in, 0 of them over other bytes; 1 were there already; 1 requests weren't rebuilt")
         (self.store / "abc.x0").write_bytes(b"abd")
         self.refused(self.call("put", "in", "out"), "in/abc.x0: is there with other bytes; nothing was written (--overwrite replaces them)")
         self.assertEqual((self.store / "abc.x0").read_bytes(), b"abd")
@@ -524,8 +530,10 @@ class Damaged(Folder):
         # A stripe of zeros, of which one survivor is damaged.
         self.fragments("z", **{place: b"\0" for place in "x1 x2 y0 y1 y2 px py p1".split()}, p0=b"\7")
         self.list(FIVE + "close,,,,\nrebuild,z,x0,1,x1 x2 y0 y1 y2 px py p0 p1\nrebuild,abc,x0,3,x1 x2 px\n")
-        self.done(self.call("damaged", "in", "0", "0", "--program", PROGRAM), "z.p0: z.x0 is rebuilt without it, and is a contradiction without any other")
-        self.refused(self.call("damaged", "in", "0", "1", "--program", PROGRAM), "abc.x0: the answer is rebuilt, so nothing shows that a survivor is damaged")
+        self.done(self.call("damaged", "in", "0", "0", "--program", PROGRAM),
+                            "z.p0: z.x0 is rebuilt without it, and is a contradiction without any other")
+        self.refused(self.call("damaged", "in", "0", "1", "--program", PROGRAM),
+                            "abc.x0: the answer is rebuilt, so nothing shows that a survivor is damaged")
         self.refused(self.call("damaged", "in", "0", "2"), "in/rack0.csv: has no request 2: it has 2, counted from 0")
         self.refused(self.call("damaged", "in", "0", "0", "--program", "./none"),
                      "./none: can't be run (No such file or directory); --program names the program")
@@ -552,7 +560,8 @@ class Cut(Lists):
         self.call("split", "pieces/list.csv", "pieces/store", "work", "--requests", "2")
         self.serve()
         self.call("merge", "work", "result")
-        self.done(self.call("join", "pieces", "result", "whole"), "joined 2 answers: 1 rebuilt, 0 contradiction, 1 several; 1 with unread survivors")
+        self.done(self.call("join", "pieces", "result", "whole"),
+                            "joined 2 answers: 1 rebuilt, 0 contradiction, 1 several; 1 with unread survivors")
         self.assertEqual((self.at / f"whole/{name}.x0").read_bytes(), data)
         self.assertEqual(self.text("whole/report.csv"), "number,stripe,target,length,outcome,digest,unread,code\n"
                          f"0,{name},x0,131073,rebuilt,{hashlib.sha256(data).hexdigest()},,6-2-2\n1,My,x0,2,several,,x2,6-2-2\n")
@@ -561,7 +570,8 @@ class Cut(Lists):
         self.assertEqual((self.store / f"{name}.x0").read_bytes(), data)
 
     def test_refused_lists(self):
-        for row, told in [("a/b,x0,3,", "the stripe 'a/b' isn't part of a file's name"), ("a,x0,0,", "the length '0' isn't a number from 1 on"),
+        for row, told in [("a/b,x0,3,", "the stripe 'a/b' isn't part of a file's name"), ("a,x0,0,",
+                            "the length '0' isn't a number from 1 on"),
                           ("a,x9,3,", "the target 'x9' isn't a place of the code 6-2-2")]:
             (self.at / "long.csv").write_text(f"{FIVE}rebuild,{row}\n")
             self.refused(self.call("cut", "long.csv", "store", "pieces"), f"long.csv: line 2: {told}")
