@@ -48,7 +48,7 @@ ends greatest-input 0 '' '' < "$scratch/feeds"
 echo >> "$scratch/feeds"
 ends longer-input 1 '' E25 < "$scratch/feeds"
 # As many survivors as the input has room for: a search that calls itself for each of them ends in a signal.
-{ printf 'a x0 1'; yes ' x1=' | head -n 2000000 | tr -d '\n'; } > "$scratch/many"
+{ printf 'a x0 1'; head -c 2000000 /dev/zero | sed 's/\x00/ x1=/g'; } > "$scratch/many"
 ends many-survivors 1 'refused E3' '' < "$scratch/many"
 rm "$scratch/many"
 
