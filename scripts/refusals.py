@@ -270,7 +270,7 @@ class Test:
         ran = self.library.run(self.words, refusal=refusal)
         if ran.status == 0:
             return ran, "answered"
-        if ran.status > 0 and b"Error: AllocError" in ran.err + ran.out:
+        if ran.status > 0 and b"rror: AllocError" in ran.err + ran.out:
             return ran, "AllocError"
         if ran.status > 0 and b"starved" in ran.err + ran.out:
             return ran, "starved"
