@@ -13,6 +13,7 @@ import hashlib
 import itertools
 import os
 import pathlib
+import re
 import resource
 import struct
 import subprocess
@@ -270,7 +271,7 @@ class Test:
         ran = self.library.run(self.words, refusal=refusal)
         if ran.status == 0:
             return ran, "answered"
-        if ran.status > 0 and b"rror: AllocError" in ran.err + ran.out:
+        if ran.status > 0 and re.search(rb"rror: (AllocError|OutOfMemory)\b", ran.err + ran.out):
             return ran, "AllocError"
         if ran.status > 0 and b"starved" in ran.err + ran.out:
             return ran, "starved"
