@@ -86,12 +86,8 @@ proofs:
 	RT_JOBS=$(shell nproc) rt ci
 
 .PHONY: proofs library.sh $(BEHIND)
-$(BEHIND):
+library.sh $(BEHIND):
 	scripts/$@
-
-# At a lower priority, so that it takes no processor from the longest chain of proofs.
-library.sh:
-	nice -n 10 scripts/$@
 
 wrong-bodies:
 	scripts/try-wrong-bodies.sh
