@@ -8,13 +8,19 @@ CPU := $(shell grep -q avx2 /proc/cpuinfo && echo x86-64-v3 || echo x86-64-v2)
 PREFIX := /usr/local
 DESTDIR :=
 PLACE = $(DESTDIR)$(PREFIX)
+# The modules of rebuild-lists, below its prefix.
+MODULES := share/rebuild-lists/rebuild_lists
 
 # The C library's version, which its header tells; the first number of the shared object's name changes with its calls.
 LIBRARY_VERSION := $(shell sed -n 's/^.define LRC_VERSION "\(.*\)"$$/\1/p' include/lrc.h)
 SONAME := liblrc.so.0
-LIBRARY := crates/lrc_c/out
+# TARGET=aarch64-unknown-linux-gnu has the library built, and installed, for another kind of processor. The shared object is linked by
+# the compiler for it, which Debian's package gcc-aarch64-linux-gnu has.
+TARGET :=
+LIBRARY := crates/lrc_c/out$(if $(TARGET),/$(TARGET))
+LIBRARY_CC := $(if $(TARGET),$(subst -unknown,,$(TARGET))-gcc,$(CC))
 
-.PHONY: build demo try install uninstall library install-library uninstall-library test wrong-bodies scale bench
+.PHONY: build demo try install uninstall library install-library uninstall-library test levels wrong-bodies scale bench
 
 # Proves the program and what it stands on, and builds crates/rebuild/out/rebuild. JOBS=N has it use N processors.
 build:
@@ -32,25 +38,31 @@ install:
 	@test -x crates/rebuild/out/rebuild || { echo "The program isn't built: run 'make build' first." >&2; exit 1; }
 	install -D -m 755 crates/rebuild/out/rebuild "$(PLACE)/bin/rebuild"
 	install -D -m 755 companion/rebuild-lists "$(PLACE)/bin/rebuild-lists"
+	install -D -m 644 -t "$(PLACE)/$(MODULES)" companion/rebuild_lists/*.py
 	install -D -m 644 man/rebuild.1 "$(PLACE)/share/man/man1/rebuild.1"
 	install -D -m 644 man/rebuild-lists.1 "$(PLACE)/share/man/man1/rebuild-lists.1"
 	install -D -m 644 man/rebuild.5 "$(PLACE)/share/man/man5/rebuild.5"
-	install -D -m 644 completions/rebuild.bash "$(PLACE)/share/bash-completion/completions/rebuild"
-	install -D -m 644 completions/_rebuild "$(PLACE)/share/zsh/site-functions/_rebuild"
-	install -D -m 644 completions/rebuild.fish "$(PLACE)/share/fish/vendor_completions.d/rebuild.fish"
+	for name in rebuild rebuild-lists; do \
+	  install -D -m 644 completions/$$name.bash "$(PLACE)/share/bash-completion/completions/$$name" && \
+	  install -D -m 644 completions/_$$name "$(PLACE)/share/zsh/site-functions/_$$name" && \
+	  install -D -m 644 completions/$$name.fish "$(PLACE)/share/fish/vendor_completions.d/$$name.fish" || exit 1; \
+	done
 
-# Removes these files and nothing else: folders stay.
+# Removes these files and nothing else: folders stay, but for those of the companion's modules.
 uninstall:
 	rm -f "$(PLACE)/bin/rebuild" "$(PLACE)/bin/rebuild-lists"
+	rm -f $(patsubst companion/rebuild_lists/%,"$(PLACE)/$(MODULES)/%",$(wildcard companion/rebuild_lists/*.py))
+	-@for folder in "$(PLACE)/$(MODULES)" "$(PLACE)/$(dir $(MODULES))"; do test ! -d "$$folder" || rmdir "$$folder"; done
 	rm -f "$(PLACE)/share/man/man1/rebuild.1" "$(PLACE)/share/man/man1/rebuild-lists.1" "$(PLACE)/share/man/man5/rebuild.5"
-	rm -f "$(PLACE)/share/bash-completion/completions/rebuild"
-	rm -f "$(PLACE)/share/zsh/site-functions/_rebuild"
-	rm -f "$(PLACE)/share/fish/vendor_completions.d/rebuild.fish"
+	for name in rebuild rebuild-lists; do \
+	  rm -f "$(PLACE)/share/bash-completion/completions/$$name" "$(PLACE)/share/zsh/site-functions/_$$name" \
+	    "$(PLACE)/share/fish/vendor_completions.d/$$name.fish"; \
+	done
 
 # Proves the C library and what it stands on, and builds it: crates/lrc_c/out/liblrc_c.a and the shared object. JOBS=N as above.
 library:
-	@scripts/build.py lrc_c $(CPU) $(JOBS)
-	@test $(LIBRARY)/$(SONAME) -nt $(LIBRARY)/liblrc_c.a || $(CC) -shared -o $(LIBRARY)/$(SONAME) \
+	@scripts/build.py lrc_c $(or $(TARGET),$(CPU)) $(JOBS)
+	@test $(LIBRARY)/$(SONAME) -nt $(LIBRARY)/liblrc_c.a || $(LIBRARY_CC) -shared -o $(LIBRARY)/$(SONAME) \
 	  -Wl,--whole-archive $(LIBRARY)/liblrc_c.a -Wl,--no-whole-archive -Wl,-z,defs -Wl,-soname,$(SONAME)
 
 # Builds nothing, as `install`.
@@ -71,7 +83,7 @@ uninstall-library:
 # What the gate runs behind the proofs, over the programs and tests that they leave in each crate's out/. No two of these share a file
 # that one of them writes, so several run at once.
 BEHIND := refusals.py try.sh no-compile.sh reference-lines.sh ends.sh demo.sh examples.py manual.sh completions.sh install.sh \
-  version.sh numbers.py growth.py companion-test.py
+  version.sh numbers.py growth.py memory.py companion-test.py
 
 # library.sh builds in a copy of its own, so it runs beside the proofs.
 test:
@@ -91,6 +103,10 @@ library.sh $(BEHIND):
 
 wrong-bodies:
 	scripts/try-wrong-bodies.sh
+
+# Builds the program for each level that the processor has, and runs the gate's scripts over each. It is no part of the gate.
+levels:
+	scripts/levels.sh $(JOBS)
 
 # GNU parallel and Slurm over the built program, where they are installed. It is no part of the gate.
 scale: build

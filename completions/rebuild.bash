@@ -1,7 +1,7 @@
 # The completions of rebuild for bash: its commands, its options with numbers that are in their ranges, and folders.
 
 _rebuild() {
-  local current=${COMP_WORDS[COMP_CWORD]} before=${COMP_WORDS[COMP_CWORD - 1]} offered='' folders='' ended='' index
+  local current=${COMP_WORDS[COMP_CWORD]} before=${COMP_WORDS[COMP_CWORD - 1]} offered='' folders='' ended='' given=0 index
   COMPREPLY=()
   if [ "$COMP_CWORD" = 1 ]; then
     case $current in
@@ -17,8 +17,13 @@ _rebuild() {
     elif [ "$before" = '=' ]; then
       before=${COMP_WORDS[COMP_CWORD - 2]}
     fi
+    # How many folders stand before the current word: what is neither an option nor its number.
     for ((index = 2; index < COMP_CWORD; index++)); do
-      [ "${COMP_WORDS[index]}" != -- ] || ended=yes
+      case $ended${COMP_WORDS[index]} in
+        --) ended=yes ;;
+        -* | =) ;;
+        *) [[ ${COMP_WORDS[index - 1]} == --@(workers|queue) || ${COMP_WORDS[index - 1]} == = ]] || ((given++)) ;;
+      esac
     done
     case $ended$before in
       --workers) offered='1 2 3 4 5 6 7 8 9 10 11 12 13 14 15 16' ;;
@@ -30,7 +35,7 @@ _rebuild() {
             [[ " ${COMP_WORDS[*]:2:COMP_CWORD-2} " == *' --workers '* ]] || offered+=' --workers'
             [[ " ${COMP_WORDS[*]:2:COMP_CWORD-2} " == *' --queue '* ]] || offered+=' --queue'
             ;;
-          *) folders=yes ;;
+          *) [ "$given" -ge 2 ] || folders=yes ;;
         esac
         ;;
     esac

@@ -15,6 +15,23 @@ function __rebuild_may_have
     not string match -q -r -- "^--$argv[1](=|\$)" $words
 end
 
+# Whether a folder of farm may follow: fewer than two are given.
+function __rebuild_lacks_folder
+    __rebuild_command_is farm; or return 1
+    set -l given 0
+    set -l before ''
+    set -l ended ''
+    for word in (commandline -opc)[3..]
+        if test -z "$ended" -a "$word" = --
+            set ended yes
+        else if test -n "$ended"; or not string match -q -r -- '^-' $word; and not contains -- $before --workers --queue
+            set given (math $given + 1)
+        end
+        set before $word
+    end
+    test $given -lt 2
+end
+
 complete -c rebuild -f
 complete -c rebuild -n __fish_is_first_arg -a farm -d 'Rebuild the fragments that the lists of a folder ask for'
 complete -c rebuild -n __fish_is_first_arg -a help -d 'Show help'
@@ -25,4 +42,4 @@ complete -c rebuild -n '__rebuild_may_have help' -s h -l help -d 'Show help'
 complete -c rebuild -n '__rebuild_may_have workers' -l workers -x -a '(seq 1 16)' -d 'Threads that rebuild fragments, 1 to 16'
 complete -c rebuild -n '__rebuild_may_have queue' -l queue -x -a '1 2 4 8 16 32 64 128 256 512 1024' \
     -d 'Capacity of each queue, 1 to 1024'
-complete -c rebuild -n '__rebuild_command_is farm' -a '(__fish_complete_directories (commandline -ct) "Folder")'
+complete -c rebuild -n __rebuild_lacks_folder -a '(__fish_complete_directories (commandline -ct) "Folder")'

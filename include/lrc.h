@@ -1,5 +1,5 @@
-/* Local Reconstruction Codes with six or twelve data fragments, two local and two global parities: encoding, plans,
- * rebuilding and verifying over the caller's buffers. docs/LIBRARY.md tells how to link it and what is proved of it.
+/* Local Reconstruction Codes with six or twelve data fragments, two local and two global parities: encoding, updating, plans,
+ * rebuilding and verifying over the caller's buffers. docs/LIBRARY.md says how to link it and what is proved of it.
  *
  * A stripe has a fragment of equal length, at least one byte, at each place of its code. Lengths are in bytes, and have no limit
  * but memory. Codes are those of Huang et al., "Erasure Coding in Windows Azure Storage" (USENIX ATC 2012), over the field of
@@ -25,27 +25,33 @@
  * Statuses. Each function tests its numbers and lengths, and answers LRC_BAD_ARGUMENT, with nothing written, where they are
  * not what it asks. No function aborts, and each returns.
  *
+ * Sets of places are bits: bit p of a mask is that of place p. Bits 16 and higher play no part in any call.
+ *
  * Length 0. The calls that rebuild refuse it; the others answer LRC_OK, and write no byte of a fragment.
  *
  * What it cannot test is the caller's part:
  *   - a pointer points to as many bytes as the length beside it says, and is not null, also where that length is 0 or where it
  *     is not read: of the sixteen entries of a table `at` none is null;
  *   - a buffer that is written overlaps no other argument.
- * Of the functions in "the library's functions" the answers are proved. Those after it fill the tables, and are tested. They
- * take arrays of pointers to const; C, unlike C++, wants a cast for an array of other pointers:
- *     lrc_verify(code, (const uint8_t *const *)stripe, length) */
+ * Of the functions in "the library's functions" the answers are proved. Those after it count places or fill the tables, and are
+ * tested. Those that only read fragments take an array of pointers to const; in C, unlike C++, an array of other pointers needs
+ * LRC_READ:
+ *     lrc_verify(code, LRC_READ(stripe), length) */
 #ifndef LRC_H
 #define LRC_H
 
 #include <stddef.h>
 #include <stdint.h>
 
-#define LRC_VERSION "0.1.0"
+#define LRC_VERSION "0.2.0"
 /* 10,000 times the first number, 100 times the second, and the third: what lrc_version answers of a library of this header. */
-#define LRC_VERSION_NUMBER 100
+#define LRC_VERSION_NUMBER 200
 
 /* Among the targets of lrc_rebuild_many_into: no target. */
 #define LRC_NO_PLACE 255
+
+/* An array of pointers to fragments, for a call that only reads them. */
+#define LRC_READ(fragments) ((const uint8_t *const *)(fragments))
 
 #ifdef __cplusplus
 extern "C" {
@@ -64,10 +70,17 @@ enum lrc_place {
     LRC_PLACES
 };
 
+/* Orders in which stores number the fragments of a stripe, from 0: the data x0, x1, .., y0, y1, .. and then px, py, p0, p1; or by
+ * groups, x0, x1, .., px, y0, y1, .., py, p0, p1. */
+enum lrc_layout {
+    LRC_PLAIN = 0,
+    LRC_GROUPS = 1
+};
+
 enum lrc_status {
     LRC_OK = 0,            /* done: written, rebuilt, determined, those of a stripe */
     LRC_CONTRADICTION = 1, /* no stripe has these fragments: one is damaged, or of another stripe or code */
-    LRC_SEVERAL = 2,       /* two stripes have these fragments and differ at the target: more are needed */
+    LRC_SEVERAL = 2,       /* two stripes have these fragments and differ at the target or a wanted place: more are needed */
     LRC_BAD_ARGUMENT = 3   /* a number or a length is not what the function asks; nothing was written */
 };
 
@@ -103,28 +116,45 @@ uint32_t lrc_scale_add(uint8_t *dst, size_t dst_length, uint8_t scalar, const ui
 uint32_t lrc_combine(const uint8_t *coefficients, size_t count, const lrc_bytes *sources, size_t source_count, uint8_t *out,
                      size_t length);
 
-/* Writes the four parities of the data fragments, which stand in the order x0, x1, .., y0, y1, .. LRC_BAD_ARGUMENT where
- * the number is no code's, `count` is not 6 or 12 as the code says, or the lengths differ. */
+/* Writes the four parities of the data fragments, which are in the order x0, x1, .., y0, y1, .. LRC_BAD_ARGUMENT where the number
+ * is no code's, `count` is not 6 or 12 as the code says, or the lengths differ. */
 uint32_t lrc_encode_into(uint8_t code, const lrc_bytes *data, size_t count, uint8_t *px, size_t px_length, uint8_t *py,
                          size_t py_length, uint8_t *p0, size_t p0_length, uint8_t *p1, size_t p1_length);
 
+/* Brings parities up to date after one data fragment of their stripe changed: adds to each the place's coefficient in it times the
+ * difference, which is the sum (exclusive or) of the fragment's bytes before and after. A parity whose length is 0 is left
+ * alone. LRC_BAD_ARGUMENT where the number is no code's, the place is none of its data places, or a parity's length is neither 0
+ * nor that of the difference. */
+uint32_t lrc_update_into(uint8_t code, uint8_t place, const uint8_t *difference, size_t length, uint8_t *px, size_t px_length,
+                         uint8_t *py, size_t py_length, uint8_t *p0, size_t p0_length, uint8_t *p1, size_t p1_length);
+
+/* What to read for wanted places: writes the bits of as few available places as determine all wanted ones. A wanted place that is
+ * available is read itself; for one lost place whose group's others are available these are the group's others. None of the places
+ * can be left out. LRC_OK, or LRC_SEVERAL where the available places do not determine a wanted one; then nothing is written.
+ * LRC_BAD_ARGUMENT where the number is no code's, or a wanted place is not the code's. Available places that the code has not
+ * play no part. */
+uint32_t lrc_reads_into(uint8_t code, uint32_t wanted, uint32_t available, uint32_t *reads);
+
+/* The same with a cost for each place: the sum of costs[p] over the places p that are written is the least that does. */
+uint32_t lrc_cheapest_reads_into(uint8_t code, uint32_t wanted, uint32_t available, const uint32_t costs[LRC_PLACES],
+                                 uint32_t *reads);
+
 /* Writes the plan for a lost place: bit p of `survivors` says that place p survives. LRC_OK, or LRC_SEVERAL where the
  * survivors do not determine the target; then the checks alone are written, and `value` keeps its bytes. LRC_BAD_ARGUMENT where
- * the number is no code's, the code has no such place, or it survives. Bits 16 and higher, and those of places that the code
- * has not, play no part. */
+ * the number is no code's, the code has no such place, or it survives. Survivors that the code has not play no part. */
 uint32_t lrc_plan_into(uint8_t code, uint32_t survivors, uint8_t target, lrc_plan *plan);
 
 /* Writes what a row of a plan gives: the sum of row[p] times the bytes at[p]. With a plan's value these are the target's bytes
  * in each stripe that has the survivors' bytes; with a check they are all 0 where there is such a stripe. Pieces of any length
  * may be passed. Bytes whose coefficient is 0 are not read, and may have any length; all sixteen pointers are not null.
- * LRC_BAD_ARGUMENT where others have another length than `out`. */
+ * LRC_BAD_ARGUMENT where others have another length than `out`. Nothing is tested of the bytes, so with a plan's value this rebuilds
+ * without checks. */
 uint32_t lrc_apply(const uint8_t row[LRC_PLACES], const lrc_bytes at[LRC_PLACES], uint8_t *out, size_t length);
 
 /* Writes the fragment at a lost place: LRC_OK, and each stripe that has the survivors' bytes has those in `out` there, and there
  * is one; LRC_CONTRADICTION, and there is none; or LRC_SEVERAL. All checks are tested in any case. With the last two `out`
  * holds anything. at[p] is read where bit p of `survivors` is set. LRC_BAD_ARGUMENT where it then has another length than
- * `out`, that length is 0, a bit is set of a place that the code has not, or lrc_plan_into answers it. Bits 16 and higher play
- * no part. */
+ * `out`, that length is 0, a bit is set of a place that the code has not, or lrc_plan_into answers it. */
 uint32_t lrc_rebuild_into(uint8_t code, uint32_t survivors, const lrc_bytes at[LRC_PLACES], uint8_t target, uint8_t *out,
                           size_t length);
 
@@ -191,12 +221,55 @@ static inline size_t lrc_data_count(enum lrc_code code)
 /* The place of the i-th data fragment, in the order x0, x1, .., y0, y1, ..; LRC_PLACES where there are not as many. */
 static inline enum lrc_place lrc_data_place(enum lrc_code code, size_t i)
 {
-    static const uint8_t narrow[6] = {LRC_X0, LRC_X1, LRC_X2, LRC_Y0, LRC_Y1, LRC_Y2};
-    static const uint8_t wide[12] = {LRC_X0, LRC_X1, LRC_X2, LRC_X3, LRC_X4, LRC_X5,
-                                     LRC_Y0, LRC_Y1, LRC_Y2, LRC_Y3, LRC_Y4, LRC_Y5};
-    if (i >= lrc_data_count(code))
+    static const uint8_t places[2][12] = {
+        {LRC_X0, LRC_X1, LRC_X2, LRC_Y0, LRC_Y1, LRC_Y2, LRC_PLACES, LRC_PLACES, LRC_PLACES, LRC_PLACES, LRC_PLACES, LRC_PLACES},
+        {LRC_X0, LRC_X1, LRC_X2, LRC_X3, LRC_X4, LRC_X5, LRC_Y0, LRC_Y1, LRC_Y2, LRC_Y3, LRC_Y4, LRC_Y5}};
+    if (i >= 12)
         return LRC_PLACES;
-    return (enum lrc_place)(code == LRC_6_2_2 ? narrow[i] : wide[i]);
+    return (enum lrc_place)places[code != LRC_6_2_2][i];
+}
+
+/* How many fragments a stripe has: 10 or 16. */
+static inline size_t lrc_fragment_count(enum lrc_code code)
+{
+    return lrc_data_count(code) + 4;
+}
+
+/* The place of a fragment's number in a layout; LRC_PLACES where there is no such number, code or layout. */
+static inline enum lrc_place lrc_shard_place(enum lrc_code code, enum lrc_layout layout, size_t shard)
+{
+    size_t data = lrc_data_count(code), half = data / 2;
+    if ((code != LRC_6_2_2 && code != LRC_12_2_2) || (layout != LRC_PLAIN && layout != LRC_GROUPS) ||
+        shard >= lrc_fragment_count(code))
+        return LRC_PLACES;
+    if (layout == LRC_PLAIN)
+        return shard < data ? lrc_data_place(code, shard) : (enum lrc_place)(LRC_PX + (shard - data));
+    if (shard == half)
+        return LRC_PX;
+    if (shard > data)
+        return (enum lrc_place)(LRC_PY + (shard - data - 1));
+    return lrc_data_place(code, shard < half ? shard : shard - 1);
+}
+
+/* The number of the fragment at a place in a layout; LRC_PLACES where there is no such place, code or layout. */
+static inline size_t lrc_place_shard(enum lrc_code code, enum lrc_layout layout, enum lrc_place place)
+{
+    for (size_t shard = 0; shard < LRC_PLACES; shard++)
+        if (lrc_shard_place(code, layout, shard) == place && (unsigned)place < LRC_PLACES)
+            return shard;
+    return LRC_PLACES;
+}
+
+/* The length of fragments for so many bytes: the least multiple of `alignment` at which the data fragments hold them all. 0 where
+ * there are no bytes, `alignment` is 0, or a size_t can't hold the length. */
+static inline size_t lrc_fragment_length(enum lrc_code code, size_t bytes, size_t alignment)
+{
+    size_t count = lrc_data_count(code), length = bytes / count + (bytes % count != 0), over, missing;
+    if (alignment == 0)
+        return 0;
+    over = length % alignment;
+    missing = over != 0 ? alignment - over : 0;
+    return length <= SIZE_MAX - missing ? length + missing : 0;
 }
 
 /* Whether the code has the place. */
@@ -263,6 +336,23 @@ static inline uint32_t lrc_encode(enum lrc_code code, uint8_t *const fragments[L
                            fragments[LRC_P0], length, fragments[LRC_P1], length);
 }
 
+/* lrc_update_into with pointers to px, py, p0 and p1, in this order, as &stripe[LRC_PX] has them; a parity whose pointer is null is
+ * left alone. LRC_BAD_ARGUMENT also where `difference` is null. */
+static inline uint32_t lrc_update(enum lrc_code code, enum lrc_place place, const uint8_t *difference, uint8_t *const parities[4],
+                                  size_t length)
+{
+    uint8_t none[4], *rooms[4];
+    size_t lengths[4];
+    if ((code != LRC_6_2_2 && code != LRC_12_2_2) || (unsigned)place >= LRC_PLACES || difference == NULL)
+        return LRC_BAD_ARGUMENT;
+    for (int i = 0; i < 4; i++) {
+        rooms[i] = parities[i] != NULL ? parities[i] : &none[i];
+        lengths[i] = parities[i] != NULL ? length : 0;
+    }
+    return lrc_update_into((uint8_t)code, (uint8_t)place, difference, length, rooms[0], lengths[0], rooms[1], lengths[1],
+                           rooms[2], lengths[2], rooms[3], lengths[3]);
+}
+
 /* lrc_rebuild_into: the fragment at `target`, which is lost, goes to `out`. LRC_BAD_ARGUMENT also where `out` is null. */
 static inline uint32_t lrc_rebuild(enum lrc_code code, const uint8_t *const fragments[LRC_PLACES], enum lrc_place target,
                                    uint8_t *out, size_t length)
@@ -290,7 +380,7 @@ static inline uint32_t lrc_rebuild_many(enum lrc_code code, const uint8_t *const
     for (size_t from = 0; from < count; from += 4) {
         uint8_t none[4], numbers[4], *rooms[4];
         size_t lengths[4];
-        uint32_t told[4];
+        uint32_t answers[4];
         uint32_t status;
         for (size_t i = 0; i < 4; i++) {
             int asked = from + i < count;
@@ -299,18 +389,19 @@ static inline uint32_t lrc_rebuild_many(enum lrc_code code, const uint8_t *const
             lengths[i] = asked ? length : 0;
         }
         status = lrc_rebuild_many_into((uint8_t)code, survivors, at, length, numbers, rooms[0], lengths[0], rooms[1],
-                                       lengths[1], rooms[2], lengths[2], rooms[3], lengths[3], told);
+                                       lengths[1], rooms[2], lengths[2], rooms[3], lengths[3], answers);
         if (status == LRC_BAD_ARGUMENT)
             return LRC_BAD_ARGUMENT;
         for (size_t i = 0; i < 4 && from + i < count; i++)
-            statuses[from + i] = told[i];
+            statuses[from + i] = answers[i];
         if (status > greatest)
             greatest = status;
     }
     return greatest;
 }
 
-/* lrc_verify_at: whether the fragments that are there are those of a stripe. */
+/* lrc_verify_at: whether the fragments that are there are those of a stripe. Too few fragments have no check; LRC_OK then says
+ * nothing of them. */
 static inline uint32_t lrc_verify(enum lrc_code code, const uint8_t *const fragments[LRC_PLACES], size_t length)
 {
     lrc_bytes at[LRC_PLACES];

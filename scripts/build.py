@@ -1,7 +1,8 @@
 #!/usr/bin/env python3
 """Proves a crate with all that it stands on, and builds it: the program (`rebuild`) or the C library (`lrc_c`).
 
-    build.py NAME LEVEL [JOBS]      for a level of the processor, as x86-64-v3, with JOBS processors (all that there are)
+    build.py NAME LEVEL [JOBS]      for a level of the processor, as x86-64-v3, with JOBS processors (all that there are); the library
+                                    also for another kind of processor, as aarch64-unknown-linux-gnu, in out/ below that name
     build.py settle                 puts back what a build that was killed has left
 
 Crates are proved beside each other, each as soon as those that it stands on are there. The crate with the longest way to the end
@@ -60,15 +61,20 @@ class Crate:
         """How long its proof is, about."""
         return sum(file.read_bytes().count(b"\n") for part in PARTS for file in (self.folder / part).rglob("*.*t"))
 
-    def built(self):
+    def place(self, level):
+        """The folder of what is built for a level, or for another kind of processor."""
+        return self.folder / "out" / (level if self.is_static and is_target(level) else "")
+
+    def built(self, level):
         """The file that building it makes, by which a record is held to what was built."""
         if self.is_program:
             return self.folder / "out" / self.name
-        return self.folder / "out" / (f"lib{self.name}.a" if self.is_static else "rlib/stamp")
+        return self.place(level) / (f"lib{self.name}.a" if self.is_static else "rlib/stamp")
 
     def command(self, level, jobs):
         verb = "run" if self.is_program else "lib"
-        return ["rt", verb, "--jobs", str(jobs), *([f"--cpu={level}"] if self.is_program or self.is_static else [])]
+        option = f"--target={level}" if is_target(level) else f"--cpu={level}"
+        return ["rt", verb, "--jobs", str(jobs), *([option] if self.is_program or self.is_static else [])]
 
     @functools.lru_cache(maxsize=None)
     def inputs(self, root, level, kit):
@@ -81,13 +87,18 @@ class Crate:
             found.update(it.inputs(root, level, kit).encode())
         return found.hexdigest()
 
-    def record(self, inputs):
+    def record(self, inputs, level):
         """What the record of a build from these inputs says, or None where nothing is built."""
-        return f"{inputs} {sum_of(self.built())}\n" if self.built().is_file() else None
+        return f"{inputs} {sum_of(self.built(level))}\n" if self.built(level).is_file() else None
 
-    def is_built(self, inputs):
-        file = self.folder / "out" / "built"
-        return file.is_file() and file.read_text() == self.record(inputs)
+    def is_built(self, inputs, level):
+        file = self.place(level) / "built"
+        return file.is_file() and file.read_text() == self.record(inputs, level)
+
+
+def is_target(level):
+    """Whether what is built for is another kind of processor, and no level of this one."""
+    return level.endswith("-linux-gnu")
 
 
 def sum_of(file):
@@ -142,9 +153,9 @@ class Run:
     """The proof of a crate in a room of its own."""
 
     def __init__(self, crate, lock, level, jobs, is_first, kit):
-        self.crate, self.lock, self.jobs, self.start = crate, lock, jobs, time.monotonic()
+        self.crate, self.lock, self.level, self.jobs, self.start = crate, lock, level, jobs, time.monotonic()
         self.room = ROOMS / crate.name
-        make_room(crate, self.room)
+        make_room(crate, self.room, level)
         self.inputs = crate.inputs(self.room / "crates", level, kit)
         self.said = self.room / "said"
         # The lock goes to what is started too, so that it is held until that ends, however this process ends.
@@ -163,9 +174,13 @@ class Run:
         """Takes what was made out of the room, and gives back the lock; whether all is well, and what rt said."""
         said = self.said.read_text(errors="replace")
         is_well = self.process.returncode == 0
+        built = self.crate.built(self.level)
+        if is_well and built.parent.name == self.level:
+            built.parent.mkdir(exist_ok=True)
+            os.replace(self.room / "crates" / self.crate.name / "out" / built.name, built)
         leave_room(self.crate, self.room)
         if is_well:
-            (self.crate.folder / "out" / "built").write_text(self.crate.record(self.inputs))
+            (self.crate.place(self.level) / "built").write_text(self.crate.record(self.inputs, self.level))
         os.close(self.lock)
         return is_well, said
 
@@ -191,7 +206,7 @@ def lock_of(folder):
     return held
 
 
-def make_room(crate, room):
+def make_room(crate, room, level):
     """Makes a room for the proof of a crate, and moves into it what earlier proofs have left."""
     leave_room(crate, room)
     room.mkdir(parents=True)
@@ -210,7 +225,7 @@ def make_room(crate, room):
     for name in WORK:
         if (crate.folder / "out" / name).is_dir():
             os.rename(crate.folder / "out" / name, out / name)
-    (crate.folder / "out" / "built").unlink(missing_ok=True)
+    (crate.place(level) / "built").unlink(missing_ok=True)
 
 
 def leave_room(crate, room):
@@ -254,7 +269,7 @@ class Build:
     def __init__(self, crates, level, jobs, kit):
         self.level, self.jobs, self.kit = level, jobs, kit
         self.inputs = {it: it.inputs(ROOT / "crates", level, kit) for it in crates}
-        self.left = [it for it in crates if not it.is_built(self.inputs[it])]
+        self.left = [it for it in crates if not it.is_built(self.inputs[it], level)]
         self.done = [it for it in crates if it not in self.left]
         self.running, self.memory, self.told, self.waits = [], memory(), "", set()
         # The lines from a crate to the end of the build.
@@ -341,7 +356,7 @@ def main(name, level, jobs):
     kit = subprocess.run(["rt", "version"], check=True, capture_output=True, text=True).stdout
     build = Build([*top.all_below(), top], level, jobs, kit)
     if not build.left:
-        print(f"{top.built().relative_to(ROOT)} is as it was built for {level}: nothing has changed since")
+        print(f"{top.built(level).relative_to(ROOT)} is as it was built for {level}: nothing has changed since")
         return
     print(f"Proving the {what} and the {len(top.all_below())} crates that it stands on, then building it for {level}; processors: {jobs}.")
     if build.done:
@@ -353,7 +368,7 @@ def main(name, level, jobs):
         build.run()
     finally:
         settle(crates)
-    print(f"{top.built().relative_to(ROOT)} is built, {minutes(int(time.monotonic() - start))} in all")
+    print(f"{top.built(level).relative_to(ROOT)} is built, {minutes(int(time.monotonic() - start))} in all")
 
 
 if __name__ == "__main__":

@@ -1,7 +1,7 @@
 #!/usr/bin/env bash
 # Tests the completions of bash, zsh and fish: each shell that is installed is asked for the completions of some lines, and
 # they are compared with what they must be. Bash is asked for what the function of the file answers, the others for what
-# they would offer. The options of farm are those of its help.
+# they would offer. The options of farm are those of its help, and the words and options of rebuild-lists those of its own.
 set -euo pipefail
 cd "$(dirname "$0")/.."
 completions=$PWD/completions
@@ -28,18 +28,63 @@ rebuild farm --workers=1:1 10 11 12 13 14 15 16
 rebuild farm --queue 1:1 16 128 1024
 rebuild farm lists --workers=4 --:--help --queue
 rebuild farm --queue 8 --:--help --workers
+rebuild farm lists served s:
+rebuild farm lists --queue 8 s:served
+rebuild farm lists served --workers=4 --:--help --queue
 rebuild farm -- l:lists
 rebuild farm lists -- -:
+rebuild farm lists -- served s:
+rebuild-lists :check cut damaged join merge put serve split tell
+rebuild-lists c:check cut
+rebuild-lists -:--help --version -V -h
+rebuild-lists check :lists served
+rebuild-lists check -:--help -h
+rebuild-lists check lists s:
+rebuild-lists split :list.csv lists served
+rebuild-lists split list.csv :lists served
+rebuild-lists split list.csv lists s:served
+rebuild-lists split list.csv lists served s:
+rebuild-lists split -:--copy --help --racks --requests -h
+rebuild-lists split --racks 1:1 10 11 12 13 14 15 16
+rebuild-lists split --racks=1:1 10 11 12 13 14 15 16
+rebuild-lists split --requests 1:1024 16
+rebuild-lists split --racks 2 :list.csv lists served
+rebuild-lists serve :lists served
+rebuild-lists serve -:--help --program --workers -h
+rebuild-lists serve lists s:
+rebuild-lists serve --workers :$workers
+rebuild-lists merge lists :lists served
+rebuild-lists merge lists served s:
+rebuild-lists merge -:--help -h
+rebuild-lists tell :lists served
+rebuild-lists tell served served l:lists
+rebuild-lists tell --lists l:lists
+rebuild-lists tell --lists lists s:served
+rebuild-lists tell -:--help --lists -h
+rebuild-lists put lists served :lists served
+rebuild-lists put lists served --o:--overwrite
+rebuild-lists put -:--help --overwrite -h
+rebuild-lists damaged :lists served
+rebuild-lists damaged lists s:
+rebuild-lists damaged -:--feed --help --program -h
+rebuild-lists damaged --feed :0 1 2 3
+rebuild-lists cut :list.csv lists served
+rebuild-lists cut list.csv s:served
+rebuild-lists cut -:--help -h
+rebuild-lists join lists served :lists served
+rebuild-lists join lists served served s:
+rebuild-lists join -:--help -h
 END
 
 # What bash offers: the line is cut as bash cuts it, at spaces and with = as a word of its own.
 cat > "$scratch/ask.bash" << 'END'
-source "$1/rebuild.bash"
-complete -p rebuild > /dev/null || exit 1
+command=${2%% *}
+source "$1/$command.bash"
+complete -p "$command" > /dev/null || exit 1
 read -r -a COMP_WORDS <<< "${2//=/ = }"
 [[ $2 != *' ' ]] || COMP_WORDS+=('')
 COMP_CWORD=$((${#COMP_WORDS[@]} - 1))
-_rebuild
+"_${command//-/_}"
 [ "${#COMPREPLY[@]}" = 0 ] || printf '%s\n' "${COMPREPLY[@]}"
 END
 
@@ -80,7 +125,7 @@ offered() {
   case $shell in
     bash) bash --norc --noprofile -u "$scratch/ask.bash" "$completions" "$line" > "$scratch/offered" ;;
     zsh) timeout 60 zsh -f "$scratch/ask.zsh" "$completions" "$line" "$scratch/offered" "$scratch/within.zsh" > "$scratch/log" ;;
-    fish) HOME=$scratch fish --no-config -c 'source $argv[1]/rebuild.fish; complete -C $argv[2]' "$completions" "$line" \
+    fish) HOME=$scratch fish --no-config -c 'source $argv[1]; complete -C $argv[2]' "$completions/${line%% *}.fish" "$line" \
       | cut -f 1 > "$scratch/offered" ;;
   esac
   sed -e 's,/$,,' -e 's/^--[a-z]*=//' "$scratch/offered" | sort -u
@@ -92,6 +137,13 @@ if ! grep -q -x -e "rebuild farm -:$options" "$scratch/lines"; then
   echo "completions: the options of farm are now $options"
   exit 1
 fi
+for word in $(companion/rebuild-lists --help | sed -n 's/^    \([a-z]\+\) .*/\1/p'); do
+  options=$(companion/rebuild-lists "$word" --help | grep -o -E '^  (-h, )?--[a-z]+' | grep -o -E -e '--?[a-z]+' | sort | paste -s -d ' ')
+  if ! grep -q -x -e "rebuild-lists $word -:$options" "$scratch/lines"; then
+    echo "completions: the options of rebuild-lists $word are now $options"
+    exit 1
+  fi
+done
 cd "$scratch/here"
 for shell in bash zsh fish; do
   if ! command -v "$shell" > "$scratch/log"; then

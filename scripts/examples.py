@@ -3,7 +3,7 @@
 
 An example is an indented block whose first line begins with `$ `. Each such line is a command, and the lines behind it, up
 to the next command, are what it writes. The commands of a document run in turn in one empty folder, with the built program
-as `rebuild`. The words are the documents; without words it takes README.md and docs/FORMATS.md."""
+as `rebuild` and its companion as `rebuild-lists`. The words are the documents; without words it takes README.md and docs/FORMATS.md."""
 
 import os
 import pathlib
@@ -14,6 +14,7 @@ import textwrap
 
 ROOT = pathlib.Path(__file__).resolve().parent.parent
 PROGRAM = ROOT / "crates/rebuild/out/rebuild"
+COMPANION = ROOT / "companion/rebuild-lists"
 
 
 def blocks(text):
@@ -64,6 +65,7 @@ def main():
             (folder / "bin").mkdir()
             (folder / "work").mkdir()
             (folder / "bin/rebuild").symlink_to(PROGRAM)
+            (folder / "bin/rebuild-lists").symlink_to(COMPANION)
             run(document, folder)
 
 

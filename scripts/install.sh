@@ -19,11 +19,19 @@ wanted() {
 755 $1/bin/rebuild crates/rebuild/out/rebuild
 755 $1/bin/rebuild-lists companion/rebuild-lists
 644 $1/share/bash-completion/completions/rebuild completions/rebuild.bash
+644 $1/share/bash-completion/completions/rebuild-lists completions/rebuild-lists.bash
+644 $1/share/fish/vendor_completions.d/rebuild-lists.fish completions/rebuild-lists.fish
 644 $1/share/fish/vendor_completions.d/rebuild.fish completions/rebuild.fish
 644 $1/share/man/man1/rebuild-lists.1 man/rebuild-lists.1
 644 $1/share/man/man1/rebuild.1 man/rebuild.1
 644 $1/share/man/man5/rebuild.5 man/rebuild.5
+END
+  for module in companion/rebuild_lists/*.py; do
+    echo "644 $1/share/rebuild-lists/rebuild_lists/${module##*/} $module"
+  done
+  cat << END
 644 $1/share/zsh/site-functions/_rebuild completions/_rebuild
+644 $1/share/zsh/site-functions/_rebuild-lists completions/_rebuild-lists
 END
 }
 
@@ -41,11 +49,17 @@ try() {
     cmp "$source" "$root$place"
   done < <(wanted "$prefix")
   [ "$("$root$prefix/bin/rebuild" <<< 'a x0 1 x1=02 x2=03 px=00')" = 'rebuilt 01' ] || fail "the installed program doesn't run"
+  # The companion finds its modules, also by a link to it, and writes nothing beside them.
+  ln -s "$root$prefix/bin/rebuild-lists" "$scratch/linked"
+  "$scratch/linked" --version > "$scratch/said" || fail "the installed companion doesn't run"
+  rm "$scratch/linked"
+  (cd "$root" && find . -type f -printf '%m /%P\n') | LC_ALL=C sort -k 2 | diff "$scratch/came" - || fail 'a run leaves files'
   make -s install "$@" > "$scratch/said" 2>&1 || fail 'a second time is refused'
   echo theirs > "$root$prefix/bin/other"
   make -s uninstall "$@"
   [ "$(find "$root" -type f)" = "$root$prefix/bin/other" ] || fail "what stays is $(find "$root" -type f)"
   make -s uninstall "$@"
+  [ ! -e "$root$prefix/share/rebuild-lists" ] || fail 'the folder of the modules stays'
 }
 
 try "$scratch/usual" /usr/local "DESTDIR=$scratch/usual"
@@ -59,4 +73,4 @@ make -s -C "$scratch/unbuilt" install "DESTDIR=$scratch/none" > "$scratch/said" 
 [ "$ended" = 2 ] || fail "without the program it ends with status $ended"
 grep -qx "The program isn't built: run 'make build' first." "$scratch/said" || fail "without the program it says $(cat "$scratch/said")"
 [ ! -e "$scratch/none" ] || fail 'without the program it installs something'
-echo 'install: the 8 files come and go with each of 3 folders to install in'
+echo "install: the $(wanted / | wc -l) files come and go with each of 3 folders to install in"

@@ -55,6 +55,12 @@ ROOMS += [80_000, 100_000, 120_000, 150_000, 200_000, 250_000, 300_000, 400_000]
 COUNTED = 256
 OPEN = 128
 
+# The greatest queue. A lane of it takes two allocations of LARGE bytes or more, its items and their records, and one of the least queue none.
+# The demo's folder is one batch, so the farm runs once.
+MOST_QUEUE = 1_024
+LARGE = 16 * MOST_QUEUE
+LARGE_IN_LANE = 2
+
 # A run that takes longer hangs, and a walk that is longer has no end.
 SECONDS = 20
 MOST = 5_000
@@ -80,6 +86,7 @@ class Ended:
     refused_allocations: int
     threads: int
     refused_threads: int
+    large: int = 0
 
     @property
     def was_refused(self):
@@ -106,22 +113,24 @@ class Library:
         self.file = folder / "refuse.so"
         build(self.file, "refuse.c", "-shared", "-fPIC")
 
-    def run(self, words, given=b"", refusal=Refusal()):
-        """Runs a program to its end under a refusal."""
+    def run(self, words, given=b"", refusal=Refusal(), large=0):
+        """Runs a program to its end under a refusal, and counts its allocations of so many bytes or more."""
         with tempfile.NamedTemporaryFile(dir=self.folder) as counts:
-            counts.truncate(48)
+            counts.truncate(56)
             environment = {
                 "LD_PRELOAD": str(self.file),
                 "REFUSE_COUNTS": counts.name,
                 "REFUSE_ALLOCATION": str(refusal.allocation),
                 "REFUSE_THREAD": str(refusal.thread),
                 "REFUSE_REST": str(int(refusal.rest)),
+                "REFUSE_LARGE": str(large),
             }
             ran = finished(words, given, environment)
-            asked, refused, counted, threads, refused_threads, _ = struct.unpack("=6Q", pathlib.Path(counts.name).read_bytes())
+            numbers = struct.unpack("=7Q", pathlib.Path(counts.name).read_bytes())
+        asked, refused, counted, threads, refused_threads, _, many = numbers
         if counted != 1:
             raise Fault(f"nothing counted what {words[0]} asks for")
-        return Ended(ran.returncode, ran.stdout, ran.stderr, asked, refused, threads, refused_threads)
+        return Ended(ran.returncode, ran.stdout, ran.stderr, asked, refused, threads, refused_threads, many)
 
 
 def build(to, source, *flags):
@@ -438,6 +447,22 @@ def count_threads(library):
     print("refusals threads: as many as --workers says, for survivors, requests and digests", flush=True)
 
 
+def compare_queues(library):
+    """Both lanes of the farm have as much room as `--queue` says: with the greatest queue the large allocations of two lanes are
+    there, and with the least of none."""
+    counts = {}
+    for queue in [1, MOST_QUEUE]:
+        with tempfile.TemporaryDirectory(dir=library.folder) as out:
+            words = [PROGRAM, "farm", DEMO / "farm", out, "--workers", "2", "--queue", str(queue)]
+            ran = library.run([str(it) for it in words], large=LARGE)
+            if (ran.status, ran.out) != (0, Farm.answered):
+                raise Fault(f"a queue of {queue}: {ran.told()}")
+            counts[queue] = ran.large
+    if counts[MOST_QUEUE] != counts[1] + 2 * LARGE_IN_LANE:
+        raise Fault(f"queues: allocations of {LARGE} bytes and more by the queue: {counts}")
+    print(f"refusals queues: {counts[MOST_QUEUE] - counts[1]} more large allocations with a queue of {MOST_QUEUE} than with one of 1", flush=True)
+
+
 def main():
     # A test that fails aborts.
     resource.setrlimit(resource.RLIMIT_CORE, (0, 0))
@@ -446,6 +471,7 @@ def main():
         try:
             test_the_library(library)
             count_threads(library)
+            compare_queues(library)
             for walk in itertools.chain(text_walks(library), farm_walks(library), test_walks(library), [worker_walk(library)]):
                 make(walk, pool)
             limit_rooms(pool, library)

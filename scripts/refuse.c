@@ -2,8 +2,8 @@
  *
  * REFUSE_ALLOCATION=N refuses the Nth allocation and REFUSE_THREAD=N the Nth thread, from 1; REFUSE_REST=1 refuses all
  * that follow it too. Counting begins with `main`, so the system's own start-up is let be. The file REFUSE_COUNTS gets
- * six numbers of 64 bits: for allocations, then for threads, those asked for, those refused, and 1 where `main` was
- * reached. It is mapped, so it is right however the program ends. */
+ * seven numbers of 64 bits: for allocations, then for threads, those asked for, those refused, and 1 where `main` was
+ * reached; then the allocations of REFUSE_LARGE bytes or more. It is mapped, so it is right however the program ends. */
 #define _GNU_SOURCE
 #include <dlfcn.h>
 #include <errno.h>
@@ -20,9 +20,16 @@ struct kind {
     _Atomic uint64_t asked, refused, counts;
 };
 
-static struct kind unmapped[2];
-static struct kind *kinds = unmapped;
 enum { ALLOCATION, THREAD };
+
+struct counts {
+    struct kind kinds[2];
+    _Atomic uint64_t large;
+};
+
+static struct counts unmapped;
+static struct counts *counts = &unmapped;
+static uint64_t large = UINT64_MAX;
 
 /* The first that is refused, 0 for none, and whether all behind it are. */
 static uint64_t first[2];
@@ -35,17 +42,20 @@ extern void *__libc_memalign(size_t alignment, size_t size);
 
 static int is_refused(int kind)
 {
-    if (atomic_load(&kinds[kind].counts) == 0)
+    struct kind *own = &counts->kinds[kind];
+    if (atomic_load(&own->counts) == 0)
         return 0;
-    uint64_t number = atomic_fetch_add(&kinds[kind].asked, 1) + 1;
+    uint64_t number = atomic_fetch_add(&own->asked, 1) + 1;
     if (first[kind] == 0 || number < first[kind] || (number > first[kind] && !refuses_rest))
         return 0;
-    atomic_fetch_add(&kinds[kind].refused, 1);
+    atomic_fetch_add(&own->refused, 1);
     return 1;
 }
 
-static int no_memory(void)
+static int no_memory(size_t size)
 {
+    if (size >= large)
+        atomic_fetch_add(&counts->large, 1);
     if (!is_refused(ALLOCATION))
         return 0;
     errno = ENOMEM;
@@ -54,22 +64,22 @@ static int no_memory(void)
 
 void *malloc(size_t size)
 {
-    return no_memory() ? NULL : __libc_malloc(size);
+    return no_memory(size) ? NULL : __libc_malloc(size);
 }
 
 void *calloc(size_t count, size_t size)
 {
-    return no_memory() ? NULL : __libc_calloc(count, size);
+    return no_memory(count * size) ? NULL : __libc_calloc(count, size);
 }
 
 void *realloc(void *old, size_t size)
 {
-    return no_memory() ? NULL : __libc_realloc(old, size);
+    return no_memory(size) ? NULL : __libc_realloc(old, size);
 }
 
 void *memalign(size_t alignment, size_t size)
 {
-    return no_memory() ? NULL : __libc_memalign(alignment, size);
+    return no_memory(size) ? NULL : __libc_memalign(alignment, size);
 }
 
 void *aligned_alloc(size_t alignment, size_t size)
@@ -101,7 +111,7 @@ static int (*program_main)(int, char **, char **);
 static int counting_main(int count, char **words, char **environment)
 {
     for (int kind = ALLOCATION; kind <= THREAD; kind++)
-        atomic_store(&kinds[kind].counts, 1);
+        atomic_store(&counts->kinds[kind].counts, 1);
     return program_main(count, words, environment);
 }
 
@@ -129,8 +139,10 @@ __attribute__((constructor)) static void prepare(void)
     if (mapped == MAP_FAILED)
         _exit(99);
     close(file);
-    kinds = mapped;
+    counts = mapped;
     first[ALLOCATION] = number_of("REFUSE_ALLOCATION");
     first[THREAD] = number_of("REFUSE_THREAD");
     refuses_rest = number_of("REFUSE_REST") != 0;
+    if (number_of("REFUSE_LARGE") != 0)
+        large = number_of("REFUSE_LARGE");
 }

@@ -26,10 +26,13 @@ fail() {
 [ -x "$program" ] || fail 'crates/rebuild/out/rebuild is not there: make build makes it'
 skipped=()
 
-# The commands run in a folder that has this repository's folders, so that they stand in the document as they are called.
-for name in companion scripts deploy crates; do
+# The commands run in a folder that has this repository's folders, so that they are in the document as they are called, and find
+# the program and its companion where they are installed.
+for name in scripts deploy; do
   ln -s "$repository/$name" "$scratch/$name"
 done
+make -s install "PREFIX=$scratch/installed" > "$scratch/said" 2>&1 || fail "make install: $(cat "$scratch/said")"
+export PATH=$scratch/installed/bin:$PATH
 scripts/shown.py "$document" 'A store to try' "$scratch"
 
 # The single run: the whole list as one rack of one folder, and all lines as one input.
@@ -106,7 +109,7 @@ times() {
   trap 'rm -rf "$timed"; finish' EXIT
   scripts/store.py "$timed" 800 65536 0
   { cat "$timed/list.csv"; for _ in 2 3 4 5; do tail -n +2 "$timed/list.csv"; done; } > "$timed/long.csv"
-  companion/rebuild-lists split "$timed/long.csv" "$timed/store" "$timed/work" --racks 1 --requests $((4000 / folders))
+  rebuild-lists split "$timed/long.csv" "$timed/store" "$timed/work" --racks 1 --requests $((4000 / folders))
   cat <<END
 
 $folders folders of $((4000 / folders)) requests each for 64 KiB, from files in $place, each served by one worker. MB/s: 10^6 rebuilt bytes a
@@ -122,7 +125,7 @@ END
       rm -rf "${timed:?}/work/out"
       mkdir "$timed/work/out"
       start=${EPOCHREALTIME/./}
-      seq 0 $((folders - 1)) | parallel -k -j "$jobs" scripts/serve-folder.sh "$timed/work" > "$timed/said"
+      seq 0 $((folders - 1)) | parallel -k -j "$jobs" rebuild-lists serve "$timed/work" > "$timed/said"
       end=${EPOCHREALTIME/./}
       [ "$(grep -c ': served 1 racks, ' "$timed/said")" = "$folders" ] || fail "times: pass $pass of $jobs jobs served too few"
       if [ -z "$least" ] || [ $((end - start)) -lt "$least" ]; then

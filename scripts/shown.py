@@ -1,5 +1,5 @@
 #!/usr/bin/env python3
-"""Runs the commands that a section of a document shows, and compares what they tell with the output that it shows.
+"""Runs the commands that a section of a document shows, and compares what they write with the output that it shows.
 
     shown.py DOCUMENT SECTION FOLDER
 
@@ -40,8 +40,8 @@ def main():
         sys.exit(f"{document}: {section}: only {len(told)} of {len(commands)} commands were run:\n{ended.stdout}")
     for (command, wanted), had in zip(commands, told):
         if had != wanted:
-            sys.exit(f"{document}: {section}: $ {command}told\n{had}and not\n{wanted}")
-    print(f"{section}: {len(commands)} commands told what {document.rsplit('/', 1)[-1]} shows")
+            sys.exit(f"{document}: {section}: $ {command}wrote\n{had}and not\n{wanted}")
+    print(f"{section}: {len(commands)} commands wrote what {document.rsplit('/', 1)[-1]} shows")
 
 
 main()

@@ -6,7 +6,7 @@
 #   ssh-hosts.sh start FOLDER    makes FOLDER and starts sshd
 #   ssh-hosts.sh stop FOLDER     ends it
 #
-# `ssh -F FOLDER/config host-a` and `host-b` then reach them.
+# `ssh -F FOLDER/config host-a` and `host-b` then reach them. There the PATH of the environment is that of `start`.
 set -euo pipefail
 command=${1:?'start or stop'}
 folder=${2:?'the scratch folder'}
@@ -51,6 +51,7 @@ PermitRootLogin prohibit-password
 AllowUsers $(id -un)
 MaxStartups 100
 UsePAM no
+SetEnv PATH=$PATH
 END
 cat > "$folder/config" <<END
 Host host-a host-b

@@ -1,7 +1,7 @@
 #!/usr/bin/env bash
-# Compares the versions that are told: what the built program says is that of its source, of both manual pages, of
-# the C library's header and of the newest heading of the changelog. Its source (crates/command_line/src/definition.rt) is
-# where a version is changed.
+# Compares the versions that are said. What the built program says is the version of its source, of the manual pages and of the newest
+# heading of the changelog; that of the C library's header, which has a number of its own, is what lrc_version answers and
+# what the changelog and the wrapper in Rust say. They are changed in crates/command_line/src/definition.rt and in include/lrc.h.
 set -euo pipefail
 cd "$(dirname "$0")/.."
 scratch=$(mktemp -d)
@@ -29,8 +29,20 @@ compare 'rebuild-lists --version' "$(companion/rebuild-lists --version | sed 's/
 for page in man/rebuild.1 man/rebuild-lists.1 man/rebuild.5; do
   compare "$page" "$(sed -n 's/^\.Os rebuild //p' "$page")"
 done
-compare include/lrc.h "$(sed -n 's/^#define LRC_VERSION "\(.*\)"$/\1/p' include/lrc.h)"
-number=$(awk -F . '{ print 10000 * $1 + 100 * $2 + $3 }' <<< "$version")
-compare 'the number in include/lrc.h' "$([ "$(sed -n 's/^#define LRC_VERSION_NUMBER //p' include/lrc.h)" = "$number" ] && echo "$version")"
 compare CHANGELOG.md "$(sed -n 's/^## //p' CHANGELOG.md | head -n 1)"
-echo "version: the program, its manual pages, the C library's header and the changelog tell $version"
+echo "version: the program, its manual pages and the changelog say $version"
+
+library=$(sed -n 's/^#define LRC_VERSION "\(.*\)"$/\1/p' include/lrc.h)
+number=$(awk -F . '{ print 10000 * $1 + 100 * $2 + $3 }' <<< "$library")
+# compare_library PLACE SAID WANTED: whether this place says what the header's version asks for.
+compare_library() {
+  if [ "$2" != "$3" ]; then
+    echo "version: $1 says \"$2\", and not \"$3\", with include/lrc.h at \"$library\""
+    exit 1
+  fi
+}
+compare_library LRC_VERSION_NUMBER "$(sed -n 's/^#define LRC_VERSION_NUMBER //p' include/lrc.h)" "$number"
+compare_library lrc_version "$(sed -n 's/^    \([0-9]*\)$/\1/p' crates/lrc_c/src/version.rt)" "$number"
+compare_library library/examples/rust/Cargo.toml "$(sed -n 's/^version = "\(.*\)"$/\1/p' library/examples/rust/Cargo.toml)" "$library"
+compare_library CHANGELOG.md "$(sed -n 's/.*`liblrc` \([0-9.]*[0-9]\).*/\1/p' CHANGELOG.md | head -n 1)" "$library"
+echo "version: the C library, its wrapper in Rust and the changelog say $library"

@@ -3,14 +3,18 @@
  *
  *     costs CODE PLACE..     as costs 6-2-2 x0 x1
  *
- *     cc -o costs costs.c $(pkg-config --cflags --libs lrc) */
+ *     cc -o costs costs.c $(pkg-config --cflags --libs lrc) -Wl,-rpath,$(pkg-config --variable=libdir lrc) */
 #include <lrc.h>
 #include <stdio.h>
 #include <string.h>
 
 int main(int count, char **words)
 {
-    enum lrc_code code = count > 1 && strcmp(words[1], "12-2-2") == 0 ? LRC_12_2_2 : LRC_6_2_2;
+    if (count < 3 || (strcmp(words[1], "6-2-2") != 0 && strcmp(words[1], "12-2-2") != 0)) {
+        fprintf(stderr, "costs 6-2-2 PLACE.. | costs 12-2-2 PLACE..\n");
+        return 2;
+    }
+    enum lrc_code code = strcmp(words[1], "12-2-2") == 0 ? LRC_12_2_2 : LRC_6_2_2;
     uint32_t survivors = 0;
     for (int p = 0; p < LRC_PLACES; p++)
         if (lrc_has_place(code, (enum lrc_place)p))

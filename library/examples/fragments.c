@@ -4,7 +4,7 @@
  *     fragments rebuild FOLDER         writes the fragments that FOLDER lacks, once all checks of the others hold
  *     fragments decode FOLDER FILE     writes the file from the data fragments
  *
- *     cc -o fragments fragments.c $(pkg-config --cflags --libs lrc) */
+ *     cc -o fragments fragments.c $(pkg-config --cflags --libs lrc) -Wl,-rpath,$(pkg-config --variable=libdir lrc) */
 #include <lrc.h>
 #include <stdio.h>
 #include <stdlib.h>
@@ -104,6 +104,8 @@ static void rebuild(const char *folder)
         else
             length = size;
     }
+    if (length == 0)
+        stop("there is no fragment with a byte in", folder);
     for (size_t i = 0; i < count; i++)
         outs[i] = room(length);
     uint32_t worst = count == 0 ? lrc_verify(LRC_6_2_2, left, length)

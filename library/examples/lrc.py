@@ -1,5 +1,5 @@
 #!/usr/bin/env python3
-"""The C library through ctypes: encodes a stripe, loses three fragments, says what each costs to read, and rebuilds them.
+"""The C library through ctypes: encodes a stripe, loses three fragments, says what to read for them, rebuilds them, and changes one.
 
     lrc.py [LIBRARY]
 
@@ -12,6 +12,7 @@ from functools import reduce
 from operator import xor
 
 PLACES = ["x0", "x1", "x2", "y0", "y1", "y2", "px", "py", "p0", "p1", "x3", "x4", "x5", "y3", "y4", "y5"]
+PARITIES = ["px", "py", "p0", "p1"]
 DATA = {0: ["x0", "x1", "x2", "y0", "y1", "y2"], 1: [f"{g}{i}" for g in "xy" for i in range(6)]}
 OK, CONTRADICTION, SEVERAL, BAD_ARGUMENT = range(4)
 
@@ -34,6 +35,8 @@ class Library:
         for function, words in {
             "lrc_version": [],
             "lrc_encode_into": [ctypes.c_uint8, table, ctypes.c_size_t] + room * 4,
+            "lrc_update_into": [ctypes.c_uint8, ctypes.c_uint8] + room * 5,
+            "lrc_reads_into": [ctypes.c_uint8, ctypes.c_uint32, ctypes.c_uint32, ctypes.POINTER(ctypes.c_uint32)],
             "lrc_plan_into": [ctypes.c_uint8, ctypes.c_uint32, ctypes.c_uint8, ctypes.POINTER(Plan)],
             "lrc_rebuild_into": [ctypes.c_uint8, ctypes.c_uint32, table, ctypes.c_uint8] + room,
             "lrc_verify_at": [ctypes.c_uint8, ctypes.c_uint32, table, ctypes.c_size_t],
@@ -66,17 +69,37 @@ class Library:
         length = len(data["x0"])
         kept = [data[name] for name in DATA[code]]
         sources = (Bytes * len(kept))(*[Bytes(ctypes.cast(ctypes.c_char_p(one), ctypes.c_void_p).value, len(one)) for one in kept])
-        rooms = {name: ctypes.create_string_buffer(length) for name in ("px", "py", "p0", "p1")}
+        rooms = {name: ctypes.create_string_buffer(length) for name in PARITIES}
         words = [word for room in rooms.values() for word in (ctypes.addressof(room), length)]
         if self.lrc.lrc_encode_into(code, sources, len(kept), *words) != OK:
             raise ValueError("data fragments of one length, as many as the code has")
         return {name: room.raw for name, room in rooms.items()}
 
+    def update(self, code, parities, place, difference):
+        """The parities, which are bytes by name, after the data fragment at the place changed by the difference."""
+        rooms = {name: ctypes.create_string_buffer(parities.get(name, b"\0"), max(len(parities.get(name, b"")), 1)) for name in PARITIES}
+        words = [word for name, room in rooms.items() for word in (ctypes.addressof(room), len(parities.get(name, b"")))]
+        difference_at = ctypes.cast(ctypes.c_char_p(difference), ctypes.c_void_p)
+        if self.lrc.lrc_update_into(self.known(code), PLACES.index(place), difference_at, len(difference), *words) != OK:
+            raise ValueError("a data place of the code, and parities as long as the difference")
+        return {name: rooms[name].raw for name in parities}
+
+    def reads(self, code, wanted, available):
+        """The names of the fewest available places that determine all wanted ones; none where they don't."""
+        found = ctypes.c_uint32()
+        status = self.lrc.lrc_reads_into(self.known(code), self.bits(wanted), self.bits(available), found)
+        if status == BAD_ARGUMENT:
+            raise ValueError("places of the code")
+        return [name for p, name in enumerate(PLACES) if found.value >> p & 1] if status == OK else None
+
+    @staticmethod
+    def bits(names):
+        return sum(1 << PLACES.index(name) for name in names)
+
     def plan(self, code, survivors, target):
         """The coefficients of the survivors that give the target, by name; none where they don't determine it."""
         plan = Plan()
-        bits = sum(1 << PLACES.index(name) for name in survivors)
-        status = self.lrc.lrc_plan_into(self.known(code), bits, PLACES.index(target), plan)
+        status = self.lrc.lrc_plan_into(self.known(code), self.bits(survivors), PLACES.index(target), plan)
         if status == BAD_ARGUMENT:
             raise ValueError("a lost place of the code")
         return {PLACES[p]: c for p, c in enumerate(plan.value) if c} if status == OK else None
@@ -107,6 +130,16 @@ def main():
             status, rebuilt = library.rebuild(code, left, name)
             assert status == OK and rebuilt == stripe[name]
             print(f"{name}: rebuilt from {len(read)} of {len(left)} survivors")
+        fewest = library.reads(code, lost, left)
+        for name in lost:
+            assert library.rebuild(code, {one: left[one] for one in fewest}, name) == (OK, stripe[name])
+        assert set(library.reads(code, ["x0"], set(stripe) - {"x0"})) == {name for name in data if name[0] == "x"} - {"x0"} | {"px"}
+        assert library.reads(code, lost, ["x1", "p0"]) is None
+        difference = os.urandom(70_000)
+        after = data | {"y1": bytes(map(xor, data["y1"], difference))}
+        parities = {name: stripe[name] for name in PARITIES}
+        assert library.update(code, parities, "y1", difference) == library.encode(code, after)
+        assert library.update(code, {"p1": stripe["p1"]}, "y1", difference) == {"p1": library.encode(code, after)["p1"]}
         changed = left | {"y1": bytes([left["y1"][0] ^ 1]) + left["y1"][1:]}
         assert library.rebuild(code, changed, "x0")[0] == CONTRADICTION
         few = {name: left[name] for name in ("x1", "y0", "p0")}

@@ -33,7 +33,7 @@ counts_same (feeds ∷ racks) =
     ap (λ (t : List ℕ). t ∷ listed_counts (all_records racks)) (map-map (λ (list : List Record). length (listed_before_close list)) (λ (list : Vec Record Global). list.items) feeds.items)
     ∙ ap (λ (t : List (List ℕ)). map (λ (list : Vec Record Global). length (listed_before_close list.items)) feeds.items ∷ t) (counts_same racks)
 
-lengths_same : (feeds : List (Vec (Vec Place Global) Global)) → map (λ requests. length requests) (map (λ (us : Vec (Vec Place Global) Global). map (λ (u : Vec Place Global). u.items) us.items) feeds) ≡ map (λ us. length us.items) feeds
+pub lengths_same : (feeds : List (Vec (Vec Place Global) Global)) → map (λ requests. length requests) (map (λ (us : Vec (Vec Place Global) Global). map (λ (u : Vec Place Global). u.items) us.items) feeds) ≡ map (λ us. length us.items) feeds
 lengths_same [] = refl
 lengths_same (us ∷ feeds) =
     ap (λ n. n ∷ map (λ (requests : List (List Place)). length requests) (map (λ (us : Vec (Vec Place Global) Global). map (λ (u : Vec Place Global). u.items) us.items) feeds)) (length-map us.items (λ (u : Vec Place Global). u.items))

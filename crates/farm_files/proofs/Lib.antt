@@ -11,4 +11,6 @@ pub mod ServeEnds
 pub mod OneFeedServed
 pub mod AnsweredRacks
 pub mod OneList
-pub mod ListBatches
+pub mod Pieces
+pub mod RackBatches
+pub mod PieceBytes

@@ -6,3 +6,4 @@ pub mod Faults
 pub mod Causes
 pub mod AnsweredRacks
 pub mod Ahead
+pub mod Pieces

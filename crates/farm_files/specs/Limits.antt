@@ -3,13 +3,13 @@ use Rattle.std.specs.Prelude.{ℕ}
 
 -- the survivors of a feed, of a rack, and of all racks
 abbrev pub feed_survivors : ℕ
-feed_survivors = 65536
+feed_survivors = 61440
 
 abbrev pub rack_survivors : ℕ
-rack_survivors = 262144
+rack_survivors = 245760
 
 abbrev pub all_survivors : ℕ
-all_survivors = 4194304
+all_survivors = 3932160
 
 -- the answers to a rack
 abbrev pub rack_answers : ℕ

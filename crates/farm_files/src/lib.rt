@@ -18,6 +18,7 @@
 #![tactic(auto)]
 
 mod batches;
+mod cutting;
 mod faults;
 mod reading;
 mod serving;

@@ -2,7 +2,9 @@
 ghost use Rattle.std.specs.Prelude.{◌≡◌, ◌+◌, ◌*◌, ◌++◌, ◌∷◌, [], OnOk, ◌<◌, ◌≤◌, ◌^◌, ℕ, List, Bool, Option, Some, None, Ok, Err, IfOk, IfErr, IfSome, MatchResult, if◌then◌else◌, is_some, length, map, option_map};
 ghost use Rattle.std.specs.List.{All, AllZip, filter_map, flat_map};
 ghost use Rattle.farm_core.specs.Limits.{feed_limit, order_limit, rack_limit};
-ghost use Rattle.farm_files.specs.Limits.{feed_survivors, rack_survivors};
+ghost use Rattle.farm_files.specs.Limits.{rack_survivors};
+ghost use Rattle.farm_files.specs.Pieces.{AreOrdersOf, record_count};
+ghost use Rattle.lrc_code.specs.Requests.{Asked};
 ghost use Rattle.farm_lists.specs.Listed.{survivor_limit};
 ghost use Rattle.farm_core.specs.Orders.{before_close};
 ghost use Rattle.farm_core.specs.declared.orders.Order.TheVariants.{Rebuild, Close};
@@ -18,6 +20,7 @@ ghost use Rattle.farm_files.specs.Serving.{AreAllReads, AreLists, AreRackReads, 
 ghost use Rattle.farm_lists.specs.Parts.{ArePart};
 ghost use Rattle.farm_files.specs.Faults.{CountsFault, Explains, IsListFault, IsRackFault, IsReadFault, serve_fault};
 
+use crate::cutting::lists_through_close;
 use crate::faults::ServeFault;
 use farm_core::limits::{MOST_FEEDS, MOST_RACKS};
 use farm_core::{Feeds, Order, RackList};
@@ -278,9 +281,9 @@ fn push_fragment_files(
     Ok(())
 }
 
-/// The orders of requests with the survivors that were read, and of a close behind them where one is asked for; and for each request the
-/// places of the others.
-pub(crate) fn read_requests<R: Threads + Sync, I: Shelf>(
+// The orders of requests with the survivors that were read, and of a close behind them where one is asked for; and for each request the
+// places of the others.
+fn read_requests<R: Threads + Sync, I: Shelf>(
     rt: &R,
     alloc: Global,
     input: &mut I,
@@ -294,7 +297,8 @@ pub(crate) fn read_requests<R: Threads + Sync, I: Shelf>(
     ensures read { IfOk result (λ v. (reads : List Reads) × AllZip AreReads (map (λ r. r.now) requests.now) reads × (I.failed input.new ≡ I.failed input.old + feed_failures reads)
         × ((there : Files) → I.files input.old ≡ Some there → (v.0 ≡ map Rebuild (asked_feed there (map (λ r. r.now) requests.now) reads) ++ (if closes then Close ∷ [] else []))
         × (map (λ u. u.items) v.1.items ≡ unread_feed there (map (λ r. r.now) requests.now) reads))) }
-    ensures sizes { IfOk result (λ v. (length (before_close v.0) ≡ length requests.now) × (length v.1.items ≡ length requests.now)) }
+    ensures orders { IfOk result (λ v. (wanted : List Asked) × (length wanted ≡ length requests.now) × (v.0 ≡ map Rebuild wanted ++ (if closes then Close ∷ [] else []))) }
+    ensures places { IfOk result (λ v. length v.1.items ≡ length requests.now) }
     ensures more { I.failed input.old ≤ I.failed input.new }
     ensures few { I.failed input.new ≤ I.failed input.old + survivor_limit * length requests.now }
 {
@@ -332,14 +336,15 @@ fn read_feed<R: Threads + Sync, I: Shelf>(
     list: &[Record],
     threads: usize,
 ) -> Result<(RackList, Vec<Vec<Place>>), AllocError>
-    requires room { I.failed input.old + feed_survivors < 2 ^ 63 }
+    requires room { I.failed input.old + survivor_limit * length list.now < 2 ^ 63 }
     requires orders { length list.now ≤ order_limit }
     ensures same { I.files input.new ≡ I.files input.old }
     ensures read { IfOk result (λ v. (reads : List Reads) × AllZip AreReads (listed_before_close list.now) reads × (I.failed input.new ≡ I.failed input.old + feed_failures reads)
         × ((there : Files) → I.files input.old ≡ Some there → (v.0 ≡ orders_feed there list.now reads) × (map (λ u. u.items) v.1.items ≡ unread_feed there (listed_before_close list.now) reads))) }
-    ensures sizes { IfOk result (λ v. (length (before_close v.0) ≡ length (listed_before_close list.now)) × (length v.1.items ≡ length (listed_before_close list.now))) }
+    ensures orders { IfOk result (λ v. AreOrdersOf list.now v.0) }
+    ensures places { IfOk result (λ v. length v.1.items ≡ length (listed_before_close list.now)) }
     ensures more { I.failed input.old ≤ I.failed input.new }
-    ensures few { I.failed input.new ≤ I.failed input.old + feed_survivors }
+    ensures few { I.failed input.new ≤ I.failed input.old + survivor_limit * length list.now }
 {
     let requests = requests_before_close(alloc, list)?;
     // A record that isn't among the requests before the close is the close or behind it.
@@ -349,7 +354,36 @@ fn read_feed<R: Threads + Sync, I: Shelf>(
     Ok(read)
 }
 
-// The same of each feed of a rack.
+/// The same of each feed of a rack's piece.
+pub(crate) fn read_piece<R: Threads + Sync, I: Shelf>(
+    rt: &R,
+    alloc: Global,
+    input: &mut I,
+    lists: &[&[Record]],
+    threads: usize,
+) -> Result<(Vec<RackList>, Vec<Vec<Vec<Place>>>), AllocError>
+    requires room { I.failed input.old + survivor_limit * record_count (map (λ l. l.now) lists.now) < 2 ^ 63 }
+    requires orders { All (λ l. length l.now ≤ order_limit) lists.now }
+    ensures same { I.files input.new ≡ I.files input.old }
+    ensures read { IfOk result (λ v. (reads : List (List Reads)) × AreRackReads (map (λ l. l.now) lists.now) reads × (I.failed input.new ≡ I.failed input.old + rack_failures reads)
+        × ((there : Files) → I.files input.old ≡ Some there → (v.0.items ≡ orders_rack there (map (λ l. l.now) lists.now) reads)
+        × (map (λ us. map (λ u. u.items) us.items) v.1.items ≡ unread_rack there (map (λ l. l.now) lists.now) reads))) }
+    ensures orders { IfOk result (λ v. AllZip AreOrdersOf (map (λ l. l.now) lists.now) v.0.items) }
+    ensures places { IfOk result (λ v. map (λ us. length us.items) v.1.items ≡ map (λ l. length (listed_before_close l.now)) lists.now) }
+    ensures more { I.failed input.old ≤ I.failed input.new }
+    ensures few { I.failed input.new ≤ I.failed input.old + survivor_limit * record_count (map (λ l. l.now) lists.now) }
+{
+    let mut feeds = Vec::new(alloc);
+    let mut unread = Vec::new(alloc);
+    for feed in 0..lists.len() {
+        let (list, places) = read_feed(rt, alloc, input, lists[feed], threads)?;
+        feeds.push(list)?;
+        unread.push(places)?;
+    }
+    Ok((feeds, unread))
+}
+
+// The same of a whole rack.
 fn read_rack<R: Threads + Sync, I: Shelf>(
     rt: &R,
     alloc: Global,
@@ -369,14 +403,9 @@ fn read_rack<R: Threads + Sync, I: Shelf>(
     ensures more { I.failed input.old ≤ I.failed input.new }
     ensures few { I.failed input.new ≤ I.failed input.old + rack_survivors }
 {
-    let mut feeds = Vec::new(alloc);
-    let mut unread = Vec::new(alloc);
-    for feed in 0..lists.len() {
-        let (list, places) = read_feed(rt, alloc, input, lists[feed].as_slice(), threads)?;
-        feeds.push(list)?;
-        unread.push(places)?;
-    }
-    Ok((feeds, unread))
+    let whole = lists_through_close(alloc, lists)?;
+    let read = read_piece(rt, alloc, input, whole.as_slice(), threads)?;
+    Ok(read)
 }
 
 /// The feeds of all racks with the survivors that were read, and for each request the places of the others.

@@ -3,7 +3,7 @@ ghost use Rattle.std.specs.Prelude.{◌≡◌, ℕ, List, ◌<◌, ◌+◌, ◌�
 ghost use Rattle.std.specs.List.{All};
 ghost use Rattle.lrc_code.specs.declared.outcomes.Outcome.{Outcome};
 ghost use Rattle.farm_core.specs.Limits.{rack_limit};
-ghost use Rattle.farm_files.specs.Limits.{rack_answers};
+ghost use Rattle.farm_files.specs.Limits.{all_survivors, rack_answers};
 ghost use Rattle.farm_lists.specs.declared.lists.listing.Record.{Record};
 ghost use Rattle.farm_shelves.specs.Files.{put_all};
 ghost use Rattle.farm_files.specs.Faults.{CountsServing, Explains, LeavesOutput};
@@ -59,7 +59,7 @@ pub fn serve<R: Threads + Wait + Sync, I: Shelf, O: Shelf, P: Pause>(
         × IfSome (I.files input.old) (λ there. Serves there lists reads answers
         × (O.files output.new ≡ option_map (λ old. put_all old (written_files there lists reads answers)) (O.files output.old)))) }
     ensures calm { IfOk result (λ served. O.failed output.new ≡ O.failed output.old) }
-    ensures reads { (I.failed input.old ≤ I.failed input.new) × (I.failed input.new ≤ I.failed input.old + 4194304) }
+    ensures reads { (I.failed input.old ≤ I.failed input.new) × (I.failed input.new ≤ I.failed input.old + all_survivors) }
     ensures why { IfErr result (λ f. IfSome (I.files input.old) (λ there. Explains f there)) }
     ensures output { IfErr result (λ f. LeavesOutput f (I.files input.old) (O.files output.old) (O.files output.new) (O.failed output.old) (O.failed output.new)) }
     ensures failures { IfErr result (λ f. CountsServing f (I.failed input.old) (I.failed input.new) (O.failed output.old) (O.failed output.new)) }

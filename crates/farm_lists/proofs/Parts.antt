@@ -145,7 +145,10 @@ below_sixteen (p ∷ ps) n is = by (eqb n (index_of p)) refl is (λ rest. below_
     by true e h later = let same = eqb-true n (index_of p) e in omega (arith, same, index_of-lt p)
     by false e h later = later h
 
-pub at_most_sixteen : (r : ListedRequest) → listed_refusal r ≡ None → length r.survivors ≤ 16
-at_most_sixteen r e =
-    let bound = length-le_from_distinct_below (map index_of r.survivors) 16 (distinct r.survivors (passes r e).once) (below_sixteen r.survivors) in
-    omega (arith, bound, length-map r.survivors index_of)
+-- with the target, which is none of them, they are sixteen places at most
+pub at_most_fifteen : (r : ListedRequest) → listed_refusal r ≡ None → length r.survivors ≤ 15
+at_most_fifteen r e =
+    let all : List Place = r.target ∷ r.survivors in
+    let once : stands_twice all ≡ false = ap₂ (λ a b. a || b) (passes r e).lost (passes r e).once in
+    let bound = length-le_from_distinct_below (map index_of all) 16 (distinct all once) (below_sixteen all) in
+    omega (arith, bound, length-map all index_of)

@@ -4,3 +4,5 @@ pub mod Stripes
 pub mod Exports
 pub mod EncodeLemmas
 pub mod Many
+pub mod ReadLaws
+pub mod UpdateLaws

@@ -36,7 +36,7 @@ solves_same : (rows : List (List ℕ)) (ps : List Place) (b d : Place → ℕ) �
 solves_same rows ps b d h s = λ k row lt. ap (combination (get_or rows k row)) (sym (map_same ps b d h)) ∙ s k row lt
 
 -- what holds along a list holds at its members
-in_list : (P : Place → Type 0) (ps : List Place) → All P ps → (p : Place) → list_any (same_place p) ps ≡ true → P p
+pub in_list : (P : Place → Type 0) (ps : List Place) → All P ps → (p : Place) → list_any (same_place p) ps ≡ true → P p
 in_list P [] h p a = absurd (cc)
 in_list P (q ∷ ps) h p a = elim (cases_Bool (same_place p q)) [
   | inl t ↦ subst P (sym (same_place-eq p q t)) (h 0 q (omega arith))
@@ -44,7 +44,7 @@ in_list P (q ∷ ps) h p a = elim (cases_Bool (same_place p q)) [
 ]
 
 -- equal bytes along the places
-map_along : (ps : List Place) (b d : Place → ℕ) → All (λ p. b p ≡ d p) ps → map b ps ≡ map d ps
+pub map_along : (ps : List Place) (b d : Place → ℕ) → All (λ p. b p ≡ d p) ps → map b ps ≡ map d ps
 map_along [] b d h = refl
 map_along (p ∷ ps) b d h = ap₂ (λ x xs. x ∷ xs) (h 0 p (omega arith)) (map_along ps b d (λ k e lt. h (suc k) e (omega arith)))
 

@@ -6,3 +6,5 @@ pub mod Stripes
 pub mod Rebuilt
 pub mod RebuiltMany
 pub mod Encoded
+pub mod Reads
+pub mod Updated

@@ -22,16 +22,16 @@ pub(crate) fn code_numbered(number: u8) -> Option<Code>
     }
 }
 
-// The place of an index.
-fn place_at(i: usize) -> Place
+/// The place of an index.
+pub(crate) fn place_at(i: usize) -> Place
     requires { i < 16 }
     ensures { index_of result ≡ i }
 {
     Place::from_index(i).unwrap()
 }
 
-// Whether a bit is set.
-fn has_bit(mask: u32, i: usize) -> bool
+/// Whether a bit is set.
+pub(crate) fn has_bit(mask: u32, i: usize) -> bool
     requires { i < 16 }
     ensures { result ≡ (bit_at mask i == 1) }
 {

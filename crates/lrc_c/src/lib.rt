@@ -14,10 +14,12 @@ mod encoding;
 mod kernels;
 mod lent;
 mod planning;
+mod reading;
 mod rebuilding;
 mod rebuilding_many;
 #[cfg(test)]
 mod tests;
+mod updating;
 mod version;
 mod windows;
 

@@ -4,8 +4,10 @@ use crate::encoding::lrc_encode_into;
 use crate::kernels::{lrc_add, lrc_combine, lrc_scale_add};
 use crate::lent::Lent;
 use crate::planning::{Plan, lrc_apply, lrc_plan_into};
+use crate::reading::{lrc_cheapest_reads_into, lrc_reads_into};
 use crate::rebuilding::lrc_rebuild_into;
 use crate::rebuilding_many::lrc_rebuild_many_into;
+use crate::updating::lrc_update_into;
 use crate::version::lrc_version;
 
 mod stripes;
@@ -114,5 +116,41 @@ fn sums(rt: HostRuntime) {
         0
     );
     assert_eq!(&rt; out[0], 0x1d);
-    assert_eq!(&rt; lrc_version(), 100);
+    assert_eq!(&rt; lrc_version(), 200);
+}
+
+#[test]
+fn what_to_read(rt: HostRuntime) {
+    let mut reads = 7u32;
+    assert_eq!(&rt; lrc_reads_into(0, 0x001, 0x3fe, &mut reads), 0);
+    assert_eq!(&rt; reads, 0x046);
+    let mut costs = [1u32; 16];
+    costs[6] = 9;
+    assert_eq!(&rt;
+        lrc_cheapest_reads_into(0, 0x001, 0x3fe, &costs, &mut reads),
+        0
+    );
+    assert_eq!(&rt; reads & 0x040, 0);
+    reads = 7;
+    assert_eq!(&rt; lrc_reads_into(0, 0x001, 0x006, &mut reads), 2);
+    assert_eq!(&rt; lrc_reads_into(0, 0x400, 0x3ff, &mut reads), 3);
+    assert_eq!(&rt; reads, 7);
+}
+
+#[test]
+fn a_fragment_changed(rt: HostRuntime) {
+    let mut px = [9u8];
+    let mut py = [9u8];
+    let mut p0 = [9u8];
+    let mut none = [0u8; 0];
+    assert_eq!(&rt;
+        lrc_update_into(0, 0, &[1], &mut px, &mut py, &mut p0, &mut none),
+        0
+    );
+    assert_eq!(&rt; [px[0], py[0], p0[0]], [8, 9, 13]);
+    assert_eq!(&rt;
+        lrc_update_into(0, 6, &[1], &mut px, &mut py, &mut p0, &mut none),
+        3
+    );
+    assert_eq!(&rt; [px[0], py[0], p0[0]], [8, 9, 13]);
 }

@@ -1,6 +1,6 @@
-// Command lrc calls the C library through cgo: it encodes a stripe, loses three fragments and rebuilds them.
+// Command lrc calls the C library through cgo: it encodes a stripe, loses three fragments and rebuilds them, and changes one.
 //
-//	CGO_CFLAGS=$(pkg-config --cflags lrc) CGO_LDFLAGS=$(pkg-config --libs lrc) go run .
+//	CGO_CFLAGS=$(pkg-config --cflags lrc) CGO_LDFLAGS="$(pkg-config --libs lrc) -Wl,-rpath,$(pkg-config --variable=libdir lrc)" go run .
 package main
 
 /*
@@ -93,6 +93,37 @@ func (s *Stripe) Rebuild(place int) error {
 	return err
 }
 
+// Reads are the fewest places to read for the lost ones.
+func (s *Stripe) Reads() ([]int, error) {
+	var wanted, available, reads C.uint32_t
+	for p := 0; p <= C.LRC_P1; p++ {
+		if s.lost[p] {
+			wanted |= 1 << p
+		} else {
+			available |= 1 << p
+		}
+	}
+	if err := toError(C.lrc_reads_into(C.LRC_6_2_2, wanted, available, &reads)); err != nil {
+		return nil, err
+	}
+	var places []int
+	for p := 0; p <= C.LRC_P1; p++ {
+		if reads>>p&1 != 0 {
+			places = append(places, p)
+		}
+	}
+	return places, nil
+}
+
+// Update brings the parities up to date after the data fragment at a place changed by the difference.
+func (s *Stripe) Update(place int, difference []byte) error {
+	if len(difference) != s.length {
+		return ErrBadArgument
+	}
+	at := (*C.uint8_t)(unsafe.Pointer(&difference[0]))
+	return toError(C.lrc_update(C.LRC_6_2_2, C.enum_lrc_place(place), at, &s.fragments[C.LRC_PX], C.size_t(s.length)))
+}
+
 func main() {
 	if C.lrc_version() != C.LRC_VERSION_NUMBER {
 		log.Fatal("another version of the library")
@@ -114,6 +145,9 @@ func main() {
 		copy(stripe.Bytes(p), make([]byte, stripe.length))
 		stripe.Lose(p)
 	}
+	if reads, err := stripe.Reads(); err != nil || len(reads) != 6 {
+		log.Fatalf("reads %v for three lost ones: %v", reads, err)
+	}
 	for _, p := range lost {
 		if err := stripe.Rebuild(p); err != nil {
 			log.Fatal(err)
@@ -121,6 +155,16 @@ func main() {
 		if !bytes.Equal(stripe.Bytes(p), kept[p]) {
 			log.Fatalf("place %d has other bytes", p)
 		}
+	}
+	difference := make([]byte, stripe.length)
+	difference[1] = 5
+	stripe.Bytes(C.LRC_Y0)[1] ^= 5
+	if err := stripe.Update(C.LRC_Y0, difference); err != nil {
+		log.Fatal(err)
+	}
+	stripe.Lose(C.LRC_Y0)
+	if err := stripe.Rebuild(C.LRC_Y0); err != nil {
+		log.Fatal(err)
 	}
 	stripe.Bytes(C.LRC_X1)[0] ^= 1
 	stripe.Lose(C.LRC_X0)

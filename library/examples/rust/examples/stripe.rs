@@ -1,7 +1,7 @@
-//! Encodes a stripe of the (12,2,2) code, loses three fragments and rebuilds them.
+//! Encodes a stripe of the (12,2,2) code, loses three fragments, asks what to read for them, rebuilds them, and changes another.
 //!
 //!     LRC_LIB_DIR=$(pkg-config --variable=libdir lrc) cargo run --example stripe
-use lrc::{encode, Code, Error, Place, Survivors};
+use lrc::{cheapest_reads, encode, reads, update, Code, Error, Place, Survivors};
 
 const LENGTH: usize = 100_000;
 
@@ -37,6 +37,22 @@ fn main() -> Result<(), Error> {
         assert!(out == fragment);
         println!("{place:?}: rebuilt from {} survivors", plan.reads());
     }
+    let left: Vec<Place> = places.into_iter().filter(|place| !lost.contains(place)).collect();
+    assert_eq!(reads(Code::Wide, &lost, &left)?.len(), 12);
+    assert_eq!(reads(Code::Wide, &[X0], &left)?, [X1, X2, Px, X3, X4, X5]);
+    let mut costs = [1; 16];
+    costs[Px as usize] = 100;
+    assert!(!cheapest_reads(Code::Wide, &[X0], &left, &costs)?.contains(&Px));
+    assert_eq!(reads(Code::Wide, &lost, &[X1, X2]), Err(Error::Several));
+
+    let (after, [mut px, py, mut p0, p1]) = (vec![7; LENGTH], parities.clone());
+    let difference: Vec<u8> = data[1].iter().zip(&after).map(|(a, b)| a ^ b).collect();
+    update(Code::Wide, X1, &difference, [Some(&mut px), None, Some(&mut p0), None])?;
+    let mut changed = slices.clone();
+    changed[1] = &after;
+    let expected = encode(Code::Wide, &changed)?;
+    assert!(px == expected[0] && py == expected[1] && p0 == expected[2] && p1 != expected[3]);
+
     let few = Survivors::new().with(X1, &data[1]);
     assert_eq!(few.rebuild(Code::Wide, X0, &mut [0; LENGTH]), Err(Error::Several));
     assert_eq!(survivors.rebuild(Code::Wide, X1, &mut [0; LENGTH]), Err(Error::BadArgument));

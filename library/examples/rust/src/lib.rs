@@ -26,6 +26,11 @@ mod sys {
         #[rustfmt::skip]
         pub fn lrc_encode_into(code: u8, data: *const Bytes, count: usize, px: *mut u8, px_length: usize, py: *mut u8,
             py_length: usize, p0: *mut u8, p0_length: usize, p1: *mut u8, p1_length: usize) -> u32;
+        #[rustfmt::skip]
+        pub fn lrc_update_into(code: u8, place: u8, difference: *const u8, length: usize, px: *mut u8, px_length: usize, py: *mut u8,
+            py_length: usize, p0: *mut u8, p0_length: usize, p1: *mut u8, p1_length: usize) -> u32;
+        pub fn lrc_reads_into(code: u8, wanted: u32, available: u32, reads: *mut u32) -> u32;
+        pub fn lrc_cheapest_reads_into(code: u8, wanted: u32, available: u32, costs: *const u32, reads: *mut u32) -> u32;
         pub fn lrc_plan_into(code: u8, survivors: u32, target: u8, plan: *mut Plan) -> u32;
         pub fn lrc_apply(row: *const u8, at: *const Bytes, out: *mut u8, length: usize) -> u32;
         pub fn lrc_rebuild_into(code: u8, survivors: u32, at: *const Bytes, target: u8, out: *mut u8, length: usize) -> u32;
@@ -46,6 +51,15 @@ pub enum Code {
 #[derive(Clone, Copy, Debug, PartialEq, Eq)]
 #[rustfmt::skip]
 pub enum Place { X0, X1, X2, Y0, Y1, Y2, Px, Py, P0, P1, X3, X4, X5, Y3, Y4, Y5 }
+
+impl Place {
+    /// All places, in the order of their numbers.
+    #[rustfmt::skip]
+    pub const ALL: [Place; 16] = {
+        use Place::*;
+        [X0, X1, X2, Y0, Y1, Y2, Px, Py, P0, P1, X3, X4, X5, Y3, Y4, Y5]
+    };
+}
 
 /// Why nothing was rebuilt.
 #[derive(Clone, Copy, Debug, PartialEq, Eq)]
@@ -155,7 +169,7 @@ impl Plan {
     }
 }
 
-/// The four parities px, py, p0 and p1 of the data fragments, which stand in the order x0, x1, .., y0, y1, ..
+/// The four parities px, py, p0 and p1 of the data fragments, which are in the order x0, x1, .., y0, y1, ..
 pub fn encode(code: Code, data: &[&[u8]]) -> Result<[Vec<u8>; 4], Error> {
     let length = data.first().map_or(0, |fragment| fragment.len());
     let mut parities = [(); 4].map(|()| vec![0; length]);
@@ -168,6 +182,45 @@ pub fn encode(code: Code, data: &[&[u8]]) -> Result<[Vec<u8>; 4], Error> {
             p0.as_mut_ptr(), length, p1.as_mut_ptr(), length)
     })?;
     Ok(parities)
+}
+
+/// Brings the parities px, py, p0 and p1 up to date after the data fragment at a place changed by the difference, which is the sum
+/// (exclusive or) of its bytes before and after. Parities that are none are left out.
+pub fn update(code: Code, place: Place, difference: &[u8], parities: [Option<&mut [u8]>; 4]) -> Result<(), Error> {
+    let [px, py, p0, p1] = parities.map(|parity| parity.unwrap_or(&mut []));
+    // SAFETY: the slices are good for their lengths, and the parities are borrowed alone.
+    #[rustfmt::skip]
+    to_result(unsafe {
+        sys::lrc_update_into(code as u8, place as u8, difference.as_ptr(), difference.len(), px.as_mut_ptr(), px.len(),
+            py.as_mut_ptr(), py.len(), p0.as_mut_ptr(), p0.len(), p1.as_mut_ptr(), p1.len())
+    })?;
+    Ok(())
+}
+
+/// The fewest available places that determine all wanted ones; those that are wanted are among them.
+pub fn reads(code: Code, wanted: &[Place], available: &[Place]) -> Result<Vec<Place>, Error> {
+    let mut found = 0;
+    // SAFETY: the room for the answer is borrowed alone.
+    to_result(unsafe { sys::lrc_reads_into(code as u8, bits_of(wanted), bits_of(available), &mut found) })?;
+    Ok(places_of(found))
+}
+
+/// The same where each place has a cost, by its number: the costs of what is read have the least sum.
+pub fn cheapest_reads(code: Code, wanted: &[Place], available: &[Place], costs: &[u32; 16]) -> Result<Vec<Place>, Error> {
+    let mut found = 0;
+    // SAFETY: there are sixteen costs, and the room for the answer is borrowed alone.
+    to_result(unsafe {
+        sys::lrc_cheapest_reads_into(code as u8, bits_of(wanted), bits_of(available), costs.as_ptr(), &mut found)
+    })?;
+    Ok(places_of(found))
+}
+
+fn bits_of(places: &[Place]) -> u32 {
+    places.iter().fold(0, |bits, &place| bits | 1 << place as u32)
+}
+
+fn places_of(bits: u32) -> Vec<Place> {
+    Place::ALL.into_iter().filter(|&place| bits >> place as u32 & 1 != 0).collect()
 }
 
 fn lent(bytes: &[u8]) -> sys::Bytes {

@@ -10,7 +10,7 @@ invariant-loop-first g l =
     × (l.first ≤ length l.lists)
     × (g.I.Shelf.files l.input ≡ g.I.Shelf.files l.fn.input)
     × (g.I.Shelf.failed l.input ≡ g.I.Shelf.failed l.fn.input + all_failures reads)
-    × (g.I.Shelf.failed l.input ≤ g.I.Shelf.failed l.fn.input + 262144 * l.first)
+    × (g.I.Shelf.failed l.input ≤ g.I.Shelf.failed l.fn.input + 245760 * l.first)
 
 abbrev pub decreases-loop-first : goal.decreases-loop-first
 decreases-loop-first g l = length l.lists - l.first

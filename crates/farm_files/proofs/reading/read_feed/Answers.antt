@@ -15,10 +15,10 @@ use Rattle.farm_files.proofs.reading.read_feed.Goals.{After-as_slice}
 the_listed : (g : Rattle.farm_files.proofs.reading.read_feed.Given.Over) (c : After-as_slice g) → map (λ (r : Bor ListedRequest). r.now) c.as_slice.result.now ≡ listed_before_close c.args.list.now
 the_listed g c = ap (map (λ (r : Bor ListedRequest). r.now)) c.as_slice.ensures.value ∙ c.in_ok-requests.ensures
 
-few : (g : Rattle.farm_files.proofs.reading.read_feed.Given.Over) (c : After-as_slice g) → length c.as_slice.result.now ≤ 4096
+few : (g : Rattle.farm_files.proofs.reading.read_feed.Given.Over) (c : After-as_slice g) → length c.as_slice.result.now ≤ length c.args.list.now
 few g c =
     let len = ap (λ (rs : List ListedRequest). length rs) (the_listed g c) in
-    omega (arith, len, length-map c.as_slice.result.now (λ (r : Bor ListedRequest). r.now), served_few c.args.list.now, c.requires.orders)
+    omega (arith, len, length-map c.as_slice.result.now (λ (r : Bor ListedRequest). r.now), served_few c.args.list.now)
 
 pub read_requests-requires-clause-room : goal.read_requests-requires-clause-room
 read_requests-requires-clause-room g c κs within = omega (arith, few g c, c.requires.room)
@@ -56,3 +56,23 @@ returns-clause-read g c =
             t.1 ∙ ap (λ (rs : List ListedRequest). unread_feed there rs reads) same,
           ),
     )
+
+-- the requests that are read are those of the list
+sized : (g : Rattle.farm_files.proofs.reading.read_feed.Given.Over) (c : After-as_slice g) → length c.as_slice.result.now ≡ length (listed_before_close c.args.list.now)
+sized g c =
+    let size = ap (λ (rs : List ListedRequest). length rs) (the_listed g c) in
+    omega (arith, size, length-map c.as_slice.result.now (λ (r : Bor ListedRequest). r.now))
+
+pub returns-clause-orders : goal.returns-clause-orders
+returns-clause-orders g c =
+    let at = goal.at.returns-clause-orders g c in
+    let items = ap (λ (rs : List (Bor ListedRequest)). length rs) c.as_slice.ensures.value in
+    let counted : c.len.result ≡ length (listed_before_close c.args.list.now) = omega (arith, c.len.ensures, items, sized g at.After-as_slice, c.in_ok-requests.requests.ok.0) in
+    let (wanted, size, is) = c.in_ok-read.ensures.orders in (
+      wanted,
+      size ∙ sized g at.After-as_slice,
+      is ∙ ap (λ (tail : List Order). map Rebuild wanted ++ tail) (sym (close_counted c.args.list.now c.len.result counted)),
+    )
+
+pub returns-clause-places : goal.returns-clause-places
+returns-clause-places g c = c.in_ok-read.ensures.places ∙ sized g (goal.at.returns-clause-places g c).After-as_slice

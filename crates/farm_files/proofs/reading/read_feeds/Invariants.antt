@@ -11,7 +11,7 @@ invariant-loop-rack g l =
     × AreAllReads (map (λ feeds. map (λ list. list.items) feeds.items) (take l.rack l.lists)) reads
     × (g.I.Shelf.files l.input ≡ g.I.Shelf.files l.fn.input)
     × (g.I.Shelf.failed l.input ≡ g.I.Shelf.failed l.fn.input + all_failures reads)
-    × (g.I.Shelf.failed l.input ≤ g.I.Shelf.failed l.fn.input + 262144 * l.rack)
+    × (g.I.Shelf.failed l.input ≤ g.I.Shelf.failed l.fn.input + 245760 * l.rack)
     × (map (λ rack. map (λ os. length (before_close os)) rack.items) l.racks.items ≡ map (λ feeds. map (λ list. length (listed_before_close list.items)) feeds.items) (take l.rack l.lists))
     × (map (λ rack. map (λ us. length us.items) rack.items) l.unread.items ≡ map (λ feeds. map (λ list. length (listed_before_close list.items)) feeds.items) (take l.rack l.lists))
     × ((there : Files) → g.I.Shelf.files l.fn.input ≡ Some there

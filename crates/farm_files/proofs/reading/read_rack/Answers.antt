@@ -1,71 +1,63 @@
-use Rattle.std.proofs.Common.{◌≡◌, ◌∙◌, ◌++◌, ◌∷◌, [], Vec, Global, List, ℕ, arith, length, map, take, ap, refl, get_or}
-use Rattle.std.specs.List.{AllZip}
-use Rattle.lrc_code.specs.declared.places.Place.{Place}
-use Rattle.farm_core.specs.Orders.{before_close}
-use Rattle.farm_core.specs.declared.orders.Order.{Order}
-use Rattle.farm_core.proofs.Rows.{all_zip_push}
+use Rattle.std.proofs.Common.{◌≡◌, ◌∙◌, ◌≤◌, Bor, Vec, Global, List, ap, arith, length, map, subst, sym}
+use Rattle.std.proofs.lemmas.Simd.{map-map}
 use Rattle.farm_lists.specs.Report.{listed_before_close}
-use Rattle.farm_files.specs.Serving.{AreReads, Reads, feed_failures, orders_feed, unread_feed}
 use Rattle.farm_lists.specs.declared.lists.listing.Record.{Record}
-use Rattle.farm_files.proofs.Pairs.{front_images, front_more, images_more, sum_push, values_more}
+use Rattle.farm_files.specs.Pieces.{record_count, through_close}
+use Rattle.farm_files.specs.Serving.{AreRackReads, orders_rack, unread_rack}
+use Rattle.farm_files.proofs.Pieces.{count_few, counts_through, each_few, orders_counted, orders_same, reads_same, unread_same}
 use Rattle.farm_files.proofs.reading.read_rack.Goals as goal
+use Rattle.farm_files.proofs.reading.read_rack.Goals.{After-as_slice}
 
--- the reads of a list's requests before its close
-AreOf : List Record → List Reads → Type 0
-AreOf list feed = AllZip AreReads (listed_before_close list) feed
+abbrev lent : Bor (List Record) → List Record
+lent l = l.now
 
-served : List Order → ℕ
-served os = length (before_close os)
+-- the lists that are read are the rack's up to their closes
+the_lists : (g : Rattle.farm_files.proofs.reading.read_rack.Given.Over) (c : After-as_slice g) → map lent c.as_slice.result.now ≡ map (λ (l : Vec Record Global). through_close l.items) c.args.lists.now
+the_lists g c = ap (map lent) c.as_slice.ensures.value ∙ c.in_ok-whole.ensures
 
-listed : Vec Record Global → ℕ
-listed l = length (listed_before_close l.items)
+-- and their records are few
+few : (g : Rattle.farm_files.proofs.reading.read_rack.Given.Over) (c : After-as_slice g) → record_count (map lent c.as_slice.result.now) ≤ 16384
+few g c =
+    let same = ap record_count (the_lists g c) in
+    omega (arith, same, count_few c.args.lists.now c.requires.orders, c.requires.feeds)
 
-places : Vec (Vec Place Global) Global → List (List Place)
-places us = map (λ (u : Vec Place Global). u.items) us.items
+pub read_piece-requires-clause-room : goal.read_piece-requires-clause-room
+read_piece-requires-clause-room g c κs within = omega (arith, few g c, c.requires.room)
 
-count : Vec (Vec Place Global) Global → ℕ
-count us = length us.items
+pub read_piece-requires-clause-orders : goal.read_piece-requires-clause-orders
+read_piece-requires-clause-orders g c κs within = each_few c.as_slice.result.now c.args.lists.now (the_lists g c) c.requires.orders
 
-pub loop-feed-init : goal.loop-feed-init
-unfolding served listed places count
-loop-feed-init g c = (
-  [],
-  tt,
-  refl,
-  omega arith,
-  omega arith,
-  ap (map served) c.new-feeds.ensures.items,
-  ap (map count) c.new-unread.ensures.items,
-  λ there e. (c.new-feeds.ensures.items, ap (map places) c.new-unread.ensures.items),
-)
+pub returns-in_err-read-clause-few : goal.returns-in_err-read-clause-few
+returns-in_err-read-clause-few g c = omega (arith, few g (goal.at.returns-in_err-read-clause-few g c).After-as_slice, c.in_err-read.ensures.few)
 
-pub loop-feed-preserved : goal.loop-feed-preserved
-unfolding AreOf served listed places count
-loop-feed-preserved g c =
-    let (reads, are, same, failed, few, orders_sized, unread_sized, told) = c.loop-feed.invariant in
-    let (q, is, rose, gives) = c.in_ok-list.ensures.read in
-    let lists : List (Vec Record Global) = c.args.lists.now in
-    let i : ℕ = c.loop-feed.feed in
-    let within = c.loop-feed-test.true in
-    let here : Vec Record Global = c.index-lists-feed.result in
-    let ls : List (List Record) = map (λ (v : Vec Record Global). v.items) (take i lists) in
-    let list : List Record = c.as_slice.result.now in
-    let list_is : list ≡ (get_or lists i here).items = c.as_slice.ensures.value ∙ ap (λ (v : Vec Record Global). v.items) c.index-lists-feed.is in
-    let listed_is = ap (λ (l : List Record). length (listed_before_close l)) list_is in
-    rw (front_more (λ (v : Vec Record Global). v.items) lists i here list within list_is) (
-      reads ++ q ∷ [],
-      all_zip_push AreOf ls reads list q are is,
-      c.in_ok-list.ensures.same ∙ same,
-      omega (arith, rose, failed, sum_push feed_failures reads q),
-      omega (arith, few, c.in_ok-list.ensures.few),
-      front_images served listed c.loop-feed.feeds.items c.push.new.self.items c.in_ok-list.list lists i here within c.in_ok-push.ensures.items orders_sized (c.in_ok-list.ensures.sizes.0 ∙ listed_is),
-      front_images count listed c.loop-feed.unread.items c.push-in-loop-feed.new.self.items c.in_ok-list.places lists i here within c.in_ok-push-2.ensures.items unread_sized
-          (c.in_ok-list.ensures.sizes.1 ∙ listed_is),
+pub returns-clause-few : goal.returns-clause-few
+returns-clause-few g c = omega (arith, few g (goal.at.returns-clause-few g c).After-as_slice, c.in_ok-read.ensures.few)
+
+pub returns-clause-read : goal.returns-clause-read
+returns-clause-read g c =
+    let same = the_lists g (goal.at.returns-clause-read g c).After-as_slice in
+    let (reads, are, rose, told) = c.in_ok-read.ensures.read in (
+      reads,
+      reads_same c.args.lists.now reads (subst (λ (ls : List (List Record)). AreRackReads ls reads) same are),
+      rose,
       λ there e.
-          let before = told there e in
-          let now = gives there (same ∙ e) in (
-            values_more (orders_feed there) AreOf ls reads list q c.loop-feed.feeds.items c.push.new.self.items c.in_ok-list.list are c.in_ok-push.ensures.items before.0 now.0,
-            images_more (λ l feed. unread_feed there (listed_before_close l) feed) places AreOf ls reads list q c.loop-feed.unread.items c.push-in-loop-feed.new.self.items c.in_ok-list.places are
-                c.in_ok-push-2.ensures.items before.1 now.1,
+          let t = told there e in (
+            t.0 ∙ ap (λ (ls : List (List Record)). orders_rack there ls reads) same ∙ orders_same there c.args.lists.now reads,
+            t.1 ∙ ap (λ (ls : List (List Record)). unread_rack there ls reads) same ∙ unread_same there c.args.lists.now reads,
           ),
     )
+
+pub returns-clause-orders : goal.returns-clause-orders
+returns-clause-orders g c =
+    let same = the_lists g (goal.at.returns-clause-orders g c).After-as_slice in
+    orders_counted (map lent c.as_slice.result.now) c.in_ok-read.read.0.items c.in_ok-read.ensures.orders
+    ∙ ap (map (λ (l : List Record). length (listed_before_close l))) same
+    ∙ counts_through c.args.lists.now
+
+pub returns-clause-places : goal.returns-clause-places
+returns-clause-places g c =
+    let same = the_lists g (goal.at.returns-clause-places g c).After-as_slice in
+    c.in_ok-read.ensures.places
+    ∙ sym (map-map (λ (l : List Record). length (listed_before_close l)) lent c.as_slice.result.now)
+    ∙ ap (map (λ (l : List Record). length (listed_before_close l))) same
+    ∙ counts_through c.args.lists.now

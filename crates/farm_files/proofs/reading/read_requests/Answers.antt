@@ -2,12 +2,10 @@ use Rattle.std.proofs.Common.{◌≡◌, ◌++◌, ◌∷◌, [], ◌∙◌, Bor
 use Rattle.std.proofs.lemmas.List.{length-append}
 use Rattle.std.proofs.Common.{Vec, Global}
 use Rattle.lrc_code.specs.declared.places.Place.{Place}
-use Rattle.lrc_code.specs.Requests.{Asked}
-use Rattle.farm_core.specs.Orders.{before_close}
 use Rattle.farm_lists.specs.Listed.{ListedRequest}
 use Rattle.farm_files.specs.Serving.{AreReads, failures, unread}
 use Rattle.farm_files.proofs.Pairs.{images_more, sum_push}
-use Rattle.farm_files.proofs.ReadRequests.{all_served, close_where, orders_few, orders_more, orders_push, reads_push, taken}
+use Rattle.farm_files.proofs.ReadRequests.{close_where, orders_few, orders_more, orders_push, reads_push, taken}
 use Rattle.farm_files.proofs.reading.read_requests.Goals as goal
 
 pub read_request-requires : goal.read_request-requires
@@ -81,9 +79,14 @@ unreachable-requires g c =
     let most = orders_few c.push_close.new.orders.items c.loop-index.orders.items made.0 c.args.closes c.loop-index.index c.in_ok-push_close.ensures made.1 made.2 (omega (arith, all, c.requires.orders)) in
     omega (arith, most, c.in_default.ensures.refused.1)
 
-pub returns-clause-sizes : goal.returns-clause-sizes
-returns-clause-sizes g c =
+pub returns-clause-orders : goal.returns-clause-orders
+returns-clause-orders g c =
     let (reads, are, same, failed, few, made, left, told) = c.loop-index.invariant in
     let all : c.loop-index.index ≡ length c.args.requests.now = omega (arith, c.loop-index-test.false, c.loop-index.auto.index-end) in
-    let served : length (before_close c.in-Ok.list) ≡ length made.0 = ap (λ (rs : List Asked). length rs) (all_served c.in-Ok.list made.0 c.args.closes (c.in-Ok.ensures.ok.0 ∙ c.in_ok-push_close.ensures ∙ ap (λ t. t ++ close_where c.args.closes) made.1)) in
-    (served ∙ made.2 ∙ all, left ∙ all)
+    (made.0, made.2 ∙ all, c.in-Ok.ensures.ok.0 ∙ c.in_ok-push_close.ensures ∙ ap (λ t. t ++ close_where c.args.closes) made.1)
+
+pub returns-clause-places : goal.returns-clause-places
+returns-clause-places g c =
+    let (reads, are, same, failed, few, made, left, told) = c.loop-index.invariant in
+    let all : c.loop-index.index ≡ length c.args.requests.now = omega (arith, c.loop-index-test.false, c.loop-index.auto.index-end) in
+    left ∙ all

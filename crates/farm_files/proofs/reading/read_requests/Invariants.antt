@@ -12,7 +12,7 @@ invariant-loop-index g l =
     × AllZip AreReads (map (λ r. r.now) (take l.index l.requests)) reads
     × (g.I.Shelf.files l.input ≡ g.I.Shelf.files l.fn.input)
     × (g.I.Shelf.failed l.input ≡ g.I.Shelf.failed l.fn.input + feed_failures reads)
-    × (g.I.Shelf.failed l.input ≤ g.I.Shelf.failed l.fn.input + 16 * l.index)
+    × (g.I.Shelf.failed l.input ≤ g.I.Shelf.failed l.fn.input + 15 * l.index)
     × ((requests : List Asked) × (l.orders.items ≡ map Rebuild requests) × (length requests ≡ l.index)) × (length l.unread.items ≡ l.index)
     × ((there : Files) → g.I.Shelf.files l.fn.input ≡ Some there
     → (l.orders.items ≡ map Rebuild (asked_feed there (map (λ r. r.now) (take l.index l.requests)) reads)) × (map (λ u. u.items) l.unread.items ≡ unread_feed there (map (λ r. r.now) (take l.index l.requests)) reads))

@@ -1,0 +1,131 @@
+"""The command line of `rebuild-lists`."""
+
+from __future__ import annotations
+
+import argparse
+import os
+import re
+import signal
+import sys
+
+from . import VERSION
+from .check import check
+from .damaged import damaged
+from .formats import FEEDS, RACKS, REQUESTS, WORKERS, Refused
+from .merge import merge
+from .pieces import cut, join
+from .put import put
+from .serve import serve
+from .split import split
+from .tell import tell
+
+STATUSES = """The exit status is 0 where all was done, 1 where something is refused or found wrong, 2 for a mistake in the words and
+3 where a file can't be read or written; that of `serve` is the program's where its run failed. rebuild-lists(1) says more."""
+FOLDER = "the folder of the lists and the surviving fragments"
+STORE = "the folder of the surviving fragments"
+OUT = "a served folder, or one that merge or join made"
+
+
+def number(least: int, most: int):
+    """A reader of a number in these limits."""
+    def read(text: str) -> int:
+        if not re.fullmatch("[0-9]{1,9}", text) or not least <= int(text) <= most:
+            raise argparse.ArgumentTypeError(f"{text!r} isn't a number from {least} to {most}")
+        return int(text)
+    return read
+
+
+def add(commands, run, name: str, says: str, **words: str) -> argparse.ArgumentParser:
+    """Adds a word of the command with the words that follow it, each with its help. Options are added to what comes back."""
+    command = commands.add_parser(name, help=says, description=f"{says[0].upper()}{says[1:]}.", allow_abbrev=False)
+    for word, text in words.items():
+        command.add_argument(word, metavar="IN" if word == "folder" else word.upper(), help=text)
+    command.set_defaults(run=run)
+    return command
+
+
+def add_program(command: argparse.ArgumentParser) -> None:
+    command.add_argument("--program", metavar="PATH", default="rebuild", help="the program [default: rebuild on PATH]")
+
+
+def add_outs(command: argparse.ArgumentParser) -> None:
+    command.add_argument("outs", metavar="OUT", nargs="+", help=OUT)
+
+
+def add_jobs(commands) -> None:
+    """The words for a long list in many jobs."""
+    command = add(commands, split, "split", "make folders of the requests of a long list",
+                  list="the request list: records of rebuild, and no close", store=STORE,
+                  work="the folder to make, with in/0, in/1 .. and an empty out")
+    command.add_argument("--racks", metavar="N", type=number(1, RACKS), default=RACKS,
+                         help=f"racks of a folder, 1 to {RACKS} [default: {RACKS}]")
+    command.add_argument("--requests", metavar="N", type=number(1, REQUESTS), default=REQUESTS,
+                         help=f"requests of a rack, 1 to {REQUESTS} [default: {REQUESTS}]")
+    command.add_argument("--copy", action="store_true", help="copy the surviving fragments, which else are linked")
+    command = add(commands, serve, "serve", "serve one of the folders that split made", work="the folder that split made")
+    command.add_argument("number", metavar="NUMBER", type=number(0, 10**9 - 1), help="the number of the folder, from 0")
+    command.add_argument("--workers", metavar="N", type=number(1, WORKERS), default=1,
+                         help=f"the program's threads, 1 to {WORKERS} [default: 1]")
+    add_program(command)
+    add(commands, merge, "merge", "make one report of the reports of all folders",
+        work="the folder that split made, all of it served", result="the folder to make, with report.csv and the rebuilt fragments")
+
+
+def add_results(commands) -> None:
+    """The words for what came of a run."""
+    command = add(commands, tell, "tell", "count the outcomes in reports, and name what wasn't rebuilt")
+    add_outs(command)
+    command.add_argument("--lists", metavar="IN", help="also name the requests of this folder that OUT doesn't answer")
+    command = add(commands, put, "put", "copy rebuilt fragments into the store, after their digests are compared", store=STORE)
+    add_outs(command)
+    command.add_argument("--overwrite", action="store_true", help="replace fragments of the store that have other bytes")
+    command = add(commands, damaged, "damaged", "find the survivor without which a contradiction is rebuilt", folder=FOLDER)
+    command.add_argument("rack", metavar="RACK", type=number(0, RACKS - 1), help="the number of the rack")
+    command.add_argument("number", metavar="NUMBER", type=number(0, REQUESTS - 1),
+                         help="the number of the request in its list, from 0")
+    command.add_argument("--feed", metavar="N", type=number(0, FEEDS - 1), default=0,
+                         help="the feed whose list it is [default: 0]")
+    add_program(command)
+
+
+def parser() -> argparse.ArgumentParser:
+    whole = argparse.ArgumentParser(prog="rebuild-lists", epilog=STATUSES, allow_abbrev=False,
+                                    description="Reads and writes the lists, reports and fragments of `rebuild farm`.")
+    whole.add_argument("--version", "-V", action="version", version=f"rebuild-lists {VERSION}")
+    commands = whole.add_subparsers(dest="command", metavar="WORD", required=True)
+    add(commands, check, "check", "say what is wrong with the lists of a folder", folder=FOLDER)
+    add_jobs(commands)
+    add_results(commands)
+    add(commands, cut, "cut", "make pieces of long fragments, under names that the codes take",
+        list="the request list: stripes and lengths may be any, and there is no close", store=STORE,
+        pieces="the folder to make, with list.csv and store for split, and names.csv")
+    add(commands, join, "join", "make whole fragments of rebuilt pieces", pieces="the folder that cut made",
+        result="the folder that merge made of its list", whole="the folder to make, with report.csv and the whole fragments")
+    return whole
+
+
+def run(words: argparse.Namespace) -> int:
+    """Does what the words ask, and answers the exit status."""
+    try:
+        status = words.run(words)
+        sys.stdout.flush()
+        return status
+    except Refused as refused:
+        print(refused, file=sys.stderr)
+        return 1
+    except BrokenPipeError:
+        os.dup2(os.open(os.devnull, os.O_WRONLY), sys.stdout.fileno())
+        return 3
+    except OSError as error:
+        print(error, file=sys.stderr)
+        return 3
+    except KeyboardInterrupt:
+        return 130
+
+
+def main() -> int:
+    # What is ended leaves no half-made folder.
+    for ending in (signal.SIGTERM, signal.SIGHUP):
+        signal.signal(ending, lambda received, _: sys.exit(128 + received))
+    sys.stdout.reconfigure(errors="backslashreplace", line_buffering=sys.stdout.isatty())
+    return run(parser().parse_args())

@@ -1,0 +1,55 @@
+"""`rebuild-lists damaged`: the survivor without which a contradiction is rebuilt."""
+
+from __future__ import annotations
+
+import argparse
+import pathlib
+import tempfile
+
+from .files import folder_named, why_left_out
+from .formats import CODED_HEADER, Refused, counted, list_name, report_name
+from .lists import code_of, served_requests, survivors_of
+from .program import farm, status_of
+from .records import write_records
+from .reports import read_report
+
+
+def damaged(words: argparse.Namespace) -> int:
+    """Runs the program on a request without each of its survivors in turn, and names the one without which it is rebuilt."""
+    folder = folder_named(words.folder)
+    path = folder / list_name(words.rack, words.feed)
+    asked = served_requests(path)
+    if words.number >= len(asked):
+        raise Refused(f"{path}: has no request {words.number}: it has {counted(len(asked), 'request')}, counted from 0")
+    row = asked[words.number][1]
+    read = [place for place in survivors_of(row) if not why_left_out(folder / f"{row[1]}.{place}", int(row[3]))]
+    found, *without = outcomes_without(folder, row, read, words.program)
+    name = f"{row[1]}.{row[2]}"
+    if found != "contradiction":
+        raise Refused(f"{name}: the answer is {found}, so nothing shows that a survivor is damaged")
+    suspects = [f"{row[1]}.{place}" for place, outcome in zip(read, without) if outcome != "contradiction"]
+    if not suspects:
+        raise Refused(f"{name}: a contradiction without each single survivor too: several are damaged, "
+                      "or the stripe, the length or the code is wrong")
+    if len(suspects) > 1 or "several" in without:
+        raise Refused(f"{name}: these can't be told apart, since the answer isn't a contradiction without any one of them: "
+                      + " ".join(suspects))
+    print(f"{suspects[0]}: {name} is rebuilt without it, and is a contradiction without any other")
+    return 0
+
+
+def outcomes_without(folder: pathlib.Path, row: list[str], read: list[str], program: str) -> list[str]:
+    """The outcome of a request with all its survivors that can be read, and then without each of them."""
+    kept = [read] + [[place for place in read if place != left] for left in read]
+    with tempfile.TemporaryDirectory() as scratch:
+        given, out = pathlib.Path(scratch, "in"), pathlib.Path(scratch, "out")
+        given.mkdir()
+        out.mkdir()
+        for place in read:
+            (given / f"{row[1]}.{place}").symlink_to((folder / f"{row[1]}.{place}").resolve())
+        rows = [[*row[:4], " ".join(places), code_of(row)] for places in kept]
+        write_records(given / list_name(0, 0), [CODED_HEADER] + rows)
+        ended = farm(program, given, out)
+        if ended.returncode:
+            raise Refused(f"{program}: ended with status {status_of(ended)}: {ended.stderr.strip()}")
+        return [answer.outcome for answer in read_report(out / report_name(0))]

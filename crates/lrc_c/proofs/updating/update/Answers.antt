@@ -1,0 +1,11 @@
+use Rattle.std.proofs.Common.{map, ap, sym, ◌∙◌}
+use Rattle.lrc_field.specs.Field.{times}
+use Rattle.lrc_field.specs.Sums.{sums}
+use Rattle.lrc_field.proofs.Scaled.{sums-scaled_zero}
+use Rattle.lrc_c.proofs.updating.update.Goals as goal
+
+pub returns-then-coefficient-eq0-clause-given : goal.returns-then-coefficient-eq0-clause-given
+returns-then-coefficient-eq0-clause-given c = λ long.
+    let parity = c.args.parity.now in
+    let difference = c.args.difference.now in
+    sym (ap (λ k. sums parity (map (times k) difference)) c.if-coefficient-eq0.true ∙ sums-scaled_zero parity difference long)

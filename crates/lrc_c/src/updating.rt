@@ -1,0 +1,157 @@
+//! Parities after a data fragment changed.
+ghost use Rattle.std.specs.Prelude.{◌≡◌, ◌≢◌, ◌≤◌, true, false, length, map, MatchOption};
+ghost use Rattle.lrc_field.specs.Field.{times};
+ghost use Rattle.lrc_field.specs.Sums.{sums};
+ghost use Rattle.lrc_code.specs.declared.places.Place.{Place};
+ghost use Rattle.lrc_code.specs.declared.places.Place.TheVariants.{Px, Py, P0, P1};
+ghost use Rattle.lrc_code.specs.declared.codes.Code.{Code};
+ghost use Rattle.lrc_code.specs.Code.{has_place};
+ghost use Rattle.lrc_code.specs.Codes.{tables_of};
+ghost use Rattle.lrc_code.specs.Places.{index_of};
+ghost use Rattle.lrc_code.specs.Reduction.{coefficient_at};
+ghost use Rattle.lrc_c.specs.Updated.{is_parity, AreCoefficients, IsRoom, IsUpdate, IsUpdated};
+
+use crate::arguments::code_numbered;
+use lrc_code::{Code, NARROW_PARITIES, Place, WIDE_PARITIES};
+use lrc_field::{Gf, scale_add_into};
+
+// Whether a place is a parity's.
+fn is_parity(place: Place) -> bool
+    ensures { result ≡ is_parity place }
+{
+    match place {
+        Place::Px | Place::Py | Place::P0 | Place::P1 => true,
+        _ => false,
+    }
+}
+
+// The code's data place of an index.
+fn data_place(code: Code, index: u8) -> Option<Place>
+    ensures { MatchOption result
+        ((p : Place) → index_of p ≡ index → has_place (tables_of code) p ≡ true → is_parity p ≡ true)
+        (λ p. (index_of p ≡ index) × (has_place (tables_of code) p ≡ true) × (is_parity p ≡ false)) }
+{
+    let place = Place::from_index(index as usize)?;
+    if !code.has(place) {
+        return None;
+    }
+    if is_parity(place) {
+        return None;
+    }
+    Some(place)
+}
+
+// Whether a parity's room has the length, or none.
+fn is_room(room: usize, len: usize) -> bool
+    ensures yes { result ≡ true → IsRoom len room }
+    ensures no { result ≡ false → ¬ IsRoom len room }
+{
+    room == len || room == 0
+}
+
+// A place's coefficient in a row that goes along the first of some places; 00 where it is none of these.
+fn coefficient_of(row: &[u8], places: &[Place], place: Place) -> u8
+    requires { length row.now ≤ length places.now }
+    ensures { result ≡ coefficient_at places.now row.now place }
+{
+    let mut sum = 0;
+    for i in 0..row.len() {
+        if places[i].index() == place.index() {
+            sum ^= row[i];
+        }
+    }
+    sum
+}
+
+// A data place's coefficients in the four parities.
+#[derive(Clone, Copy)]
+struct Coefficients {
+    px: u8,
+    py: u8,
+    p0: u8,
+    p1: u8,
+}
+
+fn coefficients_of(code: Code, place: Place) -> Coefficients
+    ensures { AreCoefficients (tables_of code) place result.px result.py result.p0 result.p1 }
+{
+    let places = code.places();
+    match code {
+        Code::Narrow => Coefficients {
+            px: coefficient_of(&NARROW_PARITIES[0], places, place),
+            py: coefficient_of(&NARROW_PARITIES[1], places, place),
+            p0: coefficient_of(&NARROW_PARITIES[2], places, place),
+            p1: coefficient_of(&NARROW_PARITIES[3], places, place),
+        },
+        Code::Wide => Coefficients {
+            px: coefficient_of(&WIDE_PARITIES[0], places, place),
+            py: coefficient_of(&WIDE_PARITIES[1], places, place),
+            p0: coefficient_of(&WIDE_PARITIES[2], places, place),
+            p1: coefficient_of(&WIDE_PARITIES[3], places, place),
+        },
+    }
+}
+
+// Adds a coefficient times the difference to a parity that has its length.
+fn update(coefficient: u8, difference: &[u8], parity: &mut [u8])
+    ensures given { length parity.old ≡ length difference.now → parity.new ≡ sums parity.old (map (times coefficient) difference.now) }
+    ensures absent { length parity.old ≢ length difference.now → parity.new ≡ parity.old }
+{
+    if parity.len() != difference.len() {
+        return;
+    }
+    if coefficient == 0 {
+        return;
+    }
+    scale_add_into(parity, Gf::new(coefficient), difference);
+}
+
+/// Brings parities up to date after the fragment at a data place changed: adds to each the place's coefficient in it times the
+/// difference, which is the sum of the fragment's bytes before and after. A parity without bytes is left alone. 0: done. 3: the number is
+/// no code's, the index that of no data place of the code, or a parity has bytes and not as many as the difference; nothing
+/// is written.
+#[unsafe(no_mangle)]
+pub extern "C" fn lrc_update_into(
+    code: u8,
+    place: u8,
+    difference: &[u8],
+    px: &mut [u8],
+    py: &mut [u8],
+    p0: &mut [u8],
+    p1: &mut [u8],
+) -> u32
+    ensures done { (c : Code) (p : Place)
+        → IsUpdate code place (length difference.now) (length px.old) (length py.old) (length p0.old) (length p1.old) c p
+        → (result ≡ 0)
+        × IsUpdated (tables_of c) p difference.now Px px.old px.new × IsUpdated (tables_of c) p difference.now Py py.old py.new
+        × IsUpdated (tables_of c) p difference.now P0 p0.old p0.new × IsUpdated (tables_of c) p difference.now P1 p1.old p1.new }
+    ensures refused { ((c : Code) (p : Place)
+        → ¬ IsUpdate code place (length difference.now) (length px.old) (length py.old) (length p0.old) (length p1.old) c p)
+        → (result ≡ 3) × (px.new ≡ px.old) × (py.new ≡ py.old) × (p0.new ≡ p0.old) × (p1.new ≡ p1.old) }
+{
+    let Some(own) = code_numbered(code) else {
+        return 3;
+    };
+    let Some(changed) = data_place(own, place) else {
+        return 3;
+    };
+    let len = difference.len();
+    if !is_room(px.len(), len) {
+        return 3;
+    }
+    if !is_room(py.len(), len) {
+        return 3;
+    }
+    if !is_room(p0.len(), len) {
+        return 3;
+    }
+    if !is_room(p1.len(), len) {
+        return 3;
+    }
+    let coefficients = coefficients_of(own, changed);
+    update(coefficients.px, difference, px);
+    update(coefficients.py, difference, py);
+    update(coefficients.p0, difference, p0);
+    update(coefficients.p1, difference, p1);
+    0
+}
