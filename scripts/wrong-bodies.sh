@@ -1,28 +1,18 @@
 #!/usr/bin/env bash
-# Compares the tables of docs/WRONG_BODIES.md with the edits in must-fail, wrong-bodies and no-compile of crates/*: each edit
-# has its row, and each row of those tables its edit; and the text that an edit replaces stands in its file once. With the word `rows`
-# it prints the rows that the edits ask for.
+# Tests the edits in must-fail, wrong-bodies and no-compile of crates/*: the text that an edit replaces is in its file once, and each
+# edit that docs/WRONG_BODIES.md names in quotes is there. With the argument `rows` it prints them all, each with its kind and its file.
 set -euo pipefail
 cd "$(dirname "$0")/.."
 scratch=$(mktemp -d)
 trap 'rm -rf "$scratch"' EXIT
 
 rows() {
-  local edit name crate
-  for edit in crates/*/must-fail/*.edit; do
-    crate=$(basename "$(dirname "$(dirname "$edit")")")
-    name=$(basename "$edit" .edit)
-    echo "$crate: | ${name//_/ } | \`$(sed -n '1s/^file: //p' "$edit")\` |"
-  done
-  for edit in crates/*/wrong-bodies/*.edit; do
-    crate=$(basename "$(dirname "$(dirname "$edit")")")
-    name=$(basename "$edit" .edit)
-    echo "Left out of the gate: | ${name//_/ } | \`$crate\` | \`$(sed -n '1s/^file: //p' "$edit")\` |"
-  done
-  for edit in crates/*/no-compile/*.edit; do
-    crate=$(basename "$(dirname "$(dirname "$edit")")")
-    name=$(basename "$edit" .edit)
-    echo "Refused by the compiler: | ${name//_/ } | \`$crate\` |"
+  local kind edit name
+  for kind in must-fail wrong-bodies no-compile; do
+    for edit in crates/*/"$kind"/*.edit; do
+      name=$(basename "$edit" .edit)
+      printf '%-12s %-12s %-60s %s\n' "$(cut -d / -f 2 <<< "$edit")" "$kind" "${name//_/ }" "$(sed -n '1s/^file: //p' "$edit")"
+    done
   done
 }
 
@@ -47,12 +37,8 @@ for edit in map(pathlib.Path, sys.argv[1:]):
         elif key == 'new' or line == 'new:':
             texts[path] = texts[path].replace(old, value)
 PY
-awk '/^## / { title = substr($0, 4) }
-  /^\| / && !/^\| Wrong body / && title != "Caught by tests" { print title ": " $0 }' docs/WRONG_BODIES.md > "$scratch/rows"
-if diff <(sort "$scratch/edits") <(sort "$scratch/rows") > "$scratch/differences"; then
-  echo "wrong bodies: $(wc -l < "$scratch/edits") edits, each with its row"
-else
-  echo 'docs/WRONG_BODIES.md: rows that are wanting (<) or have no edit (>)'
-  cat "$scratch/differences"
-  exit 1
-fi
+
+while read -r name; do
+  grep -qF " $name  " "$scratch/edits" || { echo "docs/WRONG_BODIES.md: there is no edit \"$name\""; exit 1; }
+done < <(tr '\n' ' ' < docs/WRONG_BODIES.md | grep -o '"[^"]*"' | tr -d '"' | tr -s ' ')
+echo "wrong bodies: $(wc -l < "$scratch/edits") edits, each of a text that is in its file once"
