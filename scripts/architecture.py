@@ -1,62 +1,75 @@
 #!/usr/bin/env python3
-"""Compares the tables of files in docs/ARCHITECTURE.md with the files of crates/*/src: each has its row, with the first sentence of
-its own comment. With the word `rows` it prints the tables that the files ask for. Tests have no row."""
+"""Tests that each file that docs/ARCHITECTURE.md names is there, and that each source and script says at its head what it is for.
+
+    architecture.py            tests
+    architecture.py files      prints each file of crates/*/src with the first sentence of its comment
+    architecture.py scripts    prints each script with the first sentence of its comment"""
 
 import pathlib
 import re
 import sys
 
 ROOT = pathlib.Path(__file__).resolve().parent.parent
-HEADING = "## Files"
-TEXT = "Each file of `src` with the first sentence of its comment; tests are left out. `scripts/architecture.py rows` prints this section."
+MAP = ROOT / "docs/ARCHITECTURE.md"
 
 
-def crates():
-    """The crates of crates.txt that have more than tests, in its order."""
-    for line in (ROOT / "crates.txt").read_text().splitlines():
-        words = line.partition("#")[0].partition(":")[0].split()
-        if words and not words[0].endswith("_tests"):
-            yield words[0]
+def first_sentence(lines):
+    return re.split(r"(?<=[a-z`)0-9])\. (?=[A-Z`])", " ".join(lines))[0].rstrip(".")
 
 
-def sentence(file):
-    """The first sentence of the comment at the head of a file."""
+def comment_of_source(file):
     lines = []
     for line in file.read_text().splitlines():
         if not line.startswith("//! "):
             break
         lines.append(line[4:])
-    text = " ".join(lines)
-    return re.split(r"(?<=[a-z`)0-9])\. (?=[A-Z`])", text)[0].rstrip(".").replace("|", "\\|")
+    return first_sentence(lines)
 
 
-def section():
-    lines = [HEADING, "", TEXT]
-    for crate in crates():
-        source = ROOT / "crates" / crate / "src"
-        files = sorted(it.relative_to(source) for it in source.rglob("*.rt") if it.stem != "tests" and "tests" not in it.relative_to(source).parts)
-        lines += ["", f"| `{crate}/src` | |", "|---|---|"]
-        for file in files:
-            said = sentence(source / file)
-            if not said:
-                sys.exit(f"architecture: {crate}/src/{file} has no comment at its head")
-            lines.append(f"| `{file}` | {said} |")
-    return "\n".join(lines) + "\n"
+def comment_of_script(file):
+    text = file.read_text()
+    found = re.search(r'^"""(.*?)(?:\n\n|""")', text, re.S | re.M)
+    if file.suffix == ".py" and found:
+        return first_sentence(found[1].splitlines())
+    if file.suffix == ".c":
+        found = re.match(r"/\*(.*?)\*/", text, re.S)
+        return first_sentence(found[1].split()) if found else ""
+    lines = []
+    for line in text.splitlines()[1:]:
+        if not line.startswith("# "):
+            break
+        lines.append(line[2:])
+    return first_sentence(lines)
+
+
+def sources():
+    for file in sorted((ROOT / "crates").glob("*/src/**/*.rt")):
+        below = file.relative_to(ROOT / "crates")
+        if not below.parts[0].endswith("_tests") and below.stem != "tests" and "tests" not in below.parts:
+            yield str(below), comment_of_source(file)
+
+
+def scripts():
+    for file in sorted((ROOT / "scripts").iterdir()):
+        if file.suffix in (".py", ".sh", ".c"):
+            yield file.name, comment_of_script(file)
 
 
 def main():
-    wanted = section()
-    if sys.argv[1:] == ["rows"]:
-        print(wanted, end="")
+    lists = {"files": sources, "scripts": scripts}
+    if sys.argv[1:] and sys.argv[1] in lists:
+        for name, said in lists[sys.argv[1]]():
+            print(f"{name}: {said}")
         return
-    text = (ROOT / "docs/ARCHITECTURE.md").read_text()
-    found = HEADING + text.partition(HEADING)[2].partition("\n## ")[0].rstrip("\n") + "\n"
-    if found != wanted:
-        for line in sorted(set(wanted.splitlines()) ^ set(found.splitlines())):
-            print(f"architecture: {'wanting' if line in wanted.splitlines() else 'not of a file'}: {line}")
-        sys.exit("architecture: docs/ARCHITECTURE.md has other rows than crates/*/src; `scripts/architecture.py rows` prints them")
-    print(f"architecture: {wanted.count('.rt` |')} files, each with its row")
+    silent = [name for name, said in [*sources(), *scripts()] if not said]
+    if silent:
+        sys.exit(f"architecture: these don't say at their head what they are for: {', '.join(silent)}")
+    files = ["/" + str(it.relative_to(ROOT)) for it in ROOT.rglob("*.*") if ".git" not in it.parts and "out" not in it.parts]
+    named = set(re.findall(r"`([\w/.-]+\.(?:rt|antt|py|sh|h|txt|5))`", MAP.read_text()))
+    absent = [name for name in sorted(named) if not any(file.endswith("/" + name) for file in files)]
+    if absent:
+        sys.exit(f"architecture: docs/ARCHITECTURE.md names files that aren't there: {', '.join(absent)}")
+    print(f"architecture: {len(list(sources()))} sources and {len(list(scripts()))} scripts say what they are for, and {len(named)} named files are there")
 
 
-if __name__ == "__main__":
-    main()
+main()
