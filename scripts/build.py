@@ -5,8 +5,8 @@
                                     also for another kind of processor, as aarch64-unknown-linux-gnu, in out/ below that name
     build.py settle                 puts back what a build that was killed has left
 
-Crates are proved beside each other, each as soon as those that it stands on are there. The crate with the longest way to the end
-has all processors; the others have one each, at a lower priority. A crate whose sources, and those of the crates below it,
+Crates are proved beside each other, each as soon as those that it uses are there. The crate with the longest way to the end has all
+processors, the next half of them at a lower priority, and the others one each at a lower one still. A crate whose sources, and those of the crates below it,
 are as they were when it was proved is not proved again, and a build that was interrupted goes on where it was.
 
 `rt` locks every crate that it reads, so two crates above a third can't be proved at once in one place. So each is proved in a room
@@ -33,6 +33,8 @@ WORK = ("incremental", "rlib")
 FIRST, FURTHER = 3_000_000_000, 1_500_000_000
 # More jobs than this a proof doesn't use.
 MOST_JOBS = 8
+# The crate with the longest way has rank 0, the next 1, and all others this rank.
+MOST_RANK = 2
 # How many lines of what rt said are shown where it fails.
 SHOWN = 40
 
@@ -152,7 +154,7 @@ def memory():
 class Run:
     """The proof of a crate in a room of its own."""
 
-    def __init__(self, crate, lock, level, jobs, is_first, kit):
+    def __init__(self, crate, lock, level, jobs, rank, kit):
         self.crate, self.lock, self.level, self.jobs, self.start = crate, lock, level, jobs, time.monotonic()
         self.room = ROOMS / crate.name
         make_room(crate, self.room, level)
@@ -161,7 +163,7 @@ class Run:
         # The lock goes to what is started too, so that it is held until that ends, however this process ends.
         how = {"cwd": self.room / "crates" / crate.name, "stdin": subprocess.DEVNULL, "pass_fds": [lock]}
         with open(self.said, "w") as said:
-            how["preexec_fn"] = None if is_first else lower_priority
+            how["preexec_fn"] = functools.partial(os.nice, 5 * rank)
             self.process = subprocess.Popen(crate.command(level, jobs), stdout=said, stderr=subprocess.STDOUT, **how)
 
     def need(self):
@@ -189,10 +191,6 @@ class Run:
         self.process.terminate()
         self.process.wait()
         self.end()
-
-
-def lower_priority():
-    os.nice(10)
 
 
 def lock_of(folder):
@@ -281,11 +279,11 @@ class Build:
         """Starts each crate whose libraries are there, as far as processors and memory go."""
         ready = [it for it in self.left if all(below in self.done for below in it.below)]
         for crate in sorted(ready, key=lambda it: -self.way[it]):
-            is_first = all(self.way[crate] > self.way[it.crate] for it in self.running)
+            rank = min(sum(self.way[it.crate] >= self.way[crate] for it in self.running), MOST_RANK)
             free = self.memory - sum(it.need() for it in self.running)
             if self.running and (free < FIRST or len(self.running) >= self.jobs):
                 return
-            jobs = min(self.jobs, MOST_JOBS, 1 + int(max(free - FIRST, 0) // FURTHER)) if is_first else 1
+            jobs = min(max(self.jobs // 2**rank, 1), MOST_JOBS, 1 + int(max(free - FIRST, 0) // FURTHER)) if rank < MOST_RANK else 1
             lock = lock_of(crate.folder)
             if lock is None:
                 if crate not in self.waits:
@@ -293,7 +291,7 @@ class Build:
                 self.waits.add(crate)
                 continue
             self.left.remove(crate)
-            self.running.append(Run(crate, lock, self.level, jobs, is_first, self.kit))
+            self.running.append(Run(crate, lock, self.level, jobs, rank, self.kit))
 
     def say(self, line):
         """Tells a line, in the place of that on what runs."""
