@@ -51,8 +51,6 @@ def tables(document):
 
 
 def compare_codes():
-    shown = {heading: (places, rows) for heading, places, rows in tables("README.md")}
-    compare("the codes of README.md", list(shown), list(CODES))
     equations = tables("docs/FORMATS.md")
     compare("how many codes docs/FORMATS.md has", len(equations), len(CODES))
     for (heading, (name, table)), (_, places, rows) in zip(CODES.items(), equations):
@@ -64,8 +62,6 @@ def compare_codes():
         compare(f"{heading} in reference.py", [row[:count] for row in all_rows], source)
         compare(f"the places of {heading} in docs/FORMATS.md", places, all_places)
         compare(f"the equations of {heading} in docs/FORMATS.md", [rows[row] for row in ROWS], all_rows)
-        compare(f"the places of {heading} in README.md", shown[heading][0], all_places[:count])
-        compare(f"{heading} in README.md", [shown[heading][1][row] for row in ("p0", "p1")], source[2:])
 
 
 def compare_polynomial():
