@@ -89,6 +89,7 @@ BEHIND := refusals.py try.sh no-compile.sh reference-lines.sh ends.sh demo.sh ex
 test:
 	scripts/wrong-bodies.sh
 	scripts/architecture.py
+	scripts/sweep.py
 	@$(MAKE) --no-print-directory -j2 proofs library.sh
 	@$(MAKE) --no-print-directory --output-sync=target -j$(shell nproc) $(BEHIND)
 

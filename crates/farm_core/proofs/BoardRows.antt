@@ -1,12 +1,10 @@
 -- Laws of the rows of a board.
-use Rattle.std.proofs.Common.{ℕ, zero, suc, ◌≡◌, ◌<◌, List, [], ◌∷◌, length, get_or, set, map, take, drop, replicate, arith, refl, sym, ap, ◌∙◌, Option, None}
+use Rattle.std.proofs.Common.{ℕ, zero, suc, ◌≡◌, ◌<◌, List, [], ◌∷◌, length, get_or, map, take, drop, replicate, arith, refl, sym, ap, ◌∙◌, Option, None}
 use Rattle.std.proofs.lemmas.List.{length-replicate}
 use Rattle.std.proofs.Math.ListN.{get_or-map}
-use Rattle.std.proofs.Math.Seq.{map-set_same}
 use Rattle.farm_core.specs.declared.orders.Order.{Order}
 use Rattle.farm_core.specs.Replies.{Entry}
 use Rattle.farm_core.specs.Boards.{HasRooms, most_served}
-use Rattle.farm_core.proofs.Tables.{row_is}
 
 abbrev Table : Type 0
 Table = List (List (Option Entry))
@@ -17,13 +15,6 @@ rooms_at racks table rooms rack =
     sym (get_or-map (λ (row : List (Option Entry)). length row) table rack [])
     ∙ ap (λ ns. get_or ns rack 0) rooms
     ∙ get_or-map most_served racks rack []
-
-pub rooms_set : (racks : List (List (List Order))) (table : Table) (rack : ℕ) (row : List (Option Entry)) → HasRooms racks table → length row ≡ length (get_or table rack []) → HasRooms racks (set table rack row)
-rooms_set racks table rack row rooms same = map-set_same (λ (r : List (Option Entry)). length r) table rack row [] same ∙ rooms
-
-pub row_room : (racks : List (List (List Order))) (table : Table) → HasRooms racks table → (rack : ℕ) (row : List (Option Entry)) → row ≡ get_or table rack row → rack < length table
-    → length row ≡ most_served (get_or racks rack [])
-row_room racks table rooms rack row is low = ap (λ (r : List (Option Entry)). length r) (row_is table rack row is low) ∙ rooms_at racks table rooms rack
 
 pub rooms_nothing : (racks : List (List (List Order))) → HasRooms racks (map (λ feeds. replicate (most_served feeds) None) racks)
 rooms_nothing [] = refl

@@ -13,7 +13,7 @@ use Rattle.farm_lanes.specs.declared.lane.item.Item.TheVariants.{End}
 use Rattle.farm_lanes.proofs.Lists.{at_below, at_snoc_or, each_snoc}
 use Rattle.farm_lanes.proofs.Values.{values-append}
 use Rattle.farm_lanes.specs.GateView.{GateName, SeatView}
-use Rattle.farm_lanes.specs.LaneEnds.{PutView, put_end, with_put, IsUnusedPut}
+use Rattle.farm_lanes.specs.LaneEnds.{PutView, put_end, with_put}
 use Rattle.farm_lanes.specs.LaneRecord.{is_end, values}
 use Rattle.farm_lanes.specs.Lists.{Each}
 use Rattle.farm_lanes.specs.SeatChanges.{accepted, made_close, missed_close}
@@ -22,8 +22,8 @@ use Rattle.std.specs.Prelude.{Result, Ok, Err, MatchResult}
 use Rattle.std.specs.Result.{result_ok}
 use Rattle.farm_core.specs.declared.orders.Order.{Order}
 use Rattle.farm_core.specs.declared.orders.Order.TheVariants.{Rebuild}
-use Rattle.farm_core.specs.declared.threads.worker.Job.{Job}
-use Rattle.farm_core.specs.declared.threads.worker.Job.TheVariants.{Solve, Stop}
+use Rattle.farm_core.specs.declared.jobs.Job.{Job}
+use Rattle.farm_core.specs.declared.jobs.Job.TheVariants.{Solve, Stop}
 use Rattle.farm_core.specs.Orders.{before_close, HasClose}
 use Rattle.farm_core.specs.Jobs.{IsOfRack, numbers_of, requests_of}
 use Rattle.farm_core.specs.Feed.{HasFed, CountUp, AreRising, IsMade, IsRightLeft, refused_draws}
@@ -87,27 +87,6 @@ below_at (m ∷ ns) n x (suc j) below at = below_at ns n x j (λ i d low. below 
 -- the next order is a request
 next_here : (orders : List Order) (i : ℕ) (r : Asked) (d : Order) → i < length orders → get_or orders i d ≡ Rebuild r → before_close (drop i orders) ≡ drop i (before_close orders) → drop i (before_close orders) ≡ r ∷ before_close (drop (i + 1) orders)
 next_here orders i r d low is along = sym along ∙ ap before_close (drop_more orders i d low) ∙ ap (λ (x : Order). before_close (x ∷ drop (i + 1) orders)) is
-
-pub feed_begins : (total : ℕ) (seat : SeatView) (rack : ℕ) (requests : List Asked) (jobs : PutView Job) → IsUnusedPut jobs → seat.has.numbers ≡ [] → seat.has.knows ≡ false → IsFeeding total seat rack requests jobs 0 seat jobs
-feed_begins total seat rack requests jobs unused none knows = record {
-  put = [];
-  only_values = λ k x at. absurd (some-ne-none x (sym at));
-  jobs_is = unused;
-  racks_are = λ k d low. absurd (omega arith);
-  count = refl;
-  long = refl;
-  requests_are = refl;
-  numbers_are = none;
-  numbers_count = refl;
-  rising = λ j k x y _ at _. absurd (some-ne-none x (sym at));
-  lone = λ _ k x at. absurd (some-ne-none x (sym at));
-  gate_is = refl;
-  share_is = refl;
-  within = omega arith;
-  draws_are = omega arith;
-  held_is = refl;
-  kept = (refl, refl, knows);
-}
 
 -- a number was drawn, and the job put
 pub feed_more : (total : ℕ) (seat : SeatView) (rack : ℕ) (orders : List Order) (jobs : PutView Job) (i : ℕ) (s s' : SeatView) (e e' : PutView Job) (number : ℕ) (job : Job) (r : Asked) (d : Order) (x : Item Job)

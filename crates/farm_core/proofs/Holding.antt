@@ -10,7 +10,7 @@ use Rattle.farm_core.specs.declared.replies.CollectFault.{CollectFault}
 use Rattle.farm_core.specs.declared.replies.CollectFault.TheVariants.{Stranger, Double}
 use Rattle.farm_core.specs.Replies.{Replied, Entry, entry_of}
 use Rattle.farm_core.specs.RunFeeds.{slot_rack}
-use Rattle.farm_core.specs.Boards.{Held, held_at, HoldsNothing, HasRoom, IsHeldToo, replies_to, AreOneEach, HoldsAll, IsNotHeld, WasNotHeld, HasHeld}
+use Rattle.farm_core.specs.Boards.{Held, held_at, HasRoom, IsHeldToo, replies_to, AreOneEach, HoldsAll, IsNotHeld, WasNotHeld, HasHeld}
 use Rattle.farm_core.proofs.Progress.{no_some, here}
 use Rattle.farm_core.proofs.Settled.{replies_to-append}
 
@@ -27,14 +27,6 @@ elsewhere r k x apart =
       | inl a ↦ elim (cases_eq k x.number) [ inl b ↦ absurd (apart (a, b)) | inr b ↦ grind arith ]
       | inr a ↦ grind arith
     ]
-
-pub holds_none : (racks : List (List (List Order))) (b : Held) → HoldsNothing racks b → HoldsAll b racks []
-holds_none racks b none = record {
-  racks_is = none.0;
-  none = λ r k _. none.1 r k;
-  some = λ r k low. absurd (omega arith);
-  among = λ r k e is. let no = none.1 r k in absurd (no_some (subst (λ (o : Option Entry). IsSome o) (sym is ∙ no) refl));
-}
 
 -- one reply more
 pub holds_more : (racks : List (List (List Order))) (b new : Held) (xs : List Replied) (x : Replied) → HoldsAll b racks xs → IsHeldToo b (slot_rack x.rack) x.number (entry_of x) new

@@ -9,7 +9,7 @@ use Rattle.farm_lanes.proofs.Lists.{at_snoc_or, at_below}
 use Rattle.farm_lanes.specs.LaneEnds.{PutView, TakeView}
 use Rattle.farm_lanes.specs.declared.gate.record.SeatRecord.{SeatRecord}
 use Rattle.std.specs.Prelude.{Option, Some, None}
-use Rattle.farm_core.specs.declared.threads.worker.Job.{Job}
+use Rattle.farm_core.specs.declared.jobs.Job.{Job}
 use Rattle.farm_core.specs.declared.threads.worker.Worked.{Worked}
 use Rattle.farm_core.specs.Replies.{Replied}
 use Rattle.farm_core.specs.declared.threads.worker.WorkOf.{WorkOf}

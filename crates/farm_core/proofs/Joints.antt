@@ -25,8 +25,8 @@ use Rattle.farm_lanes.proofs.Numbers.{times-append}
 use Rattle.farm_lanes.proofs.Sums.{total_none, total_snoc}
 use Rattle.farm_lanes.proofs.Values.{values-append}
 use Rattle.farm_core.specs.declared.orders.Order.{Order}
-use Rattle.farm_core.specs.declared.threads.worker.Job.{Job}
-use Rattle.farm_core.specs.declared.threads.worker.Job.TheVariants.{Solve, Stop}
+use Rattle.farm_core.specs.declared.jobs.Job.{Job}
+use Rattle.farm_core.specs.declared.jobs.Job.TheVariants.{Solve, Stop}
 use Rattle.farm_core.specs.declared.threads.feeder.Fed.{Fed}
 use Rattle.farm_core.specs.Orders.{before_close, HasClose}
 use Rattle.farm_core.specs.Jobs.{IsOfRack, IsOfFeed, numbers_of, requests_of}

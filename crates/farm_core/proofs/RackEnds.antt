@@ -6,15 +6,14 @@ use mathlib.Core.Option.{some}
 use lib.ListN.{get_elem?}
 use Rattle.std.specs.declared.thread.PromisedHandle.{PromisedHandle}
 use Rattle.farm_lanes.specs.LaneEnds.{PutView}
-use Rattle.farm_core.specs.declared.threads.worker.Job.{Job}
+use Rattle.farm_core.specs.declared.jobs.Job.{Job}
 use Rattle.farm_core.specs.declared.threads.given.Feeder.{Feeder}
 use Rattle.farm_core.specs.declared.threads.feeder.Fed.{Fed}
 use Rattle.farm_core.specs.declared.threads.feeder.FeedOf.{FeedOf}
 use Rattle.farm_core.specs.declared.threads.rack_feeders.RackFeeders.{RackFeeders}
-use Rattle.farm_core.specs.declared.threads.rack_feeders.RackRoom.{RackRoom}
 use Rattle.farm_core.specs.Feed.{LeftBy}
 use Rattle.farm_core.specs.Threads.{FeedersJoined, feeders_of}
-use Rattle.farm_core.specs.Ready.{Given, rooms_of, started_of, all_given, ends_given, as_new, AreEndsOf}
+use Rattle.farm_core.specs.Ready.{Given, started_of, all_given, ends_given, as_new, AreEndsOf}
 
 abbrev FeederHandle : Type 0
 FeederHandle = PromisedHandle (Option Fed) FeedOf
@@ -61,11 +60,3 @@ ends_next racks puts new r fs was joined is =
     ∙ ((λ i. was i ++ rack_ends r.handles.items fs joined i)
     ∙ (sym (ends_snoc (started_of racks) (r.gate.now, feeders_of r.handles.items))
     ∙ ap ends_given (sym (map-append (λ (r : RackFeeders). (r.gate.now, feeders_of r.handles.items)) racks (r ∷ []))))))
-
--- one rack more is started
-pub started_next : (racks new : List RackFeeders) (done : List RackRoom) (r : RackFeeders) (room : RackRoom) → started_of racks ≡ rooms_of done → new ≡ racks ++ r ∷ [] → r.gate.now ≡ room.gate.now → feeders_of r.handles.items ≡ room.feeders.items → started_of new ≡ rooms_of (done ++ room ∷ [])
-started_next racks new done r room was is gate given =
-    ap started_of is
-    ∙ (map-append (λ (r : RackFeeders). (r.gate.now, feeders_of r.handles.items)) racks (r ∷ [])
-    ∙ ((λ i. was i ++ (gate i, given i) ∷ [])
-    ∙ sym (map-append (λ (r : RackRoom). (r.gate.now, r.feeders.items)) done (room ∷ []))))

@@ -7,7 +7,7 @@ use Rattle.farm_lanes.proofs.Opens.{popped_put, popped_take}
 use Rattle.farm_lanes.specs.LaneEnds.{LaneName, PutView, TakeView, new_take, AreNewPutEnds, AreNewEnds}
 use Rattle.farm_lanes.specs.Lists.{Each}
 use Rattle.farm_core.specs.declared.orders.Order.{Order}
-use Rattle.farm_core.specs.declared.threads.worker.Job.{Job}
+use Rattle.farm_core.specs.declared.jobs.Job.{Job}
 use Rattle.farm_core.specs.declared.threads.given.WorkerEnds.{WorkerEnds}
 use Rattle.farm_core.specs.declared.threads.rack_feeders.RackRoom.{RackRoom}
 use Rattle.farm_core.specs.declared.taken.Room.{Room}

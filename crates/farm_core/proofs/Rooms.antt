@@ -7,7 +7,7 @@ use Rattle.farm_lanes.proofs.Lists.{at_back, at_front, at_snoc_or}
 use Rattle.farm_lanes.proofs.Opens.{popped_put}
 use Rattle.farm_lanes.specs.LaneEnds.{LaneName, PutView, TakeView, IsUnusedPut, AreNewPutEnds, AreNewEnds}
 use Rattle.farm_lanes.specs.Lists.{Each, EachAt}
-use Rattle.farm_core.specs.declared.threads.worker.Job.{Job}
+use Rattle.farm_core.specs.declared.jobs.Job.{Job}
 
 module _ {A : Type 0} where
   -- the last of a list, those in front of it, and one in the middle

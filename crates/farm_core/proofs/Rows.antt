@@ -1,9 +1,8 @@
 -- Laws of rows and tables of replies.
-use Rattle.std.proofs.Common.{ℕ, ◌≡◌, ◌+◌, List, [], ◌∷◌, ◌++◌, length, get_or, set, map, replicate, arith, refl, sym, ap, ◌∙◌, add-one, subst, suc, zero, Option, Some, None}
+use Rattle.std.proofs.Common.{ℕ, ◌≡◌, ◌+◌, List, [], ◌∷◌, ◌++◌, length, get_or, map, replicate, arith, refl, sym, ap, ◌∙◌, subst, suc, zero, Option, Some, None}
 use Rattle.std.specs.Option.{option_map}
 use Rattle.std.specs.List.{AllZip}
 use Rattle.std.proofs.Math.ListN.{get_or-map}
-use Rattle.std.proofs.Math.Seq.{map-set_same}
 use Rattle.farm_core.specs.Orders.{before_close, served}
 use Rattle.farm_core.specs.Replies.{Entry, entries, Answers, HasShape, IsGap, entry_of, Replied}
 use Rattle.farm_core.specs.Boards.{filled}
@@ -12,12 +11,6 @@ use Rattle.farm_core.specs.declared.replies.ReplyResult.TheVariants.{Done}
 use Rattle.std.proofs.lemmas.List.{map-append}
 use Rattle.farm_core.specs.declared.orders.Order.{Order}
 use Rattle.lrc_code.specs.declared.outcomes.Outcome.{Outcome}
-
-pub replicate_push : {X : Type 0} (n : ℕ) (x : X) → replicate n x ++ x ∷ [] ≡ replicate (n + 1) x
-replicate_push zero x = refl
-replicate_push {X} (suc n) x =
-    let e : n + 1 ≡ suc n = omega arith in
-    rw add-one (ap (λ (t : List X). x ∷ t) (replicate_push n x ∙ ap (λ k. replicate k x) e))
 
 pub entries-replicate : (n : ℕ) → entries (replicate n None) ≡ replicate n None
 entries-replicate zero = refl
@@ -35,10 +28,6 @@ shape_at racks table shape rack =
     sym (get_or-map (λ (row : List (Option Entry)). length row) table rack [])
     ∙ ap (λ ns. get_or ns rack 0) shape
     ∙ get_or-map (λ (orders : List Order). length (before_close orders)) racks rack []
-
--- a row of the same length in a row's place
-pub shape_set : (racks : List (List Order)) (table : List (List (Option Entry))) (rack : ℕ) (row : List (Option Entry)) → HasShape racks table → length row ≡ length (get_or table rack []) → HasShape racks (set table rack row)
-shape_set racks table rack row shape same = map-set_same (λ (r : List (Option Entry)). length r) table rack row [] same ∙ shape
 
 -- a cell without a reply is a gap
 pub gap_at_seam : (done rest : List (Option Replied)) → IsGap (entries (done ++ None ∷ rest)) (length done)

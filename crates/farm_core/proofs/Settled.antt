@@ -13,8 +13,8 @@ use Rattle.farm_lanes.specs.LaneEnds.{PutView, TakeView, puts_of, takes_of}
 use Rattle.farm_lanes.specs.LaneRecord.{values, sender_of, number_of, IsLawful}
 use Rattle.farm_lanes.specs.LaneSettled.{IsSettled}
 use Rattle.farm_lanes.specs.Lists.{Each}
-use Rattle.farm_core.specs.declared.threads.worker.Job.{Job}
-use Rattle.farm_core.specs.declared.threads.worker.Job.TheVariants.{Solve, Stop}
+use Rattle.farm_core.specs.declared.jobs.Job.{Job}
+use Rattle.farm_core.specs.declared.jobs.Job.TheVariants.{Solve, Stop}
 use Rattle.farm_core.specs.Replies.{Replied}
 use Rattle.farm_core.specs.RunFeeds.{slot_rack, slot_feed}
 use Rattle.farm_core.specs.Boards.{replies_to, AreOneEach}

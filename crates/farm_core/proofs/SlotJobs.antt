@@ -2,8 +2,8 @@
 use Rattle.std.proofs.Common.{◌≡◌, ℕ, ◌<◌, List, ap, ◌∙◌, get_or}
 use Rattle.std.specs.List.{All}
 use Rattle.std.proofs.lemmas.Nat.{div-mul-add, mod-mul-add}
-use Rattle.farm_core.specs.declared.threads.worker.Job.{Job}
-use Rattle.farm_core.specs.declared.threads.worker.Job.TheVariants.{Solve, Stop}
+use Rattle.farm_core.specs.declared.jobs.Job.{Job}
+use Rattle.farm_core.specs.declared.jobs.Job.TheVariants.{Solve, Stop}
 use Rattle.farm_core.specs.Jobs.{IsOfRack, IsOfFeed}
 use Rattle.farm_core.specs.RunFeeds.{slot_of, slot_rack, slot_feed}
 

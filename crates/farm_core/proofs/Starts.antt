@@ -8,7 +8,7 @@ use Rattle.farm_lanes.proofs.Lists.{at_map, at_snoc_or}
 use Rattle.farm_lanes.specs.LaneEnds.{PutView, TakeView, new_put}
 use Rattle.farm_lanes.specs.LaneRecord.{values}
 use Rattle.farm_core.specs.declared.orders.Order.{Order}
-use Rattle.farm_core.specs.declared.threads.worker.Job.{Job}
+use Rattle.farm_core.specs.declared.jobs.Job.{Job}
 use Rattle.farm_core.specs.declared.threads.worker.Worked.{Worked}
 use Rattle.farm_core.specs.declared.threads.rack_feeders.RackFeeders.{RackFeeders}
 use Rattle.farm_core.specs.declared.taken.Room.{Room}

@@ -4,7 +4,7 @@ use mathlib.Core.Option.{some-ne-none}
 use Rattle.farm_lanes.specs.declared.lane.item.Item.{Item}
 use Rattle.farm_lanes.specs.LaneEnds.{PutView, with_put, IsUnusedPut}
 use Rattle.farm_lanes.proofs.Lists.{each_snoc}
-use Rattle.farm_core.specs.declared.threads.worker.Job.{Job}
+use Rattle.farm_core.specs.declared.jobs.Job.{Job}
 use Rattle.farm_core.specs.Jobs.{AsksNothing, HasPutStops}
 
 pub stops_begin : (stops : PutView Job) → IsUnusedPut stops → HasPutStops stops stops

@@ -1,9 +1,9 @@
 -- Laws of the table of replies.
-use Rattle.std.proofs.Common.{ℕ, ◌≡◌, ◌<◌, ◌≤◌, List, [], ◌∷◌, length, get_or, set, map, replicate, arith, refl, sym, ap, ◌∙◌, subst, suc, zero, inl, inr, Option, Some, None}
+use Rattle.std.proofs.Common.{ℕ, ◌≡◌, ◌<◌, List, [], ◌∷◌, length, get_or, set, map, replicate, arith, refl, sym, ap, ◌∙◌, subst, suc, zero, inl, inr, Option, Some, None}
 use Rattle.std.specs.List.{AllZip}
-use Rattle.std.proofs.lemmas.List.{get_or_default, get_or_past, length-replicate, get_or-set_same, get_or-set_other}
+use Rattle.std.proofs.lemmas.List.{get_or_default, length-replicate, get_or-set_same, get_or-set_other}
 use Rattle.std.proofs.lemmas.Bool.{cases_eq}
-use Rattle.farm_core.specs.Orders.{before_close, served, IsServed}
+use Rattle.farm_core.specs.Orders.{before_close}
 use Rattle.farm_core.specs.Expected.{AreAnswers, AreExpected}
 use Rattle.farm_core.specs.Replies.{Entry, IsAdded, IsMissing, IsLeastMissing, IsComplete, Answers, HasShape, IsGap, HasNoGaps, IsLeastGap}
 use Rattle.farm_core.specs.declared.orders.Order.{Order}
@@ -16,30 +16,9 @@ use Rattle.farm_core.proofs.Rows.{shape_at}
 abbrev Table : Type 0
 Table = List (List (Option Entry))
 
--- beyond the last rack nothing is served
-pub no_rack : (racks : List (List Order)) (table : Table) → HasShape racks table → (rack number : ℕ) → length table ≤ rack → IsServed racks rack number → ⊥
-no_rack racks table shape rack number past is =
-    let len = shape_at racks table shape rack in
-    let none : length (get_or table rack []) ≡ 0 = ap (λ (r : List (Option Entry)). length r) (get_or_past table rack [] past) in
-    omega arith
-
 -- the row at a rack, whatever stands in for one that is not there
 pub row_is : (table : Table) (rack : ℕ) (row : List (Option Entry)) → row ≡ get_or table rack row → rack < length table → row ≡ get_or table rack []
 row_is table rack row is low = is ∙ get_or_default table rack row [] low
-
--- a row found by a number that is the rack's
-pub at_rack : (table : Table) (found rack : ℕ) (row : List (Option Entry)) → found ≡ rack → row ≡ get_or table found row → row ≡ get_or table rack row
-at_rack table found rack row same is = is ∙ ap (λ (r : ℕ). get_or table r row) same
-
--- a number is served where the row has a cell for it
-pub row_len : (racks : List (List Order)) (table : Table) → HasShape racks table → (rack : ℕ) (row : List (Option Entry)) → row ≡ get_or table rack row → rack < length table
-    → length row ≡ length (served racks rack)
-row_len racks table shape rack row is low = ap (λ (r : List (Option Entry)). length r) (row_is table rack row is low) ∙ shape_at racks table shape rack
-
--- what came to a request is in its row
-pub at_row : (racks : List (List Order)) (table : Table) (rack number : ℕ) (row : List (Option Entry)) → row ≡ get_or table rack row → rack < length table
-    → get_or row number None ≡ get_or (get_or table rack []) number None
-at_row racks table rack number row is low = ap (λ (r : List (Option Entry)). get_or r number None) (row_is table rack row is low)
 
 -- a row for each list, with no reply
 pub shape_nothing : (racks : List (List Order)) → HasShape racks (map (λ orders. replicate (length (before_close orders)) None) racks)

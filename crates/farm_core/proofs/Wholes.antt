@@ -10,7 +10,7 @@ use Rattle.farm_lanes.specs.declared.lane.item.Item.TheVariants.{End}
 use Rattle.farm_lanes.specs.LaneRecord.{values}
 use Rattle.farm_lanes.specs.LaneEnds.{LaneName, PutView, TakeView, new_put, new_take}
 use Rattle.farm_core.specs.declared.threads.given.WorkerEnds.{WorkerEnds}
-use Rattle.farm_core.specs.declared.threads.worker.Job.{Job}
+use Rattle.farm_core.specs.declared.jobs.Job.{Job}
 use Rattle.farm_core.specs.declared.threads.worker.Worked.{Worked}
 use Rattle.farm_core.specs.Replies.{Replied}
 use Rattle.farm_core.specs.declared.threads.worker.WorkOf.{WorkOf}

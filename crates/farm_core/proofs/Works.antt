@@ -9,8 +9,8 @@ use Rattle.farm_lanes.specs.Lists.{Each}
 use Rattle.farm_lanes.specs.LaneEnds.{PutView, TakeView, LaneName, put_end, take_end, with_put, with_taken, IsUnusedPut, IsUnusedTake}
 use mathlib.Core.Option.{some-ne-none}
 use Rattle.farm_lanes.specs.LaneRecord.{is_end, values}
-use Rattle.farm_core.specs.declared.threads.worker.Job.{Job}
-use Rattle.farm_core.specs.declared.threads.worker.Job.TheVariants.{Solve, Stop}
+use Rattle.farm_core.specs.declared.jobs.Job.{Job}
+use Rattle.farm_core.specs.declared.jobs.Job.TheVariants.{Solve, Stop}
 use Rattle.farm_core.specs.Replies.{Replied}
 use Rattle.farm_core.specs.Jobs.{solves, IsReplyTo, AreReplies, HasWorked, SaysStop}
 

@@ -12,12 +12,12 @@ use Rattle.farm_lanes.specs.Lists.{Each, EachAt}
 use Rattle.farm_lanes.specs.LaneEnds.{PutView, put_end}
 use Rattle.farm_lanes.specs.GateView.{GateName, SeatView}
 use Rattle.farm_core.specs.declared.orders.Order.{Order}
-use Rattle.farm_core.specs.declared.threads.worker.Job.{Job}
+use Rattle.farm_core.specs.declared.jobs.Job.{Job}
 use Rattle.farm_core.specs.Orders.{before_close, HasClose}
 use Rattle.farm_core.specs.Jobs.{IsOfRack, numbers_of, requests_of, IsOfFeed}
 use Rattle.lrc_code.specs.Requests.{Asked}
 use Rattle.farm_lanes.specs.Counting.{times, once_below}
-use Rattle.farm_core.specs.declared.threads.worker.Job.TheVariants.{Solve, Stop}
+use Rattle.farm_core.specs.declared.jobs.Job.TheVariants.{Solve, Stop}
 use Rattle.farm_core.specs.declared.threads.feeder.Fed.{Fed}
 use Rattle.farm_core.specs.Limits.{feed_limit}
 use Rattle.farm_core.specs.RunFeeds.{slot_of}

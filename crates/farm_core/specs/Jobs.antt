@@ -2,8 +2,8 @@
 use Rattle.std.specs.Prelude.{◌≡◌, ℕ, List, [], ◌∷◌, ⊤, ◌⊎◌, ◌++◌, length, false, ◌==◌, ◌&&◌, if◌then◌else◌}
 use Rattle.std.specs.List.{AllZip}
 use Rattle.lrc_code.specs.Requests.{Asked}
-use Rattle.farm_core.specs.declared.threads.worker.Job.{Job}
-use Rattle.farm_core.specs.declared.threads.worker.Job.TheVariants.{Solve, Stop}
+use Rattle.farm_core.specs.declared.jobs.Job.{Job}
+use Rattle.farm_core.specs.declared.jobs.Job.TheVariants.{Solve, Stop}
 use Rattle.farm_core.specs.Replies.{Replied}
 use Rattle.farm_core.specs.RunFeeds.{slot_rack, slot_feed}
 use Rattle.farm_lanes.specs.Lists.{Each}

@@ -7,7 +7,7 @@ use Rattle.farm_core.specs.declared.orders.Order.{Order}
 use Rattle.farm_core.specs.declared.taken.gates.RackSeats.{RackSeats}
 use Rattle.std.specs.List.{flat_map}
 use Rattle.farm_lanes.specs.LaneEnds.{PutView, new_put, LaneName, AreNewPutEnds, new_take}
-use Rattle.farm_core.specs.declared.threads.worker.Job.{Job}
+use Rattle.farm_core.specs.declared.jobs.Job.{Job}
 use Rattle.farm_core.specs.declared.threads.given.Feeder.{Feeder}
 use Rattle.farm_core.specs.declared.threads.rack_feeders.RackFeeders.{RackFeeders}
 use Rattle.farm_core.specs.declared.threads.rack_feeders.RackRoom.{RackRoom}

@@ -4,7 +4,7 @@ use mathlib.Core.Option.{some}
 use lib.ListN.{get_elem?}
 use Rattle.std.specs.declared.thread.PromisedHandle.{PromisedHandle}
 use Rattle.farm_lanes.specs.LaneEnds.{LaneName, PutView, TakeView, new_put, new_take}
-use Rattle.farm_core.specs.declared.threads.worker.Job.{Job}
+use Rattle.farm_core.specs.declared.jobs.Job.{Job}
 use Rattle.farm_core.specs.declared.threads.worker.Worked.{Worked}
 use Rattle.farm_core.specs.Replies.{Replied}
 use Rattle.farm_core.specs.declared.threads.worker.WorkOf.{WorkOf}

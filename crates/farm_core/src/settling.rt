@@ -4,10 +4,11 @@ ghost use Rattle.std.specs.List.{sum_by};
 ghost use Rattle.farm_core.specs.Boards.{AreMergedRows};
 ghost use Rattle.farm_core.specs.Settled.{TookLeft, TookReplies, HasOneEach, HasJoined};
 
+use crate::jobs::Job;
 use crate::pause::Pause;
 use crate::replies::Reply;
 use crate::replies::board::{Board, HandedIn, hand_in};
-use crate::threads::worker::{Job, reply_to};
+use crate::threads::worker::reply_to;
 use farm_lanes::{EndedPut, Item, TakeEnd, settle};
 use std::alloc::Global;
 use std::sync::Wait;

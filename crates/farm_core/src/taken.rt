@@ -3,7 +3,7 @@ ghost use Rattle.std.specs.Prelude.{◌≡◌, ◌+◌, ◌≤◌, ◌<◌, ◌+
 ghost use Rattle.std.specs.Vec.Iter.{into_iter_items, into_iter_len};
 ghost use Rattle.farm_lanes.specs.Lists.{Each};
 ghost use Rattle.farm_lanes.specs.LaneEnds.{IsUnusedPut};
-ghost use Rattle.farm_core.specs.declared.threads.worker.Job.{Job};
+ghost use Rattle.farm_core.specs.declared.jobs.Job.{Job};
 ghost use Rattle.farm_core.specs.FedLists.{all_feeds_of};
 ghost use Rattle.farm_core.specs.RunFeeds.{lists_of};
 ghost use Rattle.farm_core.specs.Ready.{IsNewGate, AreGates, AreAllGiven, ends_given, rooms_of, IsReady};
@@ -15,6 +15,7 @@ pub(crate) mod lanes;
 pub(crate) mod space;
 
 use crate::feeds::lists::Lists;
+use crate::jobs::Job;
 use crate::orders::RackList;
 use crate::replies::board::Board;
 use crate::settings::Settings;
@@ -24,7 +25,6 @@ use crate::taken::space::{Space, space_for};
 use crate::threads::collecting::Desk;
 use crate::threads::given::{Feeder, WorkerEnds};
 use crate::threads::rack_feeders::RackRoom;
-use crate::threads::worker::Job;
 use farm_lanes::{Gate, PutEnd};
 use std::alloc::{AllocError, Global};
 use std::vec::IntoIter;

@@ -6,7 +6,7 @@ use Rattle.std.proofs.lemmas.Nat.{or_shifted, or_comm, and_or_self}
 use lib.Bits.{or_add_and}
 use mathlib.Core.Option.{some, some-ne-none, some-injective}
 use lib.ListN.{get_elem?}
-use Rattle.atomic_table.specs.Table.{State, Step, Me, Act, keeps, Valid, carried_after, Allows, Splits, Joins, stepped, opening}
+use Rattle.atomic_table.specs.Table.{State, Step, Me, Act, keeps, Valid, carried_after, Allows, Splits, Joins, stepped}
 use Rattle.atomic_table.proofs.Lists.{at_set, at_snoc, set_again}
 use Rattle.farm_lanes.specs.declared.gate.record.SeatRecord.{SeatRecord}
 use Rattle.farm_lanes.specs.declared.gate.record.GateSize.{GateSize}
@@ -444,33 +444,3 @@ joins size id s other u t keep at apart there' = record {
       answered = each_join (λ v. All (λ k. k ≡ keep.n) v.made) h.answered (all_append keep.n s.made u.made (h.answered id s at) (h.answered other u there)) (λ k d lt. absurd (omega arith));
       rights = let p = both held_of in let q = both used_of in let r = h.rights in omega arith;
     }
-
--- a new gate
-pub begins : (size : GateSize) → size.total ≤ 4294967296 → 0 < size.rights → KeepsGate size (opening (0 ∷ []) [] (fresh size.total size.rights false))
-begins size small some_right = record {
-  closed = false;
-  n = 0;
-  lawful = record {
-    shares = omega arith;
-    each = first IsLawfulSeat record { within = omega arith; counted = omega arith; accepted = λ _. refl; maker = λ no. absurd (omega arith) };
-    numbers = λ x. sym (none_once x);
-    while_open = λ _. (refl, first (λ v. (v.knows ≡ false) × (v.used ≡ 0)) (refl, refl));
-    one_closer = refl;
-    answered = first (λ v. All (λ k. k ≡ 0) v.made) (λ k d lt. absurd (omega arith));
-    rights = omega arith;
-  };
-  word = refl;
-  small = small;
-  some_right = some_right;
-}
-  where
-    first : (P : SeatRecord → Type 0) → P (fresh size.total size.rights false) → Each P (fresh size.total size.rights false ∷ [])
-    first P p zero v e = subst P (some-injective _ _ e) p
-    first P p (suc k) v e = absurd (some-ne-none v (sym e))
-
-    none_once : (x : ℕ) → once_below x 0 ≡ 0
-    none_once x = let p = once_lt x 0 in let q = once_le x 0 in no_pos (once_below x 0) (λ pos. let r = p pos in omega arith)
-      where
-        no_pos : (k : ℕ) → ¬ (0 < k) → k ≡ 0
-        no_pos zero h = refl
-        no_pos (suc k) h = absurd (h (omega arith))

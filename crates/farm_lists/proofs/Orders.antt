@@ -1,7 +1,7 @@
 -- One more record behind those so far.
 use Rattle.std.proofs.Common.{◌≡◌, ◌<◌, ◌≤◌, ◌+◌, ◌++◌, ◌∙◌, ℕ, Bool, true, false, cond, List, [], ◌∷◌, Result, Ok, Err, length, refl, sym, ap, arith}
 use Rattle.std.proofs.lemmas.Bool.{le-ltb, lt-ltb, ltb-false}
-use Rattle.std.specs.Prelude.{nat_lt, not, ◌&&◌, ◌||◌}
+use Rattle.std.specs.Prelude.{nat_lt, not}
 use Rattle.std.specs.Cmp.Lexicographic.{pointwise}
 use Rattle.std.specs.Str.{bytes_eq}
 use Rattle.farm_lists.specs.declared.lists.listing.ListFault.{ListFault}
@@ -90,18 +90,6 @@ pub push_order : (coded : Bool) (rows : Rows) (os : List Record) (row : List (Li
 push_order coded rows os row number o e some few so is =
     let low : nat_lt order_limit number ≡ false = le-ltb 4096 number few in
     so_far_of coded rows row os (os ++ o ∷ []) number e some so (push_any coded rows os row number e some so ∙ rw (low, is) refl)
-
--- the header alone
-pub push_header : (coded : Bool) (rows : Rows) (os : List Record) (row : List (List ℕ)) (was : Bool) → length rows ≡ 0 → SoFar was rows os
-    → (pointwise bytes_eq row header || (not (pointwise bytes_eq row header) && pointwise bytes_eq row coded_header)) ≡ true → not (pointwise bytes_eq row header) ≡ coded
-    → SoFar coded (rows ++ row ∷ []) os
-push_header coded [] os row was l so h c = (c, by (pointwise bytes_eq row header) (pointwise bytes_eq row coded_header) h ∙ ap Ok (sym so))
-  where
-    by : (b d : Bool) → (b || (not b && d)) ≡ true → cond b (orders false 1 []) (cond d (orders true 1 []) (Err fault.BadHeader)) ≡ Ok []
-    by true d k = refl
-    by false true k = refl
-    by false false k = cc
-push_header coded (r ∷ rows) os row was l so h c = absurd (omega (arith, l))
 
 pub push_many : (coded : Bool) (rows : Rows) (os : List Record) (row : List (List ℕ)) (number : ℕ) → length rows ≡ number → 4096 < number → SoFar coded rows os
     → list_of_rows (rows ++ row ∷ []) ≡ Err fault.TooManyOrders

@@ -2,8 +2,8 @@
 use Rattle.std.proofs.Common.{◌≡◌, ◌<◌, ◌++◌, ℕ, List, length, Option, refl}
 use Rattle.std.proofs.KnownBytes.{Consumes-trans}
 use Rattle.std.specs.Io.KnownBytes.{Consumes}
-use Rattle.line_mode.specs.declared.line.LineFault.{LineFault}
-use Rattle.line_mode.specs.declared.line.LineFault.TheVariants.{InputTooLong, Device, OutOfMemory}
+use Rattle.line_mode.specs.declared.outcomes.LineFault.{LineFault}
+use Rattle.line_mode.specs.declared.outcomes.LineFault.TheVariants.{InputTooLong, Device, OutOfMemory}
 use Rattle.line_mode.specs.LineMode.{StopsReading, input_limit}
 
 -- a read whose bytes aren't kept, since they are too many or find no memory

@@ -1,8 +1,7 @@
 -- Searches and tests of bytes.
-use Rattle.std.proofs.Common.{◌≡◌, ◌∙◌, ℕ, ◌+◌, ◌%◌, ◌<◌, ◌≤◌, max, Bool, true, false, cond, List, length, drop, slice_index, Option, Some, None, refl, sym, ap, arith, position}
+use Rattle.std.proofs.Common.{◌≡◌, ◌∙◌, ℕ, ◌+◌, ◌%◌, ◌<◌, max, Bool, true, false, cond, List, length, drop, Option, Some, None, refl, sym, ap, arith, position}
 use Rattle.std.specs.Prelude.{◌&&◌, nat_le, nat_lt}
 use Rattle.std.specs.List.{list_all, position_or_len}
-use Rattle.std.proofs.lemmas.List.{drop_all, drop_more}
 use Rattle.std.proofs.lemmas.List.Sums.{position_or_len_is}
 use Rattle.memchr.specs.Find.{IsFirstByte}
 use Rattle.line_mode.specs.Line.{is_printable}
@@ -34,21 +33,3 @@ ArePrintable bytes i greatest = list_all is_printable bytes ≡ (nat_le greatest
 
 distance : (b w greatest : ℕ) → b < 256 → w ≡ (b + 224) % 256 → nat_le (max greatest w) 94 ≡ (nat_le greatest 94 && is_printable b)
 distance b w greatest byte is = grind (arith)
-
-and-assoc : (a b c : Bool) → (a && (b && c)) ≡ ((a && b) && c)
-and-assoc true b c = refl
-and-assoc false b c = refl
-
-pub printable-step : (bytes : List ℕ) (i greatest w : ℕ) → i < length bytes → slice_index bytes i < 256 → w ≡ (slice_index bytes i + 224) % 256
-    → ArePrintable bytes i greatest → ArePrintable bytes (i + 1) (max greatest w)
-printable-step bytes i greatest w fits byte is h =
-    h ∙ ap (λ bs. nat_le greatest 94 && list_all is_printable bs) (drop_more bytes i 0 fits)
-    ∙ and-assoc (nat_le greatest 94) (is_printable (slice_index bytes i)) (list_all is_printable (drop (i + 1) bytes))
-    ∙ ap (λ b. b && list_all is_printable (drop (i + 1) bytes)) (sym (distance (slice_index bytes i) w greatest byte is))
-
-pub printable-done : (bytes : List ℕ) (i greatest : ℕ) → length bytes ≤ i → ArePrintable bytes i greatest → nat_le greatest 94 ≡ list_all is_printable bytes
-printable-done bytes i greatest end h = sym (h ∙ ap (λ bs. nat_le greatest 94 && list_all is_printable bs) (drop_all i bytes end) ∙ with_true (nat_le greatest 94))
-  where
-    with_true : (b : Bool) → (b && true) ≡ b
-    with_true true = refl
-    with_true false = refl

@@ -5,9 +5,9 @@ use Rattle.std.specs.Result.{is_err, is_ok}
 use Rattle.std.specs.Str.Lines.{lines}
 use Rattle.std.specs.Io.KnownBytes.{Appends, Consumes, IsAtEnd, Keeps}
 use Rattle.lrc_code.specs.Text.{is_space}
-use Rattle.line_mode.specs.declared.line.LineCount.{LineCount}
-use Rattle.line_mode.specs.declared.line.LineFault.{LineFault}
-use Rattle.line_mode.specs.declared.line.LineFault.TheVariants.{InputTooLong, Device, OutOfMemory}
+use Rattle.line_mode.specs.declared.outcomes.LineCount.{LineCount}
+use Rattle.line_mode.specs.declared.outcomes.LineFault.{LineFault}
+use Rattle.line_mode.specs.declared.outcomes.LineFault.TheVariants.{InputTooLong, Device, OutOfMemory}
 use Rattle.line_mode.specs.LineReply.{IsReply, LineReply, reply_line}
 
 -- a line that isn't empty and doesn't hold spaces alone

@@ -1,9 +1,9 @@
 //! The whole input, up to its limit.
 ghost use Rattle.std.specs.Prelude.{◌≡◌, ◌≢◌, ◌<◌, ◌≤◌, ◌++◌, length, IfOk, IfErr, OnOk};
-ghost use Rattle.line_mode.specs.declared.line.LineFault.TheVariants.{Device, InputTooLong};
+ghost use Rattle.line_mode.specs.declared.outcomes.LineFault.TheVariants.{Device, InputTooLong};
 ghost use Rattle.line_mode.specs.LineMode.{IsWholeInput, StopsReading, input_limit};
 
-use crate::line::LineFault;
+use crate::outcomes::LineFault;
 use std::alloc::Global;
 use std::io::{ErrorKind, Read};
 

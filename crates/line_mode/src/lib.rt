@@ -16,6 +16,7 @@ mod input;
 pub mod laws;
 mod line;
 mod lines;
+mod outcomes;
 mod parsing;
 mod refusals;
 mod replies;
@@ -23,4 +24,5 @@ mod scanning;
 pub mod statuses;
 mod words;
 
-pub use line::{LineCount, LineFault, line_mode, line_status};
+pub use line::{line_mode, line_status};
+pub use outcomes::{LineCount, LineFault};

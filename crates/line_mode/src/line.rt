@@ -1,58 +1,13 @@
 //! Line mode: each line of the input is a request for a fragment, and each line of the output the reply to one.
 ghost use Rattle.std.specs.Prelude.{◌≡◌, IfOk, IfErr};
-ghost use Rattle.line_mode.specs.LineMode.{Explains, Replied, fault_number, status_of};
-ghost use Rattle.line_mode.specs.declared.line.LineFault.TheVariants as fault;
+ghost use Rattle.line_mode.specs.LineMode.{Explains, Replied, status_of};
 
 use crate::input::read_input;
+use crate::outcomes::{LineCount, LineFault};
 use crate::replies::reply_to_lines;
 use crate::statuses::{DEVICE, DONE, NO_RESOURCES, REFUSED};
-use std::alloc::{AllocError, Global};
+use std::alloc::Global;
 use std::io::{Read, Write};
-use thiserror::Error;
-
-/// How many lines of an input were replied to.
-#[derive(Clone, Copy, Debug, PartialEq, Eq)]
-pub struct LineCount {
-    /// Lines that were answered by an outcome.
-    pub answered: u64,
-    /// Lines that were refused.
-    pub refused: u64,
-}
-
-/// Why line mode ended without replies.
-#[derive(Clone, Copy, Debug, Error, PartialEq, Eq)]
-pub enum LineFault {
-    /// The input is longer than 8,388,608 bytes.
-    #[error("the input is too long")]
-    InputTooLong,
-    /// A read or a write failed, or reading took more than 16,777,216 turns.
-    #[error("a read or a write failed")]
-    Device,
-    /// Memory was refused.
-    #[error("memory was refused")]
-    OutOfMemory,
-}
-
-impl From<AllocError> for LineFault {
-    ghost from_gives = { λ _ e. e ≡ fault.OutOfMemory };
-
-    fn from(_: AllocError) -> Self {
-        LineFault::OutOfMemory
-    }
-}
-
-impl LineFault {
-    /// The fault's number in the table of refusals.
-    pub fn code(self) -> u8
-        ensures { result ≡ fault_number self }
-    {
-        match self {
-            LineFault::InputTooLong => 25,
-            LineFault::Device => 24,
-            LineFault::OutOfMemory => 16,
-        }
-    }
-}
 
 /// Replies to each line of the whole input: reads it all, makes the whole text, and then writes it.
 ///

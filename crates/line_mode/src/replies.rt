@@ -7,8 +7,8 @@ ghost use Rattle.line_mode.specs.Replies.{Holds};
 ghost use Rattle.line_mode.specs.LineReply.{IsReply, LineReply, number_of, reply_text};
 
 use crate::hexadecimal::append_upper;
-use crate::line::LineCount;
 use crate::lines::Lines;
+use crate::outcomes::LineCount;
 use crate::parsing::parse_line;
 use crate::refusals::LineRefusal;
 use lrc_code::Outcome;

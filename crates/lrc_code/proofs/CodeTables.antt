@@ -11,31 +11,13 @@ use Rattle.lrc_code.specs.declared.places.Place.TheVariants.{X0, X1, X2, Y0, Y1,
 use Rattle.lrc_code.specs.declared.codes.Code.{Code as CodeName}
 use Rattle.lrc_code.specs.declared.codes.Code.TheVariants.{Narrow, Wide}
 use Rattle.lrc_code.specs.Places.{index_of, same_place, all_places}
-use Rattle.lrc_code.specs.Code.{combination, narrow, wide, narrow_places, wide_places, narrow_equations, wide_equations, has_place}
+use Rattle.lrc_code.specs.Code.{combination, narrow, narrow_places, wide_places, narrow_equations, wide_equations, has_place}
 use Rattle.lrc_code.specs.Codes.{tables_of}
 use Rattle.lrc_code.specs.Sums.{sum_over}
 use Rattle.lrc_code.specs.Reduction.{coefficient_at}
 use Rattle.lrc_code.proofs.PlaceSums.{same_place-refl, same_place-comm, sum_over-add, sum_over-same, sum_over-single, combination-sum_over}
 
 -- ---- the codes' places
-
-pub wide_has : (p : Place) → has_place wide p ≡ true
-wide_has X0 = refl
-wide_has X1 = refl
-wide_has X2 = refl
-wide_has Y0 = refl
-wide_has Y1 = refl
-wide_has Y2 = refl
-wide_has Px = refl
-wide_has Py = refl
-wide_has P0 = refl
-wide_has P1 = refl
-wide_has X3 = refl
-wide_has X4 = refl
-wide_has X5 = refl
-wide_has Y3 = refl
-wide_has Y4 = refl
-wide_has Y5 = refl
 
 pub narrow_has : (p : Place) → has_place narrow p ≡ nat_lt (index_of p) 10
 narrow_has X0 = refl

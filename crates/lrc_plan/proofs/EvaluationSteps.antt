@@ -21,10 +21,6 @@ summed_step o f m n x e =
 pub written : (n : ℕ) (xs ys : List ℕ) → length xs ≡ n → take n (xs ++ ys) ≡ xs
 written n xs ys e = subst (λ m. take m (xs ++ ys) ≡ xs) e (take-append_seam xs ys)
 
--- one time a byte, added to nothing
-pub from_nothing : (f m o : ℕ) → f ≡ 1 → o ≡ 0 → m < 256 → bit_xor o (times f m) ≡ m
-from_nothing f m o e z h = rw (e, z) (xor_zero_l _ ∙ times-one m h)
-
 -- added to nothing
 pub zero_plus : (x y z o : ℕ) → x ≡ bit_xor z y → z ≡ o → o ≡ 0 → x ≡ y
 zero_plus x y z o e p q = e ∙ rw (p, q) (xor_zero_l y)

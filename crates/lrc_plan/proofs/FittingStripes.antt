@@ -5,7 +5,7 @@ use Rattle.std.specs.List.{range_with_len, list_any}
 use Rattle.std.specs.Int.Bits.{bit_xor, xor_self, xor_zero_r}
 use Rattle.std.proofs.lemmas.Nat.{xor_lt}
 use Rattle.std.proofs.lemmas.Bool.{cases_lt, cases_Bool}
-use Rattle.std.proofs.lemmas.List.{ext_get_or, get_or_past, get_or-map, length-map}
+use Rattle.std.proofs.lemmas.List.{ext_get_or, get_or_past}
 use Rattle.std.proofs.lemmas.List.FromFn.{get_or-map-range_with_len, length-map-range_with_len}
 use Rattle.lrc_field.proofs.Shift.{cancel}
 use Rattle.lrc_code.specs.declared.places.Place.{Place}
@@ -44,11 +44,6 @@ map_same (p ∷ ps) b d h = ap₂ (λ x xs. x ∷ xs) (h p) (map_same ps b d h)
 solves_same : (rows : List (List ℕ)) (ps : List Place) (b d : Place → ℕ) → ((p : Place) → b p ≡ d p)
     → Solves rows ps b → Solves rows ps d
 solves_same rows ps b d h s = λ k row lt. ap (combination (get_or rows k row)) (sym (map_same ps b d h)) ∙ s k row lt
-
-pub All-of_map : {X : Type 0} (P : Form → Type 0) (f : X → Form) (xs : List X) → All P (map f xs)
-    → All (λ x. P (f x)) xs
-All-of_map P f xs h = λ k d lt. subst P (get_or-map f xs k d (f d) lt)
-    (h k (f d) (subst (λ n. k < n) (sym (length-map xs f)) lt))
 
 -- what holds along a list holds at its members
 in_list : (P : Place → Type 0) (ps : List Place) → All P ps → (p : Place) → list_any (same_place p) ps ≡ true → P p

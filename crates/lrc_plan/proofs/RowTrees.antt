@@ -1,9 +1,8 @@
 -- Trees of the rows of a plan.
-use Rattle.std.proofs.Common.{◌≡◌, ◌≢◌, ◌<◌, ◌≤◌, ◌↔◌, ◌+◌, ℕ, suc, zero, Bool, true, false, cond, List, [], ◌∷◌, ◌++◌, Option, Some, None, IfSome, IsNone, All, length, filter, get_or, replicate, take, ◌⊎◌, slice_index, refl, sym, ◌∙◌, ap, subst, arith, inl, inr, lit<, map, length-append}
-use Rattle.std.specs.Prelude.{not, ◌&&◌, ◌||◌, ◌==◌, IsSome, IsSomeAnd, count_by, if◌then◌else◌}
-use Rattle.std.specs.List.{list_any, fold}
-use Rattle.std.specs.Option.{option_map}
-use Rattle.std.proofs.lemmas.Bool.{cases_Bool, cases_lt, eqb-true, true_from_ne_false}
+use Rattle.std.proofs.Common.{◌≡◌, ◌≢◌, ◌<◌, ◌≤◌, ◌↔◌, ◌+◌, ℕ, suc, zero, Bool, true, false, cond, List, [], ◌∷◌, ◌++◌, Option, Some, None, IsNone, All, length, filter, get_or, replicate, take, ◌⊎◌, slice_index, refl, sym, ◌∙◌, ap, subst, arith, inl, inr, lit<, map, length-append}
+use Rattle.std.specs.Prelude.{not, ◌&&◌, ◌==◌, IsSome, IsSomeAnd, count_by, if◌then◌else◌}
+use Rattle.std.specs.List.{fold}
+use Rattle.std.proofs.lemmas.Bool.{cases_lt, eqb-true, true_from_ne_false}
 use Rattle.std.proofs.lemmas.List.{get_or-take}
 use Rattle.std.proofs.lemmas.List.Elements.{All-cons, All-nil, All-push, All-pop, All-take}
 use Rattle.lrc_code.specs.declared.places.Place.{Place}
@@ -11,18 +10,18 @@ use Rattle.lrc_code.specs.declared.places.Place.TheVariants.{X0, X1, X2, Y0, Y1,
 use Rattle.lrc_code.specs.declared.codes.Code.{Code as CodeName}
 use Rattle.lrc_code.specs.declared.codes.Code.TheVariants.{Narrow, Wide}
 use Rattle.lrc_code.specs.Places.{index_of, same_place, group_of, all_places}
-use Rattle.lrc_code.specs.Sums.{GivesBytes, sum_over}
+use Rattle.lrc_code.specs.Sums.{GivesBytes}
 use Rattle.lrc_code.specs.Code.{Code, combination, has_place}
 use Rattle.lrc_code.specs.Codes.{tables_of}
 use Rattle.lrc_code.proofs.PlaceSums.{same_place-comm, combination-sum_over}
 use Rattle.lrc_code.proofs.CodeTables.{own_places}
 use Rattle.lrc_code.proofs.Words.{word, word_small, word_apart, word_solves}
-use Rattle.lrc_plan.specs.Form.{AreCoefficients, Form, Leaf, Scale, Sum, meaning, has_leaf, leaf_total}
+use Rattle.lrc_plan.specs.Form.{AreCoefficients, Form, Leaf, Scale, Sum, meaning, leaf_total}
 use Rattle.lrc_plan.specs.PlanParts.{group_coefficient, cut}
-use Rattle.lrc_plan.specs.Planned.{AreChecks, Extends, ExtensionsDiffer, IsLocal, IsLocalTree, IsPlan, IsShallow, IsTargetValue, LeavesSurvive, group_others, same_group}
-use Rattle.lrc_plan.specs.RowPlans.{AnswerBy, AreCheckRows, IsGroupRow, IsRowPlan, IsRowValue, IsValueRow, ReadsSurvivors, TellExtensions, rows_with_terms}
+use Rattle.lrc_plan.specs.Planned.{Extends, ExtensionsDiffer, IsLocalTree, IsPlan, IsShallow, IsTargetValue, LeavesSurvive, group_others, same_group}
+use Rattle.lrc_plan.specs.RowPlans.{AnswerBy, IsGroupRow, IsRowPlan, IsRowValue, ReadsSurvivors, TellExtensions, rows_with_terms}
 use Rattle.lrc_plan.specs.RowTrees.{AreRowTrees, AreValueCoefficients, IsRowTree, IsValueTree, ZeroTogether}
-use Rattle.lrc_plan.specs.Sums.{MeansRow, sum_meaning, some_depth, some_leaf, some_leaf_total, terms}
+use Rattle.lrc_plan.specs.Sums.{MeansRow, sum_meaning, some_leaf, some_leaf_total, terms}
 use Rattle.lrc_plan.proofs.RowPlanLaws.{told_otherwise}
 use Rattle.lrc_plan.proofs.TermRows.{blank_sum}
 
@@ -62,12 +61,6 @@ tree_value code survives t (Some row) value right tree = given value tree.means 
       right = λ s e h x. means (Some f) k s e h x;
       several = right_is_one (tables_of code) survives t f (λ s e h x. means (Some f) k s e h x);
     }
-
-pub shallow_value : (row : Option (List ℕ)) (value : Option Form) → IsValueTree row value → IfSome value IsShallow
-shallow_value None None h = tt
-shallow_value None (Some t) h = absurd (cc)
-shallow_value (Some row) None h = tt
-shallow_value (Some row) (Some t) h = h.shallow
 
 -- ---- the tree of a group's row
 
@@ -204,14 +197,6 @@ local_value code t (Some row) value some is tree = local_tree code t row value s
 
 -- ---- the trees of checks
 
-pub no_trees : AreRowTrees [] []
-no_trees = record {
-  means = λ s h. (λ a. All-nil _, λ a. All-nil _);
-  leaves = λ survives h. All-nil _;
-  shallow = All-nil _;
-  count = refl;
-}
-
 some_leaf_of : (f : Form) → 0 < leaf_total f
 some_leaf_of (Leaf p) = lit< tt
 some_leaf_of (Scale c t) = some_leaf_of t
@@ -267,9 +252,6 @@ same_trees rows trees row all one = record {
     more n = omega arith
 
 -- ---- the coefficients of trees
-
-pub zero_start : ZeroTogether [] []
-zero_start s h = (λ a. All-nil _, λ a. All-nil _)
 
 pub zero_more : (rows : List (List ℕ)) (trees : List Form) (row : List ℕ) (t : Form) → ZeroTogether rows trees → AreCoefficients row t
     → ZeroTogether (rows ++ row ∷ []) (trees ++ t ∷ [])

@@ -31,10 +31,6 @@ IsProductAdded factor bytes before after =
     (i : ℕ) → i < length bytes
     → slice_index after i ≡ bit_xor (slice_index before i) (times factor (slice_index bytes i))
 
--- the form means 0 at every position
-abbrev pub IsZero : Asked → Form → Type 0
-IsZero r t = (i : ℕ) → i < r.len → meaning (byte_at r i) t ≡ 0
-
 -- every byte is 0
 abbrev pub AreZeros : List ℕ → Type 0
 AreZeros bytes = (i : ℕ) → i < length bytes → slice_index bytes i ≡ 0

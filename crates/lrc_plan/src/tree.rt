@@ -10,7 +10,7 @@ ghost use Rattle.lrc_plan.specs.Form.{leaf_total, has_leaf, meaning, AreCoeffici
 ghost use Rattle.lrc_plan.specs.Tree.{form_of};
 
 pub(crate) mod both_branches;
-pub(crate) mod copying;
+mod copying;
 pub(crate) mod evaluation;
 pub(crate) mod grafting;
 

@@ -2,12 +2,12 @@
 ghost use Rattle.std.specs.Prelude.{◌≡◌, ◌+◌, ◌≤◌, [], ◌∷◌, ◌++◌, IfOk, map, vec_len};
 ghost use Rattle.farm_lanes.specs.Lists.{Each};
 ghost use Rattle.farm_lanes.specs.LaneEnds.{LaneName, AreNewEnds, IsCapacity, IsPutterCount, IsTakerCount, IsUnusedPut, IsUnusedTake, new_take};
-ghost use Rattle.farm_core.specs.declared.threads.worker.Job.{Job};
+ghost use Rattle.farm_core.specs.declared.jobs.Job.{Job};
 ghost use Rattle.farm_core.specs.Limits.{all_feeds_limit};
 
+use crate::jobs::Job;
 use crate::replies::Reply;
 use crate::threads::given::WorkerEnds;
-use crate::threads::worker::Job;
 use farm_lanes::{Lane, LaneError, PutEnd, TakeEnd};
 use std::alloc::{AllocError, Global};
 

@@ -2,10 +2,11 @@
 ghost use Rattle.std.specs.Prelude.{◌≡◌, ◌+◌, ◌*◌, ◌≤◌, ◌<◌, [], IfOk, vec_capacity};
 ghost use Rattle.farm_core.specs.Limits.{feed_limit, rack_limit};
 
+use crate::jobs::Job;
 use crate::limits::MOST_FEEDS;
 use crate::replies::Reply;
 use crate::threads::rack_feeders::RackFeeders;
-use crate::threads::worker::{Job, WorkerHandle};
+use crate::threads::worker::WorkerHandle;
 use farm_lanes::{EndedPut, TakeEnd};
 use std::alloc::{AllocError, Global};
 

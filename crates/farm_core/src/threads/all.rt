@@ -8,6 +8,7 @@ ghost use Rattle.farm_core.specs.Ready.{rooms_of, started_of, IsReady, AreStarte
 ghost use Rattle.farm_core.specs.Threads.{ends_of};
 ghost use Rattle.farm_core.specs.Jobs.{HasPutStops};
 
+use crate::jobs::Job;
 use crate::pause::Pause;
 use crate::replies::Reply;
 use crate::settling::Joined;
@@ -18,9 +19,7 @@ use crate::threads::collecting::{Cleared, CollectorHandle};
 use crate::threads::feeder::{FeederHandle, end_feeders, join_feeders, start_feeders};
 use crate::threads::given::WorkerEnds;
 use crate::threads::rack_feeders::{RackFeeders, RackRoom};
-use crate::threads::worker::{
-    Job, WorkerHandle, end_worker, join_workers, start_workers, take_mark,
-};
+use crate::threads::worker::{WorkerHandle, end_worker, join_workers, start_workers, take_mark};
 use farm_lanes::{EndedPut, PutEnd, TakeEnd};
 use std::sync::Wait;
 use std::thread::{Scope, Threads};
@@ -46,9 +45,9 @@ pub(crate) struct Starts<'a> {
     pub taker: Option<TakeEnd<Job<'a>>>,
 }
 
-/// Starts the feeders rack by rack. After a refusal no further one is started, and the ends of the others are ended here: the workers
-/// take their marks. Gives nothing where none was refused, else the threads of the rack in which one was.
-pub(crate) fn start_racks<'s, 'a: 's, E, R: Threads + Wait + Sync, P: Pause>(
+// Starts the feeders rack by rack. After a refusal no further one is started, and the ends of the others are ended here: the workers
+// take their marks. Gives nothing where none was refused, else the threads of the rack in which one was.
+fn start_racks<'s, 'a: 's, E, R: Threads + Wait + Sync, P: Pause>(
     shared: &'s Shared<'s, R, P>,
     scope: &Scope<'s, E>,
     racks: Vec<RackRoom<'a>>,
@@ -86,12 +85,8 @@ pub(crate) fn start_racks<'s, 'a: 's, E, R: Threads + Wait + Sync, P: Pause>(
     left
 }
 
-/// Ends the put ends of the feeders of racks, as `end_feeders` does.
-pub(crate) fn end_racks<'a, R: Wait>(
-    rt: &R,
-    racks: Vec<RackRoom<'a>>,
-    taker: &mut Option<TakeEnd<Job<'a>>>,
-) {
+// Ends the put ends of the feeders of racks, as `end_feeders` does.
+fn end_racks<'a, R: Wait>(rt: &R, racks: Vec<RackRoom<'a>>, taker: &mut Option<TakeEnd<Job<'a>>>) {
     for rack in racks {
         let RackRoom { feeders, .. } = rack;
         end_feeders(rt, feeders, taker);
@@ -131,8 +126,8 @@ pub(crate) fn start_all<'s, 'a: 's, E, R: Threads + Wait + Sync, P: Pause>(
     }
 }
 
-/// Joins the feeders rack by rack, and puts their ends in order. Says whether each has fed.
-pub(crate) fn join_racks<'a, R: Threads>(
+// Joins the feeders rack by rack, and puts their ends in order. Says whether each has fed.
+fn join_racks<'a, R: Threads>(
     rt: &R,
     racks: Vec<RackFeeders<'a>>,
     put_ends: &mut Vec<EndedPut<Job<'a>>>,
@@ -171,12 +166,8 @@ fn join_left<'a, R: Threads>(rt: &R, left: Option<Vec<FeederHandle<'a>>>) {
     }
 }
 
-/// Puts so many jobs that say to stop, and ends.
-pub(crate) fn put_stops<'a, R: Wait>(
-    rt: &R,
-    stops: PutEnd<Job<'a>>,
-    count: usize,
-) -> EndedPut<Job<'a>>
+// Puts so many jobs that say to stop, and ends.
+fn put_stops<'a, R: Wait>(rt: &R, stops: PutEnd<Job<'a>>, count: usize) -> EndedPut<Job<'a>>
     requires unused { IsUnusedPut stops }
     requires few { count ≤ worker_limit }
     ensures stops { HasPutStops stops.entry result }

@@ -6,8 +6,8 @@ ghost use Rattle.farm_core.specs.declared.orders.Order.{Order};
 ghost use Rattle.farm_core.specs.declared.threads.feeder.Fed.{Fed as TheFed};
 ghost use Rattle.farm_core.specs.Feed.{right_back, IsJoint, IsOfGate, AreFed, HasDrawn};
 
+use crate::jobs::Job;
 use crate::threads::feeder::Fed;
-use crate::threads::worker::Job;
 use farm_lanes::{EndedPut, Gate, Right, Seat};
 
 // Reads the gate, so that the seat's record is known to be sound.

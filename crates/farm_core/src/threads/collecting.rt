@@ -29,8 +29,8 @@ pub(crate) struct Cleared<'a> {
     pub replies: TakeEnd<Reply<'a>>,
 }
 
-/// Puts the replies on the board until every worker's end has come.
-pub(crate) fn clear<'a, R: Wait>(rt: &R, desk: Desk<'a>) -> Cleared<'a>
+// Puts the replies on the board until every worker's end has come.
+fn clear<'a, R: Wait>(rt: &R, desk: Desk<'a>) -> Cleared<'a>
     requires empty { HoldsNothing desk.board.racks desk.board }
     requires unused { IsUnusedTake desk.replies }
     ensures { HasCleared desk.entry.board.racks desk.entry.replies result.all.board result.all.fault result.replies }

@@ -6,11 +6,12 @@ ghost use Rattle.farm_core.specs.Limits.{order_limit};
 ghost use Rattle.farm_core.specs.Threads.{FeedersJoined, feeders_of};
 
 use crate::feeds::slots::slot_number;
+use crate::jobs::Job;
 use crate::orders::{Order, RackList};
 use crate::pause::Pause;
 use crate::threads::Shared;
 use crate::threads::given::Feeder;
-use crate::threads::worker::{Job, take_mark};
+use crate::threads::worker::take_mark;
 use farm_lanes::{EndedPut, Gate, PutEnd, Right, Seat, TakeEnd};
 use std::snapshot::Snapshot;
 use std::sync::Wait;

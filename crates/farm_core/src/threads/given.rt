@@ -3,9 +3,9 @@ ghost use Rattle.std.specs.Prelude.{◌≡◌, ◌+◌, ◌<◌, ◌≤◌, [], 
 ghost use Rattle.farm_lanes.specs.LaneEnds.{IsUnusedPut, IsUnusedTake};
 ghost use Rattle.farm_core.specs.Limits.{feed_limit, order_limit, rack_limit};
 
+use crate::jobs::Job;
 use crate::orders::RackList;
 use crate::replies::Reply;
-use crate::threads::worker::Job;
 use farm_lanes::{Gate, PutEnd, Right, Seat, TakeEnd};
 
 /// A worker's ends. Nothing was done with them yet.

@@ -5,6 +5,7 @@ ghost use Rattle.farm_lanes.specs.LaneEnds.{IsUnusedPut, IsUnusedTake};
 ghost use Rattle.farm_core.specs.Jobs.{HasWorked, HasStopped};
 ghost use Rattle.farm_core.specs.Threads.{WorkersJoined, ends_of};
 
+use crate::jobs::Job;
 use crate::pause::Pause;
 use crate::replies::Reply;
 use crate::threads::Shared;
@@ -18,17 +19,6 @@ use std::snapshot::Snapshot;
 use std::sync::Wait;
 use std::sync::atomic::Ordering;
 use std::thread::{Promise, PromisedHandle, Scope, Threads};
-
-/// What a worker is to do: to solve a request, which the job lends, and reply under its rack and number; or to stop.
-#[derive(Drop)]
-pub enum Job<'a> {
-    Solve {
-        rack: usize,
-        number: u64,
-        request: &'a Request,
-    },
-    Stop,
-}
 
 /// What a worker gives back: its ends, the one that puts ended.
 #[derive(Drop)]
@@ -106,12 +96,8 @@ pub fn work<'a, R: Wait, P: Pause>(
     }
 }
 
-/// Takes nothing and puts the end mark: what a worker does that no thread was made for.
-pub(crate) fn idle<'a, R: Wait>(
-    rt: &R,
-    jobs: TakeEnd<Job<'a>>,
-    replies: PutEnd<Reply<'a>>,
-) -> Worked<'a>
+// Takes nothing and puts the end mark: what a worker does that no thread was made for.
+fn idle<'a, R: Wait>(rt: &R, jobs: TakeEnd<Job<'a>>, replies: PutEnd<Reply<'a>>) -> Worked<'a>
     requires unused { IsUnusedTake jobs × IsUnusedPut replies }
     ensures { HasWorked jobs.entry replies.entry result.jobs result.replies }
 {

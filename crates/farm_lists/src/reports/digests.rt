@@ -1,10 +1,9 @@
-//! The digests of rebuilt fragments, made one after the other, or eight at once in several threads.
+//! The digests of rebuilt fragments: of one, or of all racks, eight at once in several threads.
 ghost use Rattle.std.specs.Prelude.{◌≡◌, ◌+◌, ◌++◌, ◌*◌, ◌%◌, ◌^◌, ◌<◌, ◌≤◌, ℕ, List, [], IfOk, OnOk, length, map, slice_index_or};
 ghost use Rattle.std.specs.List.{flat_map};
 ghost use Rattle.sha2.specs.Sha256.{sha256};
 ghost use Rattle.farm_lists.specs.Report.{fragment_digest, rebuilt_fragment};
 
-use crate::reports::report::ReportRow;
 use lrc_code::Outcome;
 use sha2::{Digest as _, Sha256};
 use sha256_lanes::Digest;
@@ -21,20 +20,6 @@ pub(crate) fn digest_of(outcome: &Outcome) -> Option<Digest>
         Outcome::Contradiction => None,
         Outcome::Several => None,
     }
-}
-
-/// The digests of the outcomes of rows, made one after the other.
-pub(crate) fn digests_of(
-    alloc: Global,
-    rows: &[ReportRow],
-) -> Result<Vec<Option<Digest>>, AllocError>
-    ensures { IfOk result (λ v. v.items ≡ map (λ r. fragment_digest r.outcome.now) rows.now) }
-{
-    let mut digests = Vec::new(alloc);
-    for index in 0..rows.len() {
-        digests.push(digest_of(rows[index].outcome))?;
-    }
-    Ok(digests)
 }
 
 /// The digests of the outcomes of all racks, rack after rack, made in at most this many threads. A thread that is

@@ -8,7 +8,7 @@ ghost use Rattle.farm_lists.specs.Report.{listed_before_close, digest_text, fiel
 use crate::lists::listed::Listed;
 use crate::lists::listing::Record;
 use crate::lists::requests::requests_before_close;
-use crate::reports::digests::digests_of;
+use crate::reports::digests::digest_of;
 use csv::{Error, WriterBuilder};
 use lrc_code::{Code, Outcome, Place};
 use sha256_lanes::Digest;
@@ -271,4 +271,15 @@ fn row_bytes(alloc: Global, fields: &[&[u8]]) -> Result<Vec<u8>, Error>
         Ok(text) => Ok(text),
         Err(e) => Err(e.into_error()),
     }
+}
+
+// The digests of the outcomes of rows, made one after the other.
+fn digests_of(alloc: Global, rows: &[ReportRow]) -> Result<Vec<Option<Digest>>, AllocError>
+    ensures { IfOk result (λ v. v.items ≡ map (λ r. fragment_digest r.outcome.now) rows.now) }
+{
+    let mut digests = Vec::new(alloc);
+    for index in 0..rows.len() {
+        digests.push(digest_of(rows[index].outcome))?;
+    }
+    Ok(digests)
 }

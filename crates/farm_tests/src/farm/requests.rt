@@ -104,8 +104,8 @@ pub(crate) fn is_byte(outcome: &Outcome, byte: u8) -> bool {
     }
 }
 
-/// Whether the answer is that two stripes differ.
-pub(crate) fn is_several(outcome: &Outcome) -> bool {
+// Whether the answer is that two stripes differ.
+fn is_several(outcome: &Outcome) -> bool {
     matches!(outcome, Outcome::Several)
 }
 

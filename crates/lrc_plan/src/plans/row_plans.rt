@@ -38,8 +38,8 @@ pub fn plan_rows(code: Code, survivors: PlaceSet, target: Place) -> RowPlan
     plan_by_reduction(code, survivors, target)
 }
 
-/// The plan from the equations solved for the lost places.
-pub(crate) fn plan_by_reduction(code: Code, survivors: PlaceSet, target: Place) -> RowPlan
+// The plan from the equations solved for the lost places.
+fn plan_by_reduction(code: Code, survivors: PlaceSet, target: Place) -> RowPlan
     requires lost { is_in survivors target ≡ false }
     requires place { has_place (tables_of code) target ≡ true }
     ensures { IsRowPlan (tables_of code) (is_in survivors) target result.value result.checks }

@@ -121,8 +121,8 @@ fn no_terms<'a>() -> [Term<'a>; 16] {
     ]
 }
 
-/// A term that no source was put in.
-pub(crate) fn no_term<'a>() -> Term<'a> {
+// A term that no source was put in.
+fn no_term<'a>() -> Term<'a> {
     Term {
         scalar: Gf::new(0),
         bytes: &[],

@@ -7,7 +7,7 @@ use Rattle.farm_lanes.proofs.Lists.{at_back, at_snoc_or}
 use Rattle.farm_lanes.specs.GateView.{GateName}
 use Rattle.farm_lanes.specs.LaneEnds.{PutView, IsUnusedPut}
 use Rattle.farm_core.specs.declared.threads.given.Feeder.{Feeder}
-use Rattle.farm_core.specs.declared.threads.worker.Job.{Job}
+use Rattle.farm_core.specs.declared.jobs.Job.{Job}
 use Rattle.farm_core.specs.declared.orders.Order.{Order}
 use Rattle.farm_core.specs.declared.threads.rack_feeders.RackRoom.{RackRoom}
 use Rattle.farm_core.specs.declared.taken.gates.RackSeats.{RackSeats}

@@ -2,7 +2,7 @@ use Rattle.std.proofs.Common.{◌≡◌, ◌+◌, ◌≤◌, ◌++◌, map, vec_
 use Rattle.std.specs.Vec.Iter.{into_iter_items, into_iter_len}
 use Rattle.farm_lanes.specs.Lists.{Each}
 use Rattle.farm_lanes.specs.LaneEnds.{LaneName, IsUnusedTake, new_take}
-use Rattle.farm_core.specs.declared.threads.worker.Job.{Job}
+use Rattle.farm_core.specs.declared.jobs.Job.{Job}
 use Rattle.farm_core.specs.declared.threads.given.WorkerEnds.{WorkerEnds}
 use Rattle.farm_core.proofs.taken.lanes.worker_ends.Given as goal
 

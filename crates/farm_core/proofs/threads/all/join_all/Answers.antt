@@ -1,7 +1,7 @@
 use Rattle.std.proofs.Common.{arith, List, sym, subst}
 use Rattle.farm_lanes.specs.LaneEnds.{PutView}
 use Rattle.farm_lanes.specs.LaneRecord.{values}
-use Rattle.farm_core.specs.declared.threads.worker.Job.{Job}
+use Rattle.farm_core.specs.declared.jobs.Job.{Job}
 use Rattle.farm_core.specs.declared.threads.collecting.Desk.{Desk}
 use Rattle.farm_core.specs.Jobs.{HasPutStops}
 use Rattle.farm_core.specs.Settled.{HasCleared, HasJoined}

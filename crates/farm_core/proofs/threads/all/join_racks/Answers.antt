@@ -1,6 +1,6 @@
 use Rattle.std.proofs.Common.{rules, ◌∙◌, ◌++◌, ◌∷◌, List, [], map, vec_items, refl, sym, ap, subst, append_assoc}
 use Rattle.farm_lanes.specs.LaneEnds.{PutView}
-use Rattle.farm_core.specs.declared.threads.worker.Job.{Job}
+use Rattle.farm_core.specs.declared.jobs.Job.{Job}
 use Rattle.farm_core.specs.declared.threads.rack_feeders.RackFeeders.{RackFeeders}
 use Rattle.farm_core.specs.Ready.{HavePutRacks, as_new}
 use Rattle.farm_core.proofs.Joins.{all_own, racks_none, racks_next}

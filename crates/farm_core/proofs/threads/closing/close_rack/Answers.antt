@@ -7,7 +7,7 @@ use Rattle.farm_lanes.specs.LaneEnds.{PutView}
 use Rattle.farm_lanes.specs.Lists.{Each}
 use Rattle.farm_lanes.specs.SeatChanges.{joined}
 use Rattle.farm_core.specs.declared.threads.feeder.Fed.{Fed}
-use Rattle.farm_core.specs.declared.threads.worker.Job.{Job}
+use Rattle.farm_core.specs.declared.jobs.Job.{Job}
 use Rattle.farm_core.specs.Feed.{right_back, IsJoint, IsOfGate}
 use Rattle.farm_core.proofs.Joints.{rights_of, rights_snoc, rights_own, all_back, map_snoc, joint_more, joint_turn, rack_drawn}
 use Rattle.farm_core.proofs.Middles.{each_middle, whole_front}

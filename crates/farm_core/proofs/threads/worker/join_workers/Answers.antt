@@ -2,7 +2,7 @@ use Rattle.std.proofs.Common.{rules, ◌∙◌, List, [], ◌∷◌, ◌++◌, v
 use Rattle.std.specs.declared.thread.PromisedHandle.{PromisedHandle}
 use Rattle.farm_lanes.specs.LaneEnds.{PutView, TakeView}
 use Rattle.farm_core.specs.Threads.{WorkersJoined}
-use Rattle.farm_core.specs.declared.threads.worker.Job.{Job}
+use Rattle.farm_core.specs.declared.jobs.Job.{Job}
 use Rattle.farm_core.specs.declared.threads.worker.Worked.{Worked}
 use Rattle.farm_core.specs.Replies.{Replied}
 use Rattle.farm_core.specs.declared.threads.worker.WorkOf.{WorkOf}

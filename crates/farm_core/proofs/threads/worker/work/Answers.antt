@@ -3,13 +3,13 @@ use Rattle.std.proofs.lemmas.List.{length_push}
 use Rattle.farm_lanes.specs.declared.lane.item.Item.{Item}
 use Rattle.farm_lanes.specs.declared.lane.item.Item.TheVariants.{Value, End}
 use Rattle.farm_lanes.specs.LaneEnds.{TakeView, PutView, with_taken}
-use Rattle.farm_core.specs.declared.threads.worker.Job.TheVariants.{Solve, Stop}
+use Rattle.farm_core.specs.declared.jobs.Job.TheVariants.{Solve, Stop}
 use Rattle.farm_core.proofs.Works.{work_begins, work_replies, work_passes, work_ends, goes_on, none_stops}
 use Rattle.farm_core.proofs.threads.worker.work.Goals as goal
 use Rattle.farm_core.proofs.threads.worker.work.Goals.{in-None, in-Some+then-puts-ge4294967295, in-Some+else-puts-ge4294967295+in-Value-default-default-Stop}
 use Rattle.farm_core.specs.Replies.{Replied}
 use Rattle.farm_core.specs.Jobs.{HasWorked, HasStopped}
-use Rattle.farm_core.specs.declared.threads.worker.Job.{Job}
+use Rattle.farm_core.specs.declared.jobs.Job.{Job}
 
 pub loop-init : goal.loop-init
 loop-init g c =
