@@ -1,4 +1,4 @@
-//! The words of the program's command line: what they ask for, and the text of help or of a mistake. It stands on clap alone, so it is
+//! The words of the program's command line: what they ask for, and the text of help or of a mistake. It uses clap alone, so it is
 //! proved beside the codes and the farm.
 //!
 //! ```rust

@@ -52,7 +52,7 @@ impl From<AllocError> for WordsFault {
 
 /// What words ask for, which don't hold the program's name. No words take no memory.
 ///
-/// An option's number may have a plus sign. An option stands before or behind the folders, and its value behind a
+/// An option's number may have a plus sign. An option is before or after the folders, and its value after a
 /// space or an equals sign.
 pub fn read_words(alloc: Global, words: &[String]) -> Result<Words, WordsFault>
     ensures none { words.now ≡ [] → AreLines result }

@@ -84,7 +84,7 @@ puts_none = record {
 abbrev put_weight : ℕ → ℕ → PutView Job → ℕ
 put_weight r k e = sum_by (job_weight r k) e.put
 
--- a rack's count and what it drew, beside those of the racks in front of it
+-- a rack's count and what it drew, beside those of the racks before it
 abbrev count_too : ℕ → ℕ → (ℕ → ℕ) → ℕ → ℕ
 count_too here n count r = cond (nat_eq r here) n (count r)
 

@@ -31,13 +31,13 @@ close_behind r list has = at has.0 has.1 has.2
 no_close : HasClose [] → ⊥
 no_close has = let within = has.1 in omega (arith, within)
 
--- behind a list without a close the requests go on
+-- after a list without a close the requests go on
 pub open_append : (list more : List Order) → (HasClose list → ⊥) → before_close (list ++ more) ≡ before_close list ++ before_close more
 open_append [] more not = refl
 open_append (Close ∷ list) more not = absurd (not (close_first list))
 open_append (Rebuild r ∷ list) more not = ap (λ (t : List Asked). r ∷ t) (open_append list more (λ has. not (close_later (Rebuild r) list has)))
 
--- behind a close they don't
+-- after a close they don't
 pub closed_append : (list more : List Order) → HasClose list → before_close (list ++ more) ≡ before_close list
 closed_append [] more has = absurd (no_close has)
 closed_append (Close ∷ list) more has = refl
@@ -65,7 +65,7 @@ closes_or_not (Rebuild r ∷ list) = elim (closes_or_not list) [
   | inr not ↦ inr (λ has. not (close_behind r list has))
 ]
 
--- the first requests of a list stay so with what stands behind it
+-- the first requests of a list stay so with what is after it
 front_stays : (list more : List Order) (k : ℕ) → k ≤ length (before_close list) → take k (before_close (list ++ more)) ≡ take k (before_close list)
 front_stays list more k within = elim (closes_or_not list) [
   | inl has ↦ ap (take k) (closed_append list more has)

@@ -49,7 +49,7 @@ share_enough (suc (suc (suc (suc zero)))) some_in few = omega arith
 share_enough (suc (suc (suc (suc (suc n))))) some_in few = absurd (omega arith)
 
 module _ {A : Type 0} where
-  -- what was read at a place stands there
+  -- what was read at a place is there
   pub got : (xs : List A) (k : ℕ) (x : A) → x ≡ get_or xs k x → k < length xs → get_elem? xs k ≡ some x
   got xs k x is low = let t = there xs k low in subst (λ y. get_elem? xs k ≡ some y) (sym (is ∙ place_is xs k t.0 x t.1)) t.1
 

@@ -10,7 +10,7 @@ use Rattle.farm_lanes.specs.Lists.{Each, EachAt}
 use Rattle.farm_core.specs.declared.jobs.Job.{Job}
 
 module _ {A : Type 0} where
-  -- the last of a list, those in front of it, and one in the middle
+  -- the last of a list, those before it, and one in the middle
   pub each_last : (P : A → Type 0) (all rest : List A) (x : A) → all ≡ rest ++ x ∷ [] → Each P all → P x
   each_last P all rest x is each = each (length rest) x (subst (λ l. get_elem? l (length rest) ≡ some x) (sym is) (at_back rest (x ∷ []) 0 x refl (length rest) (omega arith)))
 

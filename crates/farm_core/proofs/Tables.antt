@@ -16,7 +16,7 @@ use Rattle.farm_core.proofs.Rows.{shape_at}
 abbrev Table : Type 0
 Table = List (List (Option Entry))
 
--- the row at a rack, whatever stands in for one that is not there
+-- the row at a rack, whatever is in for one that is not there
 pub row_is : (table : Table) (rack : ℕ) (row : List (Option Entry)) → row ≡ get_or table rack row → rack < length table → row ≡ get_or table rack []
 row_is table rack row is low = is ∙ get_or_default table rack row [] low
 

@@ -16,7 +16,7 @@ use lib.ListN.{get_elem?}
 use Rattle.farm_core.specs.declared.replies.CollectFault.{CollectFault}
 use Rattle.farm_core.specs.declared.replies.CollectFault.TheVariants.{Stranger, Double}
 
--- how many requests stand in front of the closes of a rack's feeds; so many may be answered
+-- how many requests are before the closes of a rack's feeds; so many may be answered
 abbrev pub most_served : List (List Order) → ℕ
 most_served feeds = sum_by (λ (list : List Order). length (before_close list)) feeds
 
@@ -57,7 +57,7 @@ replies_to rack number (x ∷ xs) = (if (slot_rack x.rack == rack) && (x.number 
 abbrev pub AreOneEach : (ℕ → ℕ) → List Replied → Type 0
 AreOneEach count xs = (rack number : ℕ) → replies_to rack number xs ≡ once_below number (count rack)
 
--- the entries in front of the first gap
+-- the entries before the first gap
 abbrev pub filled : List (Option Entry) → List Entry
 filled [] = []
 filled (None ∷ cells) = []
@@ -67,7 +67,7 @@ filled (Some e ∷ cells) = e ∷ filled cells
 abbrev pub merge_of : List (Option Entry) → List (ℕ × Asked)
 merge_of row = map (λ (e : Entry). (slot_feed e.rack, e.request)) (filled row)
 
--- of each rack the replies in front of the first gap are those to a lawful merge of its feeds
+-- of each rack the replies before the first gap are those to a lawful merge of its feeds
 abbrev pub AreMergedRows : List (List (List Order)) → List (List (Option Entry)) → Type 0
 AreMergedRows racks table = AllZip (λ feeds row. IsLawfulMerge feeds (merge_of row)) racks table
 
@@ -91,7 +91,7 @@ abbrev pub IsNotHeld : Held → Replied → CollectFault → Type 0
 IsNotHeld b reply (Stranger back) = (back ≡ reply) × (HasRoom b.racks (slot_rack reply.rack) reply.number → ⊥)
 IsNotHeld b reply (Double back) = (back ≡ reply) × HasRoom b.racks (slot_rack reply.rack) reply.number × IsSome (held_at b (slot_rack reply.rack) reply.number)
 
--- of these replies one was refused, and those in front of it are held
+-- of these replies one was refused, and those before it are held
 pub record WasNotHeld (racks : List (List (List Order))) (b : Held) (fault : CollectFault) (xs : List Replied) : Type 0 where
   pub done : List Replied
   pub reply : Replied

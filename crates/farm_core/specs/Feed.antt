@@ -31,7 +31,7 @@ CountUp ns = (k x : ℕ) → get_elem? ns k ≡ some x → x ≡ k
 abbrev pub AreRising : List ℕ → Type 0
 AreRising ns = (j k x y : ℕ) → j < k → get_elem? ns j ≡ some x → get_elem? ns k ≡ some y → x < y
 
--- the answer of a close that was made, if it made it, stands in the seat
+-- the answer of a close that was made, if it made it, is in the seat
 abbrev pub IsMade : List ℕ → Option ℕ → List ℕ → Type 0
 IsMade was (Some n) made = made ≡ was ++ n ∷ []
 IsMade was None made = made ≡ was
@@ -42,7 +42,7 @@ refused_draws (Some right) knows = if knows then 1 else 0
 refused_draws None knows = 0
 
 -- the right is back, and unless the seat was told of a closing everything was put, of a list without a close; or the right was
--- spent on the close of the list, of which the seat knows, and everything in front of it was put
+-- spent on the close of the list, of which the seat knows, and everything before it was put
 abbrev pub IsRightLeft : TableId → SeatRecord → List Order → Type 0 → Option TableId → Option ℕ → SeatRecord → Type 0
 IsRightLeft gate was list All_put (Some right) close left = (right ≡ gate) × (close ≡ None) × (left.used ≡ was.used) × (left.made ≡ was.made) × (left.knows ≡ false → All_put × ¬ HasClose list)
 IsRightLeft gate was list All_put None close left = (left.used ≡ was.used + 1) × IsMade was.made close left.made × All_put × HasClose list × (left.knows ≡ true)
@@ -75,7 +75,7 @@ drawn_numbers draws = map (λ x. x.0) draws
 abbrev pub drawn_requests : Draws → List Asked
 drawn_requests draws = map (λ x. x.1) draws
 
--- this feed drew for all requests in front of its close
+-- this feed drew for all requests before its close
 abbrev pub DrewAll : Draws → List Order → Type 0
 DrewAll draws list = drawn_requests draws ≡ before_close list
 

@@ -16,7 +16,7 @@ abbrev pub of_feed : ℕ → List (ℕ × Asked) → List Asked
 of_feed feed [] = []
 of_feed feed (x ∷ xs) = if x.0 == feed then x.1 ∷ of_feed feed xs else of_feed feed xs
 
--- of this feed the merge has all requests in front of its close
+-- of this feed the merge has all requests before its close
 abbrev pub IsWhole : List (ℕ × Asked) → ℕ → List Order → Type 0
 IsWhole merge feed list = of_feed feed merge ≡ before_close list
 
@@ -53,7 +53,7 @@ AreMergedAnswers feeds answers = (merge : List (ℕ × Asked)) × IsLawfulMerge 
 abbrev pub AreAllMergedAnswers : List (List (List Order)) → List (List (ℕ × Outcome)) → Type 0
 AreAllMergedAnswers racks answers = AllZip AreMergedAnswers racks answers
 
--- a merge of one feed is what stands in front of its close
+-- a merge of one feed is what is before its close
 abbrev pub MergeOfOneIsIt : Type 0
 MergeOfOneIsIt = (list : List Order) (merge : List (ℕ × Asked)) → IsLawfulMerge (list ∷ []) merge → map (λ x. x.1) merge ≡ before_close list
 
@@ -61,7 +61,7 @@ MergeOfOneIsIt = (list : List Order) (merge : List (ℕ × Asked)) → IsLawfulM
 abbrev pub AnswersOfOneAreIts : Type 0
 AnswersOfOneAreIts = (list : List Order) (answers : List (ℕ × Outcome)) → AreMergedAnswers (list ∷ []) answers → AreAnswers (before_close list) (map (λ x. x.1) answers)
 
--- lists, each with the one of the same number behind it, where there is one
+-- lists, each with the one of the same number after it, where there is one
 abbrev pub joined : {A : Type 0} → List (List A) → List (List A) → List (List A)
 joined [] behind = []
 joined (xs ∷ lists) [] = xs ∷ lists
@@ -72,6 +72,6 @@ abbrev pub PiecesJoin : Type 0
 PiecesJoin = (feeds behind : List (List Order)) (merge more : List (ℕ × Asked)) → length feeds ≡ length behind → AreOpen feeds
     → IsLawfulMerge feeds merge → IsLawfulMerge behind more → IsLawfulMerge (joined feeds behind) (merge ++ more)
 
--- A lawful merge of feeds of which one has a close is one too of these feeds with whatever stands behind them.
+-- A lawful merge of feeds of which one has a close is one too of these feeds with whatever is after them.
 abbrev pub CloseEndsAll : Type 0
 CloseEndsAll = (feeds behind : List (List Order)) (merge : List (ℕ × Asked)) → HaveClose feeds → IsLawfulMerge feeds merge → IsLawfulMerge (joined feeds behind) merge

@@ -1,4 +1,4 @@
--- What stands in front of a list's close.
+-- What is before a list's close.
 use Rattle.std.specs.Prelude.{ℕ, ◌<◌, List, [], length, slice_index_or, Option, Some, None}
 use Rattle.std.specs.List.{Contains}
 use Rattle.lrc_code.specs.Lists.{requests_before_close}
@@ -11,7 +11,7 @@ abbrev pub asked_by : Order → Option Asked
 asked_by (Rebuild request) = Some request
 asked_by Close = None
 
--- the requests of orders in front of the first close, or all of them
+-- the requests of orders before the first close, or all of them
 abbrev pub before_close : List Order → List Asked
 before_close orders = requests_before_close asked_by orders
 

@@ -1,4 +1,4 @@
--- What stands before the first thread starts: gates, feeders rack by rack, and ends; and what the joined feeders of all racks put.
+-- What is before the first thread starts: gates, feeders rack by rack, and ends; and what the joined feeders of all racks put.
 use Rattle.std.specs.Prelude.{◌≡◌, ℕ, ◌*◌, ◌/◌, List, length, replicate, map, ◌+◌, ◌<◌, ◌≤◌, true}
 use mathlib.Core.Option.{some}
 use lib.ListN.{get_elem?}
@@ -44,7 +44,7 @@ HavePutRacks racks puts = (lists : List (List (List Order))) → AreAllFeeders l
 abbrev pub Given : Type 0
 Given = GateName × List Feeder
 
--- what stands for these racks before their threads start, and what their threads were given
+-- what there is for these racks before their threads start, and what their threads were given
 abbrev pub rooms_of : List RackRoom → List Given
 rooms_of racks = map (λ (r : RackRoom). (r.gate.now, r.feeders.items)) racks
 
@@ -93,7 +93,7 @@ pub record IsReady (room : Room) : Type 0 where
   pub space_racks : room.space.ends.racks ≡ length room.racks.items
   pub space_workers : room.space.ends.workers ≡ length room.workers.items
 
--- all threads of a room were started, each with what stands for it there
+-- all threads of a room were started, each with what it has there
 pub record AreStarted (room : Room) (started : Started) : Type 0 where
   pub collecting_is : started.collecting.promise.0.value ≡ room.desk
   pub working_are : started.all ≡ true → ends_of started.working.items ≡ room.workers.items

@@ -1,4 +1,4 @@
--- What the collector cleared, and what stands when all threads were joined.
+-- What the collector cleared, and what there is when all threads were joined.
 use Rattle.std.specs.Prelude.{◌≡◌, ℕ, ◌≤◌, List, [], ◌∷◌, ◌++◌, length, Option}
 use Rattle.std.specs.List.{sum_by, AllZip}
 use Rattle.lrc_code.specs.Requests.{Asked}

@@ -79,7 +79,7 @@ fn run_in<'s, 'a: 's, E, R: Threads + Wait + Sync, P: Pause>(
     }
 }
 
-// What `run` and `run_feeds` share: the board of all racks, on which the replies to a lawful merge of each rack's feeds stand.
+// What `run` and `run_feeds` share: the board of all racks, with the replies to a lawful merge of each rack's feeds.
 fn run_lists<'a, R: Threads + Wait + Sync, P: Pause>(
     rt: &R,
     alloc: Global,
@@ -134,7 +134,7 @@ fn answer_feeds(
 }
 
 /// Each rack's answers, in the order of its requests: for each request before the close of its rack's list, the
-/// answer that the code's equations leave. Fails for want of memory or of a thread alone.
+/// answer that the code's equations leave. Fails only if memory or a thread is refused.
 ///
 /// ```
 /// let answers = run(&rt, alloc, &racks, Settings::new(4, 16)?, &NoPause)?;
@@ -156,7 +156,7 @@ pub fn run<R: Threads + Wait + Sync, P: Pause>(
 }
 
 /// Each rack's answers, in the order of the numbers that its feeds drew, each with its feed's number: the answers to a lawful merge of
-/// its feeds. Fails for want of memory or of a thread alone.
+/// its feeds. Fails only if memory or a thread is refused.
 pub fn run_feeds<R: Threads + Wait + Sync, P: Pause>(
     rt: &R,
     alloc: Global,

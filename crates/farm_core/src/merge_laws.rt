@@ -1,7 +1,7 @@
 //! Laws of merges of feeds: each function's contract is one, over the definitions alone.
 ghost use Rattle.farm_core.specs.Merge.{MergeOfOneIsIt, AnswersOfOneAreIts, CloseEndsAll, PiecesJoin};
 
-/// A merge of one feed is what stands in front of its close.
+/// A merge of one feed is what is before its close.
 pub fn merge_of_one_is_it()
     ensures { MergeOfOneIsIt }
 {}
@@ -16,7 +16,7 @@ pub fn pieces_join()
     ensures { PiecesJoin }
 {}
 
-/// A piece that has a close ends a lawful merge: what stands behind it changes nothing.
+/// A piece that has a close ends a lawful merge: what is after it changes nothing.
 pub fn close_ends_all()
     ensures { CloseEndsAll }
 {}

@@ -83,7 +83,7 @@ fn put_total<T: Drop>(ended: &[EndedPut<T>]) -> u64
     total
 }
 
-// How many items were taken in all, as far as the counts tell.
+// How many items were taken in all, as far as the counts say.
 fn taken_total<T: Drop>(takers: &[TakeEnd<T>]) -> u64
     ensures { result ≤ sum_by (λ e. length e.taken) takers.now }
 {
@@ -107,7 +107,7 @@ fn conclude<'a>(all: HandedIn<'a>) -> Board<'a>
     board
 }
 
-/// What stands when all threads were joined.
+/// What is there when all threads were joined.
 #[derive(Drop)]
 pub(crate) struct Joined<'a> {
     pub all: HandedIn<'a>,

@@ -24,7 +24,7 @@ pub(crate) struct Shared<'s, R, P> {
 #[derive(Drop)]
 pub(crate) struct Refusals {
     pub collector: AtomicBool,
-    /// The number of the worker. Those in front of it may not have begun yet, and still work.
+    /// The number of the worker. Those before it may not have begun yet, and still work.
     pub worker: AtomicUsize,
     /// Feeders that haven't begun yet read it too, and put nothing either.
     pub feeder: AtomicBool,

@@ -84,7 +84,7 @@ module _ {T : Type 0} where
         r,
       )
 
-  -- an item of the list stands in it
+  -- an item of the list is in it
   pub times_here : (xs : List (Item T)) (i : ℕ) (y : Item T) → get_elem? xs i ≡ some y → 0 < times_of (sender_of y) (number_of y) xs
   times_here xs i y at = let a = total_part (λ (x : Item T). cond (nat_eq (sender_of x) (sender_of y) && nat_eq (number_of x) (number_of y)) 1 0) xs i y at in let b = itself (sender_of y) (number_of y) in omega arith
     where

@@ -1,4 +1,4 @@
--- How often a number stands in a list.
+-- How often a number is in a list.
 use Rattle.std.proofs.Common.{◌≡◌, ◌≢◌, ℕ, zero, suc, ◌+◌, ◌<◌, ◌≤◌, List, [], ◌∷◌, ◌++◌, length, get_or, true, false, refl, arith, nat_eq, cond}
 use Rattle.std.specs.Prelude.{All}
 use Rattle.std.proofs.lemmas.List.Sums.{sum_by-cons, sum_by-append}

@@ -41,7 +41,7 @@ module _ {T : Type 0} where
   pub left_take_is : (v w : EndRecord T) (E parts parts' : ℕ) → v ≡ end_record E parts [] [] → parts - 1 ≡ parts' → w ≡ end_record v.ends (v.parts - 1) v.puts v.taken → w ≡ end_record E parts' [] []
   left_take_is v w E parts parts' is less cut = cut ∙ (ap (λ (u : EndRecord T). end_record u.ends (u.parts - 1) u.puts u.taken) is ∙ (λ i. end_record {T = T} E (less i) [] []))
 
-  -- the last of new ends, and those in front of it
+  -- the last of new ends, and those before it
   pub popped_put : (lane : LaneName T) (n : ℕ) (all rest : List (PutView T)) (e : PutView T) → AreNewPutEnds lane (n + 1) all → all ≡ rest ++ e ∷ [] → (e ≡ new_put lane n) × AreNewPutEnds lane n rest
   popped_put lane n all rest e was is = let count = (let a = more_items rest all e is in let b = was.count in let c : length rest ≡ n = omega arith in c) in (
     was.each n e (subst (λ l. get_elem? l n ≡ some e) (sym is) (at_back rest (e ∷ []) 0 e refl n (omega arith))),

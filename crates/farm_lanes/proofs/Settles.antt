@@ -181,7 +181,7 @@ module _ {T : Type 0} where
         rises = λ t ys at. let u = from_map (λ (e : TakeView T). e.taken) takers t ys at in subst Rises u.2 (g.rises t u.0 u.1);
       }
 
-      -- what was taken stands in front of its sender's prefix
+      -- what was taken is before its sender's prefix
       taken_below : (t : ℕ) (ys : List (Item T)) → get_elem? (takes_of takers) t ≡ some ys → (i : ℕ) (y : Item T) → get_elem? ys i ≡ some y → number_of y < whole.prefix (sender_of y)
       taken_below t ys at i y there =
           let a = total_part (times_of (sender_of y) (number_of y)) (takes_of takers) t ys at in

@@ -27,7 +27,7 @@ pub record IsLawful (size : GateSize) (closed : Bool) (n : ℕ) (seats : List Se
   pub answered : Each (λ s. All (λ m. m ≡ n) s.made) seats
   pub rights : sum_by (λ (s : SeatRecord). s.held) seats + sum_by (λ (s : SeatRecord). s.used) seats ≡ size.rights
 
--- What any one seat's record satisfies in a lawful gate, at any time. No number stands twice in it. It made at most one close, and
+-- What any one seat's record satisfies in a lawful gate, at any time. No number is in it twice. It made at most one close, and
 -- its numbers are below the answer. Where its share is the whole total, its numbers are those below some n, each once, and n is what
 -- its close was answered. Where it used up all rights of the gate, it made the close.
 pub record IsSound (size : GateSize) (s : SeatRecord) : Type 0 where

@@ -31,7 +31,7 @@ module _ {T : Type 0} where
   abbrev pub from_sender : ℕ → List (Item T) → List (Item T)
   from_sender s xs = filter (λ x. sender_of x == s) xs
 
-  -- how often the item i of the sender s stands in the list
+  -- how often the item i of the sender s is in the list
   abbrev pub times_of : ℕ → ℕ → List (Item T) → ℕ
   times_of s i xs = count_by (λ x. (sender_of x == s) && (number_of x == i)) xs
 
@@ -39,7 +39,7 @@ module _ {T : Type 0} where
   abbrev pub IsNumbered : ℕ → List (Item T) → Type 0
   IsNumbered s xs = EachAt (λ i x. (sender_of x ≡ s) × (number_of x ≡ i)) xs
 
-  -- no item stands after an end mark
+  -- no item is after an end mark
   abbrev pub EndsLast : List (Item T) → Type 0
   EndsLast xs = EachAt (λ i x. is_end x ≡ true → i + 1 ≡ length xs) xs
 
@@ -47,7 +47,7 @@ module _ {T : Type 0} where
   abbrev pub Rises : List (Item T) → Type 0
   Rises xs = (i j : ℕ) (x y : Item T) → i < j → get_elem? xs i ≡ some x → get_elem? xs j ≡ some y → sender_of x ≡ sender_of y → number_of x < number_of y
 
-  -- the item stands at its number in its sender's list
+  -- the item is at its number in its sender's list
   abbrev pub WasPut : List (List (Item T)) → Item T → Type 0
   WasPut puts x = (xs : List (Item T)) × (get_elem? puts (sender_of x) ≡ some xs) × (get_elem? xs (number_of x) ≡ some x)
 

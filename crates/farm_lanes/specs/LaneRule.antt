@@ -26,15 +26,15 @@ module _ {T : Type 0} where
   put_weight g ps = sum_by (λ (p : ℕ × List (Item T)). sum_by g p.1) ps
 
   -- What a record satisfies in a lane with so many ends: `sent` has each sender's list, and `prefix` how many of it were taken. Its
-  -- lists are those of their senders, and what was taken stands in front of its sender's prefix.
+  -- lists are those of their senders, and what was taken is before its sender's prefix.
   pub record IsLawfulEnd (ends : ℕ) (sent : ℕ → List (Item T)) (prefix : ℕ → ℕ) (v : EndRecord T) : Type 0 where
     pub same_ends : 0 < v.parts → v.ends ≡ ends
     pub idle : v.parts ≡ 0 → (v.puts ≡ []) × (v.taken ≡ [])
     pub puts : (k : ℕ) (p : ℕ × List (Item T)) → get_elem? v.puts k ≡ some p → p.1 ≡ sent p.0
     pub taken : Each (λ x. (number_of x < prefix (sender_of x)) × (get_elem? (sent (sender_of x)) (number_of x) ≡ some x)) v.taken
 
-  -- Between any two steps each sender's list stands in one record at most, numbered from 0. Of each sender the queue holds, in order,
-  -- what stands behind its prefix, and over all records the items in front of it were taken, each once. Whatever weights items have,
+  -- Between any two steps each sender's list is in one record at most, numbered from 0. Of each sender the queue holds, in order,
+  -- what is after its prefix, and over all records the items before it were taken, each once. Whatever weights items have,
   -- those taken and those in the queue make up those put.
   pub record KeepsLane (items : List (Item T)) (views : List (EndRecord T)) : Type 0 where
     pub ends : ℕ

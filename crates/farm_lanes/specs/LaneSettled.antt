@@ -11,7 +11,7 @@ module _ {T : Type 0} where
   weight g lists = sum_by (λ (xs : List (Item T)). sum_by g xs) lists
 
   -- The record is lawful, and the sums are those of the lists. Where a sender's end mark was taken, all that it put was; where as
-  -- many items were taken as were put, everything was. `left` has what was not taken: of each sender what stands behind its prefix.
+  -- many items were taken as were put, everything was. `left` has what was not taken: of each sender what is after its prefix.
   -- Whatever weights items have, those taken and those left make up those put.
   pub record IsSettled (put taken : ℕ) (puts takes : List (List (Item T))) : Type 0 where
     pub prefix : ℕ → ℕ

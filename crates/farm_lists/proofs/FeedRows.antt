@@ -20,7 +20,7 @@ listed_of row = row.listed
 about : ℕ → List Row → List ListedRequest
 about feed rows = map listed_of (filter (λ row. row.feed == feed) rows)
 
--- the feed's first requests, as many as answers of the feed stand in front of number n
+-- the feed's first requests, as many as answers of the feed are before number n
 firsts : List (List ListedRequest) → List Answer → ℕ → ℕ → List ListedRequest
 firsts requests answers feed n = take (position answers feed n) (get_or requests feed [])
 

@@ -4,7 +4,7 @@ use Rattle.std.proofs.lemmas.List.{get_or-map, length-drop, length-take-le}
 use Rattle.std.proofs.lemmas.Simd.{get_or-chunk}
 use Rattle.sha2.specs.Sha256.{sha256}
 
--- a digest of some neighbours stands at its fragment's place
+-- a digest of some neighbours is at its fragment's place
 pub digest_at : (fragments : List (Bor (List ℕ))) (start n k : ℕ) → k < n → start + n ≤ length fragments
     → get_or (map (λ f. sha256 f.now) (take n (drop start fragments))) k [] ≡ get_or (map (λ f. sha256 f.now) fragments) (start + k) []
 digest_at fragments start n k within fits =

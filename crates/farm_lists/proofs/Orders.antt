@@ -1,4 +1,4 @@
--- One more record behind those so far.
+-- One more record after those so far.
 use Rattle.std.proofs.Common.{◌≡◌, ◌<◌, ◌≤◌, ◌+◌, ◌++◌, ◌∙◌, ℕ, Bool, true, false, cond, List, [], ◌∷◌, Result, Ok, Err, length, refl, sym, ap, arith}
 use Rattle.std.proofs.lemmas.Bool.{le-ltb, lt-ltb, ltb-false}
 use Rattle.std.specs.Prelude.{nat_lt, not}
@@ -16,7 +16,7 @@ use Rattle.farm_lists.proofs.Fuel.{records_are, records_begin}
 abbrev Rows : Type 0
 Rows = List (List (List ℕ))
 
--- behind some orders, one more
+-- after some orders, one more
 abbrev pub then_one : List Record → Result Record ListFault → Result (List Record) ListFault
 then_one os (Ok o) = Ok (os ++ o ∷ [])
 then_one os (Err e) = Err e
@@ -65,7 +65,7 @@ orders_push coded n (r ∷ rows) os row e =
     let same : n + length (r ∷ rows) ≡ (n + 1) + length rows = omega arith in
     rw same (over (nat_lt order_limit n) (order_at coded n r) (orders coded (n + 1) (rows ++ row ∷ [])) p.one p.rest os (nat_lt order_limit ((n + 1) + length rows)) (order_at coded ((n + 1) + length rows) row) p.within p.first more p.whole)
 
--- one more record behind a header and the orders so far
+-- one more record after a header and the orders so far
 pub push_any : (coded : Bool) (rows : Rows) (os : List Record) (row : List (List ℕ)) (number : ℕ) → length rows ≡ number → (number ≡ 0 → ⊥) → SoFar coded rows os
     → list_of_rows (rows ++ row ∷ []) ≡ after coded number os row
 push_any coded [] os row number e some so = absurd (some (sym e))

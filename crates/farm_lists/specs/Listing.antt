@@ -17,7 +17,7 @@ use Rattle.farm_lists.specs.declared.lists.listing.Record.TheVariants as rec
 use Rattle.farm_lists.specs.declared.lists.listing.ListFault.{ListFault}
 use Rattle.farm_lists.specs.declared.lists.listing.ListFault.TheVariants as fault
 
--- how many bytes a list may have, and how many records behind its header
+-- how many bytes a list may have, and how many records after its header
 abbrev pub list_limit : ℕ
 list_limit = 1048576
 
@@ -45,7 +45,7 @@ rebuild_at n (Some r) = option_map_or (λ e. Err (fault.Refused n e)) (listed_re
 abbrev pub close_at : ℕ → Bool → Result Record ListFault
 close_at n is_close = if is_close then Ok rec.Close else Err (fault.BadRecord n)
 
--- the order that five fields of record n give, over the code that is named, where one is, and with nothing else behind
+-- the order that five fields of record n give, over the code that is named, where one is, and with nothing else after
 abbrev pub order_in : Option CodeName → Bool → ℕ → List ℕ → List ℕ → List ℕ → List ℕ → List ℕ → Result Record ListFault
 order_in code blank n word stripe target size survivors =
     if bytes_eq word (codes "rebuild") then rebuild_at n (option_and_then (λ c. listed c stripe target size survivors) code)
@@ -76,7 +76,7 @@ abbrev pub orders : Bool → ℕ → List (List (List ℕ)) → Result (List Rec
 orders coded n [] = Ok []
 orders coded n (row ∷ rows) = if nat_lt order_limit n then Err fault.TooManyOrders else and_then (order_at coded n row) (orders coded (n + 1) rows)
 
--- the orders of a header and the records behind it
+-- the orders of a header and the records after it
 abbrev pub list_of_rows : List (List (List ℕ)) → Result (List Record) ListFault
 list_of_rows [] = Err fault.BadHeader
 list_of_rows (row ∷ rows) = if pointwise bytes_eq row header then orders false 1 rows

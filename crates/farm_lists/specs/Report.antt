@@ -22,7 +22,7 @@ abbrev pub listed_by : Record → Option ListedRequest
 listed_by (rec.Rebuild r) = Some r
 listed_by rec.Close = None
 
--- the requests in front of the first close
+-- the requests before the first close
 abbrev pub listed_before_close : List Record → List ListedRequest
 listed_before_close list = requests_before_close listed_by list
 

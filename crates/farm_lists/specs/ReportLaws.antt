@@ -59,7 +59,7 @@ FilesOfOneFeedAreOfItsList = (lists : List (List Record)) (answers : List (List 
 
 -- ---- the rows of a rack
 
--- where the answers fit the feeds there is a row for each answer, in order, which tells its feed and its outcome
+-- where the answers fit the feeds there is a row for each answer, in order, which says its feed and its outcome
 abbrev pub RowsTellTheAnswers : Type 0
 RowsTellTheAnswers = (requests : List (List ListedRequest)) (unread : List (List (List Place))) (answers : List (ℕ × Outcome))
     → FitsFeeds (map length requests) (map (λ a. a.0) answers) → AllZip (λ rs us. length us ≡ length rs) requests unread

@@ -11,7 +11,7 @@ use Rattle.farm_lists.specs.declared.reports.report.ReportShape.{ReportShape}
 abbrev pub member : {A : Type 0} → List (List A) → ℕ → ℕ → Option A
 member lists i j = option_and_then (λ list. slice_get list j) (slice_get lists i)
 
--- how many of the answers in front of number n are of this feed: the position, in the feed, of the next request that is answered
+-- how many of the answers before number n are of this feed: the position, in the feed, of the next request that is answered
 abbrev pub position : List (ℕ × Outcome) → ℕ → ℕ → ℕ
 position answers feed n = count_by (λ a. a.0 == feed) (take n answers)
 

@@ -92,7 +92,7 @@ fn push_rack<'a>(
 }
 
 /// The files of all racks, in the order in which they are written: for each rack the rebuilt fragments in the order of its
-/// numbers, then its report. The lists and what was left out of their requests stand feed by feed. The digests are made in
+/// numbers, then its report. The lists and what was left out of their requests are feed by feed. The digests are made in
 /// at most this many threads.
 pub fn make_files<'a, R: Threads + Sync>(
     rt: &R,

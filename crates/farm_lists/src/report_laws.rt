@@ -11,7 +11,7 @@ pub fn files_of_one_feed_are_of_its_list()
     ensures { FilesOfOneFeedAreOfItsList }
 {}
 
-/// Where a rack's answers fit its feeds there is a row for each answer, in order, which tells its feed and its outcome.
+/// Where a rack's answers fit its feeds there is a row for each answer, in order, which says its feed and its outcome.
 pub fn rows_tell_the_answers()
     ensures { RowsTellTheAnswers }
 {}

@@ -78,7 +78,7 @@ fn splits_the_budget(rt: HostRuntime) -> Result<(), Fail> {
     Ok(())
 }
 
-// Only the first of two closes is told how many numbers were given.
+// Only the first of two closes says how many numbers were given.
 #[test]
 fn closes_once(rt: HostRuntime) -> Result<(), Fail> {
     let (gate, mut seats, mut rights) = Gate::open(rt.alloc(), 1, 2)?;
@@ -228,8 +228,8 @@ pub(crate) fn count_up(numbers: &[u64]) -> bool {
     true
 }
 
-// Four threads with 1,000 draws each, the seats joined, and then the close: how the seat stands, the close's answer, and a draw
-// behind it.
+// Four threads with 1,000 draws each, the seats joined, and then the close: the state of the seat, the close's answer, and a draw
+// after it.
 #[derive(Drop)]
 struct FourDrawn {
     numbers: Vec<u64>,
@@ -379,7 +379,7 @@ fn gives_the_numbers_below_the_closes_answer(rt: HostRuntime) -> Result<(), Fail
     Ok(())
 }
 
-// Where the gate's room is refused, that is told, and nothing else. The heap grows by steps
+// Where the gate's room is refused, that is said, and nothing else. The heap grows by steps
 // smaller than any allocation, so that each allocation in turn is the one that is refused.
 #[test]
 fn tells_want_of_memory(rt: HostRuntime) -> Result<(), Fail> {

@@ -440,7 +440,7 @@ fn takes_each_item_once(rt: HostRuntime) -> Result<(), Fail> {
     Ok(())
 }
 
-// Where the lane's room is refused, that is told, and nothing else. The heap grows by steps
+// Where the lane's room is refused, that is said, and nothing else. The heap grows by steps
 // smaller than any allocation, so that each allocation in turn is the one that is refused.
 #[test]
 fn tells_want_of_memory(rt: HostRuntime) -> Result<(), Fail> {

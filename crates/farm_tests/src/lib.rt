@@ -1,4 +1,4 @@
-//! Tests of the public calls of `farm_lanes`, `sha256_lanes` and `farm_core`. They stand in a crate of their own, so that a check
+//! Tests of the public calls of `farm_lanes`, `sha256_lanes` and `farm_core`. They are in a crate of their own, so that a check
 //! of those crates proves them once and not a second time with their tests.
 #![tactic(auto)]
 

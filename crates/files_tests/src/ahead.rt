@@ -1,4 +1,4 @@
-//! Files that a folder's shelf reads ahead, in one thread to sixteen, and what a shelf is told of them.
+//! Files that a folder's shelf reads ahead, in one thread to sixteen, and what a shelf is asked for.
 ghost use Rattle.std.specs.Prelude.{None};
 
 use crate::shared::{
@@ -49,7 +49,7 @@ fn names(alloc: Global, first: usize, end: usize) -> Result<Vec<(String, usize)>
     Ok(names)
 }
 
-// Whether a file's first bytes, four at most, are told, or that it isn't there.
+// Whether a file's first bytes, four at most, are given, or that it isn't there.
 fn tells<S: Shelf>(shelf: &mut S, alloc: Global, number: usize) -> Result<bool, AllocError> {
     let name = format!(in alloc; "{number}")?;
     if number % 10 == 7 {
@@ -93,7 +93,7 @@ fn files_read_ahead(rt: HostRuntime) -> Result<(), AllocError> {
     Ok(())
 }
 
-// What was read ahead is told once, of the next file alone, and not behind a write.
+// What was read ahead is given once, of the next file alone, and not after a write.
 #[test]
 fn another_read_or_a_write(rt: HostRuntime) -> Result<(), AllocError> {
     let alloc = rt.alloc();
@@ -136,7 +136,7 @@ fn failures_of_reads_ahead(rt: HostRuntime) -> Result<(), AllocError> {
     Ok(())
 }
 
-// A shelf in memory reads nothing ahead, so its call that fails is the read that it was told.
+// A shelf in memory reads nothing ahead, so its call that fails is the read that it was asked for.
 #[test]
 fn memory_reads_nothing_ahead(rt: HostRuntime) -> Result<(), AllocError> {
     let alloc = rt.alloc();
@@ -149,12 +149,12 @@ fn memory_reads_nothing_ahead(rt: HostRuntime) -> Result<(), AllocError> {
     Ok(())
 }
 
-// A shelf that compares the files that are read with those that it was told ahead, and writes none. Its device never fails.
+// A shelf that compares the files that are read with those that it was asked for ahead, and writes none. Its device never fails.
 #[derive(Drop)]
 struct ToldShelf {
     shelf: MemoryShelf,
     told: Vec<(String, usize)>,
-    // How many were read as they were told, in order.
+    // How many were read as they were asked for, in order.
     read: usize,
 }
 

@@ -11,7 +11,7 @@ use std::thread::Threads;
 
 const HEADER: &[u8] = b"order,stripe,target,length,survivors\n";
 
-// Requests of one byte, four of them in front of a close. Each lists three bytes of survivors.
+// Requests of one byte, four of them before a close. Each lists three bytes of survivors.
 const LIST: &[u8] = b"order,stripe,target,length,survivors
 rebuild,a,x0,1,x1 x2 px
 rebuild,b,x0,1,x1 x2 px
@@ -189,7 +189,7 @@ impl Pause for Told {
     }
 }
 
-// The numbers that tell each request in front of a close once, and each request and close.
+// The numbers that name each request before a close once, and each request and close.
 const TOLD_REQUESTS: u64 = 11_110_111_101_111;
 
 const TOLD_ALL: u64 = 111_111_111_111_111;
@@ -214,7 +214,7 @@ impl Told {
 
 const CUTS: &[u64] = &[1, 6, 12, u64::MAX];
 
-// However the racks are cut, a pause is told each request once, by its rack's number and its own, and each close.
+// However the racks are cut, a pause is given each request once, by its rack's number and its own, and each close.
 #[test]
 fn a_pause_is_told_the_numbers_of_all_lists(rt: HostRuntime) -> Result<(), AllocError> {
     for most in CUTS {
@@ -225,7 +225,7 @@ fn a_pause_is_told_the_numbers_of_all_lists(rt: HostRuntime) -> Result<(), Alloc
     Ok(())
 }
 
-// Twice a hundred requests whose survivors are absent, and a small one behind them.
+// Twice a hundred requests whose survivors are absent, and a small one after them.
 fn long_list(alloc: Global) -> Result<Vec<u8>, AllocError> {
     let mut list = Vec::from_slice(alloc, HEADER)?;
     add_requests(&mut list, b"rebuild,a,x0,1,x1 x2 px\n")?;
@@ -240,7 +240,7 @@ fn add_requests(list: &mut Vec<u8>, small: &[u8]) -> Result<(), AllocError> {
     list.extend_from_slice(small)
 }
 
-// Two hundred requests whose survivors are absent list more than a batch. The requests between and behind them are answered.
+// Two hundred requests whose survivors are absent list more than a batch. The requests between and after them are answered.
 #[test]
 fn a_list_of_several_batches(rt: HostRuntime) -> Result<(), AllocError> {
     let mut input = shelf_of(rt.alloc(), &FRAGMENTS)?;

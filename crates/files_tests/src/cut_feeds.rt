@@ -36,10 +36,10 @@ const RACKS: &[&[&str]] = &[
     // no close, and feeds of unequal length
     &["abcd", "a", ""],
     &["", "abcdabcd"],
-    // a close in a later piece, behind its feed's last request
+    // a close in a later piece, after its feed's last request
     &["abcd.", "abcdabcd"],
     &["abcdabcd", "abc.d", "ab"],
-    // a close alone, and requests behind a close
+    // a close alone, and requests after a close
     &[".", "abcd"],
     &["abcd", ".abcd", "dcba", ""],
     // two closes
@@ -94,7 +94,7 @@ fn answer<R: Threads + Wait + Sync>(
     }
 }
 
-// The names in front of a feed's close.
+// The names before a feed's close.
 fn served(orders: &str) -> &[u8] {
     let bytes = orders.as_bytes();
     for index in 0..bytes.len() {
@@ -187,7 +187,7 @@ fn racks_of_several_feeds_in_batches_of_any_size(rt: HostRuntime) -> Result<(), 
     Ok(())
 }
 
-// A close that a piece ends is not passed: with batches of one position each, no other feed goes on behind it by more than that position.
+// A close that a piece ends is not passed: with batches of one position each, no other feed goes on past it by more than that position.
 #[test]
 fn no_piece_is_run_behind_a_close(rt: HostRuntime) -> Result<(), AllocError> {
     let answered = answer(&rt, rt.alloc(), &["ab.", "abcdabcd"], 2, 0)?;

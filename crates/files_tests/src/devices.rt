@@ -36,7 +36,7 @@ const REPORTS: &[(u64, &[u8])] = &[
     (5, REPORT_WITHOUT_PX),
 ];
 
-// A failed read of a list, or of a feed's list behind it, ends serving; one of a fragment leaves the survivor out. The run makes six
+// A failed read of a list, or of a feed's list after it, ends serving; one of a fragment leaves the survivor out. The run makes six
 // reads: of the list, of a second feed and of a second rack, which are absent, and of three fragments.
 #[test]
 fn failed_reads(rt: HostRuntime) -> Result<(), AllocError> {
@@ -111,7 +111,7 @@ fn failed_writes(rt: HostRuntime) -> Result<(), AllocError> {
     Ok(())
 }
 
-// The lists are read in order, each tested ahead of the next read: of a failed read and a refused list the first in that order is told.
+// The lists are read in order, each tested ahead of the next read: of a failed read and a refused list the first in that order is reported.
 // The list of rack 1 is refused; the reads ahead of it are of the list of rack 0 and of its second feed, which is absent.
 #[test]
 fn failed_read_and_refused_list(rt: HostRuntime) -> Result<(), AllocError> {

@@ -16,7 +16,7 @@ const ABC: [u8; 32] =
 enum Lengths {
     // All of one length.
     Equal,
-    // One within the first eight is longer, and one behind them empty.
+    // One within the first eight is longer, and one after them empty.
     Broken,
     // No two neighbours have one length.
     Mixed,

@@ -43,7 +43,7 @@ fn reported_one_of(run: &Run, reports: &[&[u8]]) -> bool {
     false
 }
 
-// Lists beside that of rack 0, and the report where its request alone is answered. Feeds behind one that is absent aren't read.
+// Lists beside that of rack 0, and the report where its request alone is answered. Feeds after one that is absent aren't read.
 const WITHOUT_REQUESTS: &[(&[(&str, &[u8])], &[u8])] = &[
     (&[("rack0.feed1.csv", HEADER)], FED_REPORT),
     (
@@ -94,7 +94,7 @@ fn requests_of_a_second_feed(rt: HostRuntime) -> Result<(), AllocError> {
     Ok(())
 }
 
-// The reports where either feed is answered behind the other, or the second alone.
+// The reports where either feed is answered after the other, or the second alone.
 const SECOND: &[u8] = b"number,feed,stripe,target,length,outcome,digest,unread
 0,1,abc,x0,3,rebuilt,ba7816bf8f01cfea414140de5dae2223b00361a396177a9cb410ff61f20015ad,
 ";
@@ -114,13 +114,13 @@ fn answered_one(run: &Run) -> bool {
     run.gave(1, 1, &[], &["rack0-1.abc.x0"]) && reported_one_of(run, &[FED_REPORT, SECOND])
 }
 
-// Whether one feed was answered behind the other.
+// Whether one feed was answered after the other.
 fn answered_both(run: &Run) -> bool {
     run.gave(1, 2, &[("rack0-1.abc.x0", b"abc")], &[])
         && reported_one_of(run, &[FIRST_THEN_SECOND, SECOND_THEN_FIRST])
 }
 
-// Each feed has a close behind one request. Either feed is whole, and of the other none or one is answered, in any order.
+// Each feed has a close after one request. Either feed is whole, and of the other none or one is answered, in any order.
 #[test]
 fn two_feeds_with_closes(rt: HostRuntime) -> Result<(), AllocError> {
     let mut input = input_with(rt.alloc(), &[("rack0.feed1.csv", LIST)])?;
@@ -132,7 +132,7 @@ fn two_feeds_with_closes(rt: HostRuntime) -> Result<(), AllocError> {
     Ok(())
 }
 
-// Holds the feeder of the second feed ahead of its first order until that of the first is behind its own.
+// Holds the feeder of the second feed ahead of its first order until that of the first has passed its own.
 #[derive(Drop)]
 struct FirstCloses {
     behind: AtomicBool,
@@ -188,7 +188,7 @@ fn is_closed_by_first<R: Threads + Wait + Sync>(
     )
 }
 
-// The close of a feed is handed on. A request that is left without an answer still tells that its rack has codes.
+// The close of a feed is handed on. A request that is left without an answer still says that its rack has codes.
 #[test]
 fn close_of_a_feed_is_handed_on(rt: HostRuntime) -> Result<(), AllocError> {
     assert!(&rt; is_closed_by_first(&rt, rt.alloc(), LIST, EMPTY_FED_REPORT)?);
@@ -196,7 +196,7 @@ fn close_of_a_feed_is_handed_on(rt: HostRuntime) -> Result<(), AllocError> {
     Ok(())
 }
 
-// Lists beside that of rack 0, a call of their device that fails, and the fault. A list that is refused is told before the next
+// Lists beside that of rack 0, a call of their device that fails, and the fault. A list that is refused is reported before the next
 // feed's, or the next rack's, is read; that of a fifth feed isn't tested.
 const REFUSED: &[(&[(&str, &[u8])], u64, ServeFault)] = &[
     (
@@ -308,7 +308,7 @@ fn most_lists(alloc: Global) -> Result<MemoryShelf, AllocError> {
     Ok(input)
 }
 
-// Each rack's reads are five, and there is one behind them all.
+// Each rack's reads are five, and there is one after them all.
 #[test]
 fn most_feeds(rt: HostRuntime) -> Result<(), AllocError> {
     let mut input = most_lists(rt.alloc())?;
@@ -336,8 +336,8 @@ fn input_of_both_codes(alloc: Global, lists: &[(&str, &[u8])]) -> Result<MemoryS
     Ok(input)
 }
 
-// Racks of both codes: a list of the (12,2,2) code alone, behind one without requests, and one of the (6,2,2) code; and a list whose
-// (12,2,2) request stands behind its close.
+// Racks of both codes: a list of the (12,2,2) code alone, after one without requests, and one of the (6,2,2) code; and a list whose
+// (12,2,2) request is after its close.
 const LISTS_OF_CODES: &[(&str, &[u8])] = &[
     ("rack0.csv", WIDE_LIST),
     ("rack1.csv", HEADER),

@@ -1,4 +1,4 @@
-//! Tests of the public calls of `farm_lists`, `farm_shelves` and `farm_files`, with the bytes and digests of the formats. They stand
+//! Tests of the public calls of `farm_lists`, `farm_shelves` and `farm_files`, with the bytes and digests of the formats. They are
 //! in a crate of their own, so that a check of those crates proves them once and not a second time with their tests.
 #![tactic(auto)]
 

@@ -93,7 +93,7 @@ fn links_read_ahead(rt: HostRuntime) -> Result<(), AllocError> {
     Ok(())
 }
 
-// Lists that can't be read end the work, wherever they stand. Racks that follow an absent list are not served.
+// Lists that can't be read end the work, wherever they are. Racks that follow an absent list are not served.
 #[test]
 fn lists_that_are_links(rt: HostRuntime) -> Result<(), AllocError> {
     let alloc = rt.alloc();

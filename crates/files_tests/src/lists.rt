@@ -8,7 +8,7 @@ const HEADER: &[u8] = b"order,stripe,target,length,survivors\n";
 
 const CODED_HEADER: &[u8] = b"order,stripe,target,length,survivors,code\n";
 
-// A header and these bytes behind it.
+// A header and these bytes after it.
 fn list_with(alloc: Global, header: &[u8], records: &[u8]) -> Result<Vec<u8>, AllocError> {
     let mut bytes = Vec::from_slice(alloc, header)?;
     bytes.extend_from_slice(records)?;
@@ -40,7 +40,7 @@ const NOT_LOST: ListFault = ListFault::Refused {
     fault: RequestFault::NotLost,
 };
 
-// Records behind the header without codes, and their fault.
+// Records after the header without codes, and their fault.
 const FAULTS: &[(&[u8], ListFault)] = &[
     (b"rebuild,abc,x0,3", BAD_FIRST),
     (b"rebuild,abc,x3,3,", BAD_FIRST),
@@ -71,7 +71,7 @@ const FAULTS: &[(&[u8], ListFault)] = &[
     (b"rebuild,,x0,3,", BAD_STRIPE),
 ];
 
-// Records behind the header with codes: each has six fields, and each name is one of its code's.
+// Records after the header with codes: each has six fields, and each name is one of its code's.
 const FAULTS_WITH_CODES: &[(&[u8], ListFault)] = &[
     (b"rebuild,abc,x0,3,x1", BAD_FIRST),
     (b"rebuild,abc,x0,3,x1,", BAD_FIRST),
@@ -264,7 +264,7 @@ fn limit_of_bytes(rt: HostRuntime) -> Result<(), AllocError> {
     Ok(())
 }
 
-// How many records are read of the greatest number of closes with these bytes behind them.
+// How many records are read of the greatest number of closes with these bytes after them.
 fn count_behind_closes(alloc: Global, last: &[u8]) -> Result<Result<usize, ListFault>, AllocError> {
     let mut bytes = Vec::from_slice(alloc, HEADER)?;
     for _ in 0..4096 {
@@ -274,7 +274,7 @@ fn count_behind_closes(alloc: Global, last: &[u8]) -> Result<Result<usize, ListF
     Ok(count_of(alloc, bytes.as_slice()))
 }
 
-// The record behind the greatest number of them is one too many, whatever it is.
+// The record after the greatest number of them is one too many, whatever it is.
 #[test]
 fn limit_of_records(rt: HostRuntime) -> Result<(), AllocError> {
     let alloc = rt.alloc();
@@ -327,7 +327,7 @@ fn whole_at(length: usize) -> Option<(usize, usize)> {
     None
 }
 
-// Whether this is what the first bytes of the list give, as many as are told.
+// Whether this is what the first bytes of the list give, as many as are given.
 fn is_of_first_bytes(read: &Result<Vec<Record>, ListFault>, length: usize) -> bool {
     match (read, whole_at(length)) {
         (Ok(list), Some((records, survivors))) => {
@@ -338,7 +338,7 @@ fn is_of_first_bytes(read: &Result<Vec<Record>, ListFault>, length: usize) -> bo
     }
 }
 
-// A list that is cut behind each of its bytes.
+// A list that is cut after each of its bytes.
 #[test]
 fn lists_cut_short(rt: HostRuntime) {
     assert!(&rt; LIST.len() == 109);

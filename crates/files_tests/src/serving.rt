@@ -16,7 +16,7 @@ const HEADER: &[u8] = b"order,stripe,target,length,survivors\n";
 // Numbers of workers, and capacities of the queue.
 const SETTINGS: &[(usize, usize)] = &[(2, 1), (1, 1), (16, 1024)];
 
-// Two requests and two closes in turn: one answer, with any settings. A report that stands there is replaced.
+// Two requests and two closes in turn: one answer, with any settings. A report that is there is replaced.
 #[test]
 fn one_fragment_and_its_report(rt: HostRuntime) -> Result<(), AllocError> {
     let standing: &[(&str, &[u8])] = &[("rack0.csv", b"kept"), ("rack0.report.csv", b"replaced")];
@@ -35,7 +35,7 @@ fn one_fragment_and_its_report(rt: HostRuntime) -> Result<(), AllocError> {
     Ok(())
 }
 
-// The list with a byte order mark, and a carriage return in front of each line feed.
+// The list with a byte order mark, and a carriage return before each line feed.
 fn marked_list(alloc: Global) -> Result<Vec<u8>, AllocError> {
     let mut list = Vec::from_slice(alloc, b"\xef\xbb\xbf")?;
     for byte in LIST {
@@ -188,7 +188,7 @@ fn place(
 
 const WORKERS: &[usize] = &[1, 2, 3, 5, 16];
 
-// However many workers there are, each digest stands in the row of its own fragment.
+// However many workers there are, each digest is in the row of its own fragment.
 #[test]
 fn digests_with_any_number_of_workers(rt: HostRuntime) -> Result<(), AllocError> {
     let mut input = five_stripes(rt.alloc())?;
@@ -200,7 +200,7 @@ fn digests_with_any_number_of_workers(rt: HostRuntime) -> Result<(), AllocError>
     Ok(())
 }
 
-// Counts how often it was called ahead of a request and behind one.
+// Counts how often it was called ahead of a request and after one.
 #[derive(Drop)]
 struct CountingPause {
     before: AtomicU64,
@@ -217,7 +217,7 @@ impl Pause for CountingPause {
     }
 }
 
-// The farm is given the pause that serving is given. The two requests behind a close aren't solved.
+// The farm is given the pause that serving is given. The two requests after a close aren't solved.
 #[test]
 fn the_pause_is_handed_on(rt: HostRuntime) -> Result<(), AllocError> {
     let mut input = input_with(rt.alloc(), &[("rack1.csv", LIST)])?;
@@ -305,7 +305,7 @@ const REFUSED: &[(&[u8], ListFault)] = &[
     ),
 ];
 
-// The first refused list is told, and nothing is written.
+// The first refused list is reported, and nothing is written.
 #[test]
 fn a_refused_list(rt: HostRuntime) -> Result<(), AllocError> {
     let absent: &[&str] = &["rack0-0.abc.x0", "rack0.report.csv", "rack1.report.csv"];

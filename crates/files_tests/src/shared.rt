@@ -164,7 +164,7 @@ pub(crate) fn reads<S: Shelf>(
     }
 }
 
-/// Whether a read tells that the shelf has no file of this name.
+/// Whether a read says that the shelf has no file of this name.
 pub(crate) fn has_none<S: Shelf>(shelf: &mut S, alloc: Global, name: &str, limit: usize) -> bool {
     if shelf.failures() > MOST_FAILURES {
         return false;

@@ -9,7 +9,7 @@ use Rattle.std.proofs.lemmas.List.Sums.{fails_before_first, prefix_len-le-length
 use Rattle.std.proofs.lemmas.List.Splits.{slice_split_first, slice_split_none}
 use borrow.Author.Tests.{ltb-true, ltb-false}
 
--- where the first element that passes stands
+-- where the first element that passes is
 pub from_position : {X : Type 0} (p : X → Bool) (xs : List X) (i : ℕ) → position p xs ≡ Some i → (position_or_len p xs ≡ i) × (i < length xs)
 from_position p xs i e = by (nat_lt (position_or_len p xs) (length xs)) refl e
   where
@@ -31,7 +31,7 @@ unwrap_or-position p xs = by (nat_lt (position_or_len p xs) (length xs)) refl
     by true t = refl
     by false t = omega (arith, ltb-false _ _ t, prefix_len-le-length (λ x. not (p x)) xs)
 
--- what is behind a place, as a slice up to the end gives it
+-- what is after a place, as a slice up to the end gives it
 pub take-drop_all : {X : Type 0} (xs : List X) (i : ℕ) → take (length xs - i) (drop i xs) ≡ drop i xs
 take-drop_all xs i = take_all _ _ (omega (arith, length-drop i xs))
 

@@ -25,7 +25,7 @@ abbrev pub is_word : List ℕ → Bool
 is_word [] = false
 is_word (b ∷ bs) = true
 
--- the words of a line, which stand between spaces
+-- the words of a line, which are between spaces
 abbrev pub words : List ℕ → List (List ℕ)
 words line = filter is_word (slice_split is_space line)
 
@@ -48,11 +48,11 @@ request_in code (stripe ∷ target ∷ size ∷ rest) = do
   survivors ← every (map (survivor code) rest)
   Some (record { code = code; stripe = stripe; target = place; len = len; survivors = survivors })
 
--- the code that a line's first word names behind `code=`
+-- the code that a line's first word names after `code=`
 abbrev pub line_code : List ℕ → Option CodeName
 line_code word = if nat_le 5 (length word) && bytes_eq (take 5 word) (codes "code=") then code_named (drop 5 word) else None
 
--- behind such a word the request is over that code, else it is over the (6,2,2) code and begins with the word
+-- after such a word the request is over that code, else it is over the (6,2,2) code and begins with the word
 abbrev pub request_behind : Option CodeName → List ℕ → List (List ℕ) → Option Asked
 request_behind None word rest = request_in Narrow (word ∷ rest)
 request_behind (Some code) word rest = request_in code rest

@@ -15,7 +15,7 @@ abbrev pub is_nonblank : List ℕ → Bool
 is_nonblank line = not (list_all is_space line)
 
 -- these are the replies to the lines of an input that aren't blank, in order. The input is cut at each line feed; one
--- carriage return in front of a line feed is dropped, and a last line without one counts where it isn't empty
+-- carriage return before a line feed is dropped, and a last line without one counts where it isn't empty
 abbrev pub AreReplies : List ℕ → List LineReply → Type 0
 AreReplies input replies = AllZip IsReply (filter is_nonblank (lines input)) replies
 

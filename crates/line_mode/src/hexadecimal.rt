@@ -24,7 +24,7 @@ pub(crate) fn decode(alloc: Global, text: &[u8]) -> Result<Option<Vec<u8>>, Allo
     }
 }
 
-// Writes the bytes that pairs of digits write, and tells whether all are digits.
+// Writes the bytes that pairs of digits write, and says whether all are digits.
 fn decode_into(text: &[u8], bytes: &mut [u8]) -> bool
     requires { length text.now ≡ 2 * length bytes.old }
     ensures len { length bytes.new ≡ length bytes.old }

@@ -11,7 +11,7 @@ use std::io::{Read, Write};
 
 /// Replies to each line of the whole input: reads it all, makes the whole text, and then writes it.
 ///
-/// How much of the text a failed write put out isn't told.
+/// How much of the text a failed write put out isn't said.
 ///
 /// ```rust
 /// let mut input = b"a x0 1 x1=02 x2=03 px=00\n".as_slice();
@@ -40,7 +40,7 @@ pub fn line_mode<R: Read, W: Write>(
 }
 
 /// The exit status of line mode: 0 where every line was answered, 1 where a line was refused or the input was too
-/// long, 3 for a failed device and 4 for want of memory.
+/// long, 3 for a failed device and 4 if memory was refused.
 pub fn line_status(outcome: &Result<LineCount, LineFault>) -> u8
     ensures { result ≡ status_of outcome.now }
 {

@@ -4,7 +4,7 @@ ghost use Rattle.std.specs.Str.Lines.{strip_carriage_return};
 
 use crate::scanning::find_byte;
 
-/// The lines of an input: it is cut at each line feed, and one carriage return in front of a line feed is dropped. A
+/// The lines of an input: it is cut at each line feed, and one carriage return before a line feed is dropped. A
 /// last line without a line feed counts where it isn't empty.
 #[derive(Drop)]
 pub(crate) struct Lines<'a> {

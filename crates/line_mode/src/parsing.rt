@@ -79,7 +79,7 @@ fn parse_parts(alloc: Global, line: &[u8]) -> Result<Option<Parts>, AllocError>
     Ok(parts)
 }
 
-// The code that a line's first word names behind `code=`.
+// The code that a line's first word names after `code=`.
 fn parse_line_code(word: &[u8]) -> Option<Code>
     ensures { result ≡ line_code word.now }
 {
@@ -89,7 +89,7 @@ fn parse_line_code(word: &[u8]) -> Option<Code>
     None
 }
 
-// The parts of the request over a code that a stripe's name and the words behind it write.
+// The parts of the request over a code that a stripe's name and the words after it write.
 fn parse_request(
     alloc: Global,
     code: Code,

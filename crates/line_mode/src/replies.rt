@@ -39,7 +39,7 @@ impl Replies {
         }
     }
 
-    // Adds a reply behind the others.
+    // Adds a reply after the others.
     fn add(&mut self, alloc: Global, reply: &LineReply) -> Result<(), AllocError>
         requires { self.old.count.answered + self.old.count.refused < 2 ^ 63 }
         ensures { OnOk result ((replies : List LineReply) → Holds self.old replies → Holds self.new (replies ++ reply.now ∷ [])) }

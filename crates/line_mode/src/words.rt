@@ -3,7 +3,7 @@ ghost use Rattle.std.specs.Prelude.{◌≡◌, ◌==◌, not, position};
 
 use crate::scanning::find_byte;
 
-/// The words of a line, which stand between spaces.
+/// The words of a line, which are between spaces.
 #[derive(Drop)]
 pub(crate) struct LineWords<'a> {
     rest: &'a [u8],

@@ -1,4 +1,4 @@
-//! Tests of the public calls of `line_mode` and `command_line`. They stand in a crate of their own, so that a check of those crates
+//! Tests of the public calls of `line_mode` and `command_line`. They are in a crate of their own, so that a check of those crates
 //! proves them once and not a second time with their tests.
 #![tactic(auto)]
 

@@ -122,7 +122,7 @@ static LONG_LINES: [(&[u8], &[u8], usize, &[u8]); 8] = [
     (b"a x0 1", b"\0", 1_000_000, b"refused E22\n"),
 ];
 
-// Long lines that are refused: each repeats a piece behind its front many times.
+// Long lines that are refused: each repeats a piece after its front many times.
 #[test]
 fn refuses_long_lines(rt: HostRuntime) -> Result<(), AllocError> {
     for (front, piece, times, reply) in &LONG_LINES {

@@ -42,7 +42,7 @@ static ANSWERED: [(&[u8], &[u8]); 24] = [
     // The greatest length.
     (b"a x0 65536", b"several"),
     (b"a x0 0000001", b"several"),
-    // Digits in lower case and in both, spaces in front, behind and between.
+    // Digits in lower case and in both, spaces before, after and between.
     (
         b"   abc  x0   3 x1=0a0B0c  x2=0A0b0C px=ffFFfF   ",
         b"rebuilt FFFFFF",
@@ -153,7 +153,7 @@ fn cuts_lines(rt: HostRuntime) {
     assert!(rt; replies(alloc, b"", b"", 0, 0));
     // The last line needs no line feed.
     assert!(rt; replies(alloc, b"a x0 1 x1=02 x2=03 px=00", b"rebuilt 01\n", 1, 0));
-    // One carriage return in front of a line feed is dropped, and no other.
+    // One carriage return before a line feed is dropped, and no other.
     let three_lines = b"a x0 1\r\na x0 1\r\r\na x0 1\r";
     assert!(rt;
         replies(

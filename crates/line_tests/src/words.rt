@@ -30,7 +30,7 @@ fn ask_for_farm(alloc: Global, words: &[&str], wanted: (usize, usize)) -> bool {
     }
 }
 
-// Whether words are a mistake that is told by this text.
+// Whether words are a mistake that is reported by this text.
 fn are_mistaken(alloc: Global, words: &[&str], text: &str) -> bool {
     match read(alloc, words) {
         Err(WordsFault::Usage(told)) => told.as_str() == text,

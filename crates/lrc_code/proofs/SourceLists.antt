@@ -28,7 +28,7 @@ at_place_set Y3 b f = refl
 at_place_set Y4 b f = refl
 at_place_set Y5 b f = refl
 
--- the sources of a list of fragments from one on, made from those behind it
+-- the sources of a list of fragments from one on, made from those after it
 pub sources_more : (fs : List Fragment) (k : ℕ) (d : Fragment) (sources : List (Bor (List ℕ))) (one : Bor (List ℕ)) → k < length fs
     → one.now ≡ (get_or fs k d).bytes.items → AreSources (survivors_of (drop (k + 1) fs)) sources
     → AreSources (survivors_of (drop k fs)) (set sources (index_of (get_or fs k d).place) one)

@@ -20,7 +20,7 @@ abbrev pub member : Place → List Place → Bool
 member p [] = false
 member p (q ∷ qs) = same_place p q || member p qs
 
--- no place stands twice
+-- no place is there twice
 abbrev pub Apart : List Place → Type 0
 Apart [] = Unit {0}
 Apart (p ∷ ps) = (member p ps ≡ false) × Apart ps

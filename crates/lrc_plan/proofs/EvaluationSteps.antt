@@ -1,4 +1,4 @@
--- Steps of an evaluation: what a factor and a scalar make of a byte, and what stands behind a write.
+-- Steps of an evaluation: what a factor and a scalar make of a byte, and what is after a write.
 use Rattle.std.proofs.Math.Seq.{take-append_seam}
 use Rattle.std.proofs.Common.{◌≡◌, ◌<◌, List, length, take, ◌++◌, subst, ◌∙◌, ap, sym, ℕ}
 use Rattle.std.specs.Int.Bits.{bit_xor}

@@ -270,7 +270,7 @@ taken (r ∷ rows) (suc n) (suc k) h j =
     let less : k < length (take n rows) = taken rows n k (let a : k < length rows = omega (arith, h) in a) (let b : k < n = omega (arith, j) in b) in
     omega (arith, less)
 
--- rows of 0 behind them
+-- rows of 0 after them
 pub zero_end : (rows : List (List ℕ)) (trees : List Form) (n : ℕ) → ZeroTogether (take n rows) trees
     → ((k : ℕ) (d : List ℕ) → n ≤ k → k < length rows → get_or rows k d ≡ replicate 16 0) → ZeroTogether rows trees
 zero_end rows trees n made rest s h = (

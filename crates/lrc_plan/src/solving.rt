@@ -48,7 +48,7 @@ pub fn solve<A: Allocator + Clone>(
     answer_by(alloc, &rows, request)
 }
 
-// The coefficients of a plan's trees, with rows of 00 behind those of the checks.
+// The coefficients of a plan's trees, with rows of 00 after those of the checks.
 fn coefficients_of<A: Allocator>(plan: &Plan<A>) -> RowPlan
     requires { vec_len plan.now.checks ≤ 4 }
     ensures value { AreValueCoefficients result.value (value_form plan.now) }

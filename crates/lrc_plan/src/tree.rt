@@ -18,12 +18,12 @@ use lrc_code::{Place, PlaceSet};
 use lrc_field::Gf;
 use std::alloc::Allocator;
 
-/// A linear combination of fragments, as a tree whose nodes stand in the allocator `A`.
+/// A linear combination of fragments, as a tree whose nodes are in the allocator `A`.
 #[derive(Drop)]
 pub enum Tree<A: Allocator> {
     /// The fragment at a place.
     Leaf(Place),
-    /// A scalar times what stands below.
+    /// A scalar times what is below.
     Scale(Gf, Box<Tree<A>, A>),
     /// The sum of both branches.
     Sum(Box<Tree<A>, A>, Box<Tree<A>, A>),

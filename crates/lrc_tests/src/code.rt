@@ -196,7 +196,7 @@ fn refusal_of_lengths(repeated: bool, among: bool) -> Option<u8> {
     }
 }
 
-// The refusals in front of E5 ask for no bytes.
+// The refusals before E5 ask for no bytes.
 #[test]
 fn refusals_without_bytes(rt: HostRuntime) {
     assert!(&rt; first_refusal("a", 1, true, false, false, None).is_none());

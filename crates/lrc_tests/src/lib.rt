@@ -1,4 +1,4 @@
-//! Tests of the public calls of `lrc_field`, `lrc_code` and `lrc_plan`. They stand in a crate of their own, so that a check of
+//! Tests of the public calls of `lrc_field`, `lrc_code` and `lrc_plan`. They are in a crate of their own, so that a check of
 //! those crates proves them once and not a second time with their tests.
 #![tactic(auto)]
 

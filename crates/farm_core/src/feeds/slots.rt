@@ -28,7 +28,7 @@ pub(crate) fn feed_of_slot(slot: usize) -> usize
     slot % MOST_FEEDS
 }
 
-/// Tells a pause the racks of the slots that workers and feeders name.
+/// Gives a pause the racks of the slots that workers and feeders name.
 #[derive(Drop)]
 pub(crate) struct SlotPause<'p, P> {
     pub pause: &'p P,

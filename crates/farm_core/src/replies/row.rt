@@ -95,7 +95,7 @@ impl<'a> Row<'a> {
         Ok(all)
     }
 
-    /// The answers in front of the first gap, where none of the replies says that memory was missing.
+    /// The answers before the first gap, where none of the replies says that memory was missing.
     pub(crate) fn filled(self, alloc: Global) -> Result<Vec<Outcome>, AllocError>
         ensures { IfOk result (λ v. AllZip (λ e o. IsOutcomeOf e (slot_feed e.rack, o)) (filled self.entry) v.items) }
     {

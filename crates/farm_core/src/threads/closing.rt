@@ -22,7 +22,7 @@ fn look(gate: &Gate, seat: Seat) -> Seat
     gate.join(seat, none)
 }
 
-// Spends rights. Where they are all rights of the gate, the seat was told of no closing.
+// Spends rights. Where they are all rights of the gate, the seat knows of no closing.
 fn spend_all(gate: &Gate, seat: Seat, rights: Vec<Right>)
     requires own { (seat.gate ≡ gate.now.id) × Each (λ r. r ≡ gate.now.id) rights.items }
     requires sound { IsSound gate.now.size seat.has }

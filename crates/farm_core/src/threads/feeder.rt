@@ -31,7 +31,7 @@ pub struct Fed<'a> {
     pub jobs: EndedPut<Job<'a>>,
 }
 
-/// Puts a job for each request in front of the list's close, with a number that it draws, closes the gate there, and
+/// Puts a job for each request before the list's close, with a number that it draws, closes the gate there, and
 /// puts its end mark. It stops early only where a draw is refused since the gate is closed.
 pub fn feed<'a, R: Wait, P: Pause>(
     rt: &R,

@@ -54,7 +54,7 @@ impl<Z: StepValues> Play<u8, SeatRecord> for Close<Z> {
     ghost then = { Closes Z.size };
 }
 
-/// A step that changes nothing, and tells that the record is sound.
+/// A step that changes nothing, and says that the record is sound.
 pub(crate) struct Look<Z>(PhantomData<Z>);
 
 impl<Z: StepValues> Play<u8, SeatRecord> for Look<Z> {

@@ -10,7 +10,7 @@ use crate::gate::record::{GateSize, SeatRecord};
 use crate::gate::rule::{Close, Cut, Draw, GateRule, Look, StepValues, Together};
 use atomic_table::{Seat, Shared};
 
-/// A token of no bytes in which a seat's record stands.
+/// A token of no bytes that holds a seat's record.
 pub(crate) type RawSeat = Seat<u8, SeatRecord>;
 
 /// The word of a gate.

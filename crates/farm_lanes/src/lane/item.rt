@@ -1,4 +1,4 @@
-//! What stands in a lane.
+//! What is in a lane.
 
 /// A value of a sender, or its end mark. The number counts the sender's own puts from 0.
 #[derive(Drop)]

@@ -19,7 +19,7 @@ pub struct Settled<T: Drop, A: Allocator = Global> {
     pub ended: Snapshot<Vec<EndedPut<T, A>, A>>,
 }
 
-/// Spends all ends of a lane and tells what was put and taken in all. What was not taken is dropped.
+/// Spends all ends of a lane and says what was put and taken in all. What was not taken is dropped.
 ///
 /// The put ends come in the order in which `Lane::open` gave them.
 pub fn settle<T: Drop, A: Allocator>(

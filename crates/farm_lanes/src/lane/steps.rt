@@ -15,7 +15,7 @@ use crossbeam_channel::{Pass, RuledReceiver, RuledSender};
 use std::alloc::Allocator;
 use std::sync::Wait;
 
-/// A token of no bytes in which an end's record stands.
+/// A token of no bytes that holds an end's record.
 pub(crate) type LanePass<T> = Pass<Item<T>, EndRecord<T>>;
 
 /// The back of a lane's queue.

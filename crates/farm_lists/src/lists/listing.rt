@@ -51,7 +51,7 @@ pub enum ListFault {
 /// The most bytes of a list. `specs/Listing.antt` has it for contracts.
 pub const MOST_LIST_BYTES: usize = 1_048_576;
 
-/// The most records of a list behind its header, as many as a farm takes of a feed.
+/// The most records of a list after its header, as many as a farm takes of a feed.
 pub const MOST_RECORDS: usize = 4096;
 
 /// The records of a list, or its first fault. They are read as `csv` reads with its default settings, but that no record is
@@ -84,7 +84,7 @@ pub fn read_list(alloc: Global, bytes: &[u8]) -> Result<Vec<Record>, ListFault>
     Ok(list)
 }
 
-// Takes one more record: the header, which tells whether records name their codes, or an order.
+// Takes one more record: the header, which says whether records name their codes, or an order.
 fn take_row(
     alloc: Global,
     list: &mut Vec<Record>,
@@ -225,7 +225,7 @@ fn order_of(
     order_in(alloc, Some(Code::Narrow), true, number, &fields)
 }
 
-// The order of record `number`, by five fields, over this code, where one is named, with or without something behind.
+// The order of record `number`, by five fields, over this code, where one is named, with or without something after.
 fn order_in(
     alloc: Global,
     code: Option<Code>,

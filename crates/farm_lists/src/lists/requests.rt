@@ -1,4 +1,4 @@
-//! The requests that lists have in front of their first closes.
+//! The requests that lists have before their first closes.
 ghost use Rattle.std.specs.Prelude.{◌≡◌, IfOk, map};
 ghost use Rattle.farm_lists.specs.Report.{listed_before_close};
 
@@ -6,7 +6,7 @@ use crate::lists::listed::Listed;
 use crate::lists::listing::Record;
 use std::alloc::{AllocError, Global};
 
-/// The requests of a list in front of its first close.
+/// The requests of a list before its first close.
 pub fn requests_before_close(alloc: Global, list: &[Record]) -> Result<Vec<&Listed>, AllocError>
     ensures { IfOk result (λ v. map (λ r. r.now) v.items ≡ listed_before_close list.now) }
 {
@@ -20,7 +20,7 @@ pub fn requests_before_close(alloc: Global, list: &[Record]) -> Result<Vec<&List
     Ok(requests)
 }
 
-/// The requests in front of the first close of each feed.
+/// The requests before the first close of each feed.
 pub(crate) fn requests_of_feeds(
     alloc: Global,
     feeds: &[Vec<Record>],

@@ -150,7 +150,7 @@ fn hand_out(
     Ok(handed)
 }
 
-// The digest of an outcome, the first of those left where it is a rebuilt fragment, and those left behind it.
+// The digest of an outcome, the first of those left where it is a rebuilt fragment, and those left after it.
 fn first_digest<'a>(outcome: &Outcome, left: &'a [Digest]) -> (Option<Digest>, &'a [Digest])
     ensures digest { (rest : List (List ℕ)) → left.now ≡ map sha256 (rebuilt_fragment outcome.now ++ rest) → result.0 ≡ fragment_digest outcome.now }
     ensures behind { (rest : List (List ℕ)) → left.now ≡ map sha256 (rebuilt_fragment outcome.now ++ rest) → result.1.now ≡ map sha256 rest }

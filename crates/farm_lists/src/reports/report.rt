@@ -17,9 +17,9 @@ use std::alloc::{AllocError, Global};
 /// Which fields a report has beside the seven of every report.
 #[derive(Clone, Copy, Debug, PartialEq, Eq)]
 pub struct ReportShape {
-    /// Whether the feed's number stands behind the row's.
+    /// Whether the feed's number is after the row's.
     pub feeds: bool,
-    /// Whether the code's name stands last.
+    /// Whether the code's name is last.
     pub codes: bool,
 }
 
@@ -36,8 +36,8 @@ pub struct ReportRow<'a> {
     pub unread: &'a [Place],
 }
 
-/// The report on a list, with the outcomes of the requests in front of its first close and the survivors of each
-/// that were left out. It tells the codes where one of these requests is of the (12,2,2) code, and no feeds.
+/// The report on a list, with the outcomes of the requests before its first close and the survivors of each
+/// that were left out. It says the codes if one of these requests is of the (12,2,2) code, and no feeds.
 pub fn report_text(
     alloc: Global,
     list: &[Record],
@@ -191,7 +191,7 @@ fn decimal_text(alloc: Global, number: u64) -> Result<String, AllocError>
     number.to_string(alloc)
 }
 
-// The text of a row's fields: those of the feed and of the code stand where they are told.
+// The text of a row's fields: those of the feed and of the code are there if they are asked for.
 fn row_line<'a>(
     alloc: Global,
     shape: ReportShape,
@@ -217,7 +217,7 @@ fn row_line<'a>(
     }
 }
 
-// Adds a field where it is told.
+// Adds a field if it is asked for.
 fn push_if<'a>(fields: &mut Vec<&'a [u8]>, is_told: bool, field: &'a [u8]) -> Result<(), AllocError>
     ensures { OnOk result (map (λ f. f.now) fields.new.items ≡ map (λ f. f.now) fields.old.items ++ field_if is_told field.now) }
 {

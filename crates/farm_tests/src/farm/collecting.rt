@@ -12,7 +12,7 @@ use lrc_code::{Outcome, Request};
 use lrc_plan::solve;
 use std::alloc::{AllocError, Global};
 
-// The requests of a list in front of its close.
+// The requests of a list before its close.
 fn requests_of(alloc: Global, list: &RackList) -> Result<Vec<&Request>, AllocError>
     ensures { IfOk result (λ v. map (λ r. r.now) v.items ≡ before_close list.now) }
 {
@@ -175,7 +175,7 @@ fn strangers_and_second_replies(rt: HostRuntime) -> Result<(), AllocError> {
     Ok(())
 }
 
-// Refused replies leave a collector as it was: it still tells the reply that is missing.
+// Refused replies leave a collector as it was: it still names the reply that is missing.
 #[test]
 fn refused_replies_and_a_missing_one(rt: HostRuntime) -> Result<(), AllocError> {
     let alloc = rt.alloc();

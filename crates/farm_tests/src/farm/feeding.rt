@@ -36,7 +36,7 @@ pub(crate) fn feeds_of(
     }
 }
 
-/// The answers to these feeds, each with its feed's number; want of memory where the run has none.
+/// The answers to these feeds, each with its feed's number; out of memory if the run has none.
 pub(crate) fn answers_of_feeds<R: Abort + Threads + Wait + Sync, P: Pause>(
     rt: &R,
     alloc: Global,
@@ -70,13 +70,13 @@ pub(crate) fn are_of_feed(
     wanted.next().is_none()
 }
 
-// Holds the feeder of one feed ahead of its first order until that of the other is behind it.
+// Holds the feeder of one feed ahead of its first order until that of the other has passed it.
 #[derive(Drop)]
 struct Held {
     first: usize,
     behind: AtomicBool,
     missed: AtomicBool,
-    // How often it was told that an order is behind.
+    // How often it was called after an order.
     told: AtomicU64,
 }
 
@@ -108,7 +108,7 @@ impl Pause for Held {
 
 const CLOSE: Entry = Entry::Close;
 
-// A rack without a close, one of closes alone, one whose close stands in the other feed, and one of two feeds with a close.
+// A rack without a close, one of closes alone, one whose close is in the other feed, and one of two feeds with a close.
 const TWO_FEEDS: &[&[&[Entry]]] = &[
     &[&[LOCAL, SEVERAL], &[GLOBAL]],
     &[&[CLOSE], &[CLOSE]],
@@ -181,7 +181,7 @@ fn answers_with_first<R: Abort + Threads + Wait + Sync>(
     };
     let racks = answers_of_feeds(rt, alloc, &feeds, settings_of(rt, 3, 1), &held)?;
     assert!(rt; !held.missed.load(Ordering::SeqCst));
-    // A draw that is refused is told too.
+    // A draw that is refused is counted too.
     assert_eq!(rt; held.told.load(Ordering::SeqCst), 2);
     match racks.as_slice() {
         [only] => Ok(only.len()),
@@ -200,7 +200,7 @@ fn either_feed_may_go_first(rt: HostRuntime) -> Result<(), AllocError> {
     Ok(())
 }
 
-// Holds the worker in the first request until the feeder is behind the order that waits for room in the queue, and a thousand turns
+// Holds the worker in the first request until the feeder has passed the order that waits for room in the queue, and a thousand turns
 // more.
 #[derive(Drop)]
 struct Full {

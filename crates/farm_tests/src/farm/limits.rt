@@ -106,7 +106,7 @@ fn racks_of_one_to_four_feeds(rt: HostRuntime) -> Result<(), AllocError> {
     Ok(())
 }
 
-// The number of racks is tested in front of that of their feeds.
+// The number of racks is tested before that of their feeds.
 #[test]
 fn seventeen_racks_of_feeds(rt: HostRuntime) -> Result<(), AllocError> {
     let alloc = rt.alloc();

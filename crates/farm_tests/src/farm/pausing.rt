@@ -1,4 +1,4 @@
-//! What a run tells its pause: the racks, feeds, positions and numbers of all calls.
+//! What a run gives its pause: the racks, feeds, positions and numbers of all calls.
 use crate::farm::feeding::{answers_of_feeds, feeds_of};
 use crate::farm::requests::{Entry, GLOBAL, LOCAL, SEVERAL, racks_of};
 use crate::farm::running::{answers_of, settings_of};
@@ -28,7 +28,7 @@ impl Told {
         }
     }
 
-    // Whether no call was strange, and so many requests and orders were told.
+    // Whether no call was strange, and so many requests and orders were given.
     fn are(&self, requests: u64, orders: u64) -> bool {
         !self.strange.load(Ordering::SeqCst)
             && self.before.load(Ordering::SeqCst) == requests

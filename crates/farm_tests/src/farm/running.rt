@@ -15,7 +15,7 @@ pub(crate) fn settings_of(rt: &impl Abort, workers: usize, queue: usize) -> Sett
     }
 }
 
-/// The answers to these racks; want of memory where the run has none.
+/// The answers to these racks; out of memory if the run has none.
 pub(crate) fn answers_of<R: Abort + Threads + Wait + Sync, P: Pause>(
     rt: &R,
     alloc: Global,
@@ -47,7 +47,7 @@ fn requests_in_front_of_the_close(rt: HostRuntime) -> Result<(), AllocError> {
     Ok(())
 }
 
-// Nothing behind the close is served.
+// Nothing after the close is served.
 #[test]
 fn requests_of_a_list_that_are_served(rt: HostRuntime) -> Result<(), AllocError> {
     let list = list_of(&rt, rt.alloc(), &[LOCAL, SEVERAL, Entry::Close, GLOBAL])?;

@@ -71,7 +71,7 @@ pub(crate) fn row_tree<A: Allocator + Clone>(
     }
 }
 
-// One term more in front of the others.
+// One term more before the others.
 fn added<A: Allocator + Clone>(
     alloc: &A,
     own: Tree<A>,

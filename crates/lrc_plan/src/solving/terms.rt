@@ -58,7 +58,7 @@ pub(crate) fn is_blank(row: &[Gf; 16]) -> bool
     row.iter().all(|c| c.byte() == 0)
 }
 
-// Puts in the survivors' bytes with the row's coefficients that aren't 00, and tells how many there are. They are put in their place,
+// Puts in the survivors' bytes with the row's coefficients that aren't 00, and says how many there are. They are put in their place,
 // since they are hundreds of bytes.
 fn fill_terms<'a>(
     terms: &mut [Term<'a>; 16],

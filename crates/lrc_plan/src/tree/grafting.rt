@@ -25,7 +25,7 @@ impl<A: Allocator> Debug for GraftRefused<A> {
 }
 
 impl<A: Allocator> Tree<A> {
-    /// The host in which each leaf of the place is a copy of the scion. It is refused for want of memory alone,
+    /// The host in which each leaf of the place is a copy of the scion. It is refused only if memory is,
     /// and never where no leaf is of the place.
     pub fn graft(self, alloc: A, place: Place, scion: Tree<A>) -> Result<Tree<A>, GraftRefused<A>>
     where

@@ -167,7 +167,7 @@ fn value_trees_give_the_same_bytes_at_any_forks(rt: HostRuntime) -> Result<(), A
     Ok(())
 }
 
-// Of few allocations, so that a script can refuse each of them in turn: the answer is then want of memory or these
+// Of few allocations, so that a script can refuse each of them in turn: the answer is then out of memory or these
 // bytes.
 #[test]
 fn evaluate_both_at_two_forks(rt: HostRuntime) -> Result<(), AllocError> {

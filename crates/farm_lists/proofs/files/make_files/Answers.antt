@@ -13,14 +13,14 @@ use Rattle.farm_lists.proofs.files.make_files.Goals as goal
 use Rattle.farm_lists.proofs.files.make_files.Goals.{After-as_slice-outcomes}
 use Rattle.farm_lists.proofs.files.make_files.Given.{Over}
 
--- how many requests stand in front of each feed's close
+-- how many requests are before each feed's close
 abbrev counts : List (Vec Record Global) → List ℕ
 counts feeds = map (λ (f : Vec Record Global). length (listed_before_close f.items)) feeds
 
 abbrev Sized : List (Vec Record Global) → List (Vec (Vec Place Global) Global) → Type 0
 Sized feeds unread = AllZip (λ (f : Vec Record Global) (u : Vec (Vec Place Global) Global). length u.items ≡ length (listed_before_close f.items)) feeds unread
 
--- the digests of the racks behind
+-- the digests of the racks after
 rest : (g : Over) (c : After-as_slice-outcomes g) → List (Option (List ℕ))
 rest g c = flat_map (λ (rack : Vec (ℕ × Outcome) Global). map (λ a. fragment_digest a.1) rack.items) (drop (c.loop-rack.rack + 1) c.args.answers.now)
 

@@ -21,7 +21,7 @@ some_of (suc n) said = omega arith
 none_of : (n : ℕ) → true ≡ (n == 0) → n ≡ 0
 none_of n said = grind (arith, nat_tests)
 
--- all racks have few feeds, if each of those in front of the last has
+-- all racks have few feeds, if each of those before the last has
 all_few : (racks : List Rack) (n : ℕ) → length racks ≤ n → length racks ≤ 16 → ((k : ℕ) (rack : Rack) → k < n → get_elem? racks k ≡ some rack → IsFewFeeds rack.items) → AreFeeds (map (λ rack. rack.items) racks)
 all_few racks n long few each = (
   (let a = map_length (λ (r : Rack). r.items) racks in omega arith),

@@ -7,7 +7,7 @@ use Rattle.farm_core.specs.Feed.{IsJoint}
 use Rattle.farm_core.proofs.Joints.{rights_of}
 use Rattle.farm_core.proofs.threads.closing.close_rack.Given as goal
 
--- the seats so far became one, their ends stand in order, and the rights that came back are kept
+-- the seats so far became one, their ends are in order, and the rights that came back are kept
 abbrev pub invariant-loop-fed : goal.invariant-loop-fed
 invariant-loop-fed l =
     (into_iter_items l.initial.fed-iterator ≡ l.yielded ++ into_iter_items l.fed-iterator)

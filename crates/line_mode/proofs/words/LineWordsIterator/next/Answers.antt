@@ -10,7 +10,7 @@ use Rattle.line_mode.proofs.words.LineWordsIterator.next.Goals as goal
 pub returns-in_default-clause-steps : goal.returns-in_default-clause-steps
 returns-in_default-clause-steps c = (words_none c.args.self.now.rest.now (sym c.find_other.ensures ∙ c.in_default.is), refl)
 
--- the word and what is behind it, as slices give them
+-- the word and what is after it, as slices give them
 slices : (xs w : List ℕ) (s e : ℕ) → w ≡ take (length xs - s) (drop s xs) → position is_other xs ≡ Some s → e ≡ unwrap_or (position is_space w) (length w)
     → words xs ≡ take e w ∷ words (take (length w - e) (drop e w))
 slices xs w s e is start end =
