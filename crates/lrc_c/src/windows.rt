@@ -7,7 +7,7 @@ use crate::combining::{is_zero, write_window};
 use lrc_field::Term;
 
 // How many bytes of each fragment a window has.
-const WINDOW: usize = 8192;
+const WINDOW: usize = 2304;
 
 /// What a room for bytes is wanted for.
 #[derive(Clone, Copy)]

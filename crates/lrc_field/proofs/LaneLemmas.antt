@@ -3,7 +3,13 @@ use Rattle.std.proofs.Common.{◌≡◌, ℕ, ◌+◌, ◌*◌, ◌/◌, ◌<◌
 use Rattle.std.proofs.Common.{w8, Fits}
 use Rattle.std.specs.Simd.Lanes.{zip2, Each1}
 use Rattle.std.proofs.lemmas.Simd.{Each1-get_or, Each1-from_get_or, length-zip2, get_or-zip2, length-replicate, get_or-replicate, swz_l, SwzOk, length-swz_l, get_or-swz_l_below, SwzOk-from_below}
+use Rattle.std.specs.Simd.Lanes.{pick_l}
+use Rattle.std.proofs.Common.{◌%◌, [], ◌∷◌, ◌++◌, true, eqb}
+use Rattle.std.proofs.Math.ListN.{get_or-append}
+use Rattle.std.proofs.lemmas.Bool.{eqb-true}
+use Rattle.std.proofs.lemmas.List.{get_or-map}
 use Rattle.lrc_field.specs.Blocks.{HasLanes}
+use Rattle.lrc_field.proofs.Shift.{all_below, below_at}
 
 -- two vectors, lane by lane
 pub zipped : (f : ℕ → ℕ → ℕ) (a b : List ℕ) → length a ≡ 32 → length b ≡ 32 → HasLanes (zip2 f a b) (λ k. f (get_or a k 0) (get_or b k 0))
@@ -36,3 +42,19 @@ picked table halves long small = record {
 -- a lane's byte
 pub lane_lt : (bytes : List ℕ) → length bytes ≡ 32 → Each1 (Fits w8) bytes → (k : ℕ) → k < 32 → get_or bytes k 0 < 2 ^ 8
 lane_lt bytes long fit k lt = (Each1-get_or (Fits w8) bytes k 0 (omega arith) fit).fits
+
+-- sixteen lanes, twice
+abbrev twice_of : List ℕ
+twice_of = 0 ∷ 1 ∷ 2 ∷ 3 ∷ 4 ∷ 5 ∷ 6 ∷ 7 ∷ 8 ∷ 9 ∷ 10 ∷ 11 ∷ 12 ∷ 13 ∷ 14 ∷ 15 ∷ 0 ∷ 1 ∷ 2 ∷ 3 ∷ 4 ∷ 5 ∷ 6 ∷ 7 ∷ 8 ∷ 9 ∷ 10 ∷ 11 ∷ 12 ∷ 13 ∷ 14 ∷ 15 ∷ []
+
+twice_at : all_below (λ k. eqb (get_or twice_of k 0) (k % 16)) 32 ≡ true
+twice_at = refl
+
+pub lanes_twice : (lanes : List ℕ) → length lanes ≡ 16 → HasLanes (pick_l 0 (lanes ++ lanes) twice_of) (λ k. get_or lanes (k % 16) 0)
+lanes_twice lanes long = record {
+  long = refl;
+  each = λ k lt.
+      get_or-map (λ j. get_or (lanes ++ lanes) j 0) twice_of k 0 0 lt
+      ∙ ap (λ j. get_or (lanes ++ lanes) j 0) (eqb-true _ _ (below_at (λ k. eqb (get_or twice_of k 0) (k % 16)) 32 k twice_at lt))
+      ∙ get_or-append lanes lanes 0 (k % 16) (omega (arith, long));
+}

@@ -5,6 +5,6 @@ pub mod Sums
 pub mod BlockSums
 pub mod TableLemmas
 pub mod LaneLemmas
-pub mod TablesMade
+pub mod ProductRows
 pub mod Scaled
 pub mod TermSums

@@ -6,7 +6,9 @@ use Rattle.std.proofs.lemmas.List.{take_all}
 use Rattle.lrc_field.specs.Field.{times}
 use Rattle.lrc_field.specs.declared.combining.Term.{Term}
 use Rattle.lrc_field.specs.declared.blocks.Quad.{Quad}
-use Rattle.lrc_field.specs.Blocks.{AreSet, HasLanes, HasQuad}
+use Rattle.lrc_field.specs.declared.blocks.Trio.{Trio}
+use Rattle.lrc_field.specs.declared.blocks.Six.{Six}
+use Rattle.lrc_field.specs.Blocks.{AreSet, HasLanes, HasQuad, HasSix, HasTrio}
 use Rattle.lrc_field.specs.Combined.{IsAddedBelow, product_at, sum_at, three_at}
 use Rattle.lrc_field.proofs.Shift.{last_or_below}
 use Rattle.lrc_field.proofs.FieldLaws.{times-one, times-zero}
@@ -43,6 +45,19 @@ quad_same q f g e h = record {
   in_second = lanes_same q.second (λ k. f (32 + k)) (λ k. g (32 + k)) (λ k lt. e (32 + k) (omega arith)) h.in_second;
   in_third = lanes_same q.third (λ k. f (64 + k)) (λ k. g (64 + k)) (λ k lt. e (64 + k) (omega arith)) h.in_third;
   in_fourth = lanes_same q.fourth (λ k. f (96 + k)) (λ k. g (96 + k)) (λ k lt. e (96 + k) (omega arith)) h.in_fourth;
+}
+
+pub trio_same : (t : Trio) (f g : ℕ → ℕ) → ((k : ℕ) → k < 96 → f k ≡ g k) → HasTrio t f → HasTrio t g
+trio_same t f g e h = record {
+  in_first = lanes_same t.first f g (λ k lt. e k (omega arith)) h.in_first;
+  in_second = lanes_same t.second (λ k. f (32 + k)) (λ k. g (32 + k)) (λ k lt. e (32 + k) (omega arith)) h.in_second;
+  in_third = lanes_same t.third (λ k. f (64 + k)) (λ k. g (64 + k)) (λ k lt. e (64 + k) (omega arith)) h.in_third;
+}
+
+pub six_same : (s : Six) (f g : ℕ → ℕ) → ((k : ℕ) → k < 192 → f k ≡ g k) → HasSix s f → HasSix s g
+six_same s f g e h = record {
+  in_front = trio_same s.front f g (λ k lt. e k (omega arith)) h.in_front;
+  in_back = trio_same s.back (λ k. f (96 + k)) (λ k. g (96 + k)) (λ k lt. e (96 + k) (omega arith)) h.in_back;
 }
 
 -- the lanes of a sum

@@ -1,8 +1,10 @@
 -- What a vector of 32 bytes holds.
-use Rattle.std.specs.Prelude.{◌≡◌, ℕ, ◌+◌, ◌*◌, ◌/◌, ◌%◌, ◌<◌, ◌≤◌, List, length, slice_index}
-use Rattle.std.specs.Int.Bits.{bit_and, bit_xor}
+use Rattle.std.specs.Prelude.{◌≡◌, ℕ, ◌+◌, ◌*◌, ◌%◌, ◌<◌, ◌≤◌, List, length, slice_index}
+use Rattle.std.specs.Int.Bits.{bit_xor}
 use Rattle.lrc_field.specs.Field.{times}
 use Rattle.lrc_field.specs.declared.blocks.Quad.{Quad}
+use Rattle.lrc_field.specs.declared.blocks.Trio.{Trio}
+use Rattle.lrc_field.specs.declared.blocks.Six.{Six}
 
 -- v has 32 lanes, and lane k holds f k
 pub record HasLanes (v : List ℕ) (f : ℕ → ℕ) : Type 0 where
@@ -30,11 +32,17 @@ pub record HasQuad (q : Quad) (f : ℕ → ℕ) : Type 0 where
   pub in_third : HasLanes q.third (λ k. f (64 + k))
   pub in_fourth : HasLanes q.fourth (λ k. f (96 + k))
 
+-- 96 lanes in three vectors, and lane k holds f k
+pub record HasTrio (t : Trio) (f : ℕ → ℕ) : Type 0 where
+  pub in_first : HasLanes t.first f
+  pub in_second : HasLanes t.second (λ k. f (32 + k))
+  pub in_third : HasLanes t.third (λ k. f (64 + k))
+
+-- 192 lanes in six vectors, and lane k holds f k
+pub record HasSix (s : Six) (f : ℕ → ℕ) : Type 0 where
+  pub in_front : HasTrio s.front f
+  pub in_back : HasTrio s.back (λ k. f (96 + k))
+
 -- the bytes in front of place i are f of their places
 abbrev pub AreSet : (ℕ → ℕ) → List ℕ → ℕ → Type 0
 AreSet f bytes i = (k : ℕ) → k < i → slice_index bytes k ≡ f k
-
--- the sum of those of four bytes that the bits of k choose
-abbrev pub chosen_sum : ℕ → ℕ → ℕ → ℕ → ℕ → ℕ
-chosen_sum a b c d k =
-    bit_xor (bit_xor (bit_and a (255 * (k % 2))) (bit_and b (255 * (k / 2 % 2)))) (bit_xor (bit_and c (255 * (k / 4 % 2))) (bit_and d (255 * (k / 8 % 2))))

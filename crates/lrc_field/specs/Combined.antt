@@ -1,5 +1,5 @@
 -- Sums of scaled slices.
-use Rattle.std.specs.Prelude.{◌≡◌, ℕ, ◌<◌, ◌≤◌, List, [], ◌∷◌, All, Option, None, MatchOption, length, slice_index, slice_index_or}
+use Rattle.std.specs.Prelude.{◌≡◌, ℕ, ◌<◌, ◌≤◌, List, [], ◌∷◌, All, length, slice_index}
 use Rattle.std.specs.Int.Bits.{bit_xor}
 use Rattle.lrc_field.specs.Field.{times}
 use Rattle.lrc_field.specs.declared.combining.Term.{Term}
@@ -37,14 +37,6 @@ AreZeroBelow n ts = (i : ℕ) → i < n → sum_at ts i ≡ 0
 -- the sum of the terms is 0 at the places from one on and below another
 abbrev pub AreZeroBetween : ℕ → ℕ → List Term → Type 0
 AreZeroBetween from to ts = (i : ℕ) → from ≤ i → i < to → sum_at ts i ≡ 0
-
--- a scalar's tables; 0 and 1 may have none
-abbrev pub IsTableOf : ℕ → Option ℕ → Type 0
-IsTableOf c o = MatchOption o (c < 2) (λ t. t ≡ c)
-
--- each term's scalar has its tables
-abbrev pub HaveTables : List Term → List (Option ℕ) → Type 0
-HaveTables ts os = (k : ℕ) (d : Term) → k < length ts → IsTableOf (slice_index_or ts k d).scalar (slice_index_or os k None)
 
 -- in front of a place f of each place was added, and nothing else changed
 pub record IsAddedBelow (f : ℕ → ℕ) (before after : List ℕ) (i : ℕ) : Type 0 where

@@ -1,30 +1,34 @@
 //! Blocks of 32 bytes, one lane a byte.
-ghost use Rattle.std.specs.Prelude.{◌≡◌, ◌<◌, ◌≤◌, ◌+◌, ◌*◌, ◌/◌, ◌%◌, ◌^◌, ℕ, bit_and, bit_xor, length, slice_index};
+ghost use Rattle.std.specs.Prelude.{◌≡◌, ◌<◌, ◌≤◌, ◌+◌, ◌*◌, ◌/◌, ◌%◌, ◌^◌, ℕ, bit_xor, length, slice_index};
 ghost use Rattle.lrc_field.specs.Field.{times};
-ghost use Rattle.lrc_field.specs.Blocks.{HasLanes, HasQuad, AreTables, AreSet, IsBlockAdded, chosen_sum};
+ghost use Rattle.lrc_field.specs.Blocks.{HasLanes, HasQuad, HasSix, HasTrio, AreTables, AreSet, IsBlockAdded};
 
 use crate::element::Gf;
-use std::marker::Model;
+use crate::high_products::HIGH_PRODUCTS;
+use crate::low_products::LOW_PRODUCTS;
 use std::simd::prelude::*;
 
-/// A scalar, and its products with the low halves of bytes (00 to 0F) and with the high halves (00, 10 to F0).
+/// A scalar's products with the low halves of bytes (00 to 0F) and with the high halves (00, 10 to F0), in registers.
 /// Each table stands twice, since a shuffle reads within blocks of 16 lanes.
-#[derive(Drop)]
+#[derive(Clone, Copy)]
 pub(crate) struct Tables {
-    scalar: Gf,
-    low: [u8; 32],
-    high: [u8; 32],
+    low: u8x32,
+    high: u8x32,
 }
 
-impl Model for Tables {
-    ghost use Rattle.std.specs.Prelude.{ℕ};
-    ghost use Rattle.lrc_field.specs.Blocks.{AreTables};
+/// 96 bytes, in registers.
+#[derive(Clone, Copy)]
+pub(crate) struct Trio {
+    first: u8x32,
+    second: u8x32,
+    third: u8x32,
+}
 
-    ghost Value = { ℕ };
-
-    ghost view = { λ t. t.scalar };
-
-    ghost invariant = { λ t. AreTables t.scalar t.low t.high };
+/// 192 bytes, in registers.
+#[derive(Clone, Copy)]
+pub(crate) struct Six {
+    front: Trio,
+    back: Trio,
 }
 
 /// 128 bytes, in registers.
@@ -82,107 +86,73 @@ fn high_halves(bytes: u8x32) -> u8x32
 
 // In each lane the table's entry at that half, read within the lane's own block of 16.
 #[inline(always)]
-fn looked_up(table: &[u8; 32], halves: u8x32) -> u8x32
+fn looked_up(table: u8x32, halves: u8x32) -> u8x32
     requires { (k : ℕ) → k < 32 → slice_index halves k < 16 }
-    ensures { HasLanes result (λ k. slice_index table.now (16 * (k / 16) + slice_index halves k)) }
+    ensures { HasLanes result (λ k. slice_index table (16 * (k / 16) + slice_index halves k)) }
 {
-    u8x32::from_array(*table).swizzle_dyn_within::<16>(halves)
+    table.swizzle_dyn_within::<16>(halves)
 }
 
-fn product(scalar: Gf, byte: u8) -> u8
-    ensures { result ≡ times scalar byte }
-{
-    scalar.mul(Gf::new(byte)).byte()
-}
-
-// A byte in the lanes where the mask is 255, and 0 where it is 0.
+// The 16 bytes from place `i` on.
 #[inline(always)]
-fn masked(byte: u8, mask: u8x32) -> u8x32
-    ensures { HasLanes result (λ k. bit_and byte (slice_index mask k)) }
+fn load_sixteen(bytes: &[u8], i: usize) -> u8x16
+    requires { i + 16 ≤ length bytes.now }
+    ensures long { length result ≡ 16 }
+    ensures each { (k : ℕ) → k < 16 → slice_index result k ≡ slice_index bytes.now (i + k) }
 {
-    u8x32::splat(byte) & mask
+    u8x16::from_slice(&bytes[i..])
 }
 
-// In each lane the sum of those of four bytes that the low four bits of the lane's number choose.
+// Sixteen lanes, twice.
 #[inline(always)]
-fn spread(first: u8, second: u8, third: u8, fourth: u8) -> u8x32
-    ensures { HasLanes result (chosen_sum first second third fourth) }
+fn twice(lanes: u8x16) -> u8x32
+    requires { length lanes ≡ 16 }
+    ensures { HasLanes result (λ k. slice_index lanes (k % 16)) }
 {
-    let ones = masked(
-        first,
-        u8x32::from_array([
-            0, 255, 0, 255, 0, 255, 0, 255, 0, 255, 0, 255, 0, 255, 0, 255, 0, 255, 0, 255, 0, 255,
-            0, 255, 0, 255, 0, 255, 0, 255, 0, 255,
-        ]),
-    );
-    let twos = masked(
-        second,
-        u8x32::from_array([
-            0, 0, 255, 255, 0, 0, 255, 255, 0, 0, 255, 255, 0, 0, 255, 255, 0, 0, 255, 255, 0, 0,
-            255, 255, 0, 0, 255, 255, 0, 0, 255, 255,
-        ]),
-    );
-    let fours = masked(
-        third,
-        u8x32::from_array([
-            0, 0, 0, 0, 255, 255, 255, 255, 0, 0, 0, 0, 255, 255, 255, 255, 0, 0, 0, 0, 255, 255,
-            255, 255, 0, 0, 0, 0, 255, 255, 255, 255,
-        ]),
-    );
-    let eights = masked(
-        fourth,
-        u8x32::from_array([
-            0, 0, 0, 0, 0, 0, 0, 0, 255, 255, 255, 255, 255, 255, 255, 255, 0, 0, 0, 0, 0, 0, 0, 0,
-            255, 255, 255, 255, 255, 255, 255, 255,
-        ]),
-    );
-    let low = added(ones, twos);
-    let high = added(fours, eights);
-    added(low, high)
+    lanes.swizzle([
+        0, 1, 2, 3, 4, 5, 6, 7, 8, 9, 10, 11, 12, 13, 14, 15, 0, 1, 2, 3, 4, 5, 6, 7, 8, 9, 10, 11,
+        12, 13, 14, 15,
+    ])
+}
+
+// The line of a byte in a table of all bytes' lines, twice.
+#[inline(always)]
+fn line(table: &[u8; 4096], byte: u8) -> u8x32
+    ensures { HasLanes result (λ k. slice_index table.now (16 * byte + k % 16)) }
+{
+    twice(load_sixteen(table, 16 * byte as usize))
 }
 
 impl Tables {
     /// The tables of a scalar's products.
+    #[inline(always)]
     pub(crate) fn new(scalar: Gf) -> Tables
-        ensures { result ≡ scalar }
+        ensures { AreTables scalar result.low result.high }
     {
-        let low = spread(
-            product(scalar, 0x01),
-            product(scalar, 0x02),
-            product(scalar, 0x04),
-            product(scalar, 0x08),
-        );
-        let high = spread(
-            product(scalar, 0x10),
-            product(scalar, 0x20),
-            product(scalar, 0x40),
-            product(scalar, 0x80),
-        );
-        let low = low.to_array();
-        let high = high.to_array();
-        Tables { scalar, low, high }
+        let low = line(&LOW_PRODUCTS, scalar.byte());
+        let high = line(&HIGH_PRODUCTS, scalar.byte());
+        Tables { low, high }
     }
 
     /// The scalar times each lane.
     #[inline(always)]
-    pub(crate) fn scaled(&self, bytes: u8x32) -> u8x32
-        ensures { HasLanes result (λ k. times self.now (slice_index bytes k)) }
+    pub(crate) fn scaled(self, bytes: u8x32) -> u8x32
+        ensures { (c : ℕ) → AreTables c self.low self.high → HasLanes result (λ k. times c (slice_index bytes k)) }
     {
-        let low = looked_up(&self.low, low_halves(bytes));
-        let high = looked_up(&self.high, high_halves(bytes));
+        let low = looked_up(self.low, low_halves(bytes));
+        let high = looked_up(self.high, high_halves(bytes));
         added(low, high)
     }
 
-    /// The scalar times each of 128 bytes.
+    /// The scalar times each of 96 bytes.
     #[inline(always)]
-    pub(crate) fn scaled_quad(&self, bytes: Quad) -> Quad
-        ensures { (f : ℕ → ℕ) → HasQuad bytes f → HasQuad result (λ k. times self.now (f k)) }
+    pub(crate) fn scaled_trio(self, bytes: Trio) -> Trio
+        ensures { (c : ℕ) (f : ℕ → ℕ) → AreTables c self.low self.high → HasTrio bytes f → HasTrio result (λ k. times c (f k)) }
     {
-        Quad {
+        Trio {
             first: self.scaled(bytes.first),
             second: self.scaled(bytes.second),
             third: self.scaled(bytes.third),
-            fourth: self.scaled(bytes.fourth),
         }
     }
 }
@@ -195,16 +165,75 @@ pub(crate) fn zeros() -> u8x32
     u8x32::splat(0)
 }
 
-/// 128 bytes 00.
+/// 96 bytes 00.
 #[inline(always)]
-pub(crate) fn zero_quad() -> Quad
-    ensures { HasQuad result (λ k. 0) }
+pub(crate) fn zero_trio() -> Trio
+    ensures { HasTrio result (λ k. 0) }
 {
-    Quad {
+    Trio {
         first: zeros(),
         second: zeros(),
         third: zeros(),
-        fourth: zeros(),
+    }
+}
+
+/// 192 bytes 00.
+#[inline(always)]
+pub(crate) fn zero_six() -> Six
+    ensures { HasSix result (λ k. 0) }
+{
+    Six {
+        front: zero_trio(),
+        back: zero_trio(),
+    }
+}
+
+/// The 96 bytes from place `i` on.
+#[inline(always)]
+pub(crate) fn load_trio(bytes: &[u8], i: usize) -> Trio
+    requires { i + 96 ≤ length bytes.now }
+    ensures { HasTrio result (λ k. slice_index bytes.now (i + k)) }
+{
+    Trio {
+        first: load(bytes, i),
+        second: load(bytes, i + 32),
+        third: load(bytes, i + 64),
+    }
+}
+
+/// The sums of two blocks of 96 bytes.
+#[inline(always)]
+pub(crate) fn added_trio(p: Trio, q: Trio) -> Trio
+    ensures { (f g : ℕ → ℕ) → HasTrio p f → HasTrio q g → HasTrio result (λ k. bit_xor (f k) (g k)) }
+{
+    Trio {
+        first: added(p.first, q.first),
+        second: added(p.second, q.second),
+        third: added(p.third, q.third),
+    }
+}
+
+/// Adds to sums at 192 places the bytes from place `i` on.
+#[inline(always)]
+pub(crate) fn six_with_bytes(sums: Six, bytes: &[u8], i: usize) -> Six
+    requires { i + 192 ≤ length bytes.now }
+    ensures { (f : ℕ → ℕ) → HasSix sums f → HasSix result (λ k. bit_xor (f k) (slice_index bytes.now (i + k))) }
+{
+    Six {
+        front: added_trio(sums.front, load_trio(bytes, i)),
+        back: added_trio(sums.back, load_trio(bytes, i + 96)),
+    }
+}
+
+/// Adds to sums at 192 places the products with the bytes from place `i` on.
+#[inline(always)]
+pub(crate) fn six_with_products(sums: Six, tables: Tables, bytes: &[u8], i: usize) -> Six
+    requires { i + 192 ≤ length bytes.now }
+    ensures { (c : ℕ) (f : ℕ → ℕ) → AreTables c tables.low tables.high → HasSix sums f → HasSix result (λ k. bit_xor (f k) (times c (slice_index bytes.now (i + k)))) }
+{
+    Six {
+        front: added_trio(sums.front, tables.scaled_trio(load_trio(bytes, i))),
+        back: added_trio(sums.back, tables.scaled_trio(load_trio(bytes, i + 96))),
     }
 }
 
@@ -260,6 +289,32 @@ pub(crate) fn put_quad(bytes: &mut [u8], i: usize, q: Quad)
     put(bytes, i + 96, q.fourth);
 }
 
+/// Writes 96 bytes from place `i` on. Where all before it were set to what they should be, all to its end are.
+#[inline(always)]
+pub(crate) fn put_trio(bytes: &mut [u8], i: usize, t: Trio)
+    requires room { i + 96 ≤ length bytes.old }
+    requires whole { (length t.first ≡ 32) × (length t.second ≡ 32) × (length t.third ≡ 32) }
+    ensures len { length bytes.new ≡ length bytes.old }
+    ensures set { (f : ℕ → ℕ) → AreSet f bytes.old i → HasTrio t (λ k. f (i + k)) → AreSet f bytes.new (i + 96) }
+{
+    put(bytes, i, t.first);
+    put(bytes, i + 32, t.second);
+    put(bytes, i + 64, t.third);
+}
+
+/// Writes 192 bytes from place `i` on. Where all before it were set to what they should be, all to its end are.
+#[inline(always)]
+pub(crate) fn put_six(bytes: &mut [u8], i: usize, s: Six)
+    requires room { i + 192 ≤ length bytes.old }
+    requires front { (length s.front.first ≡ 32) × (length s.front.second ≡ 32) × (length s.front.third ≡ 32) }
+    requires back { (length s.back.first ≡ 32) × (length s.back.second ≡ 32) × (length s.back.third ≡ 32) }
+    ensures len { length bytes.new ≡ length bytes.old }
+    ensures set { (f : ℕ → ℕ) → AreSet f bytes.old i → HasSix s (λ k. f (i + k)) → AreSet f bytes.new (i + 192) }
+{
+    put_trio(bytes, i, s.front);
+    put_trio(bytes, i + 96, s.back);
+}
+
 /// Adds 32 bytes of `src`, from place `i` on.
 #[inline(always)]
 pub(crate) fn add_block(dst: &mut [u8], i: usize, src: &[u8])
@@ -275,10 +330,10 @@ pub(crate) fn add_block(dst: &mut [u8], i: usize, src: &[u8])
 
 /// Adds 32 products with bytes of `src`, from place `i` on.
 #[inline(always)]
-pub(crate) fn scale_add_block(dst: &mut [u8], i: usize, tables: &Tables, src: &[u8])
+pub(crate) fn scale_add_block(dst: &mut [u8], i: usize, tables: Tables, src: &[u8])
     requires to { i + 32 ≤ length dst.old }
     requires from { i + 32 ≤ length src.now }
-    ensures { IsBlockAdded (λ k. times tables.now (slice_index src.now k)) dst.old dst.new i }
+    ensures { (c : ℕ) → AreTables c tables.low tables.high → IsBlockAdded (λ k. times c (slice_index src.now k)) dst.old dst.new i }
 {
     let bytes = load(src, i);
     let products = tables.scaled(bytes);

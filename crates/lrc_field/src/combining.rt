@@ -1,11 +1,11 @@
 //! Sums of several scaled slices in one pass: each source is read once, and the sums stay in registers until they
 //! are written.
-ghost use Rattle.std.specs.Prelude.{◌≡◌, ◌<◌, ◌≤◌, ◌+◌, ◌^◌, ℕ, Bool, true, false, ◌↔◌, IfOk, OnOk, bit_xor, length, slice_index, slice_index_or, None};
-ghost use Rattle.lrc_field.specs.Blocks.{HasLanes, HasQuad, AreSet};
-ghost use Rattle.lrc_field.specs.Combined.{AreZeroBelow, AreZeroBetween, HaveLength, HaveTables, IsAddedBelow, IsCombined, IsTableOf, Reach, sum_at, three_at};
+ghost use Rattle.std.specs.Prelude.{◌≡◌, ◌<◌, ◌≤◌, ◌+◌, ◌^◌, ℕ, Bool, true, false, ◌↔◌, IfOk, OnOk, bit_xor, length, slice_index};
+ghost use Rattle.lrc_field.specs.Blocks.{HasLanes, HasQuad, HasSix, AreSet};
+ghost use Rattle.lrc_field.specs.Combined.{AreZeroBelow, AreZeroBetween, HaveLength, IsAddedBelow, IsCombined, Reach, sum_at, three_at};
 ghost use Rattle.lrc_field.specs.Field.{times};
 
-use crate::blocks::{self, Quad, Tables};
+use crate::blocks::{self, Quad, Six, Tables};
 use crate::element::Gf;
 use std::alloc::{AllocError, Allocator};
 use std::simd::prelude::*;
@@ -17,74 +17,56 @@ pub struct Term<'a> {
     pub bytes: &'a [u8],
 }
 
-// Adds 32 products of a scalar, from place `i` on. The scalar 01 needs no tables, and 00 is left out.
+// Adds 32 products of a scalar, from place `i` on. The scalar 01 needs no tables.
 #[inline(always)]
-fn with_products(sums: u8x32, c: Gf, tables: &Option<Tables>, bytes: &[u8], i: usize) -> u8x32
-    requires tables { IsTableOf c tables.now }
-    requires room { i + 32 ≤ length bytes.now }
+fn with_products(sums: u8x32, c: Gf, bytes: &[u8], i: usize) -> u8x32
+    requires { i + 32 ≤ length bytes.now }
     ensures { (f : ℕ → ℕ) → HasLanes sums f → HasLanes result (λ k. bit_xor (f k) (times c (slice_index bytes.now (i + k)))) }
 {
-    match tables {
-        Some(tables) => blocks::added(sums, tables.scaled(blocks::load(bytes, i))),
-        None => {
-            if c.byte() == 1 {
-                blocks::added(sums, blocks::load(bytes, i))
-            } else {
-                sums
-            }
-        }
+    if c.byte() == 1 {
+        blocks::added(sums, blocks::load(bytes, i))
+    } else {
+        let tables = Tables::new(c);
+        blocks::added(sums, tables.scaled(blocks::load(bytes, i)))
     }
 }
 
-// Adds 128 products of a scalar, from place `i` on.
+// Adds 192 products of a scalar, from place `i` on.
 #[inline(always)]
-fn quad_with_products(sums: Quad, c: Gf, tables: &Option<Tables>, bytes: &[u8], i: usize) -> Quad
-    requires tables { IsTableOf c tables.now }
-    requires room { i + 128 ≤ length bytes.now }
-    ensures { (f : ℕ → ℕ) → HasQuad sums f → HasQuad result (λ k. bit_xor (f k) (times c (slice_index bytes.now (i + k)))) }
+fn six_with_products(sums: Six, c: Gf, bytes: &[u8], i: usize) -> Six
+    requires { i + 192 ≤ length bytes.now }
+    ensures { (f : ℕ → ℕ) → HasSix sums f → HasSix result (λ k. bit_xor (f k) (times c (slice_index bytes.now (i + k)))) }
 {
-    match tables {
-        Some(tables) => {
-            blocks::added_quad(sums, tables.scaled_quad(blocks::load_quad(bytes, i)))
-        }
-        None => {
-            if c.byte() == 1 {
-                blocks::added_quad(sums, blocks::load_quad(bytes, i))
-            } else {
-                sums
-            }
-        }
+    if c.byte() == 1 {
+        blocks::six_with_bytes(sums, bytes, i)
+    } else {
+        let tables = Tables::new(c);
+        blocks::six_with_products(sums, tables, bytes, i)
     }
 }
 
 // The sums at 32 places, from place `i` on.
 #[inline(always)]
-fn sums_at(terms: &[Term], tables: &[Option<Tables>; 16], i: usize) -> u8x32
-    requires few { length terms.now ≤ 16 }
-    requires room { Reach (i + 32) terms.now }
-    requires tables { HaveTables terms.now tables.now }
+fn sums_at(terms: &[Term], i: usize) -> u8x32
+    requires { Reach (i + 32) terms.now }
     ensures { HasLanes result (λ k. sum_at terms.now (i + k)) }
 {
     let mut sums = blocks::zeros();
-    for j in 0..terms.len() {
-        let term = &terms[j];
-        sums = with_products(sums, term.scalar, &tables[j], term.bytes, i);
+    for term in terms {
+        sums = with_products(sums, term.scalar, term.bytes, i);
     }
     sums
 }
 
-// The sums at 128 places, from place `i` on.
+// The sums at 192 places, from place `i` on.
 #[inline(always)]
-fn quad_sums_at(terms: &[Term], tables: &[Option<Tables>; 16], i: usize) -> Quad
-    requires few { length terms.now ≤ 16 }
-    requires room { Reach (i + 128) terms.now }
-    requires tables { HaveTables terms.now tables.now }
-    ensures { HasQuad result (λ k. sum_at terms.now (i + k)) }
+fn six_sums_at(terms: &[Term], i: usize) -> Six
+    requires { Reach (i + 192) terms.now }
+    ensures { HasSix result (λ k. sum_at terms.now (i + k)) }
 {
-    let mut sums = blocks::zero_quad();
-    for j in 0..terms.len() {
-        let term = &terms[j];
-        sums = quad_with_products(sums, term.scalar, &tables[j], term.bytes, i);
+    let mut sums = blocks::zero_six();
+    for term in terms {
+        sums = six_with_products(sums, term.scalar, term.bytes, i);
     }
     sums
 }
@@ -99,36 +81,10 @@ fn product(c: Gf, byte: u8) -> u8
     }
 }
 
-#[inline(always)]
-fn no_tables() -> [Option<Tables>; 16]
-    ensures { (k : ℕ) → slice_index_or result k None ≡ None }
-{
-    [
-        None, None, None, None, None, None, None, None, None, None, None, None, None, None, None,
-        None,
-    ]
-}
-
-// Puts in tables of the scalars that need them. They are made in their place, since they are a thousand bytes.
-fn fill_tables(tables: &mut [Option<Tables>; 16], terms: &[Term])
-    requires few { length terms.now ≤ 16 }
-    requires none { (k : ℕ) → slice_index_or tables.old k None ≡ None }
-    ensures { HaveTables terms.now tables.new }
-{
-    for j in 0..terms.len() {
-        let term = &terms[j];
-        if term.scalar.byte() > 1 {
-            tables[j] = Some(Tables::new(term.scalar));
-        }
-    }
-}
-
 // Writes over each byte the sum at its place, counted from place `from` on.
-fn write_sums(dst: &mut [u8], from: usize, terms: &[Term], tables: &[Option<Tables>; 16])
-    requires few { length terms.now ≤ 16 }
+fn write_sums(dst: &mut [u8], from: usize, terms: &[Term])
     requires fits { from + length dst.old < 2 ^ 64 }
     requires room { Reach (from + length dst.old) terms.now }
-    requires tables { 32 ≤ length dst.old → HaveTables terms.now tables.now }
     ensures len { length dst.new ≡ length dst.old }
     ensures sums { AreSet (λ k. sum_at terms.now (from + k)) dst.new (length dst.old) }
 {
@@ -143,13 +99,13 @@ fn write_sums(dst: &mut [u8], from: usize, terms: &[Term], tables: &[Option<Tabl
         }
     }
     let mut i = 0;
-    'quads: while dst.len() - i >= 128 {
-        let sums = quad_sums_at(terms, tables, from + i);
-        blocks::put_quad(dst, i, sums);
-        i += 128;
+    'sixes: while dst.len() - i >= 192 {
+        let sums = six_sums_at(terms, from + i);
+        blocks::put_six(dst, i, sums);
+        i += 192;
     }
     'singles: while dst.len() - i >= 32 {
-        let sums = sums_at(terms, tables, from + i);
+        let sums = sums_at(terms, from + i);
         blocks::put(dst, i, sums);
         i += 32;
     }
@@ -158,7 +114,7 @@ fn write_sums(dst: &mut [u8], from: usize, terms: &[Term], tables: &[Option<Tabl
     }
     // The last 32, of which some are written already.
     let last = dst.len() - 32;
-    let sums = sums_at(terms, tables, from + last);
+    let sums = sums_at(terms, from + last);
     blocks::put(dst, last, sums);
 }
 
@@ -287,13 +243,7 @@ pub fn combine_into(dst: &mut [u8], from: usize, terms: &[Term])
     ensures len { length dst.new ≡ length dst.old }
     ensures sums { AreSet (λ k. sum_at terms.now (from + k)) dst.new (length dst.old) }
 {
-    if dst.len() < 32 {
-        write_few(dst, from, terms);
-        return;
-    }
-    let mut tables = no_tables();
-    fill_tables(&mut tables, terms);
-    write_sums(dst, from, terms, &tables);
+    write_sums(dst, from, terms);
 }
 
 /// The sum of the terms at each of `len` places, in a vector that `alloc` gives. The vector is written once: nothing
@@ -328,11 +278,9 @@ fn combined_by_tables<A: Allocator>(
     requires lengths { HaveLength len terms.now }
     ensures { IfOk result (λ v. IsCombined len terms.now v.items) }
 {
-    let mut tables = no_tables();
-    fill_tables(&mut tables, terms);
     let mut bytes = Vec::with_capacity(alloc, len)?;
     'parts: while bytes.len() < len {
-        append_part(&mut bytes, len, terms, &tables)?;
+        append_part(&mut bytes, len, terms)?;
     }
     Ok(bytes)
 }
@@ -401,11 +349,8 @@ fn append_part<A: Allocator>(
     bytes: &mut Vec<u8, A>,
     len: usize,
     terms: &[Term],
-    tables: &[Option<Tables>; 16],
 ) -> Result<(), AllocError>
-    requires few { length terms.now ≤ 16 }
     requires lengths { HaveLength len terms.now }
-    requires tables { HaveTables terms.now tables.now }
     requires more { length bytes.old.items < len }
     ensures longer { OnOk result (length bytes.old.items < length bytes.new.items) }
     ensures within { OnOk result (length bytes.new.items ≤ len) }
@@ -414,7 +359,7 @@ fn append_part<A: Allocator>(
     let from = bytes.len();
     let part = (len - from).min(4096);
     bytes.resize(from + part, 0)?;
-    write_sums(bytes.slice_mut(from..), from, terms, tables);
+    write_sums(bytes.slice_mut(from..), from, terms);
     Ok(())
 }
 
@@ -445,13 +390,11 @@ pub fn sums_are_zero_between(from: usize, to: usize, terms: &[Term]) -> bool
     if from >= to {
         return true;
     }
-    let mut tables = no_tables();
-    fill_tables(&mut tables, terms);
-    let mut part = [0u8; 1024];
+    let mut part = [0u8; 1152];
     let mut at = from;
     'parts: while at < to {
-        let size = (to - at).min(1024);
-        if !part_is_zero(&mut part[..size], at, terms, &tables) {
+        let size = (to - at).min(1152);
+        if !part_is_zero(&mut part[..size], at, terms) {
             return false;
         }
         at += size;
@@ -470,15 +413,13 @@ fn few_are_zero(sums: &mut [u8], terms: &[Term]) -> bool
 }
 
 // Whether the sums at as many places as `part` has are 00, from place `from` on. They are written there.
-fn part_is_zero(part: &mut [u8], from: usize, terms: &[Term], tables: &[Option<Tables>; 16]) -> bool
-    requires few { length terms.now ≤ 16 }
+fn part_is_zero(part: &mut [u8], from: usize, terms: &[Term]) -> bool
     requires fits { from + length part.old < 2 ^ 64 }
     requires room { Reach (from + length part.old) terms.now }
-    requires tables { HaveTables terms.now tables.now }
     ensures yes { result ≡ true → (k : ℕ) → k < length part.old → sum_at terms.now (from + k) ≡ 0 }
     ensures no { result ≡ false → ¬ ((k : ℕ) → k < length part.old → sum_at terms.now (from + k) ≡ 0) }
 {
-    write_sums(part, from, terms, tables);
+    write_sums(part, from, terms);
     are_zeros(part)
 }
 

@@ -29,7 +29,7 @@ pub fn scale_add_into(dst: &mut [u8], c: Gf, src: &[u8])
     let tables = Tables::new(c);
     let mut at = 0;
     'lanes: while dst.len() - at >= 32 {
-        blocks::scale_add_block(dst, at, &tables, src);
+        blocks::scale_add_block(dst, at, tables, src);
         at += 32;
     }
     for i in at..dst.len() {

@@ -15,8 +15,10 @@
 mod blocks;
 mod combining;
 mod element;
+mod high_products;
 mod kernels;
 pub mod laws;
+mod low_products;
 mod tables;
 
 pub use combining::{Term, combine_into, combined, sums_are_zero, sums_are_zero_between};

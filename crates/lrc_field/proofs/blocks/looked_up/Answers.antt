@@ -5,4 +5,4 @@ pub swizzle : goal.swizzle
 swizzle c = picks_within c.args.halves c.fits-halves.0 c.requires
 
 pub returns : goal.returns
-returns c = picked c.args.table.now c.args.halves c.fits-halves.0 c.requires
+returns c = picked c.args.table c.args.halves c.fits-halves.0 c.requires

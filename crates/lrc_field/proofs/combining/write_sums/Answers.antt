@@ -1,17 +1,17 @@
 use Rattle.std.proofs.Common.{◌+◌, ◌-◌, ◌∙◌, length, ap, arith, sym}
 use Rattle.lrc_field.specs.Combined.{sum_at}
-use Rattle.lrc_field.proofs.TermSums.{lanes_same, quad_same, sum_of_three}
+use Rattle.lrc_field.proofs.TermSums.{lanes_same, six_same, sum_of_three}
 use Rattle.lrc_field.proofs.combining.write_sums.Goals as goal
 
-pub quads-preserved : goal.quads-preserved
-quads-preserved c =
+pub sixes-preserved : goal.sixes-preserved
+sixes-preserved c =
     let sum = sum_at c.args.terms.now in
     let from = c.args.from in
-    let i = c.quads.i in
+    let i = c.sixes.i in
     record {
       within = omega arith;
-      set = c.put_quad.ensures.set (λ k. sum (from + k)) c.quads.invariant.set
-          (quad_same c.quad_sums_at-sums.result (λ k. sum (from + i + k)) (λ k. sum (from + (i + k))) (λ k lt. ap sum (omega arith)) c.quad_sums_at-sums.ensures);
+      set = c.put_six.ensures.set (λ k. sum (from + k)) c.sixes.invariant.set
+          (six_same c.six_sums_at-sums.result (λ k. sum (from + i + k)) (λ k. sum (from + (i + k))) (λ k lt. ap sum (omega arith)) c.six_sums_at-sums.ensures);
     }
 
 pub singles-preserved : goal.singles-preserved

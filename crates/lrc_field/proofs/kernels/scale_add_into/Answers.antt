@@ -1,4 +1,4 @@
-use Rattle.std.proofs.Common.{arith, map, sym, ap, ◌∙◌}
+use Rattle.std.proofs.Common.{arith, map, sym, ◌∙◌}
 use Rattle.std.specs.Prelude.{slice_index}
 use Rattle.std.proofs.lemmas.List.{length-map}
 use Rattle.lrc_field.specs.Field.{times}
@@ -9,9 +9,9 @@ use Rattle.lrc_field.proofs.kernels.scale_add_into.Goals as goal
 pub lanes-preserved : goal.lanes-preserved
 lanes-preserved c = record {
   within = omega arith;
-  summed = summed_block (λ k. times c.new-tables.result (slice_index c.args.src.now k)) c.args.dst.now (map (times c.args.c) c.args.src.now) c.lanes.dst c.scale_add_block.new.dst c.lanes.at
-      (λ k lt. ap (λ a. times a (slice_index c.args.src.now k)) c.new-tables.ensures ∙ sym (scaled_at c.args.c c.args.src.now k (omega (arith, c.requires, c.lanes.invariant.summed.len))))
-      c.lanes.invariant.summed c.scale_add_block.ensures;
+  summed = summed_block (λ k. times c.args.c (slice_index c.args.src.now k)) c.args.dst.now (map (times c.args.c) c.args.src.now) c.lanes.dst c.scale_add_block.new.dst c.lanes.at
+      (λ k lt. sym (scaled_at c.args.c c.args.src.now k (omega (arith, c.requires, c.lanes.invariant.summed.len))))
+      c.lanes.invariant.summed (c.scale_add_block.ensures c.args.c c.new-tables.ensures);
 }
 
 pub returns : goal.returns

@@ -1,11 +1,13 @@
-use Rattle.std.proofs.Common.{◌∙◌}
-use Rattle.lrc_field.proofs.TablesMade.{chosen_same, low_products, high_products}
+use Rattle.std.proofs.Common.{◌+◌, ◌*◌, ◌%◌, ◌∙◌, ap, arith, get_or}
+use Rattle.lrc_field.specs.declared.low_products.TheConstants.{LOW_PRODUCTS}
+use Rattle.lrc_field.specs.declared.high_products.TheConstants.{HIGH_PRODUCTS}
+use Rattle.lrc_field.proofs.ProductRows.{low_product, high_product}
 use Rattle.lrc_field.proofs.blocks.Tables.new.Goals as goal
 
-pub invariant_of-result : goal.invariant_of-result
-invariant_of-result c = record {
-  low_long = c.spread-low.ensures.long;
-  high_long = c.spread-high.ensures.long;
-  low_is = λ k lt. c.spread-low.ensures.each k lt ∙ chosen_same _ _ _ _ _ _ _ _ k c.product.ensures c.product-2.ensures c.product-3.ensures c.product-4.ensures ∙ low_products c.args.scalar k lt;
-  high_is = λ k lt. c.spread-high.ensures.each k lt ∙ chosen_same _ _ _ _ _ _ _ _ k c.product-5.ensures c.product-6.ensures c.product-7.ensures c.product-8.ensures ∙ high_products c.args.scalar k lt;
+pub returns : goal.returns
+returns c = record {
+  low_long = c.line-low.ensures.long;
+  high_long = c.line-high.ensures.long;
+  low_is = λ k lt. c.line-low.ensures.each k lt ∙ ap (λ b. get_or LOW_PRODUCTS (16 * b + k % 16) 0) c.byte.ensures ∙ low_product c.args.scalar (k % 16) (omega arith) (omega arith);
+  high_is = λ k lt. c.line-high.ensures.each k lt ∙ ap (λ b. get_or HIGH_PRODUCTS (16 * b + k % 16) 0) c.byte-2.ensures ∙ high_product c.args.scalar (k % 16) (omega arith) (omega arith);
 }

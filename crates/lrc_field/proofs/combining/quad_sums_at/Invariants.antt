@@ -1,7 +1,0 @@
-use Rattle.std.proofs.Common.{◌+◌, take}
-use Rattle.lrc_field.specs.Blocks.{HasQuad}
-use Rattle.lrc_field.specs.Combined.{sum_at}
-use Rattle.lrc_field.proofs.combining.quad_sums_at.Given as goal
-
-abbrev pub invariant-loop-j : goal.invariant-loop-j
-invariant-loop-j l = HasQuad l.sums (λ k. sum_at (take l.j l.terms) (l.i + k))
