@@ -8,3 +8,4 @@ pub mod LaneLemmas
 pub mod ProductRows
 pub mod Scaled
 pub mod TermSums
+pub mod PairSums

@@ -213,6 +213,15 @@ pub(crate) fn added_trio(p: Trio, q: Trio) -> Trio
     }
 }
 
+/// Adds to sums at 96 places the products of a scalar with the bytes there.
+#[inline(always)]
+pub(crate) fn trio_with_products(sums: Trio, c: Gf, bytes: Trio) -> Trio
+    ensures { (f x : ℕ → ℕ) → HasTrio sums f → HasTrio bytes x → HasTrio result (λ k. bit_xor (f k) (times c (x k))) }
+{
+    let tables = Tables::new(c);
+    added_trio(sums, tables.scaled_trio(bytes))
+}
+
 /// Adds to sums at 192 places the bytes from place `i` on.
 #[inline(always)]
 pub(crate) fn six_with_bytes(sums: Six, bytes: &[u8], i: usize) -> Six

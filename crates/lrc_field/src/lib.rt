@@ -19,8 +19,10 @@ mod high_products;
 mod kernels;
 pub mod laws;
 mod low_products;
+mod pairs;
 mod tables;
 
 pub use combining::{Term, combine_into, combined, sums_are_zero, sums_are_zero_between};
 pub use element::Gf;
 pub use kernels::{add_into, scale_add_into};
+pub use pairs::{Pair, combine_pairs_into};

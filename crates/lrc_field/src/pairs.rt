@@ -1,0 +1,65 @@
+//! Two sums over the same slices in one pass: each byte is read and halved once for both.
+ghost use Rattle.std.specs.Prelude.{◌≡◌, ◌<◌, ◌≤◌, ◌+◌, ◌^◌, ℕ, length};
+ghost use Rattle.lrc_field.specs.Blocks.{AreSet};
+ghost use Rattle.lrc_field.specs.Pairs.{AllReach, first_sum_at, second_sum_at};
+
+use crate::blocks;
+use crate::element::Gf;
+
+/// Two scalars, and the bytes that each of them scales.
+#[derive(Clone, Copy)]
+pub struct Pair<'a> {
+    pub first: Gf,
+    pub second: Gf,
+    pub bytes: &'a [u8],
+}
+
+// Writes both sums at 96 places, from place `i` on.
+#[inline(always)]
+fn put_sums(first: &mut [u8], second: &mut [u8], i: usize, from: usize, pairs: &[Pair])
+    requires fits { from + length first.old < 2 ^ 64 }
+    requires first { i + 96 ≤ length first.old }
+    requires second { i + 96 ≤ length second.old }
+    requires room { AllReach (from + i + 96) pairs.now }
+    ensures first_len { length first.new ≡ length first.old }
+    ensures second_len { length second.new ≡ length second.old }
+    ensures first_set { AreSet (λ k. first_sum_at pairs.now (from + k)) first.old i → AreSet (λ k. first_sum_at pairs.now (from + k)) first.new (i + 96) }
+    ensures second_set { AreSet (λ k. second_sum_at pairs.now (from + k)) second.old i → AreSet (λ k. second_sum_at pairs.now (from + k)) second.new (i + 96) }
+{
+    let at = from + i;
+    let mut a = blocks::zero_trio();
+    let mut b = blocks::zero_trio();
+    for pair in pairs {
+        let bytes = blocks::load_trio(pair.bytes, at);
+        a = blocks::trio_with_products(a, pair.first, bytes);
+        b = blocks::trio_with_products(b, pair.second, bytes);
+    }
+    blocks::put_trio(first, i, a);
+    blocks::put_trio(second, i, b);
+}
+
+/// Writes over each byte of `first` the sum at its place of the bytes times their first scalars, and over each of
+/// `second` that of the bytes times their second scalars, where the first byte stands at place `from`. Both have one
+/// length, of at least 96. Takes no memory.
+pub fn combine_pairs_into(first: &mut [u8], second: &mut [u8], from: usize, pairs: &[Pair])
+    requires many { 96 ≤ length first.old }
+    requires same { length second.old ≡ length first.old }
+    requires fits { from + length first.old < 2 ^ 64 }
+    requires room { AllReach (from + length first.old) pairs.now }
+    ensures first_len { length first.new ≡ length first.old }
+    ensures second_len { length second.new ≡ length second.old }
+    ensures first_sums { AreSet (λ k. first_sum_at pairs.now (from + k)) first.new (length first.old) }
+    ensures second_sums { AreSet (λ k. second_sum_at pairs.now (from + k)) second.new (length second.old) }
+{
+    let mut i = 0;
+    'trios: while first.len() - i >= 96 {
+        put_sums(first, second, i, from, pairs);
+        i += 96;
+    }
+    if i == first.len() {
+        return;
+    }
+    // The last 96, of which some are written already.
+    let last = first.len() - 96;
+    put_sums(first, second, last, from, pairs);
+}
