@@ -51,9 +51,11 @@ EXACT = {"evaluate_both_at_two_forks", "digests_in_three_threads"}
 ROOMS = [6_000, 8_000, 10_000, 12_000, 16_000, 20_000, 30_000, 40_000, 60_000]
 ROOMS += [80_000, 100_000, 120_000, 150_000, 200_000, 250_000, 300_000, 400_000]
 
-# How many requests are listed where threads are counted, and of how many files the survivors are read by all threads at once.
+# How many requests are listed where threads are counted; what a file is worth that is read ahead, beside its bytes and one more; and
+# how much a thread reads ahead at least.
 COUNTED = 256
-OPEN = 128
+OPENING = 16_384
+PART = 1_048_576
 
 # The greatest queue. A lane of it takes two allocations of LARGE bytes or more, its items and their records, and one of the least queue none.
 # The demo's folder is one batch, so the farm runs once.
@@ -427,7 +429,8 @@ def rack_of(folder, survivors):
 
 def count_threads(library):
     """The program starts as many threads as `--workers` says: for the farm the collector's, one for each worker and one for the
-    feeder; for each part of the survivors and for the digests one fewer than workers, since the thread that waits takes a share.
+    feeder; for the digests one fewer than workers, since the thread that waits takes a share; and so for the survivors, of which each
+    thread has the least part.
     """
     with tempfile.TemporaryDirectory(dir=library.folder) as folder:
         folder = pathlib.Path(folder)
@@ -440,8 +443,9 @@ def count_threads(library):
                 ran = library.run([str(it) for it in words])
                 if (ran.status, ran.out) != (0, b"served 1 racks, %d answers\n" % COUNTED):
                     raise Fault(f"threads of {name}: {ran.told()}")
-                shared = 3 * COUNTED // OPEN + (name == "rebuilt")
-                wanted = 2 + workers + shared * (workers - 1)
+                reading = min(workers, 3 * COUNTED * (OPENING + 2) // PART)
+                digesting = workers if name == "rebuilt" else 1
+                wanted = 2 + workers + (reading - 1) + (digesting - 1)
                 if ran.threads != wanted:
                     raise Fault(f"threads of {name}: {workers} workers started {ran.threads} threads, and not {wanted}")
     print("refusals threads: as many as --workers says, for survivors, requests and digests", flush=True)

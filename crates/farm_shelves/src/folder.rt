@@ -13,8 +13,15 @@ use std::{fs, mem, thread};
 // The room that is taken for the first read, if the limit isn't less. A fragment of the greatest length fits it.
 const FIRST_ROOM: usize = 65_537;
 
-// How many files are open at once at most, while they are read ahead.
-const MOST_OPEN: usize = 128;
+// What a file takes to be opened and closed, as the bytes that are read in that time.
+const OPENING: u64 = 16_384;
+
+// The least number of bytes for which a thread is started, with what the opening takes.
+const LEAST_PART: u64 = 1_048_576;
+
+// The memory that is held until files are read ahead. The C library gives free memory back to the system after each batch, unless it
+// has seen a block come back that is as large: it then keeps twice as much. It looks at no block of more than 32 MiB.
+const HELD: usize = 25_165_824;
 
 // How often a file is read at most.
 const READ_TURNS: u32 = 16_777_216;
@@ -32,6 +39,8 @@ pub struct FolderShelf<R: Drop> {
     failed: u64,
     // The files that were read ahead, the next one last.
     ahead: Vec<ReadAhead>,
+    // Given back before the first files are read ahead; nothing is ever in it.
+    held: Vec<u8>,
 }
 
 // A file that is read ahead: its path, its limit and how far it is.
@@ -45,8 +54,8 @@ struct ReadAhead {
 // How far a file is that is read ahead.
 #[derive(Drop)]
 enum State {
-    // It is open, and this is the room for its bytes.
-    Open(fs::File, Vec<u8>),
+    // It is to be read into this room.
+    Listed(Vec<u8>),
     // Its first bytes; none where there is no such file.
     Read(Option<Vec<u8>>),
     // It could not be read. The read that it was for reads it again, and says why.
@@ -65,28 +74,36 @@ impl<R: Files + Clone + Drop> FolderShelf<R> {
             path,
             failed: 0,
             ahead: Vec::new(alloc),
+            held: Vec::with_capacity(alloc, HELD)?,
         })
     }
 
     fn full_path(&self, alloc: Global, name: &str) -> Result<String, AllocError> {
-        let path = &self.path;
-        format!(in alloc; "{path}/{name}")
+        let folder = self.path.as_str();
+        let room = folder.len().saturating_add(name.len()).saturating_add(1);
+        let mut path = String::with_capacity(alloc, room)?;
+        path.push_str(folder)?;
+        path.push('/')?;
+        path.push_str(name)?;
+        Ok(path)
     }
-}
 
-impl<R: Files<File = fs::File> + Clone + Drop> FolderShelf<R> {
-    // Opens files that are to be read ahead, the last one first. This is no work for the threads: no proof speaks of a type
-    // parameter's files in several threads, and the system's allocator makes threads that take and return memory at once wait for
-    // each other.
-    fn open_each(
+    // The files that are to be read ahead, the last one first, with the room for each. The rooms are taken here and not in the
+    // threads, since the system's allocator makes threads that take memory at once wait for each other.
+    fn list_ahead(
         &self,
         alloc: Global,
         files: &[(String, usize)],
     ) -> Result<Vec<ReadAhead>, AllocError> {
-        let mut ahead = Vec::new(alloc);
+        let mut ahead = Vec::with_capacity(alloc, files.len())?;
         for (name, limit) in files.iter().rev() {
             let path = self.full_path(alloc, name.as_str())?;
-            ahead.push(open_ahead(&self.rt, alloc, path, *limit)?)?;
+            let room = Vec::with_capacity(alloc, FIRST_ROOM.min(*limit))?;
+            ahead.push(ReadAhead {
+                path,
+                limit: *limit,
+                state: State::Listed(room),
+            })?;
         }
         Ok(ahead)
     }
@@ -117,58 +134,72 @@ fn if_there<T: Drop>(answer: io::Result<T>) -> Result<Option<T>, ShelfFault>
 }
 
 // The regular file at a path, open; none where there is no file.
-fn open_regular<R: Files<File = fs::File>>(
-    rt: &R,
-    path: &str,
-) -> Result<Option<fs::File>, ShelfFault> {
-    match if_there(fs::metadata(rt, path))? {
-        Some(metadata) if metadata.is_file() => if_there(fs::open(rt, path)),
+fn open_regular(system: &HostRuntime, path: &str) -> Result<Option<fs::File>, ShelfFault> {
+    match if_there(fs::metadata(system, path))? {
+        Some(metadata) if metadata.is_file() => if_there(fs::open(system, path)),
         Some(_) => Err(ShelfFault::Device),
         None => Ok(None),
     }
 }
 
-// Opens a file that is to be read ahead, and takes room for its bytes if it is there.
-fn open_ahead<R: Files<File = fs::File>>(
-    rt: &R,
-    alloc: Global,
-    path: String,
-    limit: usize,
-) -> Result<ReadAhead, AllocError> {
-    let state = match open_regular(rt, path.as_str()) {
-        Ok(Some(file)) => State::Open(file, Vec::with_capacity(alloc, FIRST_ROOM.min(limit))?),
-        Ok(None) => State::Read(None),
-        Err(_) => State::Unread,
-    };
-    Ok(ReadAhead { path, limit, state })
+// How many threads are worth their start for these files, of so many at most: each has the least part.
+fn worthwhile(files: &[ReadAhead], threads: usize) -> usize
+    ensures { 0 < result }
+{
+    let mut bytes = 0u64;
+    for file in files {
+        bytes = bytes
+            .saturating_add(OPENING)
+            .saturating_add(file.limit as u64);
+    }
+    let parts = usize::try_from(bytes / LEAST_PART).unwrap_or(usize::MAX);
+    parts.min(threads).max(1)
 }
 
-// Reads the files that are open, in at most so many threads. A thread that is refused leaves its part to the others.
-fn read_opened<R: Threads + Sync>(rt: &R, files: &mut [ReadAhead], threads: usize) {
-    let size = files.len().div_ceil(threads.max(1)).max(1);
-    let part = |_start: usize, chunk: &mut [ReadAhead]| read_each(chunk);
+// Reads listed files in at most so many threads. A thread that is refused leaves its part to the others.
+fn read_listed<R: Threads + Sync>(
+    rt: &R,
+    system: &HostRuntime,
+    files: &mut [ReadAhead],
+    threads: usize,
+) {
+    let size = files.len().div_ceil(worthwhile(files, threads)).max(1);
+    let part = |_start: usize, chunk: &mut [ReadAhead]| read_each(system, chunk);
     thread::for_each_chunk_mut(rt, files, size, &part);
 }
 
-// Reads the files that are open, one after the other, each into its room, and closes them.
-fn read_each(files: &mut [ReadAhead]) {
+// Opens, reads and closes listed files, one after the other, each into its room.
+fn read_each(system: &HostRuntime, files: &mut [ReadAhead]) {
     for file in files.iter_mut() {
-        let limit = file.limit;
         file.state = match mem::replace(&mut file.state, State::Unread) {
-            State::Open(opened, room) => match read_front(room, opened, limit) {
-                Ok(bytes) => State::Read(Some(bytes)),
-                Err(_) => State::Unread,
-            },
+            State::Listed(room) => read_into(system, room, file.path.as_str(), file.limit),
             state => state,
         };
     }
 }
 
-// What was read ahead of a file, where it is the next one that was read ahead. A read of another file ends the reading ahead,
+// What is read ahead of a file into this room.
+fn read_into(system: &HostRuntime, room: Vec<u8>, path: &str, limit: usize) -> State {
+    match open_regular(system, path) {
+        Ok(Some(file)) => match read_front(room, file, limit) {
+            Ok(bytes) => State::Read(Some(bytes)),
+            Err(_) => State::Unread,
+        },
+        Ok(None) => State::Read(None),
+        Err(_) => State::Unread,
+    }
+}
+
+// What was read ahead of a folder's file, where it is the next one that was read ahead. A read of another file ends the reading ahead,
 // since what comes then isn't known.
-fn take_ahead(ahead: &mut Vec<ReadAhead>, path: &str, limit: usize) -> Option<Option<Vec<u8>>> {
+fn take_ahead(
+    ahead: &mut Vec<ReadAhead>,
+    folder: &str,
+    name: &str,
+    limit: usize,
+) -> Option<Option<Vec<u8>>> {
     let next = ahead.pop()?;
-    let is_next = next.path.as_str() == path && next.limit == limit;
+    let is_next = is_path_of(next.path.as_str(), folder, name) && next.limit == limit;
     if !is_next {
         ahead.clear();
         return None;
@@ -176,9 +207,15 @@ fn take_ahead(ahead: &mut Vec<ReadAhead>, path: &str, limit: usize) -> Option<Op
     let ReadAhead { state, .. } = next;
     match state {
         State::Read(read) => Some(read),
-        State::Open(_file, _room) => None,
+        State::Listed(_room) => None,
         State::Unread => None,
     }
+}
+
+// Whether a path in a folder is that of a name there. Takes no memory, as a path that is made to be compared would.
+fn is_path_of(path: &str, folder: &str, name: &str) -> bool {
+    path.len().checked_sub(name.len()) == folder.len().checked_add(1)
+        && path.as_bytes().ends_with(name.as_bytes())
 }
 
 /// The first bytes of a file, as many as the limit at most, in this room. The room for a fragment is taken and cleared once, so
@@ -246,7 +283,8 @@ fn make_room(bytes: &mut Vec<u8>, got: usize, limit: usize) -> Result<(), ShelfF
     }
 }
 
-impl<R: Files<File = fs::File> + Clone + Drop> Shelf for FolderShelf<R> {
+// For the system itself, since no proof speaks of a type parameter's files in several threads.
+impl Shelf for FolderShelf<HostRuntime> {
     ghost files = { λ s. None };
 
     ghost failed = { λ s. folder_failed s };
@@ -261,12 +299,12 @@ impl<R: Files<File = fs::File> + Clone + Drop> Shelf for FolderShelf<R> {
         name: &str,
         limit: usize,
     ) -> Result<Option<Vec<u8>>, ShelfFault> {
+        if let Some(read) = take_ahead(&mut self.ahead, self.path.as_str(), name, limit) {
+            return Ok(read);
+        }
         let Ok(path) = self.full_path(alloc, name) else {
             return Err(ShelfFault::OutOfMemory);
         };
-        if let Some(read) = take_ahead(&mut self.ahead, path.as_str(), limit) {
-            return Ok(read);
-        }
         let read = match open_regular(&self.rt, path.as_str()) {
             Ok(Some(file)) => read_front(Vec::new(alloc), file, limit),
             Ok(None) => return Ok(None),
@@ -290,12 +328,9 @@ impl<R: Files<File = fs::File> + Clone + Drop> Shelf for FolderShelf<R> {
         threads: usize,
     ) -> Result<(), AllocError> {
         self.ahead.clear();
-        let mut ahead = Vec::new(alloc);
-        for part in files.rchunks(MOST_OPEN) {
-            let mut opened = self.open_each(alloc, part)?;
-            read_opened(rt, opened.as_mut_slice(), threads);
-            ahead.append(&mut opened)?;
-        }
+        self.held = Vec::new(alloc);
+        let mut ahead = self.list_ahead(alloc, files)?;
+        read_listed(rt, &self.rt, ahead.as_mut_slice(), threads);
         self.ahead = ahead;
         Ok(())
     }

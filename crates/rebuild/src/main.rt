@@ -22,10 +22,8 @@ use farm_faults::{farm_status, fault_line};
 use farm_files::{FolderShelf, ServeFault, Served, serve};
 use line_mode::statuses::{DEVICE, DONE, NO_RESOURCES, USAGE};
 use line_mode::{line_mode, line_status};
-use std::fs::File;
 use std::io::ErrorKind;
 use std::process::ExitCode;
-use std::rt::Files;
 use std::sync::Wait;
 use std::thread::Threads;
 use std::{env, io};
@@ -41,7 +39,7 @@ fn main(rt: HostRuntime) -> ExitCode {
                 queue,
             },
         ) => match Settings::new(workers, queue) {
-            Ok(settings) => answer_farm(&rt, input.as_str(), output.as_str(), settings),
+            Ok(settings) => answer_farm(&rt, &rt, input.as_str(), output.as_str(), settings),
             Err(SettingsFault::BadWorkers) => refuse_words(&rt, "refused E11\n"),
             Err(SettingsFault::BadQueue) => refuse_words(&rt, "refused E12\n"),
         },
@@ -79,11 +77,11 @@ fn answer_lines(rt: &HostRuntime) -> u8 {
 }
 
 // Serves one folder into another, tells how that ended, and gives the exit status.
-fn answer_farm<R>(rt: &R, input: &str, output: &str, settings: Settings) -> u8
+fn answer_farm<R>(rt: &R, system: &HostRuntime, input: &str, output: &str, settings: Settings) -> u8
 where
-    R: Threads + Wait + Sync + Files<File = File> + Clone + Drop + Print + Eprint + AllocGlobal,
+    R: Threads + Wait + Sync + Print + Eprint + AllocGlobal,
 {
-    let served = serve_folders(rt, input, output, settings);
+    let served = serve_folders(rt, system, input, output, settings);
     match &served {
         Ok(Served { racks, answers }) => {
             if println!(rt; "served {racks} racks, {answers} answers").is_err() {
@@ -100,18 +98,21 @@ where
     farm_status(&served)
 }
 
+// The threads are those of `rt`, and the files those of the system: a shelf opens them in several threads, which isn't proved of a
+// type parameter's files.
 fn serve_folders<R>(
     rt: &R,
+    system: &HostRuntime,
     input: &str,
     output: &str,
     settings: Settings,
 ) -> Result<Served, ServeFault>
 where
-    R: Threads + Wait + Sync + Files<File = File> + Clone + Drop + AllocGlobal,
+    R: Threads + Wait + Sync + AllocGlobal,
 {
     let alloc = rt.alloc();
-    let mut input = FolderShelf::open(rt, alloc, input)?;
-    let mut output = FolderShelf::open(rt, alloc, output)?;
+    let mut input = FolderShelf::open(system, alloc, input)?;
+    let mut output = FolderShelf::open(system, alloc, output)?;
     serve(rt, alloc, &mut input, &mut output, settings, &NoPause)
 }
 
