@@ -28,7 +28,13 @@ pub fn fragment_file(alloc: Global, stripe: &str, place: Place) -> Result<String
     ensures { IfOk result (λ s. string_bytes s ≡ fragment_name stripe.now place) }
 {
     let place = place.name();
-    format!(in alloc; "{stripe}.{place}")
+    // Made for each survivor, so its memory is taken once.
+    let room = stripe.len().saturating_add(1).saturating_add(place.len());
+    let mut name = String::with_capacity(alloc, room)?;
+    name.push_str(stripe)?;
+    name.push_str(".")?;
+    name.push_str(place)?;
+    Ok(name)
 }
 
 /// The name of the fragment that a request of a rack rebuilds.
