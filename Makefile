@@ -20,7 +20,8 @@ TARGET :=
 LIBRARY := crates/lrc_c/out$(if $(TARGET),/$(TARGET))
 LIBRARY_CC := $(if $(TARGET),$(subst -unknown,,$(TARGET))-gcc,$(CC))
 
-.PHONY: build demo try install uninstall library install-library uninstall-library test levels wrong-bodies scale bench
+.PHONY: build demo try install uninstall library install-library uninstall-library ceph install-ceph uninstall-ceph try-ceph test levels \
+  wrong-bodies scale bench
 
 # Proves the program and what it stands on, and builds crates/rebuild/out/rebuild. JOBS=N has it use N processors.
 build:
@@ -80,10 +81,29 @@ uninstall-library:
 	rm -f "$(PLACE)/include/lrc.h" "$(PLACE)/lib/liblrc.a" "$(PLACE)/lib/pkgconfig/lrc.pc"
 	rm -f "$(PLACE)/lib/liblrc.so" "$(PLACE)/lib/$(SONAME)" "$(PLACE)/lib/liblrc.so.$(LIBRARY_VERSION)"
 
+# The erasure code plugin for Ceph over the C library: ceph/out/libec_azure_lrc.so. It needs Debian's libradospp-dev, librados-dev and g++.
+ceph: library
+	@$(MAKE) --no-print-directory -C ceph
+
+# The folder in which Ceph's programs look for plugins.
+CEPH_PLUGINS := /usr/lib/x86_64-linux-gnu/ceph/erasure-code
+
+# Builds nothing, as `install`.
+install-ceph:
+	@test -f ceph/out/libec_azure_lrc.so || { echo "The plugin isn't built: run 'make ceph' first." >&2; exit 1; }
+	install -D -m 644 ceph/out/libec_azure_lrc.so "$(DESTDIR)$(CEPH_PLUGINS)/libec_azure_lrc.so"
+
+uninstall-ceph:
+	rm -f "$(DESTDIR)$(CEPH_PLUGINS)/libec_azure_lrc.so"
+
+# Tries the plugin in Ceph itself, as far as that is installed; about forty minutes. It is no part of the gate.
+try-ceph: ceph
+	scripts/try-ceph.sh
+
 # What the gate runs behind the proofs, over the programs and tests that they leave in each crate's out/. No two of these share a file
 # that one of them writes, so several run at once.
 BEHIND := refusals.py try.sh no-compile.sh reference-lines.sh ends.sh demo.sh examples.py manual.sh completions.sh install.sh \
-  version.sh numbers.py growth.py memory.py companion-test.py
+  version.sh numbers.py growth.py memory.py companion-test.py ceph.sh
 
 # library.sh builds in a copy of its own, so it runs beside the proofs.
 test:

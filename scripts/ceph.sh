@@ -1,0 +1,77 @@
+#!/usr/bin/env bash
+# Compiles the plugin for Ceph and runs its host tests, where Ceph's headers are installed (Debian's libradospp-dev and librados-dev, with
+# its common library); else it says that it left them out. Nothing of Ceph is started: scripts/try-ceph.sh does that.
+#   every set of one to four lost shards of both codes in both layouts, also under the address and undefined sanitizers; what is wrong
+#   answered with an error; each allocation refused in turn; the least reads; words and releases that are refused; the table of calls
+#   beside those of shipped plugins; `make install-ceph` and `make uninstall-ceph`
+# All is built in a copy of the repository, with what the proofs have left: the gate's other scripts run beside this one.
+set -euo pipefail
+cd "$(dirname "$0")/.."
+common=/usr/lib/x86_64-linux-gnu/ceph/libceph-common.so.2
+compiler=${CXX:-g++}
+if ! command -v "$compiler" > /dev/null || [ ! -e "$common" ] ||
+  ! printf '#include <rados/buffer.h>\n#include <rados/librados.h>\n' | "$compiler" -std=c++17 -x c++ -E - > /dev/null 2>&1; then
+  echo "ceph: left out: the plugin for Ceph (Debian's libradospp-dev, librados-dev and g++ aren't all installed)"
+  exit 0
+fi
+scratch=$(mktemp -d)
+trap 'rm -rf "$scratch"' EXIT
+# What a make that runs this script was told is not for the runs below.
+unset MAKEFLAGS MFLAGS MAKELEVEL MAKEOVERRIDES PREFIX DESTDIR TARGET
+
+fail() {
+  echo "ceph: $1"
+  exit 1
+}
+
+# quietly WHAT COMMAND..: runs the command, and shows what it wrote only where it fails.
+quietly() {
+  local what=$1
+  shift
+  "$@" > "$scratch/said" 2>&1 || { cat "$scratch/said"; fail "$what"; }
+}
+
+mkdir "$scratch/copy"
+git ls-files -z --cached --others --exclude-standard | xargs -0 cp --parents -t "$scratch/copy"
+for crate in lrc_field lrc_code lrc_plan lrc_c; do
+  if [ -d "crates/$crate/out" ]; then
+    cp -al "crates/$crate/out" "$scratch/copy/crates/$crate/" 2> "$scratch/said" || cp -a "crates/$crate/out" "$scratch/copy/crates/$crate/"
+  fi
+done
+cd "$scratch/copy"
+quietly 'make ceph' make -s ceph JOBS=1 CXX="$compiler"
+
+plain=$PWD/ceph/out
+watched=$scratch/watched
+quietly 'the plugin under sanitizers' make -s -C ceph "OUT=$watched" CXX="$compiler" \
+  CXXFLAGS='-O1 -g -fsanitize=address,undefined -fno-sanitize-recover=all'
+profiles=(plugin=azure_lrc plugin=azure_lrc,layout=groups plugin=azure_lrc,code=12-2-2 plugin=azure_lrc,code=12-2-2,layout=groups)
+for out in "$plain" "$watched"; do
+  export PLUGINS=$out/plugins
+  for profile in "${profiles[@]}"; do
+    for part in sets odd starved; do
+      quietly "$part of $profile" "$out/host" "$part" "$profile"
+    done
+  done
+  quietly 'refused words' "$out/host" words plugin=azure_lrc
+  quietly 'releases' "$out/host" version plugin=azure_lrc
+done
+export PLUGINS=$plain/plugins
+quietly 'the least reads of (6,2,2)' "$plain/host" least plugin=azure_lrc 3
+quietly 'the least reads of (12,2,2)' "$plain/host" least plugin=azure_lrc,code=12-2-2 1
+shipped=$(dirname "$common")/erasure-code
+if [ -d "$shipped" ] && command -v readelf > /dev/null; then
+  quietly 'the calls beside those of shipped plugins' ceph/tests/abi.sh "$plain" "$shipped"
+else
+  echo 'ceph: left out: the calls beside those of shipped plugins (none is installed, or no readelf)'
+fi
+
+installed=usr/lib/x86_64-linux-gnu/ceph/erasure-code/libec_azure_lrc.so
+quietly 'make install-ceph' make -s install-ceph "DESTDIR=$scratch/root"
+[ "$(cd "$scratch/root" && find . -type f -printf '%m %P\n')" = "644 $installed" ] || fail "what comes is $(find "$scratch/root" -type f)"
+cmp "$plain/libec_azure_lrc.so" "$scratch/root/$installed" || fail 'another plugin was installed'
+quietly 'make uninstall-ceph' make -s uninstall-ceph "DESTDIR=$scratch/root"
+[ -z "$(find "$scratch/root" -type f)" ] || fail "what stays is $(find "$scratch/root" -type f)"
+[ "$(nm -D --defined-only "$plain/libec_azure_lrc.so" | awk '{ print $3 }' | sort | tr '\n' ' ')" = \
+  '__erasure_code_init __erasure_code_version ' ] || fail 'the plugin shows other names than its two'
+echo 'ceph: the plugin rebuilds every set that its codes determine, in both layouts, and answers an error for the others'
