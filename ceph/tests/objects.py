@@ -1,0 +1,127 @@
+"""What the scripts beside it ask of a cluster's objects and of Ceph's JSON; it takes the name of a job and its arguments.
+
+    make FOLDER COUNT MOST        files of random bytes, of 1 to MOST bytes
+    write POOL FOLDER             each file as an object of its name
+    compare POOL FOLDER           reads all objects; ends with status 1 where one is not as its file
+    fill POOL COUNT SIZE          writes so many objects of one size
+    degraded POOL                 how many shards are lost
+    fullest POOL                  the OSD that holds the most shards
+    sent                          the sum of the bytes that OSDs sent, of their counters on standard input
+    acting POOL OBJECT            the placement group of an object, and its OSDs by shard
+    racks POOL GROUP              whether each group of GROUP shards is in one rack, of all placement groups, and p0 and p1 in a third
+    scrubbed POOL SINCE           how many placement groups were scrubbed since then, and their errors; status 1 until all were"""
+
+import collections
+import json
+import os
+import random
+import subprocess
+import sys
+
+ODD_SIZES = (1, 31, 4096, 24576, 24577, 65536, 1000003)
+
+
+def ceph(*words):
+    return json.loads(subprocess.run(["ceph", *words, "-f", "json"], check=True, capture_output=True, text=True).stdout)
+
+
+def groups(pool):
+    return ceph("pg", "ls-by-pool", pool)["pg_stats"]
+
+
+def make(folder, count, most):
+    random.seed(1)
+    os.makedirs(folder, exist_ok=True)
+    for i in range(int(count)):
+        size = ODD_SIZES[i] if i < len(ODD_SIZES) else random.randrange(1, int(most))
+        with open(f"{folder}/o{i}", "wb") as file:
+            file.write(os.urandom(min(size, int(most))))
+
+
+def opened(pool):
+    import rados
+    cluster = rados.Rados(conffile=os.environ["CEPH_CONF"])
+    cluster.connect()
+    return cluster.open_ioctx(pool)
+
+
+def files(folder):
+    for name in sorted(os.listdir(folder)):
+        with open(f"{folder}/{name}", "rb") as file:
+            yield name, file.read()
+
+
+def write(pool, folder):
+    io = opened(pool)
+    for name, data in files(folder):
+        io.write_full(name, data)
+
+
+def compare(pool, folder):
+    io, count, size, wrong = opened(pool), 0, 0, []
+    for name, data in files(folder):
+        try:
+            read = io.read(name, length=len(data) + 1)
+        except Exception as error:    # of rados, whose errors have no type for all
+            read = error
+        count, size = count + 1, size + len(data)
+        if read != data:
+            wrong.append(f"{name}: {read if isinstance(read, Exception) else 'other bytes'}")
+    print(f"{count} objects, {size} bytes read, {len(wrong)} not as written {' '.join(wrong[:3])}".rstrip())
+    sys.exit(1 if wrong else 0)
+
+
+def fill(pool, count, size):
+    io, data = opened(pool), os.urandom(int(size))
+    for i in range(int(count)):
+        io.write_full(f"o{i}", data)
+
+
+def degraded(pool):
+    print(sum(it["stat_sum"]["num_objects_degraded"] for it in groups(pool)))
+
+
+def fullest(pool):
+    held = collections.Counter()
+    for it in groups(pool):
+        held.update({osd: it["stat_sum"]["num_objects"] for osd in it["acting"]})
+    print(held.most_common(1)[0][0])
+
+
+def sent():
+    text, total, decoder = sys.stdin.read().strip(), 0, json.JSONDecoder()
+    while text:
+        counters, end = decoder.raw_decode(text)
+        text = text[end:].strip()
+        total += sum(it["msgr_send_bytes"] for name, it in counters.items() if name.startswith("AsyncMessenger::Worker"))
+    print(total)
+
+
+def acting(pool, name):
+    found = ceph("osd", "map", pool, name)
+    print(found["pgid"], *found["acting"])
+
+
+def racks(pool, group):
+    rack_of, group = {}, int(group)
+    nodes = {node["id"]: node for node in ceph("osd", "tree")["nodes"]}
+    for node in nodes.values():
+        for host in node.get("children", []) if node["type"] == "rack" else []:
+            rack_of.update({osd: node["name"] for osd in nodes[host]["children"]})
+    stats, whole = groups(pool), 0
+    for it in stats:
+        seen = [{rack_of.get(osd) for osd in it["acting"][at:at + group]} for at in (0, group, 2 * group)]
+        whole += all(len(found) == 1 for found in seen) and len(set.union(*seen)) == 3
+    print(f"{whole} of {len(stats)} placement groups have each group in one rack, and p0 and p1 in a third")
+    sys.exit(0 if whole == len(stats) else 1)
+
+
+def scrubbed(pool, since):
+    stats = groups(pool)
+    done = [it for it in stats if it["last_deep_scrub_stamp"][:19] >= since]
+    print(f"{len(done)} of {len(stats)} placement groups scrubbed, {sum(it['stat_sum']['num_scrub_errors'] for it in done)} errors")
+    sys.exit(0 if len(done) == len(stats) else 1)
+
+
+if __name__ == "__main__":
+    {it.__name__: it for it in (make, write, compare, fill, degraded, fullest, sent, acting, racks, scrubbed)}[sys.argv[1]](*sys.argv[2:])
