@@ -143,7 +143,8 @@ public:
                     chunk = fresh(size);
                     continue;
                 }
-                unsigned from = std::min(i * size, in.length()), there = std::min(size, in.length() - from);
+                unsigned from = unsigned(std::min(uint64_t(i) * size, uint64_t(in.length())));
+                unsigned there = std::min(size, in.length() - from);
                 chunk.substr_of(in, from, there);
                 chunk.append_zero(size - there);
             }

@@ -1,3 +1,4 @@
+# shellcheck shell=bash
 # Functions for a Ceph cluster of one machine on the loopback, to be sourced: a monitor, a manager, and OSDs over files below $RUN.
 #   RUN       an empty folder of its own, which scripts/try-ceph.sh makes and removes
 #   PLUGINS   the folder of plugins, ours and the shipped ones

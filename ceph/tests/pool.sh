@@ -113,6 +113,18 @@ repair() {
   compare 'repaired, the shard as it was'
 }
 
+# An OSD whose machine has not the plugin, and a placement group of the pool, ends at its start.
+start_without_plugin() {
+  halt osd.4
+  mkdir "$RUN/without"
+  find "$PLUGINS/" -name '*.so' ! -name libec_azure_lrc.so -exec ln -s -t "$RUN/without" {} +
+  launch osd.4 ceph-osd -f -i 4 "--erasure_code_dir=$RUN/without" '--osd_erasure_code_plugins=jerasure isa'
+  for _ in $(seq 60); do is_alive osd.4 || break; sleep 1; done
+  if is_alive osd.4; then fail 'without the plugin osd.4 runs'; fi
+  step 'without the plugin osd.4 ends at its start'
+  compare 'without it'
+}
+
 step "a cluster of $count OSDs in $racks racks, on processors $CPUS"
 cluster_new "$count" "$racks"
 make_pool
@@ -125,3 +137,4 @@ damage
 repair
 [ "$(aborts)" = 0 ] || fail "a daemon's log has an abort"
 step "the daemons held $(cat "$RUN/memory") MB at most; no daemon's log has an abort"
+start_without_plugin
