@@ -16,6 +16,8 @@ SIGNATURE = re.compile(r"^(?:(?:abbrev|unfoldable|pub|record|data) )*([^\s:({]+)
 ITEM = re.compile(r"^\s*pub\(crate\) (?:fn|struct|enum|trait|type|const|static|mod) (\w+)", re.M)
 # Lines of a block that define no name.
 DIRECTIVES = {"module", "where"}
+# What is used by a form of the language that doesn't name it: `do`.
+UNNAMED = {"◌>>=◌"}
 # Files whose names the prover uses and no text.
 OF_THE_PROVER = {"Answers.antt", "Invariants.antt", "Lib.antt"}
 
@@ -74,7 +76,7 @@ def unused_lemmas():
             continue
         module, parts = module_of(file), blocks(text)
         for name, own in parts.items():
-            if name in DIRECTIVES or (module, name) in imported:
+            if name in DIRECTIVES | UNNAMED or (module, name) in imported:
                 continue
             others = "\n".join(part for other, part in parts.items() if other != name)
             if not is_named(name, others):

@@ -10,7 +10,6 @@ pub mod FewAnswers
 pub mod ServeEnds
 pub mod OneFeedServed
 pub mod AnsweredRacks
-pub mod OneList
 pub mod Pieces
 pub mod RackBatches
 pub mod PieceBytes

@@ -21,10 +21,6 @@ use Rattle.farm_lists.proofs.MakingAll.{all_zip-length}
 use Rattle.farm_lists.proofs.OneFeed.{files_of_one_feed}
 use Rattle.farm_files.proofs.ReadRequests.{all_served, close_told}
 
--- as the only feed of a rack
-abbrev only : {A : Type 0} → A → List A
-only x = x ∷ []
-
 -- as answers of the first feed
 abbrev of_first : List Outcome → List (ℕ × Outcome)
 of_first os = map (λ o. (0, o)) os

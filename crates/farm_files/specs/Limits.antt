@@ -1,10 +1,6 @@
 -- How many survivors lists name together, and how many answers there are, at most.
 use Rattle.std.specs.Prelude.{ℕ}
 
--- the survivors of a feed, of a rack, and of all racks
-abbrev pub feed_survivors : ℕ
-feed_survivors = 61440
-
 abbrev pub rack_survivors : ℕ
 rack_survivors = 245760
 

@@ -84,32 +84,7 @@ sum_of_three ts s t u i three first second third a b c =
 pub one_product : (c x : ℕ) → c ≡ 1 → x < 2 ^ 8 → x ≡ times c x
 one_product c x e h = sym (ap (λ s. times s x) e ∙ times-one x h)
 
-pub no_product : (c x o : ℕ) → c ≡ 0 → o ≡ bit_xor o (times c x)
-no_product c x o e = sym (ap (λ s. bit_xor o (times s x)) e ∙ ap (bit_xor o) (times-zero x) ∙ xor_zero_r o)
-
-pub is_zero : (c b : ℕ) → c < 2 → b ≡ c → (b ≡ 1 → ⊥) → c ≡ 0
-is_zero c b small same apart = omega (arith, small, same, apart)
-
 -- ---- products that are added byte by byte
-
-pub added_more : (f : ℕ → ℕ) (xs zs : List ℕ) (i v : ℕ) → i < length xs → IsAddedBelow f xs zs i → v ≡ bit_xor (get_or xs i 0) (f i)
-    → IsAddedBelow f xs (set zs i v) (i + 1)
-added_more f xs zs i v lt s e =
-    let inside : i < length zs = subst (λ n. i < n) (sym s.len) lt in
-    record {
-      len = length-set zs i v ∙ s.len;
-      done = λ k below. elim (last_or_below k i (omega arith)) as (λ _. get_or (set zs i v) k 0 ≡ bit_xor (get_or xs k 0) (f k)) [
-        | inl same ↦ ap (λ x. get_or (set zs i v) x 0) same ∙ get_or-set_same zs i v 0 inside ∙ e ∙ ap (λ x. bit_xor (get_or xs x 0) (f x)) (sym same)
-        | inr less ↦ (let ne : k ≢ i = omega arith in get_or-set_other zs i k v 0 ne ∙ s.done k less)
-      ];
-      rest = λ k above. (let ne : k ≢ i = omega arith in get_or-set_other zs i k v 0 ne ∙ s.rest k (omega arith));
-    }
-
-pub set_more : (f : ℕ → ℕ) (zs : List ℕ) (i v : ℕ) → i < length zs → AreSet f zs i → v ≡ f i → AreSet f (set zs i v) (i + 1)
-set_more f zs i v lt s e k below = elim (last_or_below k i (omega arith)) as (λ _. get_or (set zs i v) k 0 ≡ f k) [
-  | inl same ↦ ap (λ x. get_or (set zs i v) x 0) same ∙ get_or-set_same zs i v 0 lt ∙ e ∙ ap f (sym same)
-  | inr less ↦ (let ne : k ≢ i = omega arith in get_or-set_other zs i k v 0 ne ∙ s k less)
-]
 
 -- the bytes are the sums of the first j terms; with those of the next, they are of one more
 pub term_added : (ts : List Term) (j from n : ℕ) (d : Term) (before after : List ℕ) (f : ℕ → ℕ) → j < length ts

@@ -49,9 +49,9 @@ pub(crate) fn load(bytes: &[u8], i: usize) -> u8x32
     u8x32::from_slice(&bytes[i..])
 }
 
-/// Writes the vector over the 32 bytes from place `i` on.
+// Writes the vector over the 32 bytes from place `i` on.
 #[inline(always)]
-pub(crate) fn store(bytes: &mut [u8], i: usize, v: u8x32)
+fn store(bytes: &mut [u8], i: usize, v: u8x32)
     requires room { i + 32 ≤ length bytes.old }
     requires whole { length v ≡ 32 }
     ensures len { length bytes.new ≡ length bytes.old }
@@ -144,9 +144,9 @@ impl Tables {
         added(low, high)
     }
 
-    /// The scalar times each of 96 bytes.
+    // The scalar times each of 96 bytes.
     #[inline(always)]
-    pub(crate) fn scaled_trio(self, bytes: Trio) -> Trio
+    fn scaled_trio(self, bytes: Trio) -> Trio
         ensures { (c : ℕ) (f : ℕ → ℕ) → AreTables c self.low self.high → HasTrio bytes f → HasTrio result (λ k. times c (f k)) }
     {
         Trio {
@@ -201,9 +201,9 @@ pub(crate) fn load_trio(bytes: &[u8], i: usize) -> Trio
     }
 }
 
-/// The sums of two blocks of 96 bytes.
+// The sums of two blocks of 96 bytes.
 #[inline(always)]
-pub(crate) fn added_trio(p: Trio, q: Trio) -> Trio
+fn added_trio(p: Trio, q: Trio) -> Trio
     ensures { (f g : ℕ → ℕ) → HasTrio p f → HasTrio q g → HasTrio result (λ k. bit_xor (f k) (g k)) }
 {
     Trio {
