@@ -20,6 +20,7 @@
 mod batches;
 mod cutting;
 mod faults;
+mod folders;
 mod reading;
 mod serving;
 pub mod serving_laws;
@@ -32,5 +33,6 @@ pub use farm_lists::{
 };
 pub use farm_shelves::{FolderShelf, MemoryShelf, Shelf, ShelfFault};
 pub use faults::ServeFault;
+pub use folders::serve_folders;
 pub use reading::read_lists;
 pub use serving::{Served, serve};

@@ -17,9 +17,9 @@ pub mod farm_faults;
 mod tests;
 
 use command_line::{Words, WordsFault, read_words};
-use farm_core::{NoPause, Settings, SettingsFault};
+use farm_core::{Settings, SettingsFault};
 use farm_faults::{farm_status, fault_line};
-use farm_files::{FolderShelf, ServeFault, Served, serve};
+use farm_files::{Served, serve_folders};
 use line_mode::statuses::{DEVICE, DONE, NO_RESOURCES, USAGE};
 use line_mode::{line_mode, line_status};
 use std::io::ErrorKind;
@@ -81,7 +81,7 @@ fn answer_farm<R>(rt: &R, system: &HostRuntime, input: &str, output: &str, setti
 where
     R: Threads + Wait + Sync + Print + Eprint + AllocGlobal,
 {
-    let served = serve_folders(rt, system, input, output, settings);
+    let served = serve_folders(rt, system, rt.alloc(), input, output, settings);
     match &served {
         Ok(Served { racks, answers }) => {
             if println!(rt; "served {racks} racks, {answers} answers").is_err() {
@@ -96,24 +96,6 @@ where
         }
     }
     farm_status(&served)
-}
-
-// The threads are those of `rt`, and the files those of the system: a shelf opens them in several threads, which isn't proved of a
-// type parameter's files.
-fn serve_folders<R>(
-    rt: &R,
-    system: &HostRuntime,
-    input: &str,
-    output: &str,
-    settings: Settings,
-) -> Result<Served, ServeFault>
-where
-    R: Threads + Wait + Sync + AllocGlobal,
-{
-    let alloc = rt.alloc();
-    let mut input = FolderShelf::open(system, alloc, input)?;
-    let mut output = FolderShelf::open(system, alloc, output)?;
-    serve(rt, alloc, &mut input, &mut output, settings, &NoPause)
 }
 
 // Shows a text that was asked for.
