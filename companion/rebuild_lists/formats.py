@@ -26,7 +26,7 @@ LONGEST = 65536
 NAME = 32
 WORKERS = 16
 # A run holds the survivors of one batch of requests at once, which list this many bytes together.
-BATCH = 32 * 2**20
+BATCH = 16 * 2**20
 
 STRIPE_NAME = re.compile(f"[a-z0-9-]{{1,{NAME}}}")
 LIST_NAME = re.compile(r"rack(0|[1-9][0-9]*)(?:\.feed([1-9][0-9]*))?\.csv")

@@ -19,7 +19,7 @@ use std::sync::Wait;
 use std::thread::Threads;
 
 /// The most bytes of survivors that the lists of a batch name together, unless it is a single request of each feed of one rack.
-pub const MOST_BATCH_BYTES: u64 = 33_554_432;
+pub const MOST_BATCH_BYTES: u64 = 16_777_216;
 
 /// Of each rack the answers, each with its feed's number, and of each request, feed by feed, the places of the survivors that weren't read.
 #[derive(Drop)]

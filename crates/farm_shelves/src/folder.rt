@@ -54,10 +54,12 @@ struct ReadAhead {
 // How far a file is that is read ahead.
 #[derive(Drop)]
 enum State {
-    // It is to be read into this room.
+    // It is to be read into this room, or couldn't be opened.
     Listed(Vec<u8>),
-    // Its first bytes; none where there is no such file.
-    Read(Option<Vec<u8>>),
+    // Its first bytes.
+    Read(Vec<u8>),
+    // There is no such file. The room stays with it, since a thread that gives memory back takes some of its own.
+    Absent(Vec<u8>),
     // It could not be read. The read that it was for reads it again, and says why.
     Unread,
 }
@@ -182,11 +184,11 @@ fn read_each(system: &HostRuntime, files: &mut [ReadAhead]) {
 fn read_into(system: &HostRuntime, room: Vec<u8>, path: &str, limit: usize) -> State {
     match open_regular(system, path) {
         Ok(Some(file)) => match read_front(room, file, limit) {
-            Ok(bytes) => State::Read(Some(bytes)),
+            Ok(bytes) => State::Read(bytes),
             Err(_) => State::Unread,
         },
-        Ok(None) => State::Read(None),
-        Err(_) => State::Unread,
+        Ok(None) => State::Absent(room),
+        Err(_) => State::Listed(room),
     }
 }
 
@@ -206,7 +208,8 @@ fn take_ahead(
     }
     let ReadAhead { state, .. } = next;
     match state {
-        State::Read(read) => Some(read),
+        State::Read(bytes) => Some(Some(bytes)),
+        State::Absent(_room) => Some(None),
         State::Listed(_room) => None,
         State::Unread => None,
     }
