@@ -6,3 +6,4 @@ pub mod EncodeLemmas
 pub mod Many
 pub mod ReadLaws
 pub mod UpdateLaws
+pub mod PairRows

@@ -20,9 +20,10 @@ pub record AreSources (number : ℕ) (sources : List (List ℕ)) (x y z w : ℕ)
   pub p0 : z ≡ x
   pub p1 : w ≡ x
 
--- rows of at most sixteen coefficients
+-- rows of at most sixteen coefficients, the last two of one length
 pub record AreShort (rows : Rows) : Type 0 where
   pub px : length rows.px.now ≤ 16
   pub py : length rows.py.now ≤ 16
   pub p0 : length rows.p0.now ≤ 16
   pub p1 : length rows.p1.now ≤ 16
+  pub same : length rows.p1.now ≡ length rows.p0.now

@@ -8,3 +8,4 @@ pub mod RebuiltMany
 pub mod Encoded
 pub mod Reads
 pub mod Updated
+pub mod Paired

@@ -17,7 +17,7 @@ use Rattle.lrc_c.specs.declared.windows.Wanted.{Wanted}
 use Rattle.lrc_c.specs.declared.windows.Wanted.TheVariants as wanted
 use Rattle.lrc_c.specs.Arguments.{AreWhole, code_numbered, is_set}
 use Rattle.lrc_c.specs.Combined.{AreTermsOf}
-use Rattle.lrc_c.specs.Lent.{at_place}
+use Rattle.lrc_c.specs.Lent.{at_place, AreUsed}
 use Rattle.lrc_c.specs.Rebuilt.{status_of, IsAnswerAt}
 
 -- a place of the code that doesn't survive
@@ -80,6 +80,23 @@ IsPlanned code survives at len p aim.Sums ts = (row : List ℕ) × IsValueRow (t
 abbrev pub IsAimed : CodeName → (Place → Bool) → List (List ℕ) → ℕ → Target → Aim → List Term → Type 0
 IsAimed code survives at len target.Nothing a ts = a ≡ aim.Nothing
 IsAimed code survives at len (target.Lost p) a ts = IsPlanned code survives at len p a ts
+
+-- the row of a combination: its bytes have the length
+abbrev pub IsUsedRow : Aim → List ℕ → List (List ℕ) → ℕ → Type 0
+IsUsedRow aim.Nothing row xss len = Unit
+IsUsedRow aim.Several row xss len = Unit
+IsUsedRow aim.Sums row xss len = AreUsed row xss len
+
+-- and the terms are its
+abbrev pub IsTermRow : Aim → List ℕ → List (List ℕ) → ℕ → List Term → Type 0
+IsTermRow aim.Nothing row xss len ts = Unit
+IsTermRow aim.Several row xss len ts = Unit
+IsTermRow aim.Sums row xss len ts = AreTermsOf row xss len ts
+
+-- two targets both have combinations
+pub record AreBothSums (one other : Aim) : Type 0 where
+  pub first : one ≡ aim.Sums
+  pub second : other ≡ aim.Sums
 
 -- terms are wanted for sums alone
 abbrev pub IsWantedOf : Aim → List Term → Wanted → Type 0

@@ -7,12 +7,12 @@ ghost use Rattle.lrc_code.specs.Sets.{is_in};
 ghost use Rattle.lrc_c.specs.Arguments.{AreWhole, is_set, IsSurveyed};
 ghost use Rattle.lrc_c.specs.Lent.{lent, at_place, AreUsed};
 ghost use Rattle.lrc_c.specs.Stripes.{AreZeroRows, IsContradiction, IsPossible};
-ghost use Rattle.lrc_c.specs.Windows.{AreRooms, AreWritten};
+ghost use Rattle.lrc_c.specs.Windows.{AreCoupled, AreRooms, AreWritten};
 
 use crate::arguments::{are_whole, code_numbered, set_of};
-use crate::combining::terms_of;
+use crate::combining::{fill_terms, no_terms};
 use crate::lent::Lent;
-use crate::windows::{Checks, Wanted, Wants, write_checked};
+use crate::windows::{Checks, Couples, Wanted, Wants, write_checked};
 use lrc_code::{Code, PlaceSet};
 use lrc_field::Gf;
 use lrc_plan::check_rows;
@@ -24,7 +24,46 @@ pub(crate) fn bytes_of(row: &[Gf; 16]) -> [u8; 16]
     row.map(|c| c.byte())
 }
 
-/// Tests whether four combinations of lent bytes are 00 at every place, and writes what is wanted, in one pass. Where
+/// Tests whether four combinations of lent bytes are 00 at every place, and writes what is wanted, in one pass, by pairs where
+/// there are any. Where
+/// some combination isn't 00 the rooms are written up to some place, and the answer is false.
+pub(crate) fn write_coupled_if_zero(
+    rows: [[Gf; 16]; 4],
+    at: &[Lent; 16],
+    wants: Wants,
+    couples: Couples,
+    len: usize,
+    a: &mut [u8],
+    b: &mut [u8],
+    c: &mut [u8],
+    d: &mut [u8],
+) -> bool
+    requires used { All (λ row. AreUsed row (lent at.now) len) rows }
+    requires rooms { AreRooms len wants (length a.old) (length b.old) (length c.old) (length d.old) }
+    requires coupled { AreCoupled len wants (length a.old) (length b.old) (length c.old) (length d.old) couples }
+    ensures zero { result ≡ true → AreZeroRows rows (lent at.now) len }
+    ensures written { result ≡ true → AreWritten wants.entry len a.new b.new c.new d.new }
+    ensures no { result ≡ false → ¬ AreZeroRows rows (lent at.now) len }
+{
+    let [first, second, third, fourth] = rows;
+    let mut first_terms = no_terms();
+    let first_count = fill_terms(&mut first_terms, &bytes_of(&first), at, len);
+    let mut second_terms = no_terms();
+    let second_count = fill_terms(&mut second_terms, &bytes_of(&second), at, len);
+    let mut third_terms = no_terms();
+    let third_count = fill_terms(&mut third_terms, &bytes_of(&third), at, len);
+    let mut fourth_terms = no_terms();
+    let fourth_count = fill_terms(&mut fourth_terms, &bytes_of(&fourth), at, len);
+    let checks = Checks {
+        first: &first_terms[..first_count],
+        second: &second_terms[..second_count],
+        third: &third_terms[..third_count],
+        fourth: &fourth_terms[..fourth_count],
+    };
+    write_checked(checks, wants, couples, len, a, b, c, d)
+}
+
+/// The same without pairs: tests whether four combinations of lent bytes are 00 at every place, and writes what is wanted, in one pass. Where
 /// some combination isn't 00 the rooms are written up to some place, and the answer is false.
 pub(crate) fn write_if_zero(
     rows: [[Gf; 16]; 4],
@@ -42,18 +81,11 @@ pub(crate) fn write_if_zero(
     ensures written { result ≡ true → AreWritten wants.entry len a.new b.new c.new d.new }
     ensures no { result ≡ false → ¬ AreZeroRows rows (lent at.now) len }
 {
-    let [first, second, third, fourth] = rows;
-    let (first_terms, first_count) = terms_of(&bytes_of(&first), at, len);
-    let (second_terms, second_count) = terms_of(&bytes_of(&second), at, len);
-    let (third_terms, third_count) = terms_of(&bytes_of(&third), at, len);
-    let (fourth_terms, fourth_count) = terms_of(&bytes_of(&fourth), at, len);
-    let checks = Checks {
-        first: &first_terms[..first_count],
-        second: &second_terms[..second_count],
-        third: &third_terms[..third_count],
-        fourth: &fourth_terms[..fourth_count],
+    let couples = Couples {
+        front: &[],
+        back: &[],
     };
-    write_checked(checks, wants, len, a, b, c, d)
+    write_coupled_if_zero(rows, at, wants, couples, len, a, b, c, d)
 }
 
 /// Whether the bytes at the places of a set are those of a stripe.

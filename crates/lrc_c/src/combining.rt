@@ -16,7 +16,8 @@ pub(crate) fn combine(coefficients: &[u8], at: &[Lent], out: &mut [u8])
     ensures { IsParity coefficients.now (lent at.now) (length out.old) out.new }
 {
     let len = out.len();
-    let (terms, count) = terms_of(coefficients, at, len);
+    let mut terms = no_terms();
+    let count = fill_terms(&mut terms, coefficients, at, len);
     write_window(&terms[..count], out, 0, len);
 }
 
@@ -72,35 +73,21 @@ pub(crate) fn is_zero(terms: &[Term], len: usize, from: usize, to: usize) -> boo
     sums_are_zero_between(from, to, terms)
 }
 
-/// The terms of a combination whose coefficients aren't 00, and how many there are.
-pub(crate) fn terms_of<'a>(
+/// Writes the terms of a combination whose coefficients aren't 00 to the front, and says how many there are. The array is
+/// the caller's, since it would be copied on its way back.
+pub(crate) fn fill_terms<'a>(
+    terms: &mut [Term<'a>; 16],
     coefficients: &[u8],
     at: &[Lent<'a>],
     len: usize,
-) -> ([Term<'a>; 16], usize)
+) -> usize
+    requires many { length terms.old ≡ 16 }
     requires few { length coefficients.now ≤ 16 }
     requires used { AreUsed coefficients.now (lent at.now) len }
-    ensures count { result.1 ≤ 16 }
-    ensures terms { AreTermsOf coefficients.now (lent at.now) len (take result.1 result.0) }
+    ensures len { length terms.new ≡ 16 }
+    ensures count { result ≤ 16 }
+    ensures terms { AreTermsOf coefficients.now (lent at.now) len (take result terms.new) }
 {
-    let mut terms = [
-        no_term(),
-        no_term(),
-        no_term(),
-        no_term(),
-        no_term(),
-        no_term(),
-        no_term(),
-        no_term(),
-        no_term(),
-        no_term(),
-        no_term(),
-        no_term(),
-        no_term(),
-        no_term(),
-        no_term(),
-        no_term(),
-    ];
     let mut count = 0;
     for k in 0..coefficients.len() {
         if let Some(term) = term_at(coefficients, at, k, len) {
@@ -108,7 +95,7 @@ pub(crate) fn terms_of<'a>(
             count += 1;
         }
     }
-    (terms, count)
+    count
 }
 
 // The term at an index, with the coefficient and the lent bytes there. None only where its products are 00.
@@ -128,6 +115,31 @@ fn term_at<'a>(coefficients: &[u8], at: &[Lent<'a>], k: usize, len: usize) -> Op
         scalar: Gf::new(c),
         bytes: at[k].bytes,
     })
+}
+
+/// An array whose terms nothing reads yet.
+#[inline(always)]
+pub(crate) fn no_terms<'a>() -> [Term<'a>; 16]
+    ensures { length result ≡ 16 }
+{
+    [
+        no_term(),
+        no_term(),
+        no_term(),
+        no_term(),
+        no_term(),
+        no_term(),
+        no_term(),
+        no_term(),
+        no_term(),
+        no_term(),
+        no_term(),
+        no_term(),
+        no_term(),
+        no_term(),
+        no_term(),
+        no_term(),
+    ]
 }
 
 // A place of the array that nothing reads yet.

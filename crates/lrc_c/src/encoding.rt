@@ -5,14 +5,15 @@ ghost use Rattle.lrc_code.specs.Code.{narrow, wide};
 ghost use Rattle.lrc_code.specs.Codes.{tables_of};
 ghost use Rattle.lrc_code.specs.Encoding.{HaveLength, IsEncoding, IsParity};
 ghost use Rattle.lrc_c.specs.Lent.{lent};
-ghost use Rattle.lrc_c.specs.Windows.{AreRooms, AreWritten};
+ghost use Rattle.lrc_c.specs.Windows.{AreCoupled, AreRooms, AreWritten};
 ghost use Rattle.lrc_c.specs.Encoded.{AreShort, AreSources};
 
 use crate::arguments::code_numbered;
 use crate::checking::lent_are_bytes;
-use crate::combining::terms_of;
+use crate::combining::{fill_terms, no_terms};
 use crate::lent::Lent;
-use crate::windows::{Checks, Wanted, Wants, write_checked};
+use crate::pairing::{fill_pairs, no_pairs};
+use crate::windows::{Checks, Couples, Wanted, Wants, write_checked};
 use lrc_code::{Code, NARROW_PARITIES, WIDE_PARITIES};
 
 // Whether each slice has so many bytes.
@@ -89,22 +90,41 @@ fn write_parities(
     ensures p1 { IsParity rows.entry.p1.now (lent sources.now) (length px.old) p1.new }
 {
     let len = px.len();
-    let (px_terms, px_count) = terms_of(rows.px, sources, len);
-    let (py_terms, py_count) = terms_of(rows.py, sources, len);
-    let (p0_terms, p0_count) = terms_of(rows.p0, sources, len);
-    let (p1_terms, p1_count) = terms_of(rows.p1, sources, len);
+    let mut px_terms = no_terms();
+    let px_count = fill_terms(&mut px_terms, rows.px, sources, len);
+    let mut py_terms = no_terms();
+    let py_count = fill_terms(&mut py_terms, rows.py, sources, len);
+    let mut p0_terms = no_terms();
+    let p0_count = fill_terms(&mut p0_terms, rows.p0, sources, len);
+    let mut p1_terms = no_terms();
+    let p1_count = fill_terms(&mut p1_terms, rows.p1, sources, len);
     let wants = Wants {
         first: Wanted::Sums(&px_terms[..px_count]),
         second: Wanted::Sums(&py_terms[..py_count]),
         third: Wanted::Sums(&p0_terms[..p0_count]),
         fourth: Wanted::Sums(&p1_terms[..p1_count]),
     };
-    write_all(wants, len, px, py, p0, p1);
+    let mut pairs = no_pairs();
+    let pair_count = fill_pairs(&mut pairs, rows.p0, rows.p1, sources, len);
+    let couples = Couples {
+        front: &[],
+        back: &pairs[..pair_count],
+    };
+    write_all(wants, couples, len, px, py, p0, p1);
 }
 
 // Writes what is wanted, without checks.
-fn write_all(wants: Wants, len: usize, a: &mut [u8], b: &mut [u8], c: &mut [u8], d: &mut [u8])
-    requires { AreRooms len wants (length a.old) (length b.old) (length c.old) (length d.old) }
+fn write_all(
+    wants: Wants,
+    couples: Couples,
+    len: usize,
+    a: &mut [u8],
+    b: &mut [u8],
+    c: &mut [u8],
+    d: &mut [u8],
+)
+    requires rooms { AreRooms len wants (length a.old) (length b.old) (length c.old) (length d.old) }
+    requires coupled { AreCoupled len wants (length a.old) (length b.old) (length c.old) (length d.old) couples }
     ensures { AreWritten wants.entry len a.new b.new c.new d.new }
 {
     let none = Checks {
@@ -113,7 +133,7 @@ fn write_all(wants: Wants, len: usize, a: &mut [u8], b: &mut [u8], c: &mut [u8],
         third: &[],
         fourth: &[],
     };
-    let _ = write_checked(none, wants, len, a, b, c, d);
+    let _ = write_checked(none, wants, couples, len, a, b, c, d);
 }
 
 /// Writes the four parities of the data fragments, which stand in the order of the code. 0: done. 3: the code has

@@ -13,6 +13,7 @@ mod combining;
 mod encoding;
 mod kernels;
 mod lent;
+mod pairing;
 mod planning;
 mod reading;
 mod rebuilding;

@@ -14,7 +14,7 @@ ghost use Rattle.lrc_c.specs.Rebuilt.{status_of, IsAnswerAt};
 
 use crate::arguments::{are_whole, lost_place, set_of};
 use crate::checking::{are_sixteen, are_zero, bytes_of, write_if_zero};
-use crate::combining::terms_of;
+use crate::combining::{fill_terms, no_terms};
 use crate::lent::Lent;
 use crate::windows::{Wanted, Wants};
 use lrc_code::{Code, Place, PlaceSet};
@@ -61,7 +61,8 @@ fn write_value(checks: [[Gf; 16]; 4], row: &[Gf; 16], at: &[Lent; 16], out: &mut
     ensures no { result ≡ false → ¬ AreZeroRows checks (lent at.now) (length out.old) }
 {
     let len = out.len();
-    let (terms, count) = terms_of(&bytes_of(row), at, len);
+    let mut terms = no_terms();
+    let count = fill_terms(&mut terms, &bytes_of(row), at, len);
     let wants = Wants {
         first: Wanted::Sums(&terms[..count]),
         second: Wanted::Nothing,

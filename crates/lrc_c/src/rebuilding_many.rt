@@ -4,15 +4,17 @@ ghost use Rattle.lrc_code.specs.declared.codes.Code.{Code};
 ghost use Rattle.lrc_code.specs.Sets.{is_in};
 ghost use Rattle.lrc_c.specs.Arguments.{AreWhole, is_set};
 ghost use Rattle.lrc_c.specs.Lent.{lent};
-ghost use Rattle.lrc_c.specs.RebuiltMany.{AreAllAsked, AreAnswered, IsAimed, IsAsked, IsLostOf, IsReady, IsTargetOf, IsTold, IsWantedOf, status_at};
+ghost use Rattle.lrc_c.specs.Paired.{ArePairsOf};
+ghost use Rattle.lrc_c.specs.RebuiltMany.{AreAllAsked, AreAnswered, AreBothSums, IsAimed, IsAsked, IsLostOf, IsReady, IsTargetOf, IsTermRow, IsTold, IsUsedRow, IsWantedOf, status_at};
 
 use crate::arguments::{are_whole, code_numbered, set_of};
-use crate::checking::{are_sixteen, bytes_of, write_if_zero};
-use crate::combining::terms_of;
+use crate::checking::{are_sixteen, bytes_of, write_coupled_if_zero};
+use crate::combining::{fill_terms, no_terms};
 use crate::lent::Lent;
-use crate::windows::{Wanted, Wants};
+use crate::pairing::{are_worth_pairing, fill_pairs, no_pairs};
+use crate::windows::{Couples, Wanted, Wants};
 use lrc_code::{Code, Place, PlaceSet};
-use lrc_field::Term;
+use lrc_field::{Pair, Term};
 use lrc_plan::{check_rows, plan_rows};
 
 /// The number that stands where no target is asked for.
@@ -75,31 +77,66 @@ fn target_of(code: Code, set: PlaceSet, number: u8, room: usize, len: usize) -> 
     Some(Target::Lost(place))
 }
 
-// What the plan of a target asks for, with the terms of its combination and their number.
+// What the plan of a target asks for, with the number of the terms of its combination, which are written to the front.
 fn aim_of<'a>(
     code: Code,
     set: PlaceSet,
     at: &[Lent<'a>; 16],
     len: usize,
     target: Target,
-) -> (Aim, [Term<'a>; 16], usize)
+    terms: &mut [Term<'a>; 16],
+    row: &mut [u8; 16],
+) -> (Aim, usize)
     requires whole { AreWhole code (is_in set) (lent at.now) len }
     requires target { IsLostOf code (is_in set) target }
-    ensures few { result.2 ≤ 16 }
-    ensures aim { IsAimed code (is_in set) (lent at.now) len target result.0 (take result.2 result.1) }
+    requires many { length terms.old ≡ 16 }
+    ensures len { length terms.new ≡ 16 }
+    ensures few { result.1 ≤ 16 }
+    ensures aim { IsAimed code (is_in set) (lent at.now) len target result.0 (take result.1 terms.new) }
+    ensures used { IsUsedRow result.0 row.new (lent at.now) len }
+    ensures row { IsTermRow result.0 row.new (lent at.now) len (take result.1 terms.new) }
 {
     are_sixteen(at);
     let Target::Lost(place) = target else {
-        let (terms, count) = terms_of(&[], at, len);
-        return (Aim::Nothing, terms, count);
+        return (Aim::Nothing, 0);
     };
     let plan = plan_rows(code, set, place);
-    let Some(row) = plan.value else {
-        let (terms, count) = terms_of(&[], at, len);
-        return (Aim::Several, terms, count);
+    let Some(found) = plan.value else {
+        return (Aim::Several, 0);
     };
-    let (terms, count) = terms_of(&bytes_of(&row), at, len);
-    (Aim::Sums, terms, count)
+    *row = bytes_of(&found);
+    let count = fill_terms(terms, row, at, len);
+    (Aim::Sums, count)
+}
+
+// Writes the pairs of two targets' combinations to the front, and says how many there are: none where a target has no combination,
+// or where the two have so little in common that each is faster alone.
+fn fill_couple<'a>(
+    pairs: &mut [Pair<'a>; 16],
+    one: Aim,
+    other: Aim,
+    firsts: &[u8; 16],
+    seconds: &[u8; 16],
+    at: &[Lent<'a>; 16],
+    len: usize,
+) -> usize
+    requires many { length pairs.old ≡ 16 }
+    requires first { IsUsedRow one firsts.now (lent at.now) len }
+    requires second { IsUsedRow other seconds.now (lent at.now) len }
+    ensures len { length pairs.new ≡ 16 }
+    ensures count { result ≤ 16 }
+    ensures both { 0 < result → AreBothSums one other }
+    ensures pairs { 0 < result → ArePairsOf firsts.now seconds.now (lent at.now) len (take result pairs.new) }
+{
+    match (one, other) {
+        (Aim::Sums, Aim::Sums) => {
+            if !are_worth_pairing(firsts, seconds) {
+                return 0;
+            }
+            fill_pairs(pairs, firsts, seconds, at, len)
+        }
+        _ => 0,
+    }
 }
 
 fn wanted_of<'s, 'a>(aim: Aim, terms: &'s [Term<'a>]) -> Wanted<'s, 'a>
@@ -147,17 +184,81 @@ fn rebuild_four(
 {
     are_sixteen(at);
     let checks = check_rows(code, set);
-    let (first_aim, first_terms, first_count) = aim_of(code, set, at, len, targets.first);
-    let (second_aim, second_terms, second_count) = aim_of(code, set, at, len, targets.second);
-    let (third_aim, third_terms, third_count) = aim_of(code, set, at, len, targets.third);
-    let (fourth_aim, fourth_terms, fourth_count) = aim_of(code, set, at, len, targets.fourth);
+    let mut first_terms = no_terms();
+    let mut first_row = [0; 16];
+    let (first_aim, first_count) = aim_of(
+        code,
+        set,
+        at,
+        len,
+        targets.first,
+        &mut first_terms,
+        &mut first_row,
+    );
+    let mut second_terms = no_terms();
+    let mut second_row = [0; 16];
+    let (second_aim, second_count) = aim_of(
+        code,
+        set,
+        at,
+        len,
+        targets.second,
+        &mut second_terms,
+        &mut second_row,
+    );
+    let mut third_terms = no_terms();
+    let mut third_row = [0; 16];
+    let (third_aim, third_count) = aim_of(
+        code,
+        set,
+        at,
+        len,
+        targets.third,
+        &mut third_terms,
+        &mut third_row,
+    );
+    let mut fourth_terms = no_terms();
+    let mut fourth_row = [0; 16];
+    let (fourth_aim, fourth_count) = aim_of(
+        code,
+        set,
+        at,
+        len,
+        targets.fourth,
+        &mut fourth_terms,
+        &mut fourth_row,
+    );
     let wants = Wants {
         first: wanted_of(first_aim, &first_terms[..first_count]),
         second: wanted_of(second_aim, &second_terms[..second_count]),
         third: wanted_of(third_aim, &third_terms[..third_count]),
         fourth: wanted_of(fourth_aim, &fourth_terms[..fourth_count]),
     };
-    let possible = write_if_zero(checks, at, wants, len, a, b, c, d);
+    let mut front = no_pairs();
+    let front_count = fill_couple(
+        &mut front,
+        first_aim,
+        second_aim,
+        &first_row,
+        &second_row,
+        at,
+        len,
+    );
+    let mut back = no_pairs();
+    let back_count = fill_couple(
+        &mut back,
+        third_aim,
+        fourth_aim,
+        &third_row,
+        &fourth_row,
+        at,
+        len,
+    );
+    let couples = Couples {
+        front: &front[..front_count],
+        back: &back[..back_count],
+    };
+    let possible = write_coupled_if_zero(checks, at, wants, couples, len, a, b, c, d);
     Statuses {
         first: status_at(first_aim, possible),
         second: status_at(second_aim, possible),

@@ -1,10 +1,11 @@
 //! Several combinations in one pass: window by window, each over the same bytes while these are near the processor.
 ghost use Rattle.std.specs.Prelude.{◌≡◌, ◌<◌, ◌≤◌, ℕ, true, false, length, All};
 ghost use Rattle.lrc_c.specs.Lent.{lent, AreUsed};
-ghost use Rattle.lrc_c.specs.Windows.{AreReady, AreRooms, AreWritten, AreZeroWithin, HasRoom, IsSomeWritten};
+ghost use Rattle.lrc_c.specs.Windows.{AreCoupled, AreReady, AreRooms, AreWritten, AreZeroWithin, HasRoom, IsSomeWritten, MayBeCouple};
 
 use crate::combining::{is_zero, write_window};
-use lrc_field::Term;
+use crate::pairing::{LEAST, write_pairs};
+use lrc_field::{Pair, Term};
 
 // How many bytes of each fragment a window has.
 const WINDOW: usize = 2304;
@@ -25,6 +26,13 @@ pub(crate) struct Wants<'s, 'a> {
     pub(crate) fourth: Wanted<'s, 'a>,
 }
 
+/// Pairs that give the sums of the first two wants, and of the last two, in one pass over their bytes; none where there are none.
+#[derive(Clone, Copy)]
+pub(crate) struct Couples<'s, 'a> {
+    pub(crate) front: &'s [Pair<'a>],
+    pub(crate) back: &'s [Pair<'a>],
+}
+
 /// Sums that are tested for 00.
 #[derive(Clone, Copy)]
 pub(crate) struct Checks<'a> {
@@ -39,6 +47,7 @@ pub(crate) struct Checks<'a> {
 pub(crate) fn write_checked(
     checks: Checks,
     wants: Wants,
+    couples: Couples,
     len: usize,
     a: &mut [u8],
     b: &mut [u8],
@@ -47,6 +56,7 @@ pub(crate) fn write_checked(
 ) -> bool
     requires ready { AreReady len checks }
     requires rooms { AreRooms len wants (length a.old) (length b.old) (length c.old) (length d.old) }
+    requires coupled { AreCoupled len wants (length a.old) (length b.old) (length c.old) (length d.old) couples }
     ensures zero { result ≡ true → AreZeroWithin 0 len checks.entry }
     ensures written { result ≡ true → AreWritten wants.entry len a.new b.new c.new d.new }
     ensures no { result ≡ false → ¬ AreZeroWithin 0 len checks.entry }
@@ -57,10 +67,17 @@ pub(crate) fn write_checked(
         if !are_zero(checks, len, from, to) {
             return false;
         }
-        write_wanted(wants.first, a, len, from, to);
-        write_wanted(wants.second, b, len, from, to);
-        write_wanted(wants.third, c, len, from, to);
-        write_wanted(wants.fourth, d, len, from, to);
+        write_two(
+            couples.front,
+            wants.first,
+            wants.second,
+            a,
+            b,
+            len,
+            from,
+            to,
+        );
+        write_two(couples.back, wants.third, wants.fourth, c, d, len, from, to);
         from = to;
     }
     true
@@ -86,6 +103,35 @@ fn are_zero(checks: Checks, len: usize, from: usize, to: usize) -> bool
         && is_zero(checks.second, len, from, to)
         && is_zero(checks.third, len, from, to)
         && is_zero(checks.fourth, len, from, to)
+}
+
+// Writes what is wanted in two rooms over the places of a window, by pairs where there are any and the window is long enough.
+fn write_two(
+    pairs: &[Pair],
+    one: Wanted,
+    other: Wanted,
+    a: &mut [u8],
+    b: &mut [u8],
+    len: usize,
+    from: usize,
+    to: usize,
+)
+    requires first { HasRoom len one (length a.old) }
+    requires second { HasRoom len other (length b.old) }
+    requires couple { MayBeCouple len one other (length a.old) (length b.old) pairs.now }
+    requires ordered { from ≤ to }
+    requires inside { to ≤ len }
+    ensures first_len { length a.new ≡ length a.old }
+    ensures second_len { length b.new ≡ length b.old }
+    ensures first_sums { IsSomeWritten one.entry a.old from → IsSomeWritten one.entry a.new to }
+    ensures second_sums { IsSomeWritten other.entry b.old from → IsSomeWritten other.entry b.new to }
+{
+    if !pairs.is_empty() && to - from >= LEAST {
+        write_pairs(pairs, a, b, from, to);
+        return;
+    }
+    write_wanted(one, a, len, from, to);
+    write_wanted(other, b, len, from, to);
 }
 
 // Writes what is wanted over the places of a window.

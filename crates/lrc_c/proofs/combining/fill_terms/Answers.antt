@@ -5,8 +5,8 @@ use Rattle.lrc_plan.proofs.TermRows.{sums-more, lengths-more}
 use Rattle.lrc_c.specs.Lent.{lent}
 use Rattle.lrc_c.specs.Combined.{column}
 use Rattle.lrc_c.proofs.Combinations.{combination-more, combination-all}
-use Rattle.lrc_c.proofs.combining.terms_of.Goals as goal
-use Rattle.lrc_c.proofs.combining.terms_of.Goals.{in-Some, in_default}
+use Rattle.lrc_c.proofs.combining.fill_terms.Goals as goal
+use Rattle.lrc_c.proofs.combining.fill_terms.Goals.{in-Some, in_default}
 
 pub loop-k-preserved : goal.loop-k-preserved
 loop-k-preserved c =

@@ -3,7 +3,7 @@ use Rattle.lrc_field.specs.Combined.{sum_at, HaveLength}
 use Rattle.lrc_code.specs.Code.{combination}
 use Rattle.lrc_c.specs.Lent.{lent}
 use Rattle.lrc_c.specs.Combined.{column}
-use Rattle.lrc_c.proofs.combining.terms_of.Given as goal
+use Rattle.lrc_c.proofs.combining.fill_terms.Given as goal
 
 abbrev pub invariant-loop-k : goal.invariant-loop-k
 invariant-loop-k l = record {
