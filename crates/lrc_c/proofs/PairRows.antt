@@ -50,12 +50,6 @@ pair_is firsts seconds xss len k p lt long first second bytes = record {
     byte : (i : ℕ) → get_or p.bytes.now i 0 ≡ get_or (column xss i) k 0
     byte i = ap (λ bs. get_or bs i 0) bytes ∙ sym (column_at xss k i lt)
 
--- what is wanted is written where the same sums are
-pub some_written : (w : Wanted) (f : ℕ → ℕ) (before after : List ℕ) (from to : ℕ) → AreSums w f → (AreSet f before from → AreSet f after to)
-    → IsSomeWritten w before from → IsSomeWritten w after to
-some_written wanted.Nothing f before after from to e h s = tt
-some_written (wanted.Sums ts) f before after from to e h s = λ k lt. h (λ i less. s i less ∙ e i) k lt ∙ sym (e k)
-
 -- the sums of a row's terms
 pub sums_of : (w : Wanted) (ts : List Term) (row : List ℕ) (xss : List (List ℕ)) (len : ℕ) (f : ℕ → ℕ) → IsWantedOf aim.Sums ts w → AreTermsOf row xss len ts
     → ((i : ℕ) → f i ≡ combination row (column xss i)) → AreSums w f

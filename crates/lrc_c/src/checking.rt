@@ -88,8 +88,8 @@ pub(crate) fn write_if_zero(
     write_coupled_if_zero(rows, at, wants, couples, len, a, b, c, d)
 }
 
-/// Whether the bytes at the places of a set are those of a stripe.
-pub(crate) fn is_possible(code: Code, set: PlaceSet, at: &[Lent; 16], len: usize) -> bool
+// Whether the bytes at the places of a set are those of a stripe.
+fn is_possible(code: Code, set: PlaceSet, at: &[Lent; 16], len: usize) -> bool
     requires { AreWhole code (is_in set) (lent at.now) len }
     ensures yes { result ≡ true → IsPossible (tables_of code) (is_in set) (at_place (lent at.now)) len }
     ensures no { result ≡ false → IsContradiction (tables_of code) (is_in set) (at_place (lent at.now)) len }
