@@ -136,5 +136,5 @@ scale: build
 bench: build
 	scripts/bench.sh $(CPU)
 	scripts/bench-lines.sh $(CPU)
-	scripts/bench-farm.sh $(CPU)
+	scripts/bench-farm.py $(CPU)
 	scripts/bench-library.sh $(CPU)
