@@ -9,27 +9,6 @@ use std::alloc::{AllocError, Global};
 // What no digit is worth.
 const NO_DIGIT: u8 = 255;
 
-// Fewer digits than these are looked up one by one: a loop over many at once is no gain for them.
-const FEW_DIGITS: usize = 64;
-
-// What each byte is worth as a digit.
-static DIGIT_VALUES: [u8; 256] = [
-    255, 255, 255, 255, 255, 255, 255, 255, 255, 255, 255, 255, 255, 255, 255, 255, 255, 255, 255,
-    255, 255, 255, 255, 255, 255, 255, 255, 255, 255, 255, 255, 255, 255, 255, 255, 255, 255, 255,
-    255, 255, 255, 255, 255, 255, 255, 255, 255, 255, 0, 1, 2, 3, 4, 5, 6, 7, 8, 9, 255, 255, 255,
-    255, 255, 255, 255, 10, 11, 12, 13, 14, 15, 255, 255, 255, 255, 255, 255, 255, 255, 255, 255,
-    255, 255, 255, 255, 255, 255, 255, 255, 255, 255, 255, 255, 255, 255, 255, 255, 10, 11, 12, 13,
-    14, 15, 255, 255, 255, 255, 255, 255, 255, 255, 255, 255, 255, 255, 255, 255, 255, 255, 255,
-    255, 255, 255, 255, 255, 255, 255, 255, 255, 255, 255, 255, 255, 255, 255, 255, 255, 255, 255,
-    255, 255, 255, 255, 255, 255, 255, 255, 255, 255, 255, 255, 255, 255, 255, 255, 255, 255, 255,
-    255, 255, 255, 255, 255, 255, 255, 255, 255, 255, 255, 255, 255, 255, 255, 255, 255, 255, 255,
-    255, 255, 255, 255, 255, 255, 255, 255, 255, 255, 255, 255, 255, 255, 255, 255, 255, 255, 255,
-    255, 255, 255, 255, 255, 255, 255, 255, 255, 255, 255, 255, 255, 255, 255, 255, 255, 255, 255,
-    255, 255, 255, 255, 255, 255, 255, 255, 255, 255, 255, 255, 255, 255, 255, 255, 255, 255, 255,
-    255, 255, 255, 255, 255, 255, 255, 255, 255, 255, 255, 255, 255, 255, 255, 255, 255, 255, 255,
-    255, 255, 255,
-];
-
 /// The bytes that pairs of digits write, in either case; none where the text is anything else.
 pub(crate) fn decode(alloc: Global, text: &[u8]) -> Result<Option<Vec<u8>>, AllocError>
     ensures { IfOk result (λ bytes. option_map (λ v. v.items) bytes ≡ result_ok (decode_of text.now)) }
@@ -38,12 +17,7 @@ pub(crate) fn decode(alloc: Global, text: &[u8]) -> Result<Option<Vec<u8>>, Allo
         return Ok(None);
     }
     let mut bytes = Vec::from_elem(alloc, 0u8, text.len() / 2)?;
-    let are_digits = if text.len() < FEW_DIGITS {
-        decode_few_into(text, bytes.as_mut_slice())
-    } else {
-        decode_into(text, bytes.as_mut_slice())
-    };
-    if are_digits {
+    if decode_into(text, bytes.as_mut_slice()) {
         Ok(Some(bytes))
     } else {
         Ok(None)
@@ -64,37 +38,6 @@ fn decode_into(text: &[u8], bytes: &mut [u8]) -> bool
         greatest = greatest.max(high).max(low);
     }
     greatest < 16
-}
-
-// The same for few digits, by the table.
-fn decode_few_into(text: &[u8], bytes: &mut [u8]) -> bool
-    requires { length text.now ≡ 2 * length bytes.old }
-    ensures len { length bytes.new ≡ length bytes.old }
-    ensures value { result_ok (decode_of text.now) ≡ (if result then Some bytes.new else None) }
-{
-    let mut most = 0u8;
-    'pairs: for i in 0..bytes.len() {
-        let high = table_value(text[2 * i]);
-        let low = table_value(text[2 * i + 1]);
-        bytes[i] = high.wrapping_mul(16).wrapping_add(low);
-        most = most.max(high).max(low);
-    }
-    most < 16
-}
-
-// What a digit is worth, by the table.
-#[inline]
-fn table_value(digit: u8) -> u8
-    ensures { result ≡ unwrap_or (hex_digit_value digit) 255 }
-{
-    listed_value(digit)
-}
-
-#[inline]
-fn listed_value(digit: u8) -> u8
-    ensures { result ≡ slice_index DIGIT_VALUES digit }
-{
-    DIGIT_VALUES[digit as usize]
 }
 
 // What a digit is worth.

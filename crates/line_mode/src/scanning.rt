@@ -5,9 +5,6 @@ ghost use Rattle.line_mode.specs.Line.{is_printable};
 
 use memchr::memchr;
 
-// How many bytes are looked at one after the other where a byte may be near the front.
-const NEAR: usize = 32;
-
 /// The first place of a byte.
 pub(crate) fn find_byte(bytes: &[u8], byte: u8) -> Option<usize>
     ensures { result ≡ position (λ b. b == byte) bytes.now }
@@ -20,17 +17,6 @@ pub(crate) fn find_near_byte(bytes: &[u8], byte: u8) -> Option<usize>
     ensures { result ≡ position (λ b. b == byte) bytes.now }
 {
     bytes.iter().position(|b| *b == byte)
-}
-
-/// The same, of a byte that is often near the front: the first bytes are looked at one after the other, and only then the rest.
-pub(crate) fn find_byte_soon(bytes: &[u8], byte: u8) -> Option<usize>
-    ensures { result ≡ position (λ b. b == byte) bytes.now }
-{
-    let near = NEAR.min(bytes.len());
-    match find_near_byte(&bytes[..near], byte) {
-        Some(at) => Some(at),
-        None => Some(near + find_byte(&bytes[near..], byte)?),
-    }
 }
 
 /// Whether all bytes are printable characters, from a space to a tilde.

@@ -1,7 +1,7 @@
 //! The words of a line.
 ghost use Rattle.std.specs.Prelude.{◌≡◌, ◌==◌, not, position};
 
-use crate::scanning::find_byte_soon;
+use crate::scanning::find_byte;
 
 /// The words of a line, which are between spaces.
 #[derive(Drop)]
@@ -35,7 +35,7 @@ impl<'a> Iterator for LineWords<'a> {
             return None;
         };
         let word = &self.rest[start..];
-        let end = find_byte_soon(word, b' ').unwrap_or(word.len());
+        let end = find_byte(word, b' ').unwrap_or(word.len());
         self.rest = &word[end..];
         Some(&word[..end])
     }

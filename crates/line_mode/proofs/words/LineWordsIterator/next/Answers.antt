@@ -20,4 +20,4 @@ slices xs w s e is start end =
 pub returns-clause-steps : goal.returns-clause-steps
 returns-clause-steps c =
     slices c.args.self.now.rest.now _ c.in-Some.start c.unwrap_or-end.result refl (sym c.find_other.ensures ∙ c.in-Some.is)
-    (c.unwrap_or-end.ensures ∙ ap (λ o. unwrap_or o (length (take (length c.args.self.now.rest.now - c.in-Some.start) (drop c.in-Some.start c.args.self.now.rest.now)))) c.find_byte_soon.ensures)
+    (c.unwrap_or-end.ensures ∙ ap (λ o. unwrap_or o (length (take (length c.args.self.now.rest.now - c.in-Some.start) (drop c.in-Some.start c.args.self.now.rest.now)))) c.find_byte.ensures)
