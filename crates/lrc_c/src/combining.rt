@@ -1,5 +1,5 @@
 //! Combinations of lent bytes with coefficients, as terms.
-ghost use Rattle.std.specs.Prelude.{◌≡◌, ◌<◌, ◌≤◌, ◌^◌, ℕ, true, false, length, take};
+ghost use Rattle.std.specs.Prelude.{◌≡◌, ◌≢◌, ◌<◌, ◌≤◌, ◌^◌, ℕ, true, false, None, Some, length, slice_index, take};
 ghost use Rattle.lrc_field.specs.Combined.{AreZeroBetween};
 ghost use Rattle.lrc_code.specs.Encoding.{IsParity};
 ghost use Rattle.lrc_c.specs.Lent.{lent, AreUsed, IsUsedAt};
@@ -90,31 +90,47 @@ pub(crate) fn fill_terms<'a>(
 {
     let mut count = 0;
     for k in 0..coefficients.len() {
-        if let Some(term) = term_at(coefficients, at, k, len) {
-            terms[count] = term;
+        if has_term(coefficients, at, k, len) {
+            terms[count] = term_of(coefficients, at, k, len);
             count += 1;
         }
     }
     count
 }
 
-// The term at an index, with the coefficient and the lent bytes there. None only where its products are 00.
-fn term_at<'a>(coefficients: &[u8], at: &[Lent<'a>], k: usize, len: usize) -> Option<Term<'a>>
-    requires inside { k < length coefficients.now }
-    requires used { AreUsed coefficients.now (lent at.now) len }
-    ensures { IsTermAt coefficients.now (lent at.now) len k result }
+// Whether there is a term at an index: else its products are 00.
+#[inline(always)]
+fn has_term(coefficients: &[u8], at: &[Lent], k: usize, len: usize) -> bool
+    requires { k < length coefficients.now }
+    ensures yes { result ≡ true → (k < length at.now) × (slice_index coefficients.now k ≢ 0) }
+    ensures no { result ≡ false → IsTermAt coefficients.now (lent at.now) len k None }
 {
+    let _ = len;
     let c = coefficients[k];
     if c == 0 {
-        return None;
+        return false;
     }
     if k >= at.len() {
-        return None;
+        return false;
     }
-    Some(Term {
-        scalar: Gf::new(c),
+    true
+}
+
+// The term at an index, with the coefficient and the lent bytes there. It is no part of an option, since an option's copies wait for
+// their own writes.
+#[inline(always)]
+fn term_of<'a>(coefficients: &[u8], at: &[Lent<'a>], k: usize, len: usize) -> Term<'a>
+    requires inside { k < length coefficients.now }
+    requires lent { k < length at.now }
+    requires some { slice_index coefficients.now k ≢ 0 }
+    requires used { AreUsed coefficients.now (lent at.now) len }
+    ensures { IsTermAt coefficients.now (lent at.now) len k (Some result) }
+{
+    let _ = len;
+    Term {
+        scalar: Gf::new(coefficients[k]),
         bytes: at[k].bytes,
-    })
+    }
 }
 
 /// An array whose terms nothing reads yet.

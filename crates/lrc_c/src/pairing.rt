@@ -1,5 +1,5 @@
 //! Two combinations of the same lent bytes, as pairs.
-ghost use Rattle.std.specs.Prelude.{◌≡◌, ◌<◌, ◌≤◌, ◌+◌, ℕ, [], length, slice_index_or, take};
+ghost use Rattle.std.specs.Prelude.{◌≡◌, ◌<◌, ◌≤◌, ◌+◌, ℕ, true, false, None, [], length, slice_index, slice_index_or, take};
 ghost use Rattle.lrc_field.specs.Blocks.{AreSet};
 ghost use Rattle.lrc_field.specs.Pairs.{first_sum_at, second_sum_at};
 ghost use Rattle.lrc_c.specs.Lent.{lent, AreUsed};
@@ -56,51 +56,52 @@ pub(crate) fn fill_pairs<'a>(
 {
     let mut count = 0;
     for k in 0..firsts.len() {
-        if let Some(pair) = pair_at(firsts, seconds, at, k, len) {
-            pairs[count] = pair;
+        if has_pair(firsts, seconds, at, k, len) {
+            pairs[count] = pair_of(firsts, seconds, at, k);
             count += 1;
         }
     }
     count
 }
 
-// The pair at an index, with both coefficients and the lent bytes there. None only where its products are 00.
-fn pair_at<'a>(
-    firsts: &[u8],
-    seconds: &[u8],
-    at: &[Lent<'a>],
-    k: usize,
-    len: usize,
-) -> Option<Pair<'a>>
+// Whether there is a pair at an index: else its products are 00.
+#[inline(always)]
+fn has_pair(firsts: &[u8], seconds: &[u8], at: &[Lent], k: usize, len: usize) -> bool
     requires inside { k < length firsts.now }
     requires same { length seconds.now ≡ length firsts.now }
     requires firsts { AreUsed firsts.now (lent at.now) len }
     requires seconds { AreUsed seconds.now (lent at.now) len }
-    ensures { IsPairAt firsts.now seconds.now (lent at.now) len k result }
+    ensures yes { result ≡ true → (k < length at.now) × (length (slice_index_or (lent at.now) k []) ≡ len) }
+    ensures no { result ≡ false → IsPairAt firsts.now seconds.now (lent at.now) len k None }
 {
+    let _ = len;
     if k >= at.len() {
-        return None;
+        return false;
     }
     let first = firsts[k];
     let second = seconds[k];
     if first != 0 {
-        return Some(pair_of(first, second, at, k));
+        return true;
     }
     if second != 0 {
-        return Some(pair_of(first, second, at, k));
+        return true;
     }
-    None
+    false
 }
 
-fn pair_of<'a>(first: u8, second: u8, at: &[Lent<'a>], k: usize) -> Pair<'a>
-    requires { k < length at.now }
-    ensures first { result.first ≡ first }
-    ensures second { result.second ≡ second }
+// The pair at an index, with both coefficients and the lent bytes there.
+#[inline(always)]
+fn pair_of<'a>(firsts: &[u8], seconds: &[u8], at: &[Lent<'a>], k: usize) -> Pair<'a>
+    requires inside { k < length firsts.now }
+    requires same { length seconds.now ≡ length firsts.now }
+    requires lent { k < length at.now }
+    ensures first { result.first ≡ slice_index firsts.now k }
+    ensures second { result.second ≡ slice_index seconds.now k }
     ensures bytes { result.bytes.now ≡ slice_index_or (lent at.now) k [] }
 {
     Pair {
-        first: Gf::new(first),
-        second: Gf::new(second),
+        first: Gf::new(firsts[k]),
+        second: Gf::new(seconds[k]),
         bytes: at[k].bytes,
     }
 }

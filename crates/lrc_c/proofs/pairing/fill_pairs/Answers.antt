@@ -1,12 +1,12 @@
-use Rattle.std.proofs.Common.{◌<◌, ◌∙◌, ℕ, length, ap, ap₂, sym, arith, length-set}
+use Rattle.std.proofs.Common.{refl, ◌<◌, ◌∙◌, ℕ, length, ap, ap₂, sym, arith, length-set}
 use Rattle.std.specs.Int.Bits.{bit_xor, xor_zero_r}
 use Rattle.lrc_field.specs.declared.pairs.Pair.{Pair}
 use Rattle.lrc_c.specs.Lent.{lent}
 use Rattle.lrc_c.specs.Combined.{column}
-use Rattle.lrc_c.proofs.Combinations.{combination-more, combination-all}
-use Rattle.lrc_c.proofs.PairRows.{pairs-more, rooms-more}
+use Rattle.lrc_c.proofs.Combinations.{combination-more, combination-all, length-lent}
+use Rattle.lrc_c.proofs.PairRows.{pair_is, pairs-more, rooms-more}
 use Rattle.lrc_c.proofs.pairing.fill_pairs.Goals as goal
-use Rattle.lrc_c.proofs.pairing.fill_pairs.Goals.{in-Some, in_default}
+use Rattle.lrc_c.proofs.pairing.fill_pairs.Goals.{then-has_pair, else-has_pair}
 
 pub loop-k-preserved : goal.loop-k-preserved
 loop-k-preserved c =
@@ -21,10 +21,13 @@ loop-k-preserved c =
     let other : k < length ds = omega (arith, c.requires.same, c.loop-k-test.true) in
     let first = λ (i : ℕ). combination-more cs (column xss i) k c.loop-k-test.true in
     let second = λ (i : ℕ). combination-more ds (column xss i) k other in
-    elim c.match-pair_at.branch [
-      | in-Some w ↦
-          let p = w.in-Some.pair in
-          let is_pair = rw w.in-Some.is at c.pair_at.ensures in
+    elim c.if-has_pair.branch [
+      | then-has_pair w ↦
+          let p = w.pair_of.result in
+          let e = length-lent c.args.at.now in
+          let yes = w.if-has_pair.ensures.yes refl in
+          let m = w.pair_of.ensures in
+          let is_pair = pair_is cs ds xss c.args.len k p (omega (arith, e, yes.0)) yes.1 m.first m.second m.bytes in
           rw (w.pairs-is, w.count-is) (record {
             long = length-set ps n p ∙ so_far.long;
             few = omega arith;
@@ -32,13 +35,13 @@ loop-k-preserved c =
             first_sums = λ i. pairs-more (λ (q : Pair). q.first) ps n i p fits ∙ ap₂ bit_xor (so_far.first_sums i) (is_pair.first i) ∙ sym (first i);
             second_sums = λ i. pairs-more (λ (q : Pair). q.second) ps n i p fits ∙ ap₂ bit_xor (so_far.second_sums i) (is_pair.second i) ∙ sym (second i);
           })
-      | in_default w ↦
+      | else-has_pair w ↦
           rw (w.pairs-is, w.count-is) (record {
             long = so_far.long;
             few = omega arith;
             room = so_far.room;
-            first_sums = λ i. so_far.first_sums i ∙ sym (first i ∙ ap (bit_xor _) (w.in_default.ensures i).0 ∙ xor_zero_r _);
-            second_sums = λ i. so_far.second_sums i ∙ sym (second i ∙ ap (bit_xor _) (w.in_default.ensures i).1 ∙ xor_zero_r _);
+            first_sums = λ i. so_far.first_sums i ∙ sym (first i ∙ ap (bit_xor _) (w.if-has_pair.ensures.no refl i).0 ∙ xor_zero_r _);
+            second_sums = λ i. so_far.second_sums i ∙ sym (second i ∙ ap (bit_xor _) (w.if-has_pair.ensures.no refl i).1 ∙ xor_zero_r _);
           })
     ]
 
