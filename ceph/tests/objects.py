@@ -4,7 +4,7 @@
     write POOL FOLDER             each file as an object of its name
     compare POOL FOLDER           reads all objects; ends with status 1 where one is not as its file
     fill POOL COUNT SIZE          writes so many objects of one size
-    degraded POOL                 how many shards are lost
+    degraded POOL                 how many shards are lost, and how many of each number
     fullest POOL                  the OSD that holds the most shards
     sent                          the sum of the bytes that OSDs sent, of their counters on standard input
     acting POOL OBJECT            the placement group of an object, and its OSDs by shard
@@ -18,6 +18,7 @@ import random
 import subprocess
 import sys
 
+NO_OSD = 2147483647    # as Ceph writes that a shard is on none
 ODD_SIZES = (1, 31, 4096, 24576, 24577, 65536, 1000003)
 
 
@@ -78,7 +79,10 @@ def fill(pool, count, size):
 
 
 def degraded(pool):
-    print(sum(it["stat_sum"]["num_objects_degraded"] for it in groups(pool)))
+    lost = collections.Counter()
+    for it in groups(pool):
+        lost.update({shard: it["stat_sum"]["num_objects"] for shard, osd in enumerate(it["acting"]) if osd == NO_OSD})
+    print(sum(lost.values()), ",".join(f"{shard}:{lost[shard]}" for shard in sorted(lost)))
 
 
 def fullest(pool):

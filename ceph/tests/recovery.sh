@@ -13,7 +13,7 @@ trap cluster_stop EXIT
 fill() {
   # shellcheck disable=SC2086
   ceph osd erasure-code-profile set "$name" ${words//,/ } crush-failure-domain=osd stripe_unit=65536
-  ceph osd pool create "$name" 16 16 erasure "$name" 2> /dev/null
+  ceph osd pool create "$name" 64 64 erasure "$name" 2> /dev/null
   ceph osd pool application enable "$name" rados 2> /dev/null
   wait_clean 120
   objects fill "$name" "$count" "$size"
@@ -21,12 +21,12 @@ fill() {
 
 # Stops the OSD $victim, has it go out, and measures until all is clean.
 lose() {
-  local lost idle before start took
+  local lost places idle before start took
   ceph osd set noout 2> /dev/null
   halt "osd.$victim"
   wait_for "$((osds - 1)) up"
   sleep 8
-  lost=$(objects degraded "$name")
+  read -r lost places < <(objects degraded "$name")
   idle=$(sent)
   sleep 8
   idle=$((($(sent) - idle) / 8))
@@ -37,10 +37,11 @@ lose() {
   sleep 3
   wait_clean 400
   took=$((SECONDS - start))
-  awk -v name="$name" -v lost="$lost" -v shard="$((size / 6))" -v sent="$(($(sent) - before))" -v idle="$idle" -v took="$took" 'BEGIN {
+  awk -v name="$name" -v lost="$lost" -v shard="$((size / 6))" -v sent="$(($(sent) - before))" -v idle="$idle" -v took="$took" -v places="$places" 'BEGIN {
     all = lost * shard
-    printf "    %s: %d shards, %.1f MB, rebuilt in %d s; sent %.2f bytes for each, %.2f without what is sent at rest (%.2f MB/s)\n",
-      name, lost, all / 1e6, took, sent / all, (sent - took * idle) / all, idle / 1e6 }'
+    printf "    %s: %d shards, %.1f MB, rebuilt in %d s; sent %.2f bytes for each, %.2f without what is sent at rest (%.2f MB/s)",
+      name, lost, all / 1e6, took, sent / all, (sent - took * idle) / all, idle / 1e6
+    printf "; shards lost by number: %s\n", places }'
 }
 
 # Everything as it was before.
