@@ -1,4 +1,4 @@
--- What is answered of several batches, one behind the other.
+-- What is answered of several batches, one after the other.
 use Rattle.std.proofs.Common.{◌≡◌, ◌≤◌, ◌+◌, ◌-◌, ◌++◌, ◌∙◌, Vec, Global, ℕ, List, [], ◌∷◌, length, take, drop, map, refl, sym, ap, arith}
 use Rattle.std.specs.List.{AllZip, slice_range}
 use Rattle.std.proofs.Math.Seq.{take-add}
@@ -17,7 +17,7 @@ use Rattle.farm_lists.specs.Report.{listed_before_close}
 use Rattle.farm_files.specs.Serving.{AreRackReads, Reads, orders_rack, unread_rack}
 use Rattle.farm_lists.specs.declared.lists.listing.Record.{Record}
 
--- the front of a list, and a range behind it
+-- the front of a list, and a range after it
 pub take_range : {A : Type 0} (xs : List A) (a b : ℕ) → a ≤ b → take b xs ≡ take a xs ++ slice_range xs a b
 take_range xs a b within = ap (λ n. take n xs) (let e : b ≡ a + (b - a) = omega (arith, within) in e) ∙ take-add a (b - a) xs
 
@@ -68,7 +68,7 @@ both_values {C = C} f R xs xs' ys ys' zs zs' all first last =
 pub answered_none : (told : Told) → AreAnswered told [] [] [] []
 answered_none told = record { read = tt; orders = []; ordered = refl; merged = tt; places = refl; given = λ there e. (refl, refl) }
 
--- what is expected of racks, and of those behind them, is expected of all
+-- what is expected of racks, and of those after them, is expected of all
 pub answered_append : (told : Told) (lists lists' : List (List (List Record))) (reads reads' : List (List (List Reads))) (answers answers' : List (List (ℕ × Outcome))) (unread unread' : List (List (List (List Place))))
     → AreAnswered told lists reads answers unread → AreAnswered told lists' reads' answers' unread' → AreAnswered told (lists ++ lists') (reads ++ reads') (answers ++ answers') (unread ++ unread')
 answered_append told lists lists' reads reads' answers answers' unread unread' first last = record {

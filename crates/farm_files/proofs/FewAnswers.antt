@@ -69,7 +69,7 @@ Lists = Vec (Vec Record Global) Global
 abbrev Answers : Type 0
 Answers = Vec (ℕ × Outcome) Global
 
--- how many requests stand in front of the close of each list
+-- how many requests are before the close of each list
 abbrev pub listed_counts : Lists → List ℕ
 listed_counts lists = map (λ (l : Vec Record Global). length (listed_before_close l.items)) lists.items
 

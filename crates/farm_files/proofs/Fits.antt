@@ -13,7 +13,7 @@ use Rattle.farm_core.specs.Orders.{before_close}
 use Rattle.farm_core.specs.Merge.{AreAllMergedAnswers, AreMergedAnswers, IsFedAnswer, IsLawfulMerge, of_feed}
 use Rattle.farm_lists.specs.Rows.{FitsFeeds}
 
--- how many requests stand in front of each feed's close
+-- how many requests are before each feed's close
 abbrev pub request_counts : List (List Order) → List ℕ
 request_counts feeds = map (λ list. length (before_close list)) feeds
 

@@ -23,7 +23,7 @@ told_bytes (Some f) there x limit name h e = let same : f ≡ there = cc in h �
 
 -- ---- lists
 
--- what stands behind the room for a list doesn't count
+-- what is after the room for a list doesn't count
 take_list : (b : List ℕ) → list_of (take 1048577 b) ≡ list_of b
 take_list b = elim (small (length b)) [
   | inl h ↦ ap list_of (take_all 1048577 b h)

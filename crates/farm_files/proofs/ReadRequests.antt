@@ -36,7 +36,7 @@ orders_more there rs qs r q before after request are grew so is =
     orders_push before after (asked_feed there rs qs) request so grew
     ∙ ap (λ (t : List Asked). map Rebuild t) (values_more (asked there) AreReads rs qs r q (asked_feed there rs qs) (asked_feed there rs qs ++ request ∷ []) request are refl refl is)
 
--- the close that stands behind the requests, where there is one
+-- the close that is after the requests, where there is one
 abbrev pub close_where : Bool → List Order
 close_where closes = cond closes (Close ∷ []) []
 

@@ -27,7 +27,7 @@ rack_places feeds = map (λ requests. map (λ places. places.items) requests.ite
 abbrev pub all_places : List (Vec (Vec (Vec Place Global) Global) Global) → List (List (List (List Place)))
 all_places racks = map (λ feeds. map (λ requests. map (λ places. places.items) requests.items) feeds.items) racks
 
--- how many requests stand in front of the close of each list
+-- how many requests are before the close of each list
 abbrev pub listed_counts : List (List (List Record)) → List (List ℕ)
 listed_counts racks = map (λ feeds. map (λ list. length (listed_before_close list)) feeds) racks
 
@@ -41,7 +41,7 @@ pub record AreAnswered (told : Told) (lists : List (List (List Record))) (reads 
   pub places : map (λ feeds. map (λ requests. length requests) feeds) unread ≡ listed_counts lists
   pub given : (there : Files) → told ≡ Some there → (orders ≡ orders_all there lists reads) × (unread ≡ unread_all there lists reads)
 
--- The answers to a piece's orders have come behind those before, and whether the rack has ended now is whether the piece has a close; or the
+-- The answers to a piece's orders have come after those before, and whether the rack has ended now is whether the piece has a close; or the
 -- rack had ended before, and no answer has come.
 abbrev pub IsAnsweredOnce : List (List Order) → Bool → List (ℕ × Outcome) → List (ℕ × Outcome) → Bool → Type 0
 IsAnsweredOnce orders true before after ended = (after ≡ before) × (ended ≡ true)

@@ -13,7 +13,7 @@ use Rattle.farm_files.specs.declared.faults.ServeFault.TheVariants as fault
 use Rattle.farm_lists.specs.Names.{list_name}
 use Rattle.farm_files.specs.Serving.{AreLists, HaveFeeds, HaveLists, Reads, Serves, written_files}
 
--- some first feeds of the rack have lists, and the list of the feed behind them is refused
+-- some first feeds of the rack have lists, and the list of the feed after them is refused
 abbrev pub RefusesFeed : Files → ℕ → ℕ → ListFault → Type 0
 RefusesFeed there rack feed reason = (feeds : List (List Record)) × HaveFeeds there rack 0 feeds × (length feeds ≡ feed) × (feed < 4)
     × (option_map list_of (there (list_name rack feed)) ≡ Some (Err reason))

@@ -1,7 +1,7 @@
 -- Two lists, member by member.
 use Rattle.std.specs.Prelude.{List, [], ◌∷◌}
 
--- a function's values at the members of two lists that stand at the same place, as far as both lists go
+-- a function's values at the members of two lists that are at the same place, as far as both lists go
 abbrev pub zip_with : {A B C : Type 0} → (A → B → C) → List A → List B → List C
 zip_with f [] ys = []
 zip_with f (x ∷ xs) [] = []

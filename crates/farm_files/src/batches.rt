@@ -206,7 +206,7 @@ fn none_of_each(alloc: Global, lists: &[&[Record]]) -> Result<Vec<Vec<Vec<Place>
     Ok(unread)
 }
 
-// The places of each feed's requests, and behind them those of the next piece. Taken from the front of at most four.
+// The places of each feed's requests, and after them those of the next piece. Taken from the front of at most four.
 fn append_each(
     alloc: Global,
     mut unread: Vec<Vec<Vec<Place>>>,
@@ -253,7 +253,7 @@ fn have_close(lists: &[RackList]) -> bool
     ensures opened { result ≡ false → AreOpen lists.now }
 {
     for index in 0..lists.len() {
-        // An order that isn't among the requests before the close is the close or behind it.
+        // An order that isn't among the requests before the close is the close or after it.
         let list = &lists[index];
         if list.served() < list.orders().len() {
             return true;

@@ -137,7 +137,7 @@ fn list_through_close(alloc: Global, list: &[Record]) -> Result<&[Record], Alloc
 {
     let requests = requests_before_close(alloc, list)?;
     let count = requests.len();
-    // A record that isn't among the requests before the close is the close or behind it.
+    // A record that isn't among the requests before the close is the close or after it.
     if count < list.len() {
         Ok(&list[..count + 1])
     } else {

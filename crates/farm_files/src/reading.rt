@@ -281,7 +281,7 @@ fn push_fragment_files(
     Ok(())
 }
 
-// The orders of requests with the survivors that were read, and of a close behind them where one is asked for; and for each request the
+// The orders of requests with the survivors that were read, and of a close after them where one is asked for; and for each request the
 // places of the others.
 fn read_requests<R: Threads + Sync, I: Shelf>(
     rt: &R,
@@ -347,7 +347,7 @@ fn read_feed<R: Threads + Sync, I: Shelf>(
     ensures few { I.failed input.new ≤ I.failed input.old + survivor_limit * length list.now }
 {
     let requests = requests_before_close(alloc, list)?;
-    // A record that isn't among the requests before the close is the close or behind it.
+    // A record that isn't among the requests before the close is the close or after it.
     let closes = requests.len() < list.len();
     // Named, since the proof speaks of it.
     let read = read_requests(rt, alloc, input, requests.as_slice(), closes, threads)?;

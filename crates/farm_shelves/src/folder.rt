@@ -257,7 +257,7 @@ pub fn read_front<F: Read + Drop>(
     Err(ShelfFault::Device)
 }
 
-// Reads into the room behind the bytes that were read.
+// Reads into the room after the bytes that were read.
 fn read_at<F: Read>(file: &mut F, bytes: &mut [u8], got: usize) -> io::Result<usize>
     requires { got < length bytes.old }
     ensures front { take got bytes.new ≡ take got bytes.old }
@@ -269,7 +269,7 @@ fn read_at<F: Read>(file: &mut F, bytes: &mut [u8], got: usize) -> io::Result<us
     file.read(&mut bytes[got..])
 }
 
-// Makes room for a read behind the bytes that were read, where it is full.
+// Makes room for a read after the bytes that were read, where it is full.
 fn make_room(bytes: &mut Vec<u8>, got: usize, limit: usize) -> Result<(), ShelfFault>
     requires got { got ≤ length bytes.old.items }
     requires limit { (got < limit) × (length bytes.old.items ≤ limit) }

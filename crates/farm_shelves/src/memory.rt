@@ -57,7 +57,7 @@ impl MemoryShelf {
     }
 
     /// Of the reads and writes from now on, counted from 0, number `k` fails and the others don't. A failed write leaves
-    /// the first half of its bytes; where there is no memory for these it is want of memory, and changes nothing. A later call
+    /// the first half of its bytes; if there is no memory for these, the write is refused memory and changes nothing. A later call
     /// replaces an earlier one.
     pub fn fail_at(&mut self, k: u64)
         ensures armed { fails_in self.new ≡ Some k }
@@ -77,7 +77,7 @@ impl MemoryShelf {
         }
     }
 
-    // Counts a call that fails for want of memory.
+    // Counts a call that is refused memory.
     fn pass_call(&mut self)
         ensures next { fails_in self.new ≡ due_next (fails_in self.old) }
         ensures files { files_of self.new ≡ files_of self.old }

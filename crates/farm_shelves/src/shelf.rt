@@ -60,7 +60,7 @@ pub trait Shelf {
     }
 
     /// Replaces a whole file. After a failure of the device nothing is known of this file, and the others are as they
-    /// were; want of memory changes no file.
+    /// were; if memory is refused no file changes.
     fn write(&mut self, alloc: Global, name: &str, bytes: &[u8]) -> Result<(), ShelfFault>
         requires { failed self.old < 2 ^ 63 }
         ensures written { Writes result name.now bytes.now (files self.old) (files self.new) }

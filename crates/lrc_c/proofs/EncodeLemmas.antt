@@ -24,7 +24,7 @@ pub encoded : (code : CodeName) (len : ℕ) (sources : List (List ℕ)) (px py p
 encoded code len sources px py p0 p1 many lengths bytes hx hy h0 h1 =
     encoding code len sources px py p0 p1 many lengths bytes (record { ix = hx; iy = hy; i0 = h0; i1 = h1 })
 
--- what stands in a room whose terms are a row's
+-- what is in a room whose terms are a row's
 pub parity : (row : List ℕ) (xss : List (List ℕ)) (len : ℕ) (ts : List Term) (out : List ℕ) → AreTermsOf row xss len ts → length out ≡ len
     → IsWritten ts out len → IsParity row xss len out
 parity row xss len ts out t l w = record { long = l; each = λ k lt. w k lt ∙ t.sums k }

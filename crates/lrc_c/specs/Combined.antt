@@ -20,7 +20,7 @@ pub record AreTermsOf (coefficients : List ℕ) (xss : List (List ℕ)) (len : �
   pub room : HaveRoom len ts
   pub sums : (i : ℕ) → sum_at ts i ≡ combination coefficients (column xss i)
 
--- the terms' sums stand in front of a place
+-- the terms' sums are before a place
 abbrev pub IsWritten : List Term → List ℕ → ℕ → Type 0
 IsWritten ts bytes i = AreSet (sum_at ts) bytes i
 

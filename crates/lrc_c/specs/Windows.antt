@@ -17,7 +17,7 @@ abbrev pub HasRoom : ℕ → Wanted → ℕ → Type 0
 HasRoom len Nothing room = Unit
 HasRoom len (Sums ts) room = HaveRoom len ts.now × (room ≡ len)
 
--- the sums stand in the room in front of a place
+-- the sums are in the room before a place
 abbrev pub IsSomeWritten : Wanted → List ℕ → ℕ → Type 0
 IsSomeWritten Nothing bytes i = Unit
 IsSomeWritten (Sums ts) bytes i = IsWritten ts.now bytes i
@@ -29,7 +29,7 @@ pub record AreRooms (len : ℕ) (w : Wants) (a b c d : ℕ) : Type 0 where
   pub third : HasRoom len w.third c
   pub fourth : HasRoom len w.fourth d
 
--- each of four stands in its room in front of a place
+-- each of four is in its room before a place
 pub record AreWritten (w : Wants) (i : ℕ) (a b c d : List ℕ) : Type 0 where
   pub first : IsSomeWritten w.first a i
   pub second : IsSomeWritten w.second b i

@@ -135,7 +135,7 @@ fn are_bytes(bytes: &[u8])
     ensures { AreBytes bytes.now }
 {}
 
-/// Tests the survivors, whose bits are set; their bytes stand in `at` by the places' indexes, and have the length. 0:
+/// Tests the survivors, whose bits are set; their bytes are in `at` by the places' indexes, and have the length. 0:
 /// they are those of a stripe. 1: they are not. 3: the arguments are not of that kind.
 #[unsafe(no_mangle)]
 pub extern "C" fn lrc_verify_at(code: u8, survivors: u32, at: &[Lent; 16], len: usize) -> u32

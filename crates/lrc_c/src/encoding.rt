@@ -136,7 +136,7 @@ fn write_all(
     let _ = write_checked(none, wants, couples, len, a, b, c, d);
 }
 
-/// Writes the four parities of the data fragments, which stand in the order of the code. 0: done. 3: the code has
+/// Writes the four parities of the data fragments, which are in the order of the code. 0: done. 3: the code has
 /// another number of data fragments, or the lengths differ, and nothing is written.
 #[unsafe(no_mangle)]
 pub extern "C" fn lrc_encode_into(

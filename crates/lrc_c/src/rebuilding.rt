@@ -82,7 +82,7 @@ fn status_of(answer: Answer) -> u32
     }
 }
 
-/// Rebuilds the fragment at a lost place from the survivors, whose bits are set; their bytes stand in `at` by the
+/// Rebuilds the fragment at a lost place from the survivors, whose bits are set; their bytes are in `at` by the
 /// places' indexes. 0: `out` has the bytes that every stripe with these survivors has there. 1: no stripe has them.
 /// 2: two stripes with these survivors differ there. 3: the arguments are not of that kind, and nothing is written.
 #[unsafe(no_mangle)]

@@ -9,7 +9,7 @@ use crate::low_products::LOW_PRODUCTS;
 use std::simd::prelude::*;
 
 /// A scalar's products with the low halves of bytes (00 to 0F) and with the high halves (00, 10 to F0), in registers.
-/// Each table stands twice, since a shuffle reads within blocks of 16 lanes.
+/// Each table is there twice, since a shuffle reads within blocks of 16 lanes.
 #[derive(Clone, Copy)]
 pub(crate) struct Tables {
     low: u8x32,

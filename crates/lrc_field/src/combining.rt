@@ -234,7 +234,7 @@ fn add_few(dst: &mut [u8], from: usize, c: Gf, bytes: &[u8])
     }
 }
 
-/// Writes over each byte the sum of the terms at its place, where the first byte stands at place `from`. Takes no
+/// Writes over each byte the sum of the terms at its place, where the first byte is at place `from`. Takes no
 /// memory.
 pub fn combine_into(dst: &mut [u8], from: usize, terms: &[Term])
     requires few { length terms.now ≤ 16 }
@@ -306,7 +306,7 @@ fn combined_of_three<A: Allocator>(
     Ok(bytes)
 }
 
-// Appends the sums of three slices at 4,096 further places, or at all where few are left behind these.
+// Appends the sums of three slices at 4,096 further places, or at all where few are left after these.
 fn append_part_of_three<A: Allocator>(
     bytes: &mut Vec<u8, A>,
     len: usize,

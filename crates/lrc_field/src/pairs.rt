@@ -39,7 +39,7 @@ fn put_sums(first: &mut [u8], second: &mut [u8], i: usize, from: usize, pairs: &
 }
 
 /// Writes over each byte of `first` the sum at its place of the bytes times their first scalars, and over each of
-/// `second` that of the bytes times their second scalars, where the first byte stands at place `from`. Both have one
+/// `second` that of the bytes times their second scalars, where the first byte is at place `from`. Both have one
 /// length, of at least 96. Takes no memory.
 pub fn combine_pairs_into(first: &mut [u8], second: &mut [u8], from: usize, pairs: &[Pair])
     requires many { 96 ≤ length first.old }

@@ -41,7 +41,7 @@ reason_text (list_fault.Refused number refusal) = record_text number ++ codes ":
 reason_text list_fault.InputTooLong = codes "E25"
 reason_text list_fault.TooManyOrders = codes "E26"
 
--- a list's fault behind the file of the rack's feed
+-- a list's fault after the file of the rack's feed
 abbrev pub listed_reason : ℕ → ℕ → ListFault → List ℕ
 listed_reason rack feed reason = list_name rack feed ++ codes ": " ++ reason_text reason
 

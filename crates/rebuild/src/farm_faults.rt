@@ -45,7 +45,7 @@ pub fn fault_line(alloc: Global, fault: &ServeFault) -> Result<String, AllocErro
     }
 }
 
-// The line that tells the fault of the list of a rack's feed. Want of memory is no fault of the list.
+// The line that tells the fault of the list of a rack's feed. A refusal of memory is no fault of the list.
 fn list_fault_line(
     alloc: Global,
     rack: usize,
@@ -60,7 +60,7 @@ fn list_fault_line(
     }
 }
 
-// What is wrong with a list, behind its file's name.
+// What is wrong with a list, after its file's name.
 fn listed_line(
     alloc: Global,
     rack: usize,

@@ -50,7 +50,7 @@ fn main(rt: HostRuntime) -> ExitCode {
     ExitCode::from(status)
 }
 
-// What the words behind the program's name ask for.
+// What the words after the program's name ask for.
 fn given_words(rt: &HostRuntime) -> Result<Words, WordsFault> {
     let words = match command_words(rt) {
         Ok(words) => words,
