@@ -41,8 +41,8 @@ quietly() {
 }
 
 quietly 'make library' make -s library CPU=x86-64-v2 JOBS=1
-[ "$(nm -u "$archive" | awk 'NF == 2 { print $2 }' | sort | tr '\n' ' ')" = 'memcpy memset ' ] ||
-  fail "the archive asks for $(nm -u "$archive")"
+asked=$(nm -u "$archive" | awk 'NF == 2 && $2 != "memcpy" && $2 != "memset" { print $2 }')
+[ -z "$asked" ] || fail "the archive asks for $asked"
 exports='lrc_add lrc_apply lrc_cheapest_reads_into lrc_combine lrc_encode_into lrc_plan_into lrc_reads_into lrc_rebuild_into lrc_rebuild_many_into '
 exports+='lrc_scale_add lrc_update_into lrc_verify_at lrc_version '
 [ "$(nm -g --defined-only "$archive" | awk 'NF == 3 { print $3 }' | LC_ALL=C sort | tr '\n' ' ')" = "$exports" ] ||
