@@ -11,16 +11,16 @@
 //! ```
 #![tactic(auto)]
 
-mod files;
 mod lists;
 mod names;
+mod rack_files;
 pub mod report_laws;
 mod reports;
 
-pub use files::{NamedFile, make_files};
 pub use lists::listed::Listed;
 pub use lists::listing::{ListFault, MOST_LIST_BYTES, MOST_RECORDS, Record, read_list};
 pub use lists::requests::requests_before_close;
 pub use names::{fragment_file, list_file};
+pub use rack_files::{NamedFile, make_files};
 pub use reports::digests::digests_of_racks;
 pub use reports::report::{ReportRow, ReportShape, merged_report_text, report_text};

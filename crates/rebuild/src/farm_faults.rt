@@ -2,7 +2,7 @@
 ghost use Rattle.std.specs.Prelude.{◌≡◌, ◌++◌, IfOk, OnOk, string_bytes};
 ghost use Rattle.rebuild.specs.FarmFaults.{fault_text, list_fault_text, list_status, listed_reason, reason_text, status_of};
 
-use farm_files::{ListFault, ServeFault, Served, list_file};
+use farm_serving::{ListFault, ServeFault, Served, list_file};
 use line_mode::statuses::{DEVICE, DONE, NO_RESOURCES, REFUSED};
 use std::alloc::{AllocError, Global};
 use std::fmt::Write;

@@ -19,7 +19,7 @@ mod tests;
 use command_line::{Words, WordsFault, read_words};
 use farm_core::{Settings, SettingsFault};
 use farm_faults::{farm_status, fault_line};
-use farm_files::{Served, serve_folders};
+use farm_serving::{Served, serve_folders};
 use line_mode::statuses::{DEVICE, DONE, NO_RESOURCES, USAGE};
 use line_mode::{line_mode, line_status};
 use std::io::ErrorKind;

@@ -1,6 +1,6 @@
 //! How the command `farm` ends: statuses and fault lines.
 use crate::farm_faults::{farm_status, fault_line};
-use farm_files::{ListFault, ServeFault, Served};
+use farm_serving::{ListFault, ServeFault, Served};
 use lrc_code::RequestFault;
 use std::alloc::Global;
 

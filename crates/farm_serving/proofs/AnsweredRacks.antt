@@ -1,0 +1,86 @@
+-- What is answered of several batches, one after the other.
+use Rattle.std.proofs.Common.{◌≡◌, ◌≤◌, ◌+◌, ◌-◌, ◌++◌, ◌∙◌, Vec, Global, ℕ, List, [], ◌∷◌, length, take, drop, map, refl, sym, ap, arith}
+use Rattle.std.specs.List.{AllZip, slice_range}
+use Rattle.std.proofs.Math.Seq.{take-add}
+use Rattle.std.proofs.lemmas.List.{length-drop, length-map, length-take-le, map-append}
+use Rattle.std.proofs.lemmas.Simd.{map-map}
+use Rattle.lrc_code.specs.declared.places.Place.{Place}
+use Rattle.lrc_code.specs.declared.outcomes.Outcome.{Outcome}
+use Rattle.farm_core.specs.Merge.{AreMergedAnswers}
+use Rattle.farm_core.specs.Orders.{before_close}
+use Rattle.farm_core.specs.declared.orders.Order.{Order}
+use Rattle.farm_core.proofs.Works.{zip_append}
+use Rattle.farm_serving.specs.AnsweredRacks.{AreAnswered, all_places, all_records, listed_counts}
+use Rattle.farm_shelves.specs.Files.{Told}
+use Rattle.farm_serving.specs.Pairs.{zip_with}
+use Rattle.farm_lists.specs.Report.{listed_before_close}
+use Rattle.farm_serving.specs.Serving.{AreRackReads, Reads, orders_rack, unread_rack}
+use Rattle.farm_lists.specs.declared.lists.listing.Record.{Record}
+
+-- the front of a list, and a range after it
+pub take_range : {A : Type 0} (xs : List A) (a b : ℕ) → a ≤ b → take b xs ≡ take a xs ++ slice_range xs a b
+take_range xs a b within = ap (λ n. take n xs) (let e : b ≡ a + (b - a) = omega (arith, within) in e) ∙ take-add a (b - a) xs
+
+-- the length of a range
+pub range_length : {A : Type 0} (xs : List A) (a b : ℕ) → a ≤ b → b ≤ length xs → length (slice_range xs a b) ≡ b - a
+range_length xs a b within past = length-take-le (b - a) (drop a xs) (omega (arith, length-drop a xs, within, past))
+
+-- ---- how many requests, in memory and as lists
+
+pub counts_same : (racks : List (Vec (Vec Record Global) Global)) → listed_counts (all_records racks) ≡ map (λ feeds. map (λ list. length (listed_before_close list.items)) feeds.items) racks
+counts_same [] = refl
+counts_same (feeds ∷ racks) =
+    ap (λ (t : List ℕ). t ∷ listed_counts (all_records racks)) (map-map (λ (list : List Record). length (listed_before_close list)) (λ (list : Vec Record Global). list.items) feeds.items)
+    ∙ ap (λ (t : List (List ℕ)). map (λ (list : Vec Record Global). length (listed_before_close list.items)) feeds.items ∷ t) (counts_same racks)
+
+pub lengths_same : (feeds : List (Vec (Vec Place Global) Global)) → map (λ requests. length requests) (map (λ (us : Vec (Vec Place Global) Global). map (λ (u : Vec Place Global). u.items) us.items) feeds) ≡ map (λ us. length us.items) feeds
+lengths_same [] = refl
+lengths_same (us ∷ feeds) =
+    ap (λ n. n ∷ map (λ (requests : List (List Place)). length requests) (map (λ (us : Vec (Vec Place Global) Global). map (λ (u : Vec Place Global). u.items) us.items) feeds)) (length-map us.items (λ (u : Vec Place Global). u.items))
+    ∙ ap (λ (t : List ℕ). length us.items ∷ t) (lengths_same feeds)
+
+pub places_same : (racks : List (Vec (Vec (Vec Place Global) Global) Global)) → map (λ feeds. map (λ requests. length requests) feeds) (all_places racks) ≡ map (λ feeds. map (λ us. length us.items) feeds.items) racks
+places_same [] = refl
+places_same (feeds ∷ racks) =
+    ap (λ (t : List ℕ). t ∷ map (λ (feeds : List (List (List Place))). map (λ (requests : List (List Place)). length requests) feeds) (all_places racks)) (lengths_same feeds.items)
+    ∙ ap (λ (t : List (List ℕ)). map (λ (us : Vec (Vec Place Global) Global). length us.items) feeds.items ∷ t) (places_same racks)
+
+-- ---- batches
+
+pub zip_with_append : {A B C : Type 0} (f : A → B → C) (R : A → B → Type 0) (xs xs' : List A) (ys ys' : List B) → AllZip R xs ys
+    → zip_with f (xs ++ xs') (ys ++ ys') ≡ zip_with f xs ys ++ zip_with f xs' ys'
+zip_with_append f R [] xs' [] ys' all = refl
+zip_with_append f R [] xs' (y ∷ ys) ys' all = absurd all
+zip_with_append f R (x ∷ xs) xs' [] ys' all = absurd all
+zip_with_append f R (x ∷ xs) xs' (y ∷ ys) ys' all = ap (λ t. f x y ∷ t) (zip_with_append f R xs xs' ys ys' all.1)
+
+-- images that are those of two parts
+pub both_images : {A B C : Type 0} (f : A → C) (g : B → C) (xs xs' : List A) (ys ys' : List B) → map f xs ≡ map g ys → map f xs' ≡ map g ys' → map f (xs ++ xs') ≡ map g (ys ++ ys')
+both_images {C = C} f g xs xs' ys ys' first last = map-append f xs xs' ∙ ap (λ (t : List C). t ++ map f xs') first ∙ ap (λ (t : List C). map g ys ++ t) last ∙ sym (map-append g ys ys')
+
+-- values of pairs that are those of two parts
+pub both_values : {A B C : Type 0} (f : A → B → C) (R : A → B → Type 0) (xs xs' : List A) (ys ys' : List B) (zs zs' : List C) → AllZip R xs ys → zs ≡ zip_with f xs ys → zs' ≡ zip_with f xs' ys'
+    → zs ++ zs' ≡ zip_with f (xs ++ xs') (ys ++ ys')
+both_values {C = C} f R xs xs' ys ys' zs zs' all first last =
+    ap (λ (t : List C). t ++ zs') first ∙ ap (λ (t : List C). zip_with f xs ys ++ t) last ∙ sym (zip_with_append f R xs xs' ys ys' all)
+
+-- nothing is answered of no rack
+pub answered_none : (told : Told) → AreAnswered told [] [] [] []
+answered_none told = record { read = tt; orders = []; ordered = refl; merged = tt; places = refl; given = λ there e. (refl, refl) }
+
+-- what is expected of racks, and of those after them, is expected of all
+pub answered_append : (told : Told) (lists lists' : List (List (List Record))) (reads reads' : List (List (List Reads))) (answers answers' : List (List (ℕ × Outcome))) (unread unread' : List (List (List (List Place))))
+    → AreAnswered told lists reads answers unread → AreAnswered told lists' reads' answers' unread' → AreAnswered told (lists ++ lists') (reads ++ reads') (answers ++ answers') (unread ++ unread')
+answered_append told lists lists' reads reads' answers answers' unread unread' first last = record {
+  read = zip_append AreRackReads lists lists' reads reads' first.read last.read;
+  orders = first.orders ++ last.orders;
+  ordered = both_images (λ (feeds : List (List Order)). map (λ (list : List Order). length (before_close list)) feeds) (λ (feeds : List (List Record)). map (λ (list : List Record). length (listed_before_close list)) feeds)
+      first.orders last.orders lists lists' first.ordered last.ordered;
+  merged = zip_append AreMergedAnswers first.orders last.orders answers answers' first.merged last.merged;
+  places = both_images (λ (feeds : List (List (List Place))). map (λ (requests : List (List Place)). length requests) feeds) (λ (feeds : List (List Record)). map (λ (list : List Record). length (listed_before_close list)) feeds)
+      unread unread' lists lists' first.places last.places;
+  given = λ there e. (
+    both_values (orders_rack there) AreRackReads lists lists' reads reads' first.orders last.orders first.read (first.given there e).0 (last.given there e).0,
+    both_values (unread_rack there) AreRackReads lists lists' reads reads' unread unread' first.read (first.given there e).1 (last.given there e).1,
+  );
+}

@@ -1,0 +1,136 @@
+use Rattle.std.proofs.Common.{◌≡◌, ◌∙◌, ◌+◌, ◌*◌, ◌≤◌, Bor, Vec, Global, ℕ, List, [], All, ap, arith, le_refl, length, map, refl, subst, sym}
+use Rattle.std.specs.List.{AllZip}
+use Rattle.std.proofs.lemmas.Simd.{map-map}
+use Rattle.lrc_code.specs.declared.places.Place.{Place}
+use Rattle.farm_core.specs.Merge.{joined}
+use Rattle.farm_serving.specs.AnsweredRacks.{rack_places}
+use Rattle.farm_serving.specs.Pieces.{AreOrdersOf, record_count}
+use Rattle.farm_serving.specs.Serving.{AreRackReads, orders_rack, unread_rack}
+use Rattle.farm_lists.specs.Report.{listed_before_close}
+use Rattle.farm_lists.specs.declared.lists.listing.Record.{Record}
+use Rattle.farm_serving.proofs.AnsweredRacks.{lengths_same}
+use Rattle.farm_serving.proofs.RackBatches.{AreSoFar, cut_is, failures_more, fails_few, fronts, fronts_few, fronts_further, none_fail, none_same, orders_size, pieces, pieces_few, pieces_split, places_size, served, so_far_all, so_far_more, so_far_none}
+use Rattle.farm_serving.proofs.batches.answer_rack.Goals as goal
+use Rattle.farm_serving.proofs.batches.answer_rack.Goals.{After-as_slice-in-loop-first-3}
+
+abbrev lent : Bor (List Record) → List Record
+lent l = l.now
+
+-- the lists that are read are the piece
+the_piece : (g : Rattle.farm_serving.proofs.batches.answer_rack.Given.Over) (c : After-as_slice-in-loop-first-3 g) → map lent c.as_slice-in-loop-first-3.result.now ≡ pieces c.args.lists.now c.loop-first.first c.end_of_positions-end.result
+the_piece g c =
+    cut_is c.args.lists.now c.in_ok-served.served.items c.as_slice-in-loop-first-2.result.now c.in_ok-part.part.items c.as_slice-in-loop-first-3.result.now c.loop-first.first c.end_of_positions-end.result
+    c.in_ok-served.ensures c.as_slice-in-loop-first-2.ensures.value c.in_ok-part.ensures c.as_slice-in-loop-first-3.ensures.value
+
+-- how often the device may have failed when the piece was read
+fails : (g : Rattle.farm_serving.proofs.batches.answer_rack.Given.Over) (c : After-as_slice-in-loop-first-3 g) (after : ℕ)
+    → after ≤ g.I.Shelf.failed c.loop-first.input + 15 * record_count (map lent c.as_slice-in-loop-first-3.result.now)
+    → (after ≤ g.I.Shelf.failed c.args.input.now + 15 * record_count (fronts c.args.lists.now c.end_of_positions-end.result)) × (after ≤ g.I.Shelf.failed c.args.input.now + 245760)
+fails g c after most =
+    let (reads, so, within, same, failed, few) = c.loop-first.invariant in
+    let ordered : c.loop-first.first ≤ c.end_of_positions-end.result = omega (arith, c.end_of_positions-end.ensures.within.0) in
+    fails_few (g.I.Shelf.failed c.args.input.now) (g.I.Shelf.failed c.loop-first.input) after c.args.lists.now c.loop-first.first c.end_of_positions-end.result ordered c.requires.orders c.requires.feeds.1 few
+    (subst (λ (ls : List (List Record)). after ≤ g.I.Shelf.failed c.loop-first.input + 15 * record_count ls) (the_piece g c) most)
+
+pub loop-first-init : goal.loop-first-init
+loop-first-init g c =
+    let lists : List (Vec Record Global) = c.args.lists.now in
+    let through : map lent c.as_slice.result.now ≡ map served lists = ap (map lent) c.as_slice.ensures.value ∙ c.in_ok-served.ensures in (
+      map (λ _. []) lists,
+      rw c.new-answers.ensures.items
+          (so_far_none (g.I.Shelf.files c.args.input.now) lists (rack_places c.in_ok-unread.unread.items) (c.in_ok-unread.ensures ∙ none_same lent served c.as_slice.result.now lists through)),
+      omega arith,
+      refl,
+      omega (arith, none_fail lists),
+      omega arith,
+    )
+
+pub loop-first-preserved : goal.loop-first-preserved
+loop-first-preserved g c =
+    let (reads, so, most, same, failed, few) = c.loop-first.invariant in
+    let (qs, are, rose, gives) = c.in_ok-orders.ensures.read in
+    let at : After-as_slice-in-loop-first-3 g = (goal.at.loop-first-preserved g c).After-as_slice-in-loop-first-3 in
+    let told = g.I.Shelf.files c.args.input.now in
+    let lists : List (Vec Record Global) = c.args.lists.now in
+    let i : ℕ = c.loop-first.first in
+    let j : ℕ = c.end_of_positions-end.result in
+    let is = the_piece g at in
+    let split = pieces_split lists i j in
+    let ordered : i ≤ j = omega (arith, c.end_of_positions-end.ensures.within.0) in
+    let read : AreRackReads (pieces lists i j) qs = subst (λ (ls : List (List Record)). AreRackReads ls qs) is are in
+    let left : map (λ (requests : List (List Place)). length requests) (rack_places c.in_ok-orders.places.items) ≡ map (λ (list : List Record). length (listed_before_close list)) (pieces lists i j) =
+    lengths_same c.in_ok-orders.places.items ∙ c.in_ok-orders.ensures.places ∙ sym (map-map (λ (l : List Record). length (listed_before_close l)) lent c.as_slice-in-loop-first-3.result.now)
+    ∙ ap (map (λ (l : List Record). length (listed_before_close l))) is in
+    let more = so_far_more told (fronts lists i) (pieces lists i j) reads qs c.loop-first.answers.items c.answer_piece.new.answers.items (rack_places c.loop-first.unread.items) (rack_places c.in_ok-orders.places.items)
+    c.loop-first.ended c.in_ok-ended.ended c.in_ok-orders.orders.items split so read (subst (λ (ls : List (List Record)). AllZip AreOrdersOf ls c.in_ok-orders.orders.items) is c.in_ok-orders.ensures.orders) left
+    (λ there e.
+    let t = gives there (same ∙ e) in
+    (t.0 ∙ ap (λ (ls : List (List Record)). orders_rack there ls qs) is, t.1 ∙ ap (λ (ls : List (List Record)). unread_rack there ls qs) is))
+    c.in_ok-ended.ensures in (
+      joined reads qs,
+      rw c.in_ok-unread-2.ensures
+          (subst (λ (fs : List (List Record)). AreSoFar told fs (joined reads qs) c.answer_piece.new.answers.items (joined (rack_places c.loop-first.unread.items) (rack_places c.in_ok-orders.places.items)) c.in_ok-ended.ended)
+          (fronts_further lists i j ordered) more),
+      omega (arith, c.end_of_positions-end.ensures.within.1),
+      c.in_ok-orders.ensures.same ∙ same,
+      omega (arith, rose, failed, failures_more (fronts lists i) (pieces lists i j) reads qs split so.read read),
+      (fails g at _ c.in_ok-orders.ensures.few).0,
+    )
+
+pub read_piece-requires-clause-room : goal.read_piece-requires-clause-room
+read_piece-requires-clause-room g c κs within =
+    let most = fails g (goal.at.read_piece-requires-clause-room g c).After-as_slice-in-loop-first-3 _ (le_refl _) in
+    omega (arith, most.1, c.requires.room)
+
+pub read_piece-requires-clause-orders : goal.read_piece-requires-clause-orders
+read_piece-requires-clause-orders g c κs within =
+    pieces_few c.as_slice-in-loop-first-3.result.now c.args.lists.now c.loop-first.first c.end_of_positions-end.result
+    (the_piece g (goal.at.read_piece-requires-clause-orders g c).After-as_slice-in-loop-first-3) c.requires.orders
+
+pub append_each-requires : goal.append_each-requires
+append_each-requires g c =
+    let (reads, so, most, same, failed, few) = c.loop-first.invariant in
+    let at : After-as_slice-in-loop-first-3 g = (goal.at.append_each-requires g c).After-as_slice-in-loop-first-3 in
+    places_size (g.I.Shelf.files c.args.input.now) c.args.lists.now c.as_slice-in-loop-first-3.result.now c.loop-first.first c.end_of_positions-end.result reads c.loop-first.answers.items c.loop-first.ended
+    c.loop-first.unread.items c.in_ok-orders.places.items so (the_piece g at) c.in_ok-orders.ensures.places
+
+pub answer_piece-requires-after_bounds : goal.answer_piece-requires-after_bounds
+answer_piece-requires-after_bounds g c = λ κs within.
+    let at : After-as_slice-in-loop-first-3 g = (goal.at.answer_piece-requires-after_bounds g c).After-as_slice-in-loop-first-3 in
+    let size = orders_size c.args.lists.now c.as_slice-in-loop-first-3.result.now c.loop-first.first c.end_of_positions-end.result c.in_ok-orders.orders.items (the_piece g at) c.in_ok-orders.ensures.orders in
+    (omega (arith, size, c.requires.feeds.0), omega (arith, size, c.requires.feeds.1))
+
+pub returns-in_err-part-clause-few : goal.returns-in_err-part-clause-few
+returns-in_err-part-clause-few g c =
+    let (reads, so, most, same, failed, few) = c.loop-first.invariant in
+    omega (arith, few, fronts_few c.args.lists.now c.loop-first.first c.requires.orders, c.requires.feeds.1)
+
+pub returns-in_err-orders-clause-few : goal.returns-in_err-orders-clause-few
+returns-in_err-orders-clause-few g c = (fails g (goal.at.returns-in_err-orders-clause-few g c).After-as_slice-in-loop-first-3 _ c.in_err-orders.ensures.few).1
+
+pub returns-in_err-unread-2-clause-few : goal.returns-in_err-unread-2-clause-few
+returns-in_err-unread-2-clause-few g c = (fails g (goal.at.returns-in_err-unread-2-clause-few g c).After-as_slice-in-loop-first-3 _ c.in_ok-orders.ensures.few).1
+
+pub returns-in_err-ended-clause-few : goal.returns-in_err-ended-clause-few
+returns-in_err-ended-clause-few g c = (fails g (goal.at.returns-in_err-ended-clause-few g c).After-as_slice-in-loop-first-3 _ c.in_ok-orders.ensures.few).1
+
+pub returns-in_err-one_rack-clause-few : goal.returns-in_err-one_rack-clause-few
+returns-in_err-one_rack-clause-few g c =
+    let (reads, so, most, same, failed, few) = c.loop-first.invariant in
+    omega (arith, few, fronts_few c.args.lists.now c.loop-first.first c.requires.orders, c.requires.feeds.1)
+
+pub returns-clause-few : goal.returns-clause-few
+returns-clause-few g c =
+    let (reads, so, most, same, failed, few) = c.loop-first.invariant in
+    omega (arith, few, fronts_few c.args.lists.now c.loop-first.first c.requires.orders, c.requires.feeds.1)
+
+pub returns-clause-answered : goal.returns-clause-answered
+returns-clause-answered g c =
+    let (reads, so, most, same, failed, few) = c.loop-first.invariant in
+    let all : c.loop-first.first ≡ 4096 = omega (arith, most, c.loop-first-test.false) in (
+      reads,
+      rw (c.in_ok-one_rack.ensures.answers, c.in_ok-one_rack.ensures.unread)
+          (so_far_all (g.I.Shelf.files c.args.input.now) c.args.lists.now reads c.loop-first.answers.items (rack_places c.loop-first.unread.items) c.loop-first.ended c.loop-first.first
+          (subst (λ (n : ℕ). All (λ (l : Vec Record Global). length l.items ≤ n) c.args.lists.now) (sym all) c.requires.orders) so),
+      failed,
+    )

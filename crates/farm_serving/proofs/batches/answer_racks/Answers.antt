@@ -1,0 +1,18 @@
+use Rattle.std.proofs.Common.{◌∙◌, sym}
+use Rattle.farm_serving.proofs.AnsweredRacks.{counts_same, places_same}
+use Rattle.farm_serving.proofs.batches.answer_racks.Goals as goal
+
+pub returns-clause-answered : goal.returns-clause-answered
+returns-clause-answered g c =
+    let (reads, are, rose, told) = c.in_ok-feeds.ensures.read in (
+      reads,
+      record {
+        read = are;
+        orders = c.in_ok-feeds.feeds;
+        ordered = c.in_ok-feeds.ensures.orders ∙ sym (counts_same c.args.racks.now);
+        merged = c.in_ok-answers.ensures;
+        places = places_same c.in_ok-feeds.unread.items ∙ c.in_ok-feeds.ensures.places ∙ sym (counts_same c.args.racks.now);
+        given = told;
+      },
+      rose,
+    )

@@ -1,0 +1,314 @@
+//! Answering the lists batch by batch: the survivors of one batch alone are in memory.
+ghost use Rattle.std.specs.Prelude.{◌≡◌, ◌∷◌, [], ◌+◌, ◌*◌, ◌<◌, ◌≤◌, ◌^◌, List, IfOk, IfSome, OnOk, length, map, true, false};
+ghost use Rattle.std.specs.List.{All};
+ghost use Rattle.farm_core.specs.Limits.{feed_limit, order_limit, rack_limit};
+ghost use Rattle.farm_serving.specs.Limits.{all_survivors, rack_survivors};
+ghost use Rattle.farm_core.specs.Merge.{AreMergedAnswers, AreOpen, HaveClose, joined};
+ghost use Rattle.farm_serving.specs.AnsweredRacks.{AreAnswered, IsAnsweredOnce, all_answers, all_places, all_records, rack_places};
+ghost use Rattle.farm_serving.specs.Serving.{Reads, all_failures, rack_failures};
+
+use crate::cutting::{end_of_positions, end_of_racks, lists_through_close, piece_of};
+use crate::reading::{read_feeds, read_piece};
+use farm_core::limits::MOST_ORDERS;
+use farm_core::{FarmError, Feeds, Pause, RackList, Settings, run_feeds};
+use farm_lists::Record;
+use farm_shelves::Shelf;
+use lrc_code::{Outcome, Place};
+use std::alloc::{AllocError, Global};
+use std::sync::Wait;
+use std::thread::Threads;
+
+/// The most bytes of survivors that the lists of a batch name together, unless it is a single request of each feed of one rack.
+pub const MOST_BATCH_BYTES: u64 = 16_777_216;
+
+/// Of each rack the answers, each with its feed's number, and of each request, feed by feed, the places of the survivors that weren't read.
+#[derive(Drop)]
+pub struct Answered {
+    pub answers: Vec<Vec<(usize, Outcome)>>,
+    pub unread: Vec<Vec<Vec<Vec<Place>>>>,
+}
+
+// Tells a pause the numbers that the racks and requests of a batch have among those of all lists: a request's number is drawn within its
+// rack, after those of the batches before, and its position is that in its feed's list.
+#[derive(Drop)]
+struct BatchPause<'p, P> {
+    pause: &'p P,
+    rack: usize,
+    number: usize,
+    position: usize,
+}
+
+impl<'p, P: Pause> Pause for BatchPause<'p, P> {
+    fn before(&self, rack: usize, number: u64) {
+        self.pause.before(
+            self.rack.saturating_add(rack),
+            (self.number as u64).saturating_add(number),
+        );
+    }
+
+    fn after(&self, rack: usize, number: u64) {
+        self.pause.after(
+            self.rack.saturating_add(rack),
+            (self.number as u64).saturating_add(number),
+        );
+    }
+
+    fn ahead(&self, rack: usize, feed: usize, position: usize) {
+        self.pause.ahead(
+            self.rack.saturating_add(rack),
+            feed,
+            self.position.saturating_add(position),
+        );
+    }
+
+    fn behind(&self, rack: usize, feed: usize, position: usize) {
+        self.pause.behind(
+            self.rack.saturating_add(rack),
+            feed,
+            self.position.saturating_add(position),
+        );
+    }
+}
+
+/// The answers to the lists of all racks, and what was left out of their requests. A batch is racks that list at most so many
+/// bytes together; a rack that lists more is cut into pieces, each the requests of all its feeds from one position to another.
+/// A `Pause` is told the numbers of all lists; one that holds a request until one of a later batch begins waits in vain.
+pub fn answer_lists<R: Threads + Wait + Sync, I: Shelf, P: Pause>(
+    rt: &R,
+    alloc: Global,
+    input: &mut I,
+    lists: &[Vec<Vec<Record>>],
+    settings: Settings,
+    pause: &P,
+    most: u64,
+) -> Result<Answered, FarmError>
+    requires room { I.failed input.old < 2 ^ 62 }
+    requires racks { length lists.now ≤ rack_limit }
+    requires feeds { All (λ feeds. (0 < length feeds.items) × (length feeds.items ≤ feed_limit)) lists.now }
+    requires orders { All (λ feeds. All (λ l. length l.items ≤ order_limit) feeds.items) lists.now }
+    ensures same { I.files input.new ≡ I.files input.old }
+    ensures answered { IfOk result (λ v. (reads : List (List (List Reads))) × AreAnswered (I.files input.old) (all_records lists.now) reads (all_answers v.answers.items) (all_places v.unread.items)
+        × (I.failed input.new ≡ I.failed input.old + all_failures reads)) }
+    ensures more { I.failed input.old ≤ I.failed input.new }
+    ensures few { I.failed input.new ≤ I.failed input.old + all_survivors }
+{
+    let mut answers = Vec::new(alloc);
+    let mut unread = Vec::new(alloc);
+    let mut first = 0;
+    while first < lists.len() {
+        let end = end_of_racks(lists, first, most);
+        let batch = BatchPause {
+            pause,
+            rack: first,
+            number: 0,
+            position: 0,
+        };
+        let mut part = answer_racks(rt, alloc, input, &lists[first..end], settings, &batch, most)?;
+        answers.append(&mut part.answers)?;
+        unread.append(&mut part.unread)?;
+        first = end;
+    }
+    Ok(Answered { answers, unread })
+}
+
+// The same of the racks of one batch, or of one rack, which is cut.
+fn answer_racks<R: Threads + Wait + Sync, I: Shelf, P: Pause>(
+    rt: &R,
+    alloc: Global,
+    input: &mut I,
+    racks: &[Vec<Vec<Record>>],
+    settings: Settings,
+    pause: &P,
+    most: u64,
+) -> Result<Answered, FarmError>
+    requires room { I.failed input.old + rack_survivors * length racks.now < 2 ^ 63 }
+    requires racks { length racks.now ≤ rack_limit }
+    requires feeds { All (λ feeds. (0 < length feeds.items) × (length feeds.items ≤ feed_limit)) racks.now }
+    requires orders { All (λ feeds. All (λ l. length l.items ≤ order_limit) feeds.items) racks.now }
+    ensures same { I.files input.new ≡ I.files input.old }
+    ensures answered { IfOk result (λ v. (reads : List (List (List Reads))) × AreAnswered (I.files input.old) (all_records racks.now) reads (all_answers v.answers.items) (all_places v.unread.items)
+        × (I.failed input.new ≡ I.failed input.old + all_failures reads)) }
+    ensures more { I.failed input.old ≤ I.failed input.new }
+    ensures few { I.failed input.new ≤ I.failed input.old + rack_survivors * length racks.now }
+{
+    if let Some(lists) = only_rack(racks) {
+        return answer_rack(rt, alloc, input, lists, settings, pause, most);
+    }
+    let (feeds, unread) = read_feeds(rt, alloc, input, racks, settings.workers())?;
+    let answers = run_feeds(rt, alloc, &feeds, settings, pause)?;
+    Ok(Answered { answers, unread })
+}
+
+// The lists of a single rack.
+fn only_rack(racks: &[Vec<Vec<Record>>]) -> Option<&[Vec<Record>]>
+    requires feeds { All (λ feeds. (0 < length feeds.items) × (length feeds.items ≤ feed_limit)) racks.now }
+    requires orders { All (λ feeds. All (λ l. length l.items ≤ order_limit) feeds.items) racks.now }
+    ensures lists { IfSome result (λ lists. (all_records racks.now ≡ map (λ list. list.items) lists.now ∷ []) × (length racks.now ≡ 1)) }
+    ensures feeds { IfSome result (λ lists. (0 < length lists.now) × (length lists.now ≤ feed_limit)) }
+    ensures orders { IfSome result (λ lists. All (λ l. length l.items ≤ order_limit) lists.now) }
+{
+    match racks {
+        [lists] => Some(lists.as_slice()),
+        _ => None,
+    }
+}
+
+// The same of the lists of one rack, piece by piece. A piece that has a close ends the rack: of the pieces after it the survivors are read
+// alone, since the report names those that are left out of any request before its own list's close.
+fn answer_rack<R: Threads + Wait + Sync, I: Shelf, P: Pause>(
+    rt: &R,
+    alloc: Global,
+    input: &mut I,
+    lists: &[Vec<Record>],
+    settings: Settings,
+    pause: &P,
+    most: u64,
+) -> Result<Answered, FarmError>
+    requires room { I.failed input.old + rack_survivors < 2 ^ 63 }
+    requires feeds { (0 < length lists.now) × (length lists.now ≤ feed_limit) }
+    requires orders { All (λ l. length l.items ≤ order_limit) lists.now }
+    ensures same { I.files input.new ≡ I.files input.old }
+    ensures answered { IfOk result (λ v. (reads : List (List Reads)) × AreAnswered (I.files input.old) (map (λ l. l.items) lists.now ∷ []) (reads ∷ []) (all_answers v.answers.items) (all_places v.unread.items)
+        × (I.failed input.new ≡ I.failed input.old + rack_failures reads)) }
+    ensures more { I.failed input.old ≤ I.failed input.new }
+    ensures few { I.failed input.new ≤ I.failed input.old + rack_survivors }
+{
+    let served = lists_through_close(alloc, lists)?;
+    let mut answers = Vec::new(alloc);
+    let mut unread = none_of_each(alloc, served.as_slice())?;
+    let mut ended = false;
+    let mut first = 0;
+    while first < MOST_ORDERS {
+        let end = end_of_positions(served.as_slice(), first, most);
+        let part = piece_of(alloc, served.as_slice(), first, end)?;
+        let (orders, places) = read_piece(rt, alloc, input, part.as_slice(), settings.workers())?;
+        unread = append_each(alloc, unread, places)?;
+        let batch = BatchPause {
+            pause,
+            rack: 0,
+            number: answers.len(),
+            position: first,
+        };
+        ended = answer_piece(rt, alloc, orders, settings, &batch, ended, &mut answers)?;
+        first = end;
+    }
+    Ok(one_rack(alloc, answers, unread)?)
+}
+
+// No requests of each list.
+fn none_of_each(alloc: Global, lists: &[&[Record]]) -> Result<Vec<Vec<Vec<Place>>>, AllocError>
+    ensures { IfOk result (λ v. rack_places v.items ≡ map (λ _. []) lists.now) }
+{
+    let mut unread = Vec::new(alloc);
+    for _list in lists {
+        unread.push(Vec::new(alloc))?;
+    }
+    Ok(unread)
+}
+
+// The places of each feed's requests, and after them those of the next piece. Taken from the front of at most four.
+fn append_each(
+    alloc: Global,
+    mut unread: Vec<Vec<Vec<Place>>>,
+    mut places: Vec<Vec<Vec<Place>>>,
+) -> Result<Vec<Vec<Vec<Place>>>, AllocError>
+    requires { length unread.items ≡ length places.items }
+    ensures { IfOk result (λ v. rack_places v.items ≡ joined (rack_places unread.items) (rack_places places.items)) }
+{
+    let mut all = Vec::new(alloc);
+    while !unread.is_empty() {
+        let mut requests = unread.remove(0);
+        let mut later = places.remove(0);
+        requests.append(&mut later)?;
+        all.push(requests)?;
+    }
+    Ok(all)
+}
+
+// Adds the answers to a piece's orders, which are dropped with the survivors, unless a close ended the rack before. Whether one ended it now.
+fn answer_piece<R: Threads + Wait + Sync, P: Pause>(
+    rt: &R,
+    alloc: Global,
+    orders: Vec<RackList>,
+    settings: Settings,
+    pause: &P,
+    ended: bool,
+    answers: &mut Vec<(usize, Outcome)>,
+) -> Result<bool, FarmError>
+    requires { (0 < length orders.items) × (length orders.items ≤ feed_limit) }
+    ensures { IfOk result (IsAnsweredOnce orders.items ended answers.old.items answers.new.items) }
+{
+    if ended {
+        return Ok(true);
+    }
+    let closes = have_close(orders.as_slice());
+    let mut more = answer_orders(rt, alloc, orders, settings, pause)?;
+    answers.append(&mut more)?;
+    Ok(closes)
+}
+
+// Whether some list has a close.
+fn have_close(lists: &[RackList]) -> bool
+    ensures closed { result ≡ true → HaveClose lists.now }
+    ensures opened { result ≡ false → AreOpen lists.now }
+{
+    for index in 0..lists.len() {
+        // An order that isn't among the requests before the close is the close or after it.
+        let list = &lists[index];
+        if list.served() < list.orders().len() {
+            return true;
+        }
+    }
+    false
+}
+
+// The answers to the orders of one rack's feeds.
+fn answer_orders<R: Threads + Wait + Sync, P: Pause>(
+    rt: &R,
+    alloc: Global,
+    orders: Vec<RackList>,
+    settings: Settings,
+    pause: &P,
+) -> Result<Vec<(usize, Outcome)>, FarmError>
+    requires { (0 < length orders.items) × (length orders.items ≤ feed_limit) }
+    ensures { IfOk result (λ v. AreMergedAnswers orders.items v.items) }
+{
+    let feeds = feeds_of_rack(alloc, orders)?;
+    let mut answers = run_feeds(rt, alloc, &feeds, settings, pause)?;
+    let Some(outcomes) = answers.pop() else {
+        unreachable!();
+    };
+    Ok(outcomes)
+}
+
+// The orders of one rack's feeds as those of all racks.
+fn feeds_of_rack(alloc: Global, orders: Vec<RackList>) -> Result<Feeds, AllocError>
+    requires { (0 < length orders.items) × (length orders.items ≤ feed_limit) }
+    ensures { IfOk result (λ f. f ≡ orders.items ∷ []) }
+{
+    let mut racks = Vec::new(alloc);
+    racks.push(orders)?;
+    let Ok(feeds) = Feeds::new(racks) else {
+        unreachable!();
+    };
+    Ok(feeds)
+}
+
+// The answers of one rack, and what was left out of its requests, as those of all racks.
+fn one_rack(
+    alloc: Global,
+    answers: Vec<(usize, Outcome)>,
+    unread: Vec<Vec<Vec<Place>>>,
+) -> Result<Answered, AllocError>
+    ensures answers { IfOk result (λ v. all_answers v.answers.items ≡ answers.items ∷ []) }
+    ensures unread { IfOk result (λ v. all_places v.unread.items ≡ rack_places unread.items ∷ []) }
+{
+    let mut all_answers = Vec::new(alloc);
+    all_answers.push(answers)?;
+    let mut all_unread = Vec::new(alloc);
+    all_unread.push(unread)?;
+    Ok(Answered {
+        answers: all_answers,
+        unread: all_unread,
+    })
+}

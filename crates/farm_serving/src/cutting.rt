@@ -1,0 +1,173 @@
+//! Cutting racks into pieces: where a batch ends, and what a piece has of each feed.
+ghost use Rattle.std.specs.Prelude.{◌≡◌, ◌<◌, ◌≤◌, ◌+◌, ◌*◌, IfOk, length, map, sum_by};
+ghost use Rattle.std.specs.List.{All, slice_range};
+ghost use Rattle.farm_core.specs.Limits.{feed_limit, order_limit, rack_limit};
+ghost use Rattle.farm_serving.specs.Pieces.{IsBatchEnd, list_bytes, listed_bytes, piece, rack_bytes, record_bytes, record_most, through_close};
+
+use farm_core::limits::MOST_ORDERS;
+use farm_lists::{Listed, Record, requests_before_close};
+use std::alloc::{AllocError, Global};
+
+// The bytes of survivors that a request lists.
+fn request_bytes(listed: &Listed) -> u64
+    ensures bytes { result ≡ listed.now.len * length listed.now.survivors }
+    ensures few { result ≤ record_most }
+{
+    let count = listed.survivors().len() as u64;
+    u64::from(listed.length()).saturating_mul(count)
+}
+
+// The bytes of survivors that a record lists.
+fn record_bytes(row: &Record) -> u64
+    ensures bytes { result ≡ record_bytes row.now }
+    ensures few { result ≤ record_most }
+{
+    match row {
+        Record::Rebuild(listed) => request_bytes(listed),
+        Record::Close => 0,
+    }
+}
+
+// The bytes of survivors that a list names.
+fn list_bytes(list: &[Record]) -> u64
+    requires { length list.now ≤ order_limit }
+    ensures bytes { result ≡ list_bytes list.now }
+    ensures few { result ≤ order_limit * record_most }
+{
+    let mut bytes = 0u64;
+    for index in 0..list.len() {
+        bytes += record_bytes(&list[index]);
+    }
+    bytes
+}
+
+// The bytes of survivors that a rack's lists name together.
+fn rack_bytes(lists: &[Vec<Record>]) -> u64
+    requires feeds { length lists.now ≤ feed_limit }
+    requires orders { All (λ l. length l.items ≤ order_limit) lists.now }
+    ensures bytes { result ≡ rack_bytes lists.now }
+    ensures few { result ≤ feed_limit * (order_limit * record_most) }
+{
+    let mut bytes = 0u64;
+    for index in 0..lists.len() {
+        bytes += list_bytes(lists[index].as_slice());
+    }
+    bytes
+}
+
+/// Where the batch ends that begins at a rack: it has this rack, and those after it while they list at most so many bytes together.
+pub(crate) fn end_of_racks(lists: &[Vec<Vec<Record>>], first: usize, most: u64) -> usize
+    requires first { first < length lists.now }
+    requires racks { length lists.now ≤ rack_limit }
+    requires feeds { All (λ feeds. (0 < length feeds.items) × (length feeds.items ≤ feed_limit)) lists.now }
+    requires orders { All (λ feeds. All (λ l. length l.items ≤ order_limit) feeds.items) lists.now }
+    ensures within { (first < result) × (result ≤ length lists.now) }
+    ensures end { IsBatchEnd (λ from to. sum_by (λ feeds. rack_bytes feeds.items) (slice_range lists.now from to)) (length lists.now) most first result }
+{
+    let mut bytes = 0u64;
+    for rack in first..lists.len() {
+        bytes += rack_bytes(lists[rack].as_slice());
+        if rack > first && bytes > most {
+            return rack;
+        }
+    }
+    lists.len()
+}
+
+// The bytes of survivors that a list's record at a position lists, where it has one there.
+fn bytes_at(list: &[Record], position: usize) -> u64
+    ensures bytes { result ≡ list_bytes (slice_range list.now position (position + 1)) }
+    ensures few { result ≤ record_most }
+{
+    if position < list.len() {
+        record_bytes(&list[position])
+    } else {
+        0
+    }
+}
+
+// The bytes of survivors that the records of all feeds at one position list.
+fn position_bytes(lists: &[&[Record]], position: usize) -> u64
+    requires { length lists.now ≤ feed_limit }
+    ensures bytes { result ≡ listed_bytes (piece (map (λ list. list.now) lists.now) position (position + 1)) }
+    ensures few { result ≤ feed_limit * record_most }
+{
+    let mut bytes = 0u64;
+    for index in 0..lists.len() {
+        bytes += bytes_at(lists[index], position);
+    }
+    bytes
+}
+
+/// Where the piece of a rack ends that begins at a position: it has this position of each feed, and those after it while all feeds list
+/// at most so many bytes together.
+pub(crate) fn end_of_positions(lists: &[&[Record]], first: usize, most: u64) -> usize
+    requires first { first < order_limit }
+    requires feeds { length lists.now ≤ feed_limit }
+    ensures within { (first < result) × (result ≤ order_limit) }
+    ensures end { IsBatchEnd (λ from to. listed_bytes (piece (map (λ list. list.now) lists.now) from to)) order_limit most first result }
+{
+    let mut bytes = 0u64;
+    for position in first..MOST_ORDERS {
+        bytes += position_bytes(lists, position);
+        if position > first && bytes > most {
+            return position;
+        }
+    }
+    MOST_ORDERS
+}
+
+/// Of each list the records up to its first close, with that close: those after it are never served.
+pub(crate) fn lists_through_close<'a>(
+    alloc: Global,
+    lists: &'a [Vec<Record>],
+) -> Result<Vec<&'a [Record]>, AllocError>
+    ensures { IfOk result (λ v. map (λ list. list.now) v.items ≡ map (λ list. through_close list.items) lists.now) }
+{
+    let mut cut = Vec::new(alloc);
+    for index in 0..lists.len() {
+        cut.push(list_through_close(alloc, lists[index].as_slice())?)?;
+    }
+    Ok(cut)
+}
+
+// A list up to its first close, with that close.
+fn list_through_close(alloc: Global, list: &[Record]) -> Result<&[Record], AllocError>
+    ensures { IfOk result (λ served. served.now ≡ through_close list.now) }
+{
+    let requests = requests_before_close(alloc, list)?;
+    let count = requests.len();
+    // A record that isn't among the requests before the close is the close or after it.
+    if count < list.len() {
+        Ok(&list[..count + 1])
+    } else {
+        Ok(list)
+    }
+}
+
+/// The piece of a rack: of each list the records from one position to another, as far as it has them.
+pub(crate) fn piece_of<'a>(
+    alloc: Global,
+    lists: &[&'a [Record]],
+    first: usize,
+    end: usize,
+) -> Result<Vec<&'a [Record]>, AllocError>
+    requires { first ≤ end }
+    ensures { IfOk result (λ v. map (λ list. list.now) v.items ≡ piece (map (λ list. list.now) lists.now) first end) }
+{
+    let mut part = Vec::new(alloc);
+    for index in 0..lists.len() {
+        part.push(part_of(lists[index], first, end))?;
+    }
+    Ok(part)
+}
+
+// The records of a list from one position to another, as far as it has them.
+fn part_of(list: &[Record], first: usize, end: usize) -> &[Record]
+    requires { first ≤ end }
+    ensures { result.now ≡ slice_range list.now first end }
+{
+    let from = first.min(list.len());
+    let to = end.min(list.len());
+    &list[from..to]
+}

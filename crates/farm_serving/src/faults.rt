@@ -1,0 +1,89 @@
+//! Why serving ends.
+ghost use Rattle.std.specs.Prelude.{◌≡◌};
+ghost use Rattle.farm_serving.specs.declared.faults.ServeFault.TheVariants as fault;
+ghost use Rattle.farm_serving.specs.Causes.{of_farm, of_shelf};
+
+use farm_core::FarmError;
+use farm_lists::ListFault;
+use farm_shelves::ShelfFault;
+use std::alloc::AllocError;
+use std::fmt;
+use thiserror::Error;
+
+/// Why serving a folder ended.
+#[derive(Clone, Copy, Debug, Error, PartialEq, Eq)]
+pub enum ServeFault {
+    /// The list of a rack's feed is refused; it is the first that is.
+    #[error("{}: {fault}", ListName {rack: *.rack, feed: *.feed})]
+    List {
+        rack: usize,
+        feed: usize,
+        fault: ListFault,
+    },
+    /// E28: a rack has more than 4 feeds.
+    #[error("a rack has more than 4 feeds")]
+    BadFeeds,
+    /// E18: there is a list of a seventeenth rack.
+    #[error("there are more than 16 racks")]
+    TooManyRacks,
+    /// E23: there is no list of rack 0.
+    #[error("there is no rack0.csv")]
+    NoRacks,
+    /// E24: a device failed while a list was read or a file was written.
+    #[error("the device failed")]
+    Device,
+    /// E17: a thread was refused.
+    #[error("a thread was refused")]
+    NoThread,
+    /// E16: memory was wanting.
+    #[error("out of memory")]
+    OutOfMemory,
+}
+
+// Shown as the name of the file that lists a rack's feed.
+#[derive(Drop)]
+struct ListName {
+    rack: usize,
+    feed: usize,
+}
+
+impl fmt::Display for ListName {
+    fn fmt<W: fmt::Write>(&self, f: &mut fmt::Formatter<W>) -> fmt::Result {
+        let ListName { rack, feed } = self;
+        if *feed == 0 {
+            write!(f, "rack{rack}.csv")
+        } else {
+            write!(f, "rack{rack}.feed{feed}.csv")
+        }
+    }
+}
+
+impl From<AllocError> for ServeFault {
+    ghost from_gives = { λ _ f. f ≡ fault.OutOfMemory };
+
+    fn from(_error: AllocError) -> ServeFault {
+        ServeFault::OutOfMemory
+    }
+}
+
+impl From<FarmError> for ServeFault {
+    ghost from_gives = { λ e f. f ≡ of_farm e };
+
+    fn from(error: FarmError) -> ServeFault {
+        match error {
+            FarmError::OutOfMemory => ServeFault::OutOfMemory,
+            FarmError::NoThread => ServeFault::NoThread,
+        }
+    }
+}
+
+impl From<ShelfFault> for ServeFault {
+    ghost from_gives = { λ e f. f ≡ of_shelf e };
+
+    fn from(error: ShelfFault) -> ServeFault {
+        match error {
+            ShelfFault::Device => ServeFault::Device,
+            ShelfFault::OutOfMemory => ServeFault::OutOfMemory,
+        }
+    }
+}

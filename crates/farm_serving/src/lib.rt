@@ -1,0 +1,38 @@
+//! Folders of request lists: lists and reports, shelves of named files, and `serve`, which answers the lists of
+//! one shelf by files on another.
+//!
+//! ```
+//! use farm_core::{NoPause, Settings};
+//! use farm_serving::{MemoryShelf, serve};
+//!
+//! let mut input = MemoryShelf::new(alloc);
+//! input.place(alloc, "rack0.csv", b"order,stripe,target,length,survivors\nrebuild,abc,x0,3,x1 x2 px\n")?;
+//! input.place(alloc, "abc.x1", b"\0\0\0")?;
+//! input.place(alloc, "abc.x2", b"\0\0\0")?;
+//! input.place(alloc, "abc.px", b"abc")?;
+//! let mut output = MemoryShelf::new(alloc);
+//! let served = serve(&rt, alloc, &mut input, &mut output, Settings::new(4, 16)?, &NoPause)?;
+//! assert_eq!(rt; (served.racks, served.answers), (1, 1));
+//! assert!(rt; output.file("rack0-0.abc.x0") == Some(b"abc".as_slice()));
+//! ```
+#![tactic(auto)]
+
+mod batches;
+mod cutting;
+mod faults;
+mod folders;
+mod reading;
+mod serving;
+pub mod serving_laws;
+mod writing;
+
+pub use batches::{Answered, MOST_BATCH_BYTES, answer_lists};
+pub use farm_lists::{
+    ListFault, Listed, Record, ReportRow, ReportShape, list_file, merged_report_text, read_list,
+    report_laws, report_text,
+};
+pub use farm_shelves::{FolderShelf, MemoryShelf, Shelf, ShelfFault};
+pub use faults::ServeFault;
+pub use folders::serve_folders;
+pub use reading::read_lists;
+pub use serving::{Served, serve};

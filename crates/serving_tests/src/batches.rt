@@ -1,0 +1,257 @@
+//! Answering lists in batches: of one request, of a part of a list, and of whole racks.
+use crate::shared::{MOST_FAILURES, serve_shelf, shelf_of};
+use farm_core::{NoPause, Pause, Settings};
+use farm_serving::{Answered, MemoryShelf, Shelf, answer_lists, read_lists, serve};
+use lrc_code::{Outcome, Place};
+use std::alloc::{AllocError, Global};
+use std::process::Abort;
+use std::sync::Wait;
+use std::sync::atomic::{AtomicU64, Ordering};
+use std::thread::Threads;
+
+const HEADER: &[u8] = b"order,stripe,target,length,survivors\n";
+
+// Requests of one byte, four of them before a close. Each lists three bytes of survivors.
+const LIST: &[u8] = b"order,stripe,target,length,survivors
+rebuild,a,x0,1,x1 x2 px
+rebuild,b,x0,1,x1 x2 px
+rebuild,c,x0,1,x1 x2 px
+rebuild,d,x0,1,x1 x2 px
+close,,,,
+rebuild,a,x0,1,x1 x2 px
+";
+
+// The fragments that give the name of each stripe at x0. Of stripe c one is absent.
+const FRAGMENTS: [(&str, &[u8]); 11] = [
+    ("a.x1", &[0]),
+    ("a.x2", &[0]),
+    ("a.px", b"a"),
+    ("b.x1", &[0]),
+    ("b.x2", &[0]),
+    ("b.px", b"b"),
+    ("c.x1", &[0]),
+    ("c.x2", &[0]),
+    ("d.x1", &[0]),
+    ("d.x2", &[0]),
+    ("d.px", b"d"),
+];
+
+// A rack with one list, one with two feeds, and one with one list.
+fn input_of(alloc: Global) -> Result<MemoryShelf, AllocError> {
+    let mut input = shelf_of(alloc, &FRAGMENTS)?;
+    input.place(alloc, "rack0.csv", LIST)?;
+    input.place(alloc, "rack1.csv", LIST)?;
+    input.place(alloc, "rack1.feed1.csv", HEADER)?;
+    input.place(alloc, "rack2.csv", LIST)?;
+    Ok(input)
+}
+
+fn answer<R: Threads + Wait + Sync, P: Pause>(
+    rt: &R,
+    alloc: Global,
+    workers: usize,
+    most: u64,
+    pause: &P,
+) -> Result<Answered, AllocError> {
+    let mut input = input_of(alloc)?;
+    let Ok(settings) = Settings::new(workers, 1) else {
+        return Err(AllocError);
+    };
+    if input.failures() > MOST_FAILURES {
+        return Err(AllocError);
+    }
+    let Ok(lists) = read_lists(alloc, &mut input) else {
+        return Err(AllocError);
+    };
+    match answer_lists(
+        rt,
+        alloc,
+        &mut input,
+        lists.as_slice(),
+        settings,
+        pause,
+        most,
+    ) {
+        Ok(answered) => Ok(answered),
+        Err(_) => Err(AllocError),
+    }
+}
+
+fn is_rebuilt(answer: &(usize, Outcome), bytes: &[u8]) -> bool {
+    match &answer.1 {
+        Outcome::Rebuilt(fragment) => answer.0 == 0 && fragment.as_slice() == bytes,
+        _ => false,
+    }
+}
+
+// Whether these are the answers to the list, and what was left out of its requests.
+fn are_of_list(answers: &[(usize, Outcome)], unread: &[Vec<Place>]) -> bool {
+    match (answers, unread) {
+        ([a, b, c, d], [of_a, of_b, of_c, of_d]) => {
+            is_rebuilt(a, b"a")
+                && is_rebuilt(b, b"b")
+                && c.0 == 0
+                && matches!(&c.1, Outcome::Several)
+                && is_rebuilt(d, b"d")
+                && of_a.is_empty()
+                && of_b.is_empty()
+                && matches!(of_c.as_slice(), [Place::Px])
+                && of_d.is_empty()
+        }
+        _ => false,
+    }
+}
+
+// Whether these are the answers to the three racks.
+fn are_of_racks(answered: &Answered) -> bool {
+    match (answered.answers.as_slice(), answered.unread.as_slice()) {
+        ([first, second, third], [of_first, of_second, of_third]) => {
+            match (
+                of_first.as_slice(),
+                of_second.as_slice(),
+                of_third.as_slice(),
+            ) {
+                ([one], [two, none], [three]) => {
+                    are_of_list(first.as_slice(), one.as_slice())
+                        && are_of_list(second.as_slice(), two.as_slice())
+                        && none.is_empty()
+                        && are_of_list(third.as_slice(), three.as_slice())
+                }
+                _ => false,
+            }
+        }
+        _ => false,
+    }
+}
+
+// In a run that refuses an allocation or a thread this ends with the refusal.
+#[test]
+fn batches_of_one_request(rt: HostRuntime) -> Result<(), AllocError> {
+    let answered = answer(&rt, rt.alloc(), 2, 1, &NoPause)?;
+    assert!(&rt; are_of_racks(&answered));
+    Ok(())
+}
+
+const WORKERS: &[usize] = &[1, 3, 16];
+
+const MOST: &[u64] = &[0, 3, 6, 9, 11, 12, 24, 27, u64::MAX];
+
+// A batch is a request, two, three, a list, two racks or all; a rack with two feeds is never cut.
+#[test]
+fn batches_of_any_size(rt: HostRuntime) -> Result<(), AllocError> {
+    for workers in WORKERS {
+        for most in MOST {
+            let answered = answer(&rt, rt.alloc(), *workers, *most, &NoPause)?;
+            assert!(&rt; are_of_racks(&answered));
+        }
+    }
+    Ok(())
+}
+
+// Counts the calls, with a decimal digit for each order of each rack.
+#[derive(Drop)]
+struct Told {
+    before: AtomicU64,
+    after: AtomicU64,
+    ahead: AtomicU64,
+    behind: AtomicU64,
+}
+
+fn digit(rack: usize, number: u64) -> u64 {
+    let mut one = 1u64;
+    for _place in 0..(rack as u64)
+        .saturating_mul(5)
+        .saturating_add(number)
+        .min(18)
+    {
+        one = one.saturating_mul(10);
+    }
+    one
+}
+
+impl Pause for Told {
+    fn before(&self, rack: usize, number: u64) {
+        self.before.fetch_add(digit(rack, number), Ordering::SeqCst);
+    }
+
+    fn after(&self, rack: usize, number: u64) {
+        self.after.fetch_add(digit(rack, number), Ordering::SeqCst);
+    }
+
+    fn ahead(&self, rack: usize, _feed: usize, position: usize) {
+        self.ahead
+            .fetch_add(digit(rack, position as u64), Ordering::SeqCst);
+    }
+
+    fn behind(&self, rack: usize, _feed: usize, position: usize) {
+        self.behind
+            .fetch_add(digit(rack, position as u64), Ordering::SeqCst);
+    }
+}
+
+// The numbers that name each request before a close once, and each request and close.
+const TOLD_REQUESTS: u64 = 11_110_111_101_111;
+
+const TOLD_ALL: u64 = 111_111_111_111_111;
+
+impl Told {
+    fn new() -> Told {
+        Told {
+            before: AtomicU64::new(0),
+            after: AtomicU64::new(0),
+            ahead: AtomicU64::new(0),
+            behind: AtomicU64::new(0),
+        }
+    }
+
+    fn is_told_all(&self) -> bool {
+        self.before.load(Ordering::SeqCst) == TOLD_REQUESTS
+            && self.after.load(Ordering::SeqCst) == TOLD_REQUESTS
+            && self.ahead.load(Ordering::SeqCst) == TOLD_ALL
+            && self.behind.load(Ordering::SeqCst) == TOLD_ALL
+    }
+}
+
+const CUTS: &[u64] = &[1, 6, 12, u64::MAX];
+
+// However the racks are cut, a pause is given each request once, by its rack's number and its own, and each close.
+#[test]
+fn a_pause_is_told_the_numbers_of_all_lists(rt: HostRuntime) -> Result<(), AllocError> {
+    for most in CUTS {
+        let told = Told::new();
+        let answered = answer(&rt, rt.alloc(), 2, *most, &told)?;
+        assert!(&rt; are_of_racks(&answered) && told.is_told_all());
+    }
+    Ok(())
+}
+
+// Twice a hundred requests whose survivors are absent, and a small one after them.
+fn long_list(alloc: Global) -> Result<Vec<u8>, AllocError> {
+    let mut list = Vec::from_slice(alloc, HEADER)?;
+    add_requests(&mut list, b"rebuild,a,x0,1,x1 x2 px\n")?;
+    add_requests(&mut list, b"rebuild,b,x0,1,x1 x2 px\n")?;
+    Ok(list)
+}
+
+fn add_requests(list: &mut Vec<u8>, small: &[u8]) -> Result<(), AllocError> {
+    for _request in 0..100 {
+        list.extend_from_slice(b"rebuild,none,x0,65536,x1 x2 px\n")?;
+    }
+    list.extend_from_slice(small)
+}
+
+// Two hundred requests whose survivors are absent list more than a batch. The requests between and after them are answered.
+#[test]
+fn a_list_of_several_batches(rt: HostRuntime) -> Result<(), AllocError> {
+    let mut input = shelf_of(rt.alloc(), &FRAGMENTS)?;
+    input.place(rt.alloc(), "rack0.csv", long_list(rt.alloc())?.as_slice())?;
+    input.place(rt.alloc(), "rack1.csv", LIST)?;
+    let run = serve_shelf(&rt, rt.alloc(), &mut input);
+    let files: &[(&str, &[u8])] = &[
+        ("rack0-100.a.x0", b"a"),
+        ("rack0-201.b.x0", b"b"),
+        ("rack1-3.d.x0", b"d"),
+    ];
+    assert!(&rt; run.gave(2, 206, files, &["rack0-0.none.x0"]));
+    Ok(())
+}

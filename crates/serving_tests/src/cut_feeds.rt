@@ -1,0 +1,199 @@
+//! Racks with several feeds that are cut into batches: which requests of each feed are answered.
+use crate::shared::{MOST_FAILURES, shelf_of};
+use farm_core::{NoPause, Settings};
+use farm_serving::{Answered, MemoryShelf, Shelf, answer_lists, read_lists};
+use lrc_code::Outcome;
+use std::alloc::{AllocError, Global};
+use std::process::Abort;
+use std::sync::Wait;
+use std::thread::Threads;
+
+// The fragments that give the name of each stripe at x0.
+const FRAGMENTS: [(&str, &[u8]); 12] = [
+    ("a.x1", &[0]),
+    ("a.x2", &[0]),
+    ("a.px", b"a"),
+    ("b.x1", &[0]),
+    ("b.x2", &[0]),
+    ("b.px", b"b"),
+    ("c.x1", &[0]),
+    ("c.x2", &[0]),
+    ("c.px", b"c"),
+    ("d.x1", &[0]),
+    ("d.x2", &[0]),
+    ("d.px", b"d"),
+];
+
+const FEEDS: [&str; 4] = [
+    "rack0.csv",
+    "rack0.feed1.csv",
+    "rack0.feed2.csv",
+    "rack0.feed3.csv",
+];
+
+// A rack whose feeds ask for the stripes of these names, in order; a dot is a close.
+const RACKS: &[&[&str]] = &[
+    // no close, and feeds of unequal length
+    &["abcd", "a", ""],
+    &["", "abcdabcd"],
+    // a close in a later piece, after its feed's last request
+    &["abcd.", "abcdabcd"],
+    &["abcdabcd", "abc.d", "ab"],
+    // a close alone, and requests after a close
+    &[".", "abcd"],
+    &["abcd", ".abcd", "dcba", ""],
+    // two closes
+    &["ab.cd", "abcd.a", "d"],
+];
+
+fn list_of(alloc: Global, orders: &str) -> Result<Vec<u8>, AllocError> {
+    let mut list = Vec::from_slice(alloc, b"order,stripe,target,length,survivors\n")?;
+    for order in orders.as_bytes() {
+        if *order == b'.' {
+            list.extend_from_slice(b"close,,,,\n")?;
+        } else {
+            list.extend_from_slice(b"rebuild,")?;
+            list.push(*order)?;
+            list.extend_from_slice(b",x0,1,x1 x2 px\n")?;
+        }
+    }
+    Ok(list)
+}
+
+fn answer<R: Threads + Wait + Sync>(
+    rt: &R,
+    alloc: Global,
+    feeds: &[&str],
+    workers: usize,
+    most: u64,
+) -> Result<Answered, AllocError> {
+    let mut input: MemoryShelf = shelf_of(alloc, &FRAGMENTS)?;
+    for (name, orders) in FEEDS.iter().zip(feeds.iter()) {
+        input.place(alloc, name, list_of(alloc, orders)?.as_slice())?;
+    }
+    let Ok(settings) = Settings::new(workers, 1) else {
+        return Err(AllocError);
+    };
+    if input.failures() > MOST_FAILURES {
+        return Err(AllocError);
+    }
+    let Ok(lists) = read_lists(alloc, &mut input) else {
+        return Err(AllocError);
+    };
+    match answer_lists(
+        rt,
+        alloc,
+        &mut input,
+        lists.as_slice(),
+        settings,
+        &NoPause,
+        most,
+    ) {
+        Ok(answered) => Ok(answered),
+        Err(_) => Err(AllocError),
+    }
+}
+
+// The names before a feed's close.
+fn served(orders: &str) -> &[u8] {
+    let bytes = orders.as_bytes();
+    for index in 0..bytes.len() {
+        if bytes[index] == b'.' {
+            return &bytes[..index];
+        }
+    }
+    bytes
+}
+
+// How many answers a feed has, where they are those to its first requests, in order.
+fn answered_of(answers: &[(usize, Outcome)], feed: usize, orders: &[u8]) -> Option<usize> {
+    let mut count = 0usize;
+    for (of, outcome) in answers {
+        if *of == feed {
+            match outcome {
+                Outcome::Rebuilt(bytes)
+                    if count < orders.len() && bytes.as_slice() == [orders[count]].as_slice() => {
+                    count = count.saturating_add(1);
+                }
+                _ => return None,
+            }
+        }
+    }
+    Some(count)
+}
+
+// Whether these are the answers to a lawful merge: the first requests of each feed before its close; of a feed with a close all of them, where
+// one has a close, and otherwise of every feed.
+fn are_lawful(feeds: &[&str], answers: &[(usize, Outcome)]) -> bool {
+    let mut all = true;
+    let mut closes = false;
+    let mut closed = false;
+    for feed in 0..feeds.len() {
+        let orders = served(feeds[feed]);
+        let has_close = orders.len() < feeds[feed].len();
+        let Some(count) = answered_of(answers, feed, orders) else {
+            return false;
+        };
+        let whole = count == orders.len();
+        all = all && whole;
+        closes = closes || has_close;
+        closed = closed || (has_close && whole);
+    }
+    if closes { closed } else { all }
+}
+
+// Whether each request before its own feed's close has its row of places, and none of its survivors was left out.
+fn are_read(feeds: &[&str], answered: &Answered) -> bool {
+    match answered.unread.as_slice() {
+        [unread] => {
+            if unread.len() != feeds.len() {
+                return false;
+            }
+            for feed in 0..unread.len() {
+                if feed < feeds.len() && unread[feed].len() != served(feeds[feed]).len() {
+                    return false;
+                }
+                for places in unread[feed].as_slice() {
+                    if !places.is_empty() {
+                        return false;
+                    }
+                }
+            }
+            true
+        }
+        _ => false,
+    }
+}
+
+const WORKERS: &[usize] = &[1, 4];
+
+const MOST: &[u64] = &[0, 3, 6, 7, 12, 18, u64::MAX];
+
+#[test]
+fn racks_of_several_feeds_in_batches_of_any_size(rt: HostRuntime) -> Result<(), AllocError> {
+    for workers in WORKERS {
+        for most in MOST {
+            for feeds in RACKS {
+                let answered = answer(&rt, rt.alloc(), feeds, *workers, *most)?;
+                match answered.answers.as_slice() {
+                    [answers] => assert!(&rt;
+                        are_lawful(feeds, answers.as_slice()) && are_read(feeds, &answered)
+                    ),
+                    _ => assert!(&rt; false),
+                }
+            }
+        }
+    }
+    Ok(())
+}
+
+// A close that a piece ends is not passed: with batches of one position each, no other feed goes on past it by more than that position.
+#[test]
+fn no_piece_is_run_behind_a_close(rt: HostRuntime) -> Result<(), AllocError> {
+    let answered = answer(&rt, rt.alloc(), &["ab.", "abcdabcd"], 2, 0)?;
+    match answered.answers.as_slice() {
+        [answers] => assert!(&rt; answers.len() >= 4 && answers.len() <= 5),
+        _ => assert!(&rt; false),
+    }
+    Ok(())
+}
