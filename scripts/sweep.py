@@ -113,7 +113,8 @@ def cycles():
         for one in graph:
             for two in graph[one]:
                 if one in graph.get(two, ()) and one < two:
-                    yield f"crates/{crate.name}/src: {one.relative_to(crate / 'src')} and {two.relative_to(crate / 'src')} import each other"
+                    names = [str(it.relative_to(crate / "src")) for it in (one, two)]
+                    yield f"crates/{crate.name}/src: {names[0]} and {names[1]} import each other"
 
 
 def main():
