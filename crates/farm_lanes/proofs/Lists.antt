@@ -1,4 +1,4 @@
--- Members of lists, by their places.
+-- Members of lists, by their indexes.
 use Rattle.std.proofs.Common.{◌≡◌, ◌⊎◌, ℕ, zero, suc, ◌+◌, ◌<◌, ◌≤◌, List, [], ◌∷◌, ◌++◌, length, map, drop, refl, sym, ap, ◌∙◌, subst, inl}
 use Rattle.std.proofs.Common.{inr, ⊎_elim, arith, length-append}
 use Rattle.std.specs.Prelude.{All}
