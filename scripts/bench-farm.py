@@ -1,6 +1,7 @@
 #!/usr/bin/env python3
-"""Times the built program on generated folders, beside two C programs that serve them with ISA-L and OpenSSL at the same number of
-threads: a careful one that keeps our promises of reading and writing, and a careless one that writes as it goes.
+"""Times the built program on generated folders, beside three C programs that serve them with ISA-L and OpenSSL at the same number of
+threads: a careful one that keeps our promises of reading and writing, one that makes eight digests at once besides, and a careless one
+that writes as it goes.
 
     bench-farm.py LEVEL [SHAPE ..]      for a level of the processor, as x86-64-v3; the shapes by their numbers in the table, else all
 
@@ -23,7 +24,7 @@ PASSES = int(os.environ.get("BENCH_PASSES", "9"))
 COMPILER = os.environ.get("CC", "gcc")
 # Room for the folders of the largest shape and what three farms make of it.
 ROOM = 4_000_000_000
-PEERS = ("careful", "careless")
+PEERS = ("careful", "eight", "careless")
 
 
 @dataclasses.dataclass(frozen=True)
@@ -134,8 +135,8 @@ def main(level, numbers):
         peers = build(scratch, level)
         print(f"\nFolders of so many racks and requests for fragments of so many bytes, half of them inside one group, in {scratch.parent}:")
         print(f"ms from the program's start to its end, the least of {PASSES} runs in turn. A ratio is the C program's time divided by ours.\n")
-        print("| | Folder | Threads | ours | careful C | ratio | careless C | ratio | our peak MB | load |")
-        print("|---|---|---|---|---|---|---|---|---|---|")
+        print("| | Folder | Threads | ours | careful C | ratio | by eight | ratio | careless C | ratio | our peak MB | load |")
+        print("|---|---|---|---|---|---|---|---|---|---|---|---|")
         for number, shape in enumerate(SHAPES, 1):
             if not numbers or number in numbers:
                 print(row(number, shape, *time_shape(shape, peers, scratch)), flush=True)
