@@ -6,7 +6,7 @@ use Rattle.lrc_code.specs.Codes.{tables_of}
 use Rattle.lrc_code.specs.Encoding.{HaveLength, IsParity, IsEncoding}
 use Rattle.lrc_code.specs.Reduction.{row_at}
 use Rattle.lrc_code.proofs.Encodings.{parity_rows, data_of, encoding}
-use Rattle.lrc_field.specs.declared.combining.Term.{Term}
+use Rattle.lrc_field.specs.declared.terms.Term.{Term}
 use Rattle.lrc_c.specs.Lent.{AreUsed}
 use Rattle.lrc_c.specs.Combined.{AreTermsOf, IsWritten}
 
