@@ -20,6 +20,7 @@
 #![tactic(auto)]
 
 pub mod answer_laws;
+mod invariant;
 mod plans;
 mod solving;
 mod tree;
