@@ -7,7 +7,7 @@ use Rattle.lrc_field.proofs.FieldLaws.{times-zero_r}
 use Rattle.lrc_code.specs.Code.{combination}
 use Rattle.lrc_c.specs.declared.lent.Lent.{Lent}
 use Rattle.lrc_c.specs.Lent.{lent, AreUsed, IsUsedAt}
-use Rattle.lrc_field.specs.declared.combining.Term.{Term}
+use Rattle.lrc_field.specs.declared.terms.Term.{Term}
 use Rattle.lrc_field.specs.Combined.{AreZeroBetween}
 use Rattle.lrc_c.specs.Combined.{column, AreTermsOf}
 use Rattle.lrc_c.specs.Stripes.{IsZeroRow}

@@ -4,7 +4,7 @@ use Rattle.std.specs.Int.Bits.{bit_xor}
 use Rattle.std.proofs.lemmas.List.{take_more_set}
 use Rattle.std.proofs.lemmas.List.Elements.{All-append}
 use Rattle.lrc_field.specs.Combined.{sum_at}
-use Rattle.lrc_field.specs.declared.combining.Term.{Term}
+use Rattle.lrc_field.specs.declared.terms.Term.{Term}
 use Rattle.lrc_field.specs.declared.pairs.Pair.{Pair}
 use Rattle.lrc_field.specs.Pairs.{scaled_sum_at, first_sum_at, second_sum_at}
 use Rattle.lrc_field.proofs.PairSums.{scaled_at, pair_snoc}
@@ -15,7 +15,7 @@ use Rattle.lrc_c.specs.Combined.{column, AreTermsOf}
 use Rattle.lrc_c.specs.Paired.{ArePairsOf, HavePairsRoom, IsPairOf}
 use Rattle.lrc_field.specs.Field.{times}
 use Rattle.lrc_c.proofs.Combinations.{column_at}
-use Rattle.lrc_c.specs.Windows.{AreCouple, AreSums, IsSomeWritten}
+use Rattle.lrc_c.specs.Windows.{AreCouple, AreSums}
 use Rattle.lrc_c.specs.declared.windows.Wanted.{Wanted}
 use Rattle.lrc_c.specs.declared.windows.Wanted.TheVariants as wanted
 use Rattle.lrc_c.specs.declared.rebuilding_many.Target.{Target}
@@ -23,7 +23,6 @@ use Rattle.lrc_c.specs.declared.rebuilding_many.Target.TheVariants as target
 use Rattle.lrc_c.specs.declared.rebuilding_many.Aim.{Aim}
 use Rattle.lrc_c.specs.declared.rebuilding_many.Aim.TheVariants as aim
 use Rattle.lrc_c.specs.RebuiltMany.{AreBothSums, IsAimed, IsReady, IsTermRow, IsWantedOf}
-use Rattle.lrc_field.specs.Blocks.{AreSet}
 
 -- one pair more
 pub pairs-more : (g : Pair → ℕ) (ps : List Pair) (n i : ℕ) (p : Pair) → n < length ps

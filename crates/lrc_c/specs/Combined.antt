@@ -1,7 +1,7 @@
 -- Combinations of lent bytes with coefficients, as terms.
 use Rattle.std.specs.Prelude.{◌≡◌, ◌≤◌, ℕ, List, Option, MatchOption, length, map, slice_index}
 use Rattle.lrc_field.specs.Field.{times}
-use Rattle.lrc_field.specs.declared.combining.Term.{Term}
+use Rattle.lrc_field.specs.declared.terms.Term.{Term}
 use Rattle.lrc_field.specs.Blocks.{AreSet}
 use Rattle.lrc_field.specs.Combined.{HaveLength, product_at, sum_at}
 use Rattle.lrc_code.specs.Code.{combination}

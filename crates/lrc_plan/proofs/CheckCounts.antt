@@ -1,5 +1,5 @@
 -- How many checks there are.
-use Rattle.std.proofs.Common.{◌≡◌, ◌≢◌, ◌<◌, ◌≤◌, ◌+◌, ℕ, zero, suc, Bool, true, false, cond, List, [], ◌∷◌, length, Option, Some, None, is_none, slice_index, slice_index_or, refl, sym, ◌∙◌, ap, ap₂, subst, arith, inl, inr, lit<}
+use Rattle.std.proofs.Common.{◌≡◌, ◌≢◌, ◌<◌, ◌≤◌, ◌+◌, ℕ, zero, suc, Bool, true, false, cond, List, [], ◌∷◌, length, Option, Some, None, is_none, slice_index, refl, sym, ◌∙◌, ap, ap₂, subst, arith, inl, inr, lit<}
 use Rattle.std.specs.Prelude.{not, ◌||◌, ◌==◌, if◌then◌else◌}
 use Rattle.std.specs.List.{list_any, fold}
 use Rattle.std.proofs.lemmas.Bool.{cases_Bool, eqb-true, eq-eqb}
@@ -13,7 +13,7 @@ use Rattle.lrc_code.specs.Reduction.{Reduction, IsReduction}
 use Rattle.lrc_code.proofs.CodeTables.{four_equations}
 use Rattle.lrc_code.proofs.PlaceSums.{same_place-eq}
 use Rattle.lrc_plan.specs.Planned.{HasCheckCount, rows_without_pivot}
-use Rattle.lrc_plan.specs.Rows.{AreReduced, coef_of, pivot_of}
+use Rattle.lrc_plan.specs.Rows.{AreReduced, pivot_of}
 use Rattle.lrc_plan.specs.RowPlans.{IsCheckRow, rows_with_terms}
 use Rattle.lrc_plan.specs.Sums.{terms}
 use Rattle.lrc_plan.proofs.Ranks.{same_rows_without_pivot}

@@ -17,8 +17,9 @@ use Rattle.lrc_code.proofs.PlaceSums.{same_place-comm, combination-sum_over}
 use Rattle.lrc_code.proofs.CodeTables.{own_places}
 use Rattle.lrc_code.proofs.Words.{word, word_small, word_apart, word_solves}
 use Rattle.lrc_plan.specs.Form.{AreCoefficients, Form, Leaf, Scale, Sum, meaning, leaf_total}
-use Rattle.lrc_plan.specs.PlanParts.{group_coefficient, cut}
-use Rattle.lrc_plan.specs.Planned.{Extends, ExtensionsDiffer, IsLocalTree, IsPlan, IsShallow, IsTargetValue, LeavesSurvive, group_others, same_group}
+use Rattle.lrc_plan.specs.PlanParts.{cut}
+use Rattle.lrc_code.specs.Groups.{group_coefficient, same_group}
+use Rattle.lrc_plan.specs.Planned.{Extends, ExtensionsDiffer, IsLocalTree, IsPlan, IsShallow, IsTargetValue, LeavesSurvive, group_others}
 use Rattle.lrc_plan.specs.RowPlans.{AnswerBy, IsGroupRow, IsRowPlan, IsRowValue, ReadsSurvivors, TellExtensions, rows_with_terms}
 use Rattle.lrc_plan.specs.RowTrees.{AreRowTrees, AreValueCoefficients, IsRowTree, IsValueTree, ZeroTogether}
 use Rattle.lrc_plan.specs.Sums.{MeansRow, sum_meaning, some_leaf, some_leaf_total, terms}

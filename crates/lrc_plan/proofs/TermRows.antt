@@ -9,7 +9,7 @@ use Rattle.std.proofs.lemmas.List.{get_or-map, take_all, take_more_set}
 use Rattle.std.proofs.lemmas.List.Elements.{All-append}
 use Rattle.lrc_field.specs.Field.{times}
 use Rattle.lrc_field.proofs.FieldLaws.{times-zero}
-use Rattle.lrc_field.specs.declared.combining.Term.{Term}
+use Rattle.lrc_field.specs.declared.terms.Term.{Term}
 use Rattle.lrc_field.specs.Combined.{product_at, sum_at, HaveLength}
 use Rattle.lrc_field.proofs.TermSums.{sum_at-snoc}
 use Rattle.lrc_code.specs.declared.places.Place.{Place}

@@ -1,12 +1,12 @@
 -- Where the equations can be solved for four lost places, no check is left.
-use Rattle.std.proofs.Common.{◌≡◌, ◌<◌, ℕ, zero, suc, Bool, true, List, Option, Some, None, refl, sym, ◌∙◌, ap, subst, arith, lit<, replicate, map, All}
+use Rattle.std.proofs.Common.{◌≡◌, ◌<◌, ℕ, zero, suc, Bool, true, List, Option, Some, None, refl, sym, ◌∙◌, ap, subst, arith, lit<, replicate}
 use Rattle.std.specs.Prelude.{not, ◌&&◌, IfSome, MatchOption, slice_index, slice_index_or}
 use Rattle.lrc_code.specs.declared.places.Group.{Group}
 use Rattle.lrc_code.specs.declared.places.Group.TheVariants as group
 use Rattle.lrc_code.specs.declared.places.Place.{Place}
 use Rattle.lrc_code.specs.declared.places.Place.TheVariants.{X0, X1, X2, X3, X4, X5, Y0, Y1, Y2, Y3, Y4, Y5, Px, Py, P0, P1}
 use Rattle.lrc_code.specs.declared.codes.Code.{Code as CodeName}
-use Rattle.lrc_code.specs.Places.{index_of, group_of, all_places}
+use Rattle.lrc_code.specs.Places.{index_of, group_of}
 use Rattle.lrc_code.specs.Sets.{is_in}
 use Rattle.lrc_code.specs.Code.{has_place}
 use Rattle.lrc_code.specs.Codes.{tables_of}

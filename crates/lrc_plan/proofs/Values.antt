@@ -1,36 +1,29 @@
 -- The target's tree, from a row that determines it: that of the reduction, or the equation of its group.
-use Rattle.std.proofs.Common.{◌≡◌, ◌≢◌, ◌<◌, ◌≤◌, ◌⊎◌, ◌↔◌, ◌+◌, ℕ, Bool, true, false, cond, nat_lt, List, [], ◌∷◌, Option, Some, None, IfSome, IsNone, All, length, length-set, map, filter, get_or, slice_index, slice_set, refl, sym, ◌∙◌, ap, subst, arith, inl, inr, lit<}
-use Rattle.std.specs.Prelude.{not, ◌&&◌, ◌||◌, ◌==◌, IsSome, IsSomeAnd, count_by, if◌then◌else◌, suc}
-use Rattle.std.specs.List.{list_any, fold}
-use Rattle.std.specs.Option.{option_map}
+use Rattle.std.proofs.Common.{◌≡◌, ◌<◌, ◌≤◌, ◌⊎◌, ℕ, Bool, true, false, cond, nat_lt, List, [], ◌∷◌, Option, Some, All, length, length-set, map, filter, slice_index, slice_set, refl, sym, ◌∙◌, ap, subst, arith, inl, inr, lit<}
+use Rattle.std.specs.Prelude.{not, ◌&&◌, ◌||◌, if◌then◌else◌, suc}
+use Rattle.std.specs.List.{list_any}
 use borrow.Author.Tests.{ltb-true, ltb-false}
 use Rattle.std.proofs.lemmas.List.{get_or_past}
-use Rattle.std.proofs.lemmas.List.Elements.{All-cons, All-nil}
 use Rattle.std.proofs.lemmas.Bool.Decides.{eqb_tells}
 use Rattle.std.proofs.lemmas.Grind.{get_or-set_at}
 use Rattle.std.proofs.lemmas.List.{get_or-set_other}
-use Rattle.std.proofs.lemmas.Bool.{cases_Bool, true_from_ne_false}
+use Rattle.std.proofs.lemmas.Bool.{cases_Bool}
 use Rattle.lrc_field.specs.Field.{times}
 use Rattle.lrc_code.specs.declared.places.Place.{Place}
-use Rattle.lrc_code.specs.declared.places.Place.TheVariants.{X0, X1, X2, Y0, Y1, Y2, Px, Py, P0, P1, X3, X4, X5, Y3, Y4, Y5}
 use Rattle.lrc_code.specs.declared.places.Group.{Group}
 use Rattle.lrc_code.specs.declared.places.Group.TheVariants as group
 use Rattle.lrc_code.specs.declared.codes.Code.{Code as CodeName}
 use Rattle.lrc_code.specs.declared.codes.Code.TheVariants.{Narrow, Wide}
 use Rattle.lrc_code.specs.Places.{index_of, same_place, group_of, all_places}
-use Rattle.lrc_code.specs.Sums.{GivesBytes}
 use Rattle.lrc_code.specs.Code.{Code, narrow_equations, wide_equations, has_place, Solves}
 use Rattle.lrc_code.specs.Codes.{tables_of}
+use Rattle.lrc_code.specs.Groups.{group_coefficient, group_row, same_group}
 use Rattle.lrc_code.specs.Reduction.{coefficient_at, row_at}
-use Rattle.lrc_code.proofs.PlaceSums.{at_places, sum_over-same, same_place-eq, same_place-comm}
-use Rattle.lrc_code.proofs.CodeTables.{at_index, combination-at, own_places}
-use Rattle.lrc_code.proofs.Words.{word, word_small, word_apart, word_solves}
-use Rattle.lrc_plan.specs.Form.{Form, meaning, has_leaf}
+use Rattle.lrc_code.proofs.PlaceSums.{sum_over-same, same_place-eq, same_place-comm}
+use Rattle.lrc_code.proofs.CodeTables.{at_index, combination-at}
 use Rattle.lrc_plan.specs.Rows.{AreReduced, GiveTarget, HaveOtherLost, dot}
-use Rattle.lrc_plan.specs.PlanParts.{group_coefficient, group_row, IsTargetRow}
-use Rattle.lrc_plan.specs.Planned.{Extends, ExtensionsDiffer, IsTargetValue, IsLocal, IsLocalTree, group_others, same_group}
-use Rattle.lrc_plan.specs.Sums.{sum_meaning, some_leaf, some_leaf_total}
-use Rattle.lrc_plan.proofs.Extension.{determined}
+use Rattle.lrc_plan.specs.PlanParts.{IsTargetRow}
+use Rattle.lrc_plan.specs.Planned.{IsLocal}
 
 -- the row of the reduction whose pivot the target is
 pub pivot_row : (code : Code) (survives : Place → Bool) (coef : ℕ → Place → ℕ) (pivot : ℕ → Option Place)

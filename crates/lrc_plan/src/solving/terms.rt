@@ -7,6 +7,7 @@ ghost use Rattle.lrc_code.specs.Requests.{AreSources, is_among};
 ghost use Rattle.lrc_field.specs.Combined.{product_at};
 ghost use Rattle.lrc_plan.specs.Terms.{AreRowSums, AreTerms, IsTermAt, IsZeroRow, survivor_product};
 
+use crate::invariant::recall_invariant;
 use lrc_code::{Place, Request, Sources};
 use lrc_field::{Gf, Term, combined, sums_are_zero};
 use std::alloc::{AllocError, Global};
@@ -87,8 +88,7 @@ fn term_at<'a>(request: &Request, sources: &Sources<'a>, k: usize, scalar: Gf) -
     requires sources { AreSources request.now.survivors sources.now }
     ensures { IsTermAt request.now scalar k result }
 {
-    // The proof has what every request keeps from a call of it.
-    let _ = request.length();
+    recall_invariant(request);
     if scalar.byte() == 0 {
         return None;
     }

@@ -1,9 +1,7 @@
 use Rattle.std.proofs.Common.{◌∙◌, ap, sym, get_or, length, arith}
 use Rattle.lrc_field.specs.Field.{times}
-use Rattle.lrc_field.proofs.FieldLaws.{times-zero, times-zero_r}
 use Rattle.lrc_c.specs.Lent.{lent}
-use Rattle.lrc_c.specs.Combined.{column}
-use Rattle.lrc_c.proofs.Combinations.{lent_at, length-lent, column_at, column_past, used_at}
+use Rattle.lrc_c.proofs.Combinations.{lent_at, length-lent, column_at, used_at}
 use Rattle.lrc_c.proofs.combining.term_of.Goals as goal
 
 pub returns : goal.returns

@@ -1,4 +1,4 @@
-use Rattle.std.proofs.Common.{arith, vec_len, length, sym}
+use Rattle.std.proofs.Common.{sym}
 use Rattle.lrc_code.specs.Sets.{is_in}
 use Rattle.lrc_code.specs.Codes.{tables_of}
 use Rattle.lrc_code.specs.Requests.{is_among}

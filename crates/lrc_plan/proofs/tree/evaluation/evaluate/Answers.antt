@@ -5,5 +5,5 @@ use Rattle.lrc_plan.proofs.tree.evaluation.evaluate.Goals as goal
 
 pub returns : goal.returns
 returns g c = scaled_once _ c.args.request.now (form_of c.args.tree.now) c.in_ok-bytes.bytes.items
-    c.new.ensures (byte_at-lt c.args.request.now c.length.ensures.accepted c.length.ensures.bytes)
+    c.new.ensures (byte_at-lt c.args.request.now c.recall_invariant.ensures.accepted c.recall_invariant.ensures.bytes)
     c.in_ok-bytes.ensures
