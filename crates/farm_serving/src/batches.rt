@@ -8,7 +8,7 @@ ghost use Rattle.farm_serving.specs.AnsweredRacks.{AreAnswered, IsAnsweredOnce, 
 ghost use Rattle.farm_serving.specs.Serving.{Reads, all_failures, rack_failures};
 
 use crate::cutting::{end_of_positions, end_of_racks, lists_through_close, piece_of};
-use crate::reading::{read_feeds, read_piece};
+use crate::reading::fragments::{read_feeds, read_piece};
 use farm_core::limits::MOST_ORDERS;
 use farm_core::{FarmError, Feeds, Pause, RackList, Settings, run_feeds};
 use farm_lists::Record;
