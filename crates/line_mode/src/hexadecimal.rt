@@ -9,6 +9,27 @@ use std::alloc::{AllocError, Global};
 // What no digit is worth.
 const NO_DIGIT: u8 = 255;
 
+// Fewer digits than these are looked up one by one: a loop over many at once is no gain for them.
+const FEW_DIGITS: usize = 64;
+
+// What each byte is worth as a digit.
+static DIGIT_VALUES: [u8; 256] = [
+    255, 255, 255, 255, 255, 255, 255, 255, 255, 255, 255, 255, 255, 255, 255, 255, 255, 255, 255,
+    255, 255, 255, 255, 255, 255, 255, 255, 255, 255, 255, 255, 255, 255, 255, 255, 255, 255, 255,
+    255, 255, 255, 255, 255, 255, 255, 255, 255, 255, 0, 1, 2, 3, 4, 5, 6, 7, 8, 9, 255, 255, 255,
+    255, 255, 255, 255, 10, 11, 12, 13, 14, 15, 255, 255, 255, 255, 255, 255, 255, 255, 255, 255,
+    255, 255, 255, 255, 255, 255, 255, 255, 255, 255, 255, 255, 255, 255, 255, 255, 10, 11, 12, 13,
+    14, 15, 255, 255, 255, 255, 255, 255, 255, 255, 255, 255, 255, 255, 255, 255, 255, 255, 255,
+    255, 255, 255, 255, 255, 255, 255, 255, 255, 255, 255, 255, 255, 255, 255, 255, 255, 255, 255,
+    255, 255, 255, 255, 255, 255, 255, 255, 255, 255, 255, 255, 255, 255, 255, 255, 255, 255, 255,
+    255, 255, 255, 255, 255, 255, 255, 255, 255, 255, 255, 255, 255, 255, 255, 255, 255, 255, 255,
+    255, 255, 255, 255, 255, 255, 255, 255, 255, 255, 255, 255, 255, 255, 255, 255, 255, 255, 255,
+    255, 255, 255, 255, 255, 255, 255, 255, 255, 255, 255, 255, 255, 255, 255, 255, 255, 255, 255,
+    255, 255, 255, 255, 255, 255, 255, 255, 255, 255, 255, 255, 255, 255, 255, 255, 255, 255, 255,
+    255, 255, 255, 255, 255, 255, 255, 255, 255, 255, 255, 255, 255, 255, 255, 255, 255, 255, 255,
+    255, 255, 255,
+];
+
 /// The bytes that pairs of digits write, in either case; none where the text is anything else.
 pub(crate) fn decode(alloc: Global, text: &[u8]) -> Result<Option<Vec<u8>>, AllocError>
     ensures { IfOk result (λ bytes. option_map (λ v. v.items) bytes ≡ result_ok (decode_of text.now)) }
@@ -17,7 +38,12 @@ pub(crate) fn decode(alloc: Global, text: &[u8]) -> Result<Option<Vec<u8>>, Allo
         return Ok(None);
     }
     let mut bytes = Vec::from_elem(alloc, 0u8, text.len() / 2)?;
-    if decode_into(text, bytes.as_mut_slice()) {
+    let are_digits = if text.len() < FEW_DIGITS {
+        decode_few_into(text, bytes.as_mut_slice())
+    } else {
+        decode_into(text, bytes.as_mut_slice())
+    };
+    if are_digits {
         Ok(Some(bytes))
     } else {
         Ok(None)
@@ -38,6 +64,38 @@ fn decode_into(text: &[u8], bytes: &mut [u8]) -> bool
         greatest = greatest.max(high).max(low);
     }
     greatest < 16
+}
+
+// The same for few digits, one pair after the other, up to the first that is none.
+fn decode_few_into(text: &[u8], bytes: &mut [u8]) -> bool
+    requires { length text.now ≡ 2 * length bytes.old }
+    ensures len { length bytes.new ≡ length bytes.old }
+    ensures value { result_ok (decode_of text.now) ≡ (if result then Some bytes.new else None) }
+{
+    'pairs: for i in 0..bytes.len() {
+        let high = table_value(text[2 * i]);
+        let low = table_value(text[2 * i + 1]);
+        if high >= 16 || low >= 16 {
+            return false;
+        }
+        bytes[i] = high * 16 + low;
+    }
+    true
+}
+
+// What a digit is worth, by the table.
+#[inline]
+fn table_value(digit: u8) -> u8
+    ensures { result ≡ unwrap_or (hex_digit_value digit) 255 }
+{
+    listed_value(digit)
+}
+
+#[inline]
+fn listed_value(digit: u8) -> u8
+    ensures { result ≡ slice_index DIGIT_VALUES digit }
+{
+    DIGIT_VALUES[digit as usize]
 }
 
 // What a digit is worth.
