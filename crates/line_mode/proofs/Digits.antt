@@ -1,5 +1,6 @@
 -- Steps of the loop over pairs of hexadecimal digits.
-use Rattle.std.proofs.Common.{◌^◌, Bool, eqb, get_or, subst, suc, zero, ◌≡◌, ◌∙◌, ℕ, ◌+◌, ◌*◌, ◌<◌, ◌≤◌, max, true, false, cond, List, length, take, drop, slice_index, slice_set, Option, Some, None, unwrap_or, Ok, Err, refl, sym, ap, arith, inl, inr}
+use Rattle.std.proofs.Common.{◌^◌, Bool, eqb, get_or, subst, suc, zero, ◌≡◌, ◌∙◌, ℕ, ◌+◌, ◌*◌, ◌<◌, ◌≤◌, max, true, false, cond, List, length, take, drop, slice_index, slice_set, Option, Some, None, unwrap_or, Ok, Err, refl, sym, ap, arith, inl, inr, [], ◌∷◌, ◌++◌, ◌%◌}
+use Rattle.std.proofs.lemmas.List.{length-append, take-append-le, take_all, take_more_set}
 use Rattle.std.specs.Prelude.{◌&&◌, nat_lt}
 use Rattle.std.specs.Result.{result_ok}
 use Rattle.std.proofs.lemmas.Bool.{cases_lt, eqb-true}
@@ -114,14 +115,39 @@ table_is a h = eqb-true _ _ (below_at (λ a. eqb (get_or DIGIT_VALUES a 0) (unwr
 
 -- ---- one pair after the other, up to the first that isn't two digits
 
-module _ (text bytes : List ℕ) (i high low : ℕ) (fits : 2 * i + 1 < length text) (room : i < length bytes)
+-- the first i pairs are decoded to these bytes
+pub record AreDecoded (text bytes : List ℕ) (i : ℕ) : Type 0 where
+  pub long : length bytes ≡ i
+  pub so_far : decode_pairs 0 text ≡ prepend bytes (decode_pairs (2 * i) (drop (2 * i) text))
+
+module _ (text bytes : List ℕ) (i high low : ℕ) (fits : 2 * i + 1 < length text)
     (eh : high ≡ unwrap_or (hex_digit_value (slice_index text (2 * i))) 255) (el : low ≡ unwrap_or (hex_digit_value (slice_index text (2 * i + 1))) 255)
-    (before : IsDecoded text bytes i 0) where
-  next : IsDecoded text (slice_set bytes i (high * 16 + low)) (i + 1) (max (max 0 high) low)
-  next = decoded-step text bytes i 0 high low (high * 16 + low) (max (max 0 high) low) fits room eh el (λ _ _. refl) refl before
+    (before : AreDecoded text bytes i) where
+  room : i < length (bytes ++ 0 ∷ [])
+  room = omega (arith, before.long, length-append bytes (0 ∷ []))
 
-  pub pair-decoded : high < 16 → low < 16 → IsDecoded text (slice_set bytes i (high * 16 + low)) (i + 1) 0
-  pair-decoded small_high small_low = record { good = λ _. next.good (omega (arith, small_high, small_low)); bad = λ large. absurd (omega (arith, large)) }
+  front : take i (bytes ++ 0 ∷ []) ≡ bytes
+  front = take-append-le i bytes (0 ∷ []) (omega (arith, before.long)) ∙ take_all i bytes (omega (arith, before.long))
 
-  pub pair-stops : length text ≡ 2 * length bytes → 16 ≤ max high low → result_ok (decode_of text) ≡ None
-  pair-stops len large = ap result_ok (decode_of-even text (omega (arith, len))) ∙ next.bad (omega (arith, large))
+  next : IsDecoded text (slice_set (bytes ++ 0 ∷ []) i (high * 16 + low)) (i + 1) (max (max 0 high) low)
+  next = decoded-step text (bytes ++ 0 ∷ []) i 0 high low (high * 16 + low) (max (max 0 high) low) fits room eh el (λ _ _. refl) refl record {
+    good = λ _. before.so_far ∙ ap (λ (f : List ℕ). prepend f (decode_pairs (2 * i) (drop (2 * i) text))) (sym front);
+    bad = λ large. absurd (omega (arith, large));
+  }
+
+  pub pair-decoded : high < 16 → low < 16 → AreDecoded text (bytes ++ (high * 16 + low) ∷ []) (i + 1)
+  pair-decoded small_high small_low = record {
+    long = omega (arith, before.long, length-append bytes ((high * 16 + low) ∷ []));
+    so_far = next.good (omega (arith, small_high, small_low))
+        ∙ ap (λ (f : List ℕ). prepend f (decode_pairs (2 * (i + 1)) (drop (2 * (i + 1)) text)))
+          (take_more_set (bytes ++ 0 ∷ []) i (high * 16 + low) room ∙ ap (λ (f : List ℕ). f ++ (high * 16 + low) ∷ []) front);
+  }
+
+  pub pair-stops : length text % 2 ≡ 0 → 16 ≤ max high low → result_ok (decode_of text) ≡ None
+  pair-stops even large = ap result_ok (decode_of-even text even) ∙ next.bad (omega (arith, large))
+
+-- all pairs
+pub are_decoded-done : (text bytes : List ℕ) (i : ℕ) → length text % 2 ≡ 0 → length text ≤ 2 * i → AreDecoded text bytes i → result_ok (decode_of text) ≡ Some bytes
+are_decoded-done text bytes i even end h =
+    ap result_ok (decode_of-even text even)
+    ∙ ap result_ok (decode_done text bytes i (omega (arith, h.long)) end (h.so_far ∙ ap (λ (f : List ℕ). prepend f (decode_pairs (2 * i) (drop (2 * i) text))) (sym (take_all i bytes (omega (arith, h.long))))))

@@ -1,5 +1,5 @@
 //! Bytes as hexadecimal digits. The loops have no branch on a digit, so that they run over many of them at once.
-ghost use Rattle.std.specs.Prelude.{◌≡◌, ◌*◌, ◌<◌, ◌++◌, length, IfOk, OnOk, Ok, Some, None, unwrap_or, slice_index, if◌then◌else◌};
+ghost use Rattle.std.specs.Prelude.{◌≡◌, ◌*◌, ◌%◌, ◌<◌, ◌++◌, length, IfOk, OnOk, Ok, Some, None, unwrap_or, slice_index, if◌then◌else◌};
 ghost use Rattle.std.specs.Option.{option_map};
 ghost use Rattle.std.specs.Result.{result_ok};
 ghost use Rattle.hex.specs.Hex.{decode_of, encode_upper, hex_digit_value, upper_digits};
@@ -37,13 +37,11 @@ pub(crate) fn decode(alloc: Global, text: &[u8]) -> Result<Option<Vec<u8>>, Allo
     if text.len() % 2 != 0 {
         return Ok(None);
     }
+    if text.len() < FEW_DIGITS {
+        return decode_few(alloc, text);
+    }
     let mut bytes = Vec::from_elem(alloc, 0u8, text.len() / 2)?;
-    let are_digits = if text.len() < FEW_DIGITS {
-        decode_few_into(text, bytes.as_mut_slice())
-    } else {
-        decode_into(text, bytes.as_mut_slice())
-    };
-    if are_digits {
+    if decode_into(text, bytes.as_mut_slice()) {
         Ok(Some(bytes))
     } else {
         Ok(None)
@@ -66,21 +64,21 @@ fn decode_into(text: &[u8], bytes: &mut [u8]) -> bool
     greatest < 16
 }
 
-// The same for few digits, one pair after the other, up to the first that is none.
-fn decode_few_into(text: &[u8], bytes: &mut [u8]) -> bool
-    requires { length text.now ≡ 2 * length bytes.old }
-    ensures len { length bytes.new ≡ length bytes.old }
-    ensures value { result_ok (decode_of text.now) ≡ (if result then Some bytes.new else None) }
+// The bytes of few digits, one pair after the other, up to the first that isn't two digits.
+fn decode_few(alloc: Global, text: &[u8]) -> Result<Option<Vec<u8>>, AllocError>
+    requires { length text.now % 2 ≡ 0 }
+    ensures { IfOk result (λ bytes. option_map (λ v. v.items) bytes ≡ result_ok (decode_of text.now)) }
 {
-    'pairs: for i in 0..bytes.len() {
+    let mut bytes = Vec::with_capacity(alloc, text.len() / 2)?;
+    'pairs: for i in 0..text.len() / 2 {
         let high = table_value(text[2 * i]);
         let low = table_value(text[2 * i + 1]);
         if high >= 16 || low >= 16 {
-            return false;
+            return Ok(None);
         }
-        bytes[i] = high * 16 + low;
+        bytes.push(high * 16 + low)?;
     }
-    true
+    Ok(Some(bytes))
 }
 
 // What a digit is worth, by the table.
