@@ -1,13 +1,15 @@
 -- Steps of the loop over pairs of hexadecimal digits.
-use Rattle.std.proofs.Common.{◌≡◌, ◌∙◌, ℕ, ◌+◌, ◌*◌, ◌<◌, ◌≤◌, max, true, false, cond, List, length, take, drop, slice_index, slice_set, Option, Some, None, unwrap_or, Ok, Err, refl, sym, ap, arith, inl, inr}
-use Rattle.std.specs.Prelude.{nat_lt}
+use Rattle.std.proofs.Common.{◌^◌, Bool, eqb, get_or, subst, suc, zero, ◌≡◌, ◌∙◌, ℕ, ◌+◌, ◌*◌, ◌<◌, ◌≤◌, max, true, false, cond, List, length, take, drop, slice_index, slice_set, Option, Some, None, unwrap_or, Ok, Err, refl, sym, ap, arith, inl, inr, [], ◌∷◌, ◌++◌, ◌%◌}
+use Rattle.std.proofs.lemmas.List.{length-append, take-append-le, take_all, take_more_set}
+use Rattle.std.specs.Prelude.{◌&&◌, nat_lt}
 use Rattle.std.specs.Result.{result_ok}
-use Rattle.std.proofs.lemmas.Bool.{cases_lt}
+use Rattle.std.proofs.lemmas.Bool.{cases_lt, eqb-true}
 use Rattle.hex.specs.Hex.{decode_of, decode_pairs, digit_or_error, hex_digit_value, pair_value}
 use Rattle.hex.specs.declared.error.FromHexError.{FromHexError}
 use Rattle.hex.specs.declared.error.FromHexError.TheVariants.{InvalidHexCharacter}
 use Rattle.hex.proofs.Pairs.{decode_done, decode_err, decode_step, prepend}
 use Rattle.hex.proofs.HexLemmas.{decode_of-even}
+use Rattle.line_mode.specs.declared.hexadecimal.TheConstants.{DIGIT_VALUES}
 
 -- the first i pairs are decoded, where the greatest value of their characters is a digit's; else the text doesn't decode
 pub record IsDecoded (text bytes : List ℕ) (i greatest : ℕ) : Type 0 where
@@ -85,3 +87,67 @@ decoded-done text bytes i greatest end len h = ap result_ok (decode_of-even text
       let above : nat_lt greatest 16 ≡ false = grind (arith, large) in
       h.bad large ∙ ap (λ b. cond b (Some bytes) None) (sym above)
 ]
+
+-- a test of all numbers below n, computed
+abbrev all_below : (ℕ → Bool) → ℕ → Bool
+all_below p zero = true
+all_below p (suc n) = p n && all_below p n
+
+both : (a b : Bool) → a && b ≡ true → (a ≡ true) × (b ≡ true)
+both true b h = (refl, h)
+both false b h = (h, absurd (cc))
+
+below_at : (p : ℕ → Bool) (n k : ℕ) → all_below p n ≡ true → k < n → p k ≡ true
+below_at p zero k h lt = absurd (omega arith)
+below_at p (suc n) k h lt =
+    let parts = both (p n) (all_below p n) h in
+    elim (cases_lt k n) as (λ _. p k ≡ true) [
+      | inl low ↦ below_at p n k parts.1 low
+      | inr high ↦ (let same : k ≡ n = omega arith in subst (λ x. p x ≡ true) (sym same) parts.0)
+    ]
+
+-- what the table says of each byte
+table_tells : all_below (λ a. eqb (get_or DIGIT_VALUES a 0) (unwrap_or (hex_digit_value a) 255)) 256 ≡ true
+table_tells = refl
+
+pub table_is : (a : ℕ) → a < 2 ^ 8 → slice_index DIGIT_VALUES a ≡ unwrap_or (hex_digit_value a) 255
+table_is a h = eqb-true _ _ (below_at (λ a. eqb (get_or DIGIT_VALUES a 0) (unwrap_or (hex_digit_value a) 255)) 256 a table_tells h)
+
+-- ---- one pair after the other, up to the first that isn't two digits
+
+-- the first i pairs are decoded to these bytes
+pub record AreDecoded (text bytes : List ℕ) (i : ℕ) : Type 0 where
+  pub long : length bytes ≡ i
+  pub so_far : decode_pairs 0 text ≡ prepend bytes (decode_pairs (2 * i) (drop (2 * i) text))
+
+module _ (text bytes : List ℕ) (i high low : ℕ) (fits : 2 * i + 1 < length text)
+    (eh : high ≡ unwrap_or (hex_digit_value (slice_index text (2 * i))) 255) (el : low ≡ unwrap_or (hex_digit_value (slice_index text (2 * i + 1))) 255)
+    (before : AreDecoded text bytes i) where
+  room : i < length (bytes ++ 0 ∷ [])
+  room = omega (arith, before.long, length-append bytes (0 ∷ []))
+
+  front : take i (bytes ++ 0 ∷ []) ≡ bytes
+  front = take-append-le i bytes (0 ∷ []) (omega (arith, before.long)) ∙ take_all i bytes (omega (arith, before.long))
+
+  next : IsDecoded text (slice_set (bytes ++ 0 ∷ []) i (high * 16 + low)) (i + 1) (max (max 0 high) low)
+  next = decoded-step text (bytes ++ 0 ∷ []) i 0 high low (high * 16 + low) (max (max 0 high) low) fits room eh el (λ _ _. refl) refl record {
+    good = λ _. before.so_far ∙ ap (λ (f : List ℕ). prepend f (decode_pairs (2 * i) (drop (2 * i) text))) (sym front);
+    bad = λ large. absurd (omega (arith, large));
+  }
+
+  pub pair-decoded : high < 16 → low < 16 → AreDecoded text (bytes ++ (high * 16 + low) ∷ []) (i + 1)
+  pair-decoded small_high small_low = record {
+    long = omega (arith, before.long, length-append bytes ((high * 16 + low) ∷ []));
+    so_far = next.good (omega (arith, small_high, small_low))
+        ∙ ap (λ (f : List ℕ). prepend f (decode_pairs (2 * (i + 1)) (drop (2 * (i + 1)) text)))
+          (take_more_set (bytes ++ 0 ∷ []) i (high * 16 + low) room ∙ ap (λ (f : List ℕ). f ++ (high * 16 + low) ∷ []) front);
+  }
+
+  pub pair-stops : length text % 2 ≡ 0 → 16 ≤ max high low → result_ok (decode_of text) ≡ None
+  pair-stops even large = ap result_ok (decode_of-even text even) ∙ next.bad (omega (arith, large))
+
+-- all pairs
+pub are_decoded-done : (text bytes : List ℕ) (i : ℕ) → length text % 2 ≡ 0 → length text ≤ 2 * i → AreDecoded text bytes i → result_ok (decode_of text) ≡ Some bytes
+are_decoded-done text bytes i even end h =
+    ap result_ok (decode_of-even text even)
+    ∙ ap result_ok (decode_done text bytes i (omega (arith, h.long)) end (h.so_far ∙ ap (λ (f : List ℕ). prepend f (decode_pairs (2 * i) (drop (2 * i) text))) (sym (take_all i bytes (omega (arith, h.long))))))

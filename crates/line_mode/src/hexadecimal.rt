@@ -1,5 +1,5 @@
 //! Bytes as hexadecimal digits. The loops have no branch on a digit, so that they run over many of them at once.
-ghost use Rattle.std.specs.Prelude.{◌≡◌, ◌*◌, ◌<◌, ◌++◌, length, IfOk, OnOk, Ok, Some, None, unwrap_or, slice_index, if◌then◌else◌};
+ghost use Rattle.std.specs.Prelude.{◌≡◌, ◌*◌, ◌%◌, ◌<◌, ◌++◌, length, IfOk, OnOk, Ok, Some, None, unwrap_or, slice_index, if◌then◌else◌};
 ghost use Rattle.std.specs.Option.{option_map};
 ghost use Rattle.std.specs.Result.{result_ok};
 ghost use Rattle.hex.specs.Hex.{decode_of, encode_upper, hex_digit_value, upper_digits};
@@ -9,12 +9,36 @@ use std::alloc::{AllocError, Global};
 // What no digit is worth.
 const NO_DIGIT: u8 = 255;
 
+// Fewer digits than these are looked up one by one: a loop over many at once is no gain for them.
+const FEW_DIGITS: usize = 64;
+
+// What each byte is worth as a digit.
+static DIGIT_VALUES: [u8; 256] = [
+    255, 255, 255, 255, 255, 255, 255, 255, 255, 255, 255, 255, 255, 255, 255, 255, 255, 255, 255,
+    255, 255, 255, 255, 255, 255, 255, 255, 255, 255, 255, 255, 255, 255, 255, 255, 255, 255, 255,
+    255, 255, 255, 255, 255, 255, 255, 255, 255, 255, 0, 1, 2, 3, 4, 5, 6, 7, 8, 9, 255, 255, 255,
+    255, 255, 255, 255, 10, 11, 12, 13, 14, 15, 255, 255, 255, 255, 255, 255, 255, 255, 255, 255,
+    255, 255, 255, 255, 255, 255, 255, 255, 255, 255, 255, 255, 255, 255, 255, 255, 10, 11, 12, 13,
+    14, 15, 255, 255, 255, 255, 255, 255, 255, 255, 255, 255, 255, 255, 255, 255, 255, 255, 255,
+    255, 255, 255, 255, 255, 255, 255, 255, 255, 255, 255, 255, 255, 255, 255, 255, 255, 255, 255,
+    255, 255, 255, 255, 255, 255, 255, 255, 255, 255, 255, 255, 255, 255, 255, 255, 255, 255, 255,
+    255, 255, 255, 255, 255, 255, 255, 255, 255, 255, 255, 255, 255, 255, 255, 255, 255, 255, 255,
+    255, 255, 255, 255, 255, 255, 255, 255, 255, 255, 255, 255, 255, 255, 255, 255, 255, 255, 255,
+    255, 255, 255, 255, 255, 255, 255, 255, 255, 255, 255, 255, 255, 255, 255, 255, 255, 255, 255,
+    255, 255, 255, 255, 255, 255, 255, 255, 255, 255, 255, 255, 255, 255, 255, 255, 255, 255, 255,
+    255, 255, 255, 255, 255, 255, 255, 255, 255, 255, 255, 255, 255, 255, 255, 255, 255, 255, 255,
+    255, 255, 255,
+];
+
 /// The bytes that pairs of digits write, in either case; none where the text is anything else.
 pub(crate) fn decode(alloc: Global, text: &[u8]) -> Result<Option<Vec<u8>>, AllocError>
     ensures { IfOk result (λ bytes. option_map (λ v. v.items) bytes ≡ result_ok (decode_of text.now)) }
 {
     if text.len() % 2 != 0 {
         return Ok(None);
+    }
+    if text.len() < FEW_DIGITS {
+        return decode_few(alloc, text);
     }
     let mut bytes = Vec::from_elem(alloc, 0u8, text.len() / 2)?;
     if decode_into(text, bytes.as_mut_slice()) {
@@ -38,6 +62,38 @@ fn decode_into(text: &[u8], bytes: &mut [u8]) -> bool
         greatest = greatest.max(high).max(low);
     }
     greatest < 16
+}
+
+// The bytes of few digits, one pair after the other, up to the first that isn't two digits.
+fn decode_few(alloc: Global, text: &[u8]) -> Result<Option<Vec<u8>>, AllocError>
+    requires { length text.now % 2 ≡ 0 }
+    ensures { IfOk result (λ bytes. option_map (λ v. v.items) bytes ≡ result_ok (decode_of text.now)) }
+{
+    let mut bytes = Vec::with_capacity(alloc, text.len() / 2)?;
+    'pairs: for i in 0..text.len() / 2 {
+        let high = table_value(text[2 * i]);
+        let low = table_value(text[2 * i + 1]);
+        if high >= 16 || low >= 16 {
+            return Ok(None);
+        }
+        bytes.push(high * 16 + low)?;
+    }
+    Ok(Some(bytes))
+}
+
+// What a digit is worth, by the table.
+#[inline]
+fn table_value(digit: u8) -> u8
+    ensures { result ≡ unwrap_or (hex_digit_value digit) 255 }
+{
+    listed_value(digit)
+}
+
+#[inline]
+fn listed_value(digit: u8) -> u8
+    ensures { result ≡ slice_index DIGIT_VALUES digit }
+{
+    DIGIT_VALUES[digit as usize]
 }
 
 // What a digit is worth.
