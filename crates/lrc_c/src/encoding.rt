@@ -9,11 +9,12 @@ ghost use Rattle.lrc_c.specs.Encoded.{AreShort, AreSources};
 
 use crate::arguments::code_numbered;
 use crate::checking::lent_are_bytes;
-use crate::combining::{fill_terms, no_terms};
+use crate::combining::fill_terms;
 use crate::lent::Lent;
 use crate::pairing::{fill_pairs, no_pairs};
 use crate::windows::{Checks, Couples, Wanted, Wants, write_checked};
 use lrc_code::{Code, ParityRows};
+use lrc_field::no_terms;
 
 // Whether each slice has so many bytes.
 fn have_length(sources: &[Lent], len: usize) -> bool

@@ -1,5 +1,5 @@
 //! Rebuilding up to four lost fragments of a stripe in one pass.
-ghost use Rattle.std.specs.Prelude.{◌≡◌, ◌<◌, ◌≤◌, true, false, not, length, take, max, MatchOption, slice_index};
+ghost use Rattle.std.specs.Prelude.{◌≡◌, ◌<◌, ◌≤◌, not, length, take, max, MatchOption, slice_index};
 ghost use Rattle.lrc_code.specs.declared.codes.Code.{Code};
 ghost use Rattle.lrc_code.specs.Codes.{tables_of};
 ghost use Rattle.lrc_code.specs.Reduction.{IsReduction};
@@ -11,12 +11,12 @@ ghost use Rattle.lrc_c.specs.RebuiltMany.{AreAllAsked, AreAnswered, AreBothSums,
 
 use crate::arguments::{are_whole, code_numbered, set_of};
 use crate::checking::{are_sixteen, bytes_of, write_coupled_if_zero};
-use crate::combining::{fill_terms, no_terms};
+use crate::combining::fill_terms;
 use crate::lent::Lent;
 use crate::pairing::{are_worth_pairing, fill_pairs, no_pairs};
 use crate::windows::{Couples, Wanted, Wants};
 use lrc_code::{Code, Place, PlaceSet, Reduced};
-use lrc_field::{Pair, Term};
+use lrc_field::{Pair, Term, no_terms};
 use lrc_plan::{checks_from, reduce_by_lost, value_from};
 
 /// The number that stands where no target is asked for.

@@ -99,12 +99,12 @@ impl Code {
     }
 
     /// The coefficients of the code's equations, by the places' indexes.
-    pub(crate) fn equations(self) -> [[u8; 16]; 4]
-        ensures { result ≡ rows_by_index (tables_of self) }
+    pub(crate) fn equations(self) -> &'static [[u8; 16]; 4]
+        ensures { result.now ≡ rows_by_index (tables_of self) }
     {
         match self {
-            Code::Narrow => NARROW_EQUATIONS,
-            Code::Wide => WIDE_EQUATIONS,
+            Code::Narrow => &NARROW_EQUATIONS,
+            Code::Wide => &WIDE_EQUATIONS,
         }
     }
 
@@ -114,8 +114,8 @@ impl Code {
     {
         let [of_x, of_y, _, _] = self.equations();
         match group {
-            Group::X => elements_of(&of_x),
-            Group::Y => elements_of(&of_y),
+            Group::X => elements_of(of_x),
+            Group::Y => elements_of(of_y),
         }
     }
 

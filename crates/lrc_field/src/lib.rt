@@ -30,5 +30,5 @@ pub use combining::{combine_into, combined};
 pub use element::Gf;
 pub use kernels::{add_into, scale_add_into};
 pub use pairs::{Pair, combine_pairs_into};
-pub use terms::Term;
+pub use terms::{Term, no_terms};
 pub use zero_sums::{sums_are_zero, sums_are_zero_between};

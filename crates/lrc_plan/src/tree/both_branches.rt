@@ -26,9 +26,7 @@ pub fn evaluate_both<R: Threads + Sync, A: Allocator + Sync>(
     ensures { IfOk result (λ v. IsValue request.now (form_of tree.now) v.items) }
 {
     recall_invariant(request);
-    // Named, since the proof speaks of it.
-    let bytes = evaluate_forked(rt, alloc, tree, Gf::new(1), request, forks.min(4))?;
-    Ok(bytes)
+    evaluate_forked(rt, alloc, tree, Gf::new(1), request, forks.min(4))
 }
 
 // A factor times the tree's value, each branch of a sum in a vector of its own while forks are left.
@@ -48,11 +46,14 @@ fn evaluate_forked<R: Threads + Sync, A: Allocator + Sync>(
     }
     match tree {
         Tree::Leaf(_) => evaluate_scaled(alloc, tree, factor, request),
-        Tree::Scale(scalar, below) => {
-            // Named, since the proof speaks of it.
-            let bytes = evaluate_forked(rt, alloc, below, factor.mul(*scalar), request, forks)?;
-            Ok(bytes)
-        }
+        Tree::Scale(scalar, below) => evaluate_forked(
+            rt,
+            alloc,
+            below,
+            factor.mul(*scalar),
+            request,
+            forks,
+        ),
         Tree::Sum(left, right) => {
             let fewer = forks - 1;
             let (first, second) = join(

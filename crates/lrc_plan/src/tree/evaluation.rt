@@ -22,9 +22,7 @@ pub fn evaluate<A: Allocator>(
     ensures { IfOk result (λ v. IsValue request.now (form_of tree.now) v.items) }
 {
     recall_invariant(request);
-    // Named, since the proof speaks of it.
-    let bytes = evaluate_scaled(alloc, tree, Gf::new(1), request)?;
-    Ok(bytes)
+    evaluate_scaled(alloc, tree, Gf::new(1), request)
 }
 
 /// A factor times the tree's value at each position.

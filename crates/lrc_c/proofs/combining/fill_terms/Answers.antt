@@ -21,7 +21,7 @@ loop-k-preserved c =
     elim c.if-has_term.branch [
       | then-has_term w ↦
           let t = w.term_of.result in
-          let is_term = w.term_of.ensures in
+          let is_term = w.term_of.ensures c.args.len c.requires.used in
           rw (w.terms-is, w.count-is) (record {
             long = length-set ts n t ∙ so_far.long;
             few = omega arith;

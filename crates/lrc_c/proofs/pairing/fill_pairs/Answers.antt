@@ -25,9 +25,9 @@ loop-k-preserved c =
       | then-has_pair w ↦
           let p = w.pair_of.result in
           let e = length-lent c.args.at.now in
-          let yes = w.if-has_pair.ensures.yes refl in
+          let long = w.if-has_pair.ensures.long refl c.args.len c.requires.firsts c.requires.seconds in
           let m = w.pair_of.ensures in
-          let is_pair = pair_is cs ds xss c.args.len k p (omega (arith, e, yes.0)) yes.1 m.first m.second m.bytes in
+          let is_pair = pair_is cs ds xss c.args.len k p (omega (arith, e, w.if-has_pair.ensures.inside refl)) long m.first m.second m.bytes in
           rw (w.pairs-is, w.count-is) (record {
             long = length-set ps n p ∙ so_far.long;
             few = omega arith;

@@ -6,7 +6,7 @@ use Rattle.lrc_code.proofs.reduction.reduce_in.Goals as goal
 use Rattle.lrc_code.proofs.reduction.reduce_in.Goals.{then-has+in-Some, then-has+in_default, else-has}
 
 pub loop-k-init : goal.loop-k-init
-loop-k-init c = subst (λ (rows : List (List ℕ)). IsReducedTo (rows_by_index (tables_of c.args.code)) c.args.lost rows (None ∷ None ∷ None ∷ None ∷ []) 0) (sym c.equations-rows.ensures) (reduced_start c.args.code c.args.lost)
+loop-k-init c = subst (λ (rows : List (List ℕ)). IsReducedTo (rows_by_index (tables_of c.args.code)) c.args.lost rows (None ∷ None ∷ None ∷ None ∷ []) 0) (sym c.equations.ensures) (reduced_start c.args.code c.args.lost)
 
 pub loop-k-preserved : goal.loop-k-preserved
 loop-k-preserved c =
