@@ -288,10 +288,7 @@ fn feeds_of_rack(alloc: Global, orders: Vec<RackList>) -> Result<Feeds, AllocErr
 {
     let mut racks = Vec::new(alloc);
     racks.push(orders)?;
-    let Ok(feeds) = Feeds::new(racks) else {
-        unreachable!();
-    };
-    Ok(feeds)
+    Ok(Feeds::from_checked(racks))
 }
 
 // The answers of one rack, and what was left out of its requests, as those of all racks.

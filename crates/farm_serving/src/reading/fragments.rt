@@ -97,15 +97,13 @@ fn read_request<I: Shelf>(
 {
     let (fragments, unread) = read_survivors(alloc, input, listed)?;
     let stripe = String::from_str(alloc, listed.stripe())?;
-    let Ok(request) = Request::new_in(
+    let request = Request::from_checked(
         listed.code(),
         stripe,
         listed.target(),
         listed.length(),
         fragments,
-    ) else {
-        unreachable!();
-    };
+    );
     Ok((request, unread))
 }
 
@@ -167,10 +165,7 @@ fn read_requests<R: Threads + Sync, I: Shelf>(
         unread.push(places)?;
     }
     push_close(&mut orders, closes)?;
-    let Ok(list) = RackList::new(orders) else {
-        unreachable!();
-    };
-    Ok((list, unread))
+    Ok((RackList::from_checked(orders), unread))
 }
 
 // Adds a close, where one is asked for.
@@ -291,8 +286,5 @@ pub(crate) fn read_feeds<R: Threads + Sync, I: Shelf>(
         racks.push(feeds)?;
         unread.push(places)?;
     }
-    let Ok(feeds) = Feeds::new(racks) else {
-        unreachable!();
-    };
-    Ok((feeds, unread))
+    Ok((Feeds::from_checked(racks), unread))
 }

@@ -7,9 +7,9 @@ use Rattle.farm_core.proofs.Rows.{all_zip_push}
 use Rattle.farm_lists.specs.Report.{listed_before_close}
 use Rattle.farm_serving.specs.Serving.{AreRackReads, orders_rack, rack_failures, unread_rack}
 use Rattle.farm_lists.specs.declared.lists.listing.Record.{Record}
-use Rattle.farm_serving.proofs.FewFeeds.{few_feeds, never_bad}
+use Rattle.farm_serving.proofs.FewFeeds.{few_feeds}
 use Rattle.farm_serving.proofs.Pairs.{front_images, front_more, images_more, sum_push}
-use Rattle.std.proofs.lemmas.List.{take_all, length-map}
+use Rattle.std.proofs.lemmas.List.{take_all}
 use Rattle.std.proofs.lemmas.Simd.{map-map}
 use Rattle.farm_serving.proofs.reading.fragments.read_feeds.Goals as goal
 
@@ -85,20 +85,17 @@ loop-rack-preserved g c =
 read_all : (racks : List (Vec RackList Global)) (lists : List Lists) (n : ℕ) → length lists ≤ n → map served racks ≡ map listed (take n lists) → map served racks ≡ map listed lists
 read_all racks lists n past same = same ∙ ap (map listed) (take_all n lists past)
 
-pub unreachable-requires : goal.unreachable-requires
+pub from_checked-requires : goal.from_checked-requires
 unfolding served listed
-unreachable-requires g c =
+from_checked-requires g c =
     let (reads, are, same, failed, few, orders_sized, unread_sized, told) = c.loop-rack.invariant in
     let all = read_all c.loop-rack.racks.items c.args.lists.now c.loop-rack.rack c.loop-rack-test.false orders_sized in
-    let sizes = ap (λ (ns : List (List ℕ)). length ns) all in
-    never_bad c.loop-rack.racks c.in_default.field-0
-    (omega (arith, sizes, length-map c.loop-rack.racks.items served, length-map c.args.lists.now listed, c.requires.racks))
-    (few_feeds c.loop-rack.racks.items c.args.lists.now all c.requires.feeds) c.in_default.ensures.refused
+    few_feeds c.loop-rack.racks.items c.args.lists.now all c.requires.racks c.requires.feeds
 
 pub returns-clause-orders : goal.returns-clause-orders
 unfolding served listed orders
 returns-clause-orders g c =
     let (reads, are, same, failed, few, orders_sized, unread_sized, told) = c.loop-rack.invariant in
-    ap (map (λ (feeds : List (List Order)). map (λ (os : List Order). length (before_close os)) feeds)) c.in-Ok.ensures.ok
+    ap (map (λ (feeds : List (List Order)). map (λ (os : List Order). length (before_close os)) feeds)) c.from_checked.ensures
     ∙ map-map (λ (feeds : List (List Order)). map (λ (os : List Order). length (before_close os)) feeds) orders c.loop-rack.racks.items
     ∙ read_all c.loop-rack.racks.items c.args.lists.now c.loop-rack.rack c.loop-rack-test.false orders_sized

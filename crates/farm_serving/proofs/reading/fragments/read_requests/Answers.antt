@@ -72,18 +72,17 @@ returns-in_err-push_close-clause-few g c =
     let (reads, are, same, failed, few, made, left, told) = c.loop-index.invariant in
     omega (arith, few, c.loop-index-test.false, c.loop-index.auto.index-end)
 
-pub unreachable-requires : goal.unreachable-requires
-unreachable-requires g c =
+pub from_checked-requires : goal.from_checked-requires
+from_checked-requires g c =
     let (reads, are, same, failed, few, made, left, told) = c.loop-index.invariant in
     let all : c.loop-index.index ≡ length c.args.requests.now = omega (arith, c.loop-index-test.false, c.loop-index.auto.index-end) in
-    let most = orders_few c.push_close.new.orders.items c.loop-index.orders.items made.0 c.args.closes c.loop-index.index c.in_ok-push_close.ensures made.1 made.2 (omega (arith, all, c.requires.orders)) in
-    omega (arith, most, c.in_default.ensures.refused.1)
+    orders_few c.push_close.new.orders.items c.loop-index.orders.items made.0 c.args.closes c.loop-index.index c.in_ok-push_close.ensures made.1 made.2 (omega (arith, all, c.requires.orders))
 
 pub returns-clause-orders : goal.returns-clause-orders
 returns-clause-orders g c =
     let (reads, are, same, failed, few, made, left, told) = c.loop-index.invariant in
     let all : c.loop-index.index ≡ length c.args.requests.now = omega (arith, c.loop-index-test.false, c.loop-index.auto.index-end) in
-    (made.0, made.2 ∙ all, c.in-Ok.ensures.ok.0 ∙ c.in_ok-push_close.ensures ∙ ap (λ t. t ++ close_where c.args.closes) made.1)
+    (made.0, made.2 ∙ all, c.from_checked.ensures ∙ c.in_ok-push_close.ensures ∙ ap (λ t. t ++ close_where c.args.closes) made.1)
 
 pub returns-clause-places : goal.returns-clause-places
 returns-clause-places g c =
