@@ -4,7 +4,6 @@ use Rattle.std.proofs.Common.{refl, sym, ap, ◌∙◌, subst, inl, inr, ⊎_eli
 use Rattle.std.specs.Prelude.{◌==◌}
 use Rattle.std.specs.List.{All}
 use Rattle.std.proofs.lemmas.List.{length-take, take-append-le}
-use Rattle.std.proofs.lemmas.Bool.{cases_lt}
 use mathlib.Core.Option.{some, some-ne-none, some-injective}
 use lib.ListN.{get_elem?}
 use Rattle.lrc_code.specs.Requests.{Asked}
@@ -12,7 +11,7 @@ use Rattle.farm_lanes.proofs.Lists.{at_below}
 use Rattle.farm_core.specs.declared.orders.Order.{Order}
 use Rattle.farm_core.specs.declared.orders.Order.TheVariants.{Rebuild, Close}
 use Rattle.farm_core.specs.Orders.{before_close, HasClose}
-use Rattle.farm_core.specs.Merge.{AreOpen, CloseEndsAll, HaveClose, IsEnded, IsLawfulMerge, IsWhole, PiecesJoin, joined, of_feed}
+use Rattle.farm_core.specs.Merge.{AreOpen, CloseEndsAll, HaveClose, IsWhole, PiecesJoin, joined, of_feed}
 
 -- ---- one feed
 

@@ -1,5 +1,5 @@
 -- Laws of rows and tables of replies.
-use Rattle.std.proofs.Common.{ℕ, ◌≡◌, ◌+◌, List, [], ◌∷◌, ◌++◌, length, get_or, map, replicate, arith, refl, sym, ap, ◌∙◌, subst, suc, zero}
+use Rattle.std.proofs.Common.{ℕ, ◌≡◌, List, [], ◌∷◌, ◌++◌, length, get_or, map, replicate, arith, refl, sym, ap, ◌∙◌, subst, suc, zero}
 use Rattle.std.proofs.Common.{Option, Some, None}
 use Rattle.std.specs.Option.{option_map}
 use Rattle.std.specs.List.{AllZip}

@@ -79,4 +79,5 @@ returns-clause-few c =
     (all_few c.args.racks.items c.loop-rack.rack-index
     (let a = c.loop-rack-test.false in let b = ap (λ (l : List Rack). length l) c.as_slice-rack-items.ensures.value in omega arith)
     (let a = c.if-len-gt-MOST_RACKS.false in let b = c.len.ensures in let d = c.args.racks.ok in omega arith)
-    (λ k rack low at. c.loop-rack.invariant k rack low (subst (λ (l : List Rack). get_elem? l k ≡ some rack) (sym c.as_slice-rack-items.ensures.value) at)))
+    (λ k rack low at. c.loop-rack.invariant k rack low (subst (λ (l : List Rack). get_elem? l k ≡ some rack)
+    (sym c.as_slice-rack-items.ensures.value) at)))

@@ -9,7 +9,7 @@ use Rattle.farm_serving.specs.Serving.{AreRackReads, orders_rack, rack_failures,
 use Rattle.farm_lists.specs.declared.lists.listing.Record.{Record}
 use Rattle.farm_serving.proofs.FewFeeds.{few_feeds}
 use Rattle.farm_serving.proofs.Pairs.{front_images, front_more, images_more, sum_push}
-use Rattle.std.proofs.lemmas.List.{take_all, length-map}
+use Rattle.std.proofs.lemmas.List.{take_all}
 use Rattle.std.proofs.lemmas.Simd.{map-map}
 use Rattle.farm_serving.proofs.reading.fragments.read_feeds.Goals as goal
 
