@@ -386,6 +386,12 @@ def text_walks(library):
     ]:
         yield Walk(name, "allocation", False, text, ends)
         yield Walk(name, "allocation", True, text, ends)
+    # Over a million bytes, so that lines are replied to in four threads.
+    zeros = b"00" * 30_000
+    long = Text(library, [], (0, (b"rebuilt %s\n" % zeros) * 6, b""), (b"a x0 30000 x1=%s x2=%s px=%s\n" % (zeros, zeros, zeros)) * 6)
+    for rest in [False, True]:
+        yield Walk("long-lines", "allocation", rest, long, told)
+        yield Walk("long-lines", "thread", rest, long, set(), {"answered"})
 
 
 def farm_walks(library):

@@ -140,7 +140,7 @@ module _ (text bytes : List ℕ) (i high low : ℕ) (fits : 2 * i + 1 < length t
     long = omega (arith, before.long, length-append bytes ((high * 16 + low) ∷ []));
     so_far = next.good (omega (arith, small_high, small_low))
         ∙ ap (λ (f : List ℕ). prepend f (decode_pairs (2 * (i + 1)) (drop (2 * (i + 1)) text)))
-          (take_more_set (bytes ++ 0 ∷ []) i (high * 16 + low) room ∙ ap (λ (f : List ℕ). f ++ (high * 16 + low) ∷ []) front);
+        (take_more_set (bytes ++ 0 ∷ []) i (high * 16 + low) room ∙ ap (λ (f : List ℕ). f ++ (high * 16 + low) ∷ []) front);
   }
 
   pub pair-stops : length text % 2 ≡ 0 → 16 ≤ max high low → result_ok (decode_of text) ≡ None

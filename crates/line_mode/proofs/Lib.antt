@@ -6,4 +6,5 @@ pub mod Reading
 pub mod Survivors
 pub mod WordsMade
 pub mod Answering
+pub mod CutReplies
 pub mod Unique

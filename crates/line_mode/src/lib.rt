@@ -18,11 +18,12 @@ mod line;
 mod lines;
 mod outcomes;
 mod parsing;
+mod pieces;
 mod refusals;
 mod replies;
 mod scanning;
 pub mod statuses;
 mod words;
 
-pub use line::{line_mode, line_status};
+pub use line::{line_mode, line_mode_in, line_status};
 pub use outcomes::{LineCount, LineFault};

@@ -4,10 +4,12 @@ ghost use Rattle.line_mode.specs.LineMode.{Explains, Replied, status_of};
 
 use crate::input::read_input;
 use crate::outcomes::{LineCount, LineFault};
+use crate::pieces::reply_in_pieces;
 use crate::replies::reply_to_lines;
 use crate::statuses::{DEVICE, DONE, NO_RESOURCES, REFUSED};
 use std::alloc::Global;
 use std::io::{Read, Write};
+use std::thread::Threads;
 
 /// Replies to each line of the whole input: reads it all, makes the whole text, and then writes it.
 ///
@@ -33,6 +35,25 @@ pub fn line_mode<R: Read, W: Write>(
 {
     let bytes = read_input(alloc, input)?;
     let replies = reply_to_lines(alloc, &bytes)?;
+    if output.write_all(&replies.text).is_err() || output.flush().is_err() {
+        return Err(LineFault::Device);
+    }
+    Ok(replies.count)
+}
+
+/// Replies to each line of the whole input as `line_mode`. An input of 262,144 bytes or more is replied to in up to four threads; where
+/// none can be started, this one makes all replies.
+pub fn line_mode_in<T: Threads + Sync, R: Read, W: Write>(
+    rt: &T,
+    alloc: Global,
+    input: &mut R,
+    output: &mut W,
+) -> Result<LineCount, LineFault>
+    ensures replied { IfOk result (Replied (R.remaining input.old) (R.remaining input.new) (W.contents output.old) (W.contents output.new)) }
+    ensures fault { IfErr result (Explains (R.remaining input.old) (R.remaining input.new) (W.contents output.old) (W.contents output.new)) }
+{
+    let bytes = read_input(alloc, input)?;
+    let replies = reply_in_pieces(rt, alloc, &bytes)?;
     if output.write_all(&replies.text).is_err() || output.flush().is_err() {
         return Err(LineFault::Device);
     }

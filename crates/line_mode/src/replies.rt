@@ -2,8 +2,8 @@
 ghost use Rattle.std.specs.Prelude.{◌≡◌, ◌<◌, ◌≤◌, ◌+◌, ◌^◌, ◌++◌, ◌∷◌, [], List, OnOk, IfOk, length};
 ghost use Rattle.std.specs.List.{list_all};
 ghost use Rattle.lrc_code.specs.Text.{is_space};
-ghost use Rattle.line_mode.specs.LineMode.{AreReplies, input_limit, text_of};
-ghost use Rattle.line_mode.specs.Replies.{Holds};
+ghost use Rattle.line_mode.specs.LineMode.{input_limit, text_of};
+ghost use Rattle.line_mode.specs.Replies.{Answers, Holds};
 ghost use Rattle.line_mode.specs.LineReply.{IsReply, LineReply, number_of, reply_text};
 
 use crate::hexadecimal::append_upper;
@@ -53,12 +53,24 @@ impl Replies {
         }
         Ok(())
     }
+
+    /// Adds the replies of another after these.
+    pub(crate) fn append(&mut self, others: &Replies) -> Result<(), AllocError>
+        requires answered { self.old.count.answered + others.now.count.answered < 2 ^ 64 }
+        requires refused { self.old.count.refused + others.now.count.refused < 2 ^ 64 }
+        ensures { OnOk result ((these those : List LineReply) → Holds self.old these → Holds others.now those → Holds self.new (these ++ those)) }
+    {
+        self.text.extend_from_slice(&others.text)?;
+        self.count.answered += others.count.answered;
+        self.count.refused += others.count.refused;
+        Ok(())
+    }
 }
 
 /// The replies to the lines of an input.
 pub(crate) fn reply_to_lines(alloc: Global, input: &[u8]) -> Result<Replies, AllocError>
     requires { length input.now ≤ input_limit }
-    ensures { IfOk result (λ r. (replies : List LineReply) × AreReplies input.now replies × Holds r replies) }
+    ensures { IfOk result (Answers input.now) }
 {
     let mut replies = Replies::new(alloc);
     let mut plans = RememberedPlans::new();

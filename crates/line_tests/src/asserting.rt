@@ -1,6 +1,7 @@
-//! Runs of line mode over texts, and whether they give what they are to give.
+//! Runs of line mode over texts, and assertions on what they write and answer.
 use line_mode::{LineCount, LineFault, line_mode};
 use std::alloc::{AllocError, Global};
+use std::process::Abort;
 
 /// What line mode writes for an input, and what it answers.
 pub(crate) fn run(alloc: Global, input: &[u8]) -> (Vec<u8>, Result<LineCount, LineFault>) {
@@ -10,29 +11,27 @@ pub(crate) fn run(alloc: Global, input: &[u8]) -> (Vec<u8>, Result<LineCount, Li
     (output, answer)
 }
 
-/// Whether line mode replies to an input by a text, and so counts the lines that it answers and refuses.
-pub(crate) fn replies(
-    alloc: Global,
+/// Asserts that line mode replies to an input by a text, and that it counts so many answered and refused lines.
+pub(crate) fn assert_replies(
+    rt: &(impl Abort + AllocGlobal),
     input: &[u8],
     text: &[u8],
     answered: u64,
     refused: u64,
-) -> bool {
-    let (output, answer) = run(alloc, input);
-    output.as_slice() == text && answer == Ok(LineCount { answered, refused })
+) {
+    let (output, answer) = run(rt.alloc(), input);
+    let given = str::from_utf8(input);
+    assert_eq!(rt; str::from_utf8(&output), str::from_utf8(text), "{given:?}");
+    assert_eq!(rt; answer, Ok(LineCount { answered, refused }), "{given:?}");
 }
 
-/// Whether line mode replies to a line by a reply, each without its line feed, and so counts it.
-pub(crate) fn replies_to_line(
-    alloc: Global,
-    line: &[u8],
-    reply: &[u8],
-    answered: u64,
-    refused: u64,
-) -> Result<bool, AllocError> {
-    let input = ended(alloc, line)?;
-    let text = ended(alloc, reply)?;
-    Ok(replies(alloc, &input, &text, answered, refused))
+/// Asserts the reply to a line, each without its line feed: a refusal where the reply says so, else an answer.
+pub(crate) fn assert_reply(rt: &(impl Abort + AllocGlobal), line: &[u8], reply: &[u8]) -> Result<(), AllocError> {
+    let refused = if reply.starts_with(b"refused") { 1 } else { 0 };
+    let input = ended(rt.alloc(), line)?;
+    let text = ended(rt.alloc(), reply)?;
+    assert_replies(rt, &input, &text, 1 - refused, refused);
+    Ok(())
 }
 
 // A line with its line feed.

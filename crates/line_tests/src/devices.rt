@@ -3,6 +3,7 @@ use line_mode::{LineCount, LineFault, line_mode, line_status};
 use std::alloc::Global;
 use std::io;
 use std::io::{ErrorKind, Read, Write};
+use std::process::Abort;
 
 // The input of the program's stored run, whose ten lines are all answered.
 const TEN_LINES: &[u8] = b"a x0 1 x1=02 x2=03 px=00\n\
@@ -129,25 +130,25 @@ const ALL_ANSWERED: Result<LineCount, LineFault> = Ok(LineCount {
     refused: 0,
 });
 
-// Whether a run wrote all replies and answers so.
-fn is_whole(run: &Run) -> bool {
-    run.text.as_slice() == TEN_REPLIES && run.answer == ALL_ANSWERED
+// Asserts that a run wrote all replies and answers so.
+fn assert_whole(rt: &(impl Abort + AllocGlobal), run: &Run) {
+    assert_eq!(rt; str::from_utf8(&run.text), str::from_utf8(TEN_REPLIES));
+    assert_eq!(rt; run.answer, ALL_ANSWERED);
 }
 
 #[test]
 fn takes_small_pieces(rt: HostRuntime) {
     for most in [1usize, 2, 7, 100, 1000] {
         let run = run_ten(rt.alloc(), most, Calls::AllWork, Calls::AllWork);
-        assert!(rt;
-            is_whole(&run) && run.flushed == TEN_REPLIES.len(),
-            "{most} at a call"
-        );
+        assert_whole(&rt, &run);
+        assert_eq!(rt; run.flushed, TEN_REPLIES.len(), "{most} at a call");
     }
 }
 
-// Whether a run ended at a fault of a device.
-fn is_faulty(run: &Run) -> bool {
-    run.answer == Err(LineFault::Device) && line_status(&run.answer) == 3
+// Asserts that a run ended at a fault of a device.
+fn assert_faulty(rt: &(impl Abort + AllocGlobal), run: &Run) {
+    assert_eq!(rt; run.answer, Err(LineFault::Device));
+    assert_eq!(rt; line_status(&run.answer), 3);
 }
 
 // A read that fails, whichever it is, ends line mode and leaves the writer alone.
@@ -159,7 +160,8 @@ fn ends_at_failed_reads(rt: HostRuntime) {
         for k in 0..whole.reads {
             let reading = Calls::OneFails(k, ErrorKind::Other);
             let run = run_ten(rt.alloc(), most, reading, Calls::AllWork);
-            assert!(rt; is_faulty(&run) && run.text.is_empty() && run.writes == 0);
+            assert_faulty(&rt, &run);
+            assert_eq!(rt; (run.text.len(), run.writes), (0, 0), "read {k}, {most} at a call");
         }
     }
 }
@@ -173,7 +175,8 @@ fn ends_at_failed_writes(rt: HostRuntime) {
         for k in 0..whole.writes {
             let writing = Calls::OneFails(k, ErrorKind::Other);
             let run = run_ten(rt.alloc(), most, Calls::AllWork, writing);
-            assert!(rt; is_faulty(&run) && TEN_REPLIES.starts_with(&run.text));
+            assert_faulty(&rt, &run);
+            assert!(rt; TEN_REPLIES.starts_with(&run.text), "write {k}, {most} at a call");
         }
     }
 }
@@ -183,10 +186,10 @@ fn ends_at_failed_writes(rt: HostRuntime) {
 fn goes_on_after_interruptions(rt: HostRuntime) {
     for k in 0..3u64 {
         let interrupted = Calls::OneFails(k, ErrorKind::Interrupted);
-        assert!(rt; is_whole(&run_ten(rt.alloc(), 200, interrupted, Calls::AllWork)));
+        assert_whole(&rt, &run_ten(rt.alloc(), 200, interrupted, Calls::AllWork));
     }
     let interrupted = Calls::OneFails(0, ErrorKind::Interrupted);
-    assert!(rt; is_whole(&run_ten(rt.alloc(), 1000, Calls::AllWork, interrupted)));
+    assert_whole(&rt, &run_ten(rt.alloc(), 1000, Calls::AllWork, interrupted));
 }
 
 // A reader whose calls are always interrupted, and how many there were.
@@ -208,6 +211,7 @@ fn ends_for_an_interrupted_reader(rt: HostRuntime) {
     let mut input = InterruptedReader { calls: 0 };
     let mut output = Vec::new(rt.alloc());
     let answer = line_mode(rt.alloc(), &mut input, &mut output);
-    assert!(rt; answer == Err(LineFault::Device) && output.is_empty());
-    assert!(rt; input.calls == 16_777_216);
+    assert_eq!(rt; answer, Err(LineFault::Device));
+    assert_eq!(rt; output.len(), 0);
+    assert_eq!(rt; input.calls, 16_777_216);
 }

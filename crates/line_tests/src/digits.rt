@@ -1,6 +1,7 @@
 //! Hexadecimal digits, which are read and written many at once. Where x1 and x2 are 00 everywhere, x0 is px.
-use crate::asserting::replies;
+use crate::asserting::assert_replies;
 use std::alloc::{AllocError, Global};
+use std::process::Abort;
 
 // Lengths around those that are read at once.
 const LENGTHS: [usize; 14] = [1, 2, 7, 8, 9, 15, 16, 17, 31, 32, 33, 64, 65, 127];
@@ -19,20 +20,22 @@ fn cycled(alloc: Global, text: &str, count: usize) -> Result<String, AllocError>
     Ok(cycled)
 }
 
-// Whether digits are read and written at this length.
-fn gives_digits(alloc: Global, length: usize) -> Result<bool, AllocError> {
+// Asserts that digits are read and written at this length.
+fn assert_digits(rt: &(impl Abort + AllocGlobal), length: usize) -> Result<(), AllocError> {
+    let alloc = rt.alloc();
     let zeros = cycled(alloc, "0", length.wrapping_mul(2))?;
     let digits = cycled(alloc, GIVEN, length.wrapping_mul(2))?;
     let written = cycled(alloc, WRITTEN, length.wrapping_mul(2))?;
     let line = format!(in alloc; "a x0 {length} x1={zeros} x2={zeros} px={digits}\n")?;
     let reply = format!(in alloc; "rebuilt {written}\n")?;
-    Ok(replies(alloc, line.as_bytes(), reply.as_bytes(), 1, 0))
+    assert_replies(rt, line.as_bytes(), reply.as_bytes(), 1, 0);
+    Ok(())
 }
 
 #[test]
 fn digits_of_many_lengths(rt: HostRuntime) -> Result<(), AllocError> {
     for length in LENGTHS {
-        assert!(rt; gives_digits(rt.alloc(), length)?, "{length} bytes");
+        assert_digits(&rt, length)?;
     }
     Ok(())
 }
@@ -48,30 +51,32 @@ fn bad_digit_at_each_place(rt: HostRuntime) -> Result<(), AllocError> {
         if let Some(digit) = line.get_mut(11 + place) {
             *digit = b'G';
         }
-        assert!(rt; replies(rt.alloc(), &line, b"refused E22\n", 0, 1));
+        assert_replies(&rt, &line, b"refused E22\n", 0, 1);
     }
     Ok(())
 }
 
-// Whether a byte is read as a digit just where it is one.
-fn is_read_as_digit(alloc: Global, byte: u8) -> Result<bool, AllocError> {
-    let mut line = Vec::from_slice(alloc, b"a x0 1 x1=00 x2=00 px=0")?;
+// Asserts that a byte is read as a digit just where it is one.
+fn assert_digit(rt: &(impl Abort + AllocGlobal), byte: u8) -> Result<(), AllocError> {
+    let mut line = Vec::from_slice(rt.alloc(), b"a x0 1 x1=00 x2=00 px=0")?;
     line.push(byte)?;
     line.push(b'\n')?;
     if !GIVEN.as_bytes().contains(&byte) {
-        return Ok(replies(alloc, &line, b"refused E22\n", 0, 1));
+        assert_replies(rt, &line, b"refused E22\n", 0, 1);
+        return Ok(());
     }
-    let mut reply = Vec::from_slice(alloc, b"rebuilt 0")?;
+    let mut reply = Vec::from_slice(rt.alloc(), b"rebuilt 0")?;
     reply.push(byte.to_ascii_uppercase())?;
     reply.push(b'\n')?;
-    Ok(replies(alloc, &line, &reply, 1, 0))
+    assert_replies(rt, &line, &reply, 1, 0);
+    Ok(())
 }
 
 // Of all bytes the 22 digits are digits, and no other.
 #[test]
 fn each_byte_as_digit(rt: HostRuntime) -> Result<(), AllocError> {
     for byte in 0..=255u8 {
-        assert!(rt; is_read_as_digit(rt.alloc(), byte)?, "byte {byte}");
+        assert_digit(&rt, byte)?;
     }
     Ok(())
 }

@@ -13,6 +13,8 @@ mod limits;
 #[cfg(test)]
 mod rows;
 #[cfg(test)]
+mod threads;
+#[cfg(test)]
 mod vectors;
 #[cfg(test)]
 mod words;

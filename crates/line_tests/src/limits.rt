@@ -1,9 +1,10 @@
 //! The greatest input and one byte more, and long lines.
-use crate::asserting::replies;
+use crate::asserting::assert_replies;
 use line_mode::{LineCount, LineFault, line_mode, line_status};
 use std::alloc::{AllocError, Global};
 use std::io;
 use std::io::Read;
+use std::process::Abort;
 
 // The greatest length of an input.
 const GREATEST: usize = 8_388_608;
@@ -24,45 +25,32 @@ impl Read for LineFeeds {
     }
 }
 
-// What line mode answers to so many line feeds, unless it writes something.
-fn answer_to_feeds(
-    alloc: Global,
+// Asserts what line mode answers to so many line feeds, and that it writes nothing.
+fn assert_answer(
+    rt: &(impl Abort + AllocGlobal),
     left: usize,
     most: usize,
-) -> Option<Result<LineCount, LineFault>> {
-    let mut output = Vec::new(alloc);
-    let answer = line_mode(alloc, &mut LineFeeds { left, most }, &mut output);
-    if output.is_empty() {
-        Some(answer)
-    } else {
-        None
-    }
+    wanted: Result<LineCount, LineFault>,
+    status: u8,
+) {
+    let mut output = Vec::new(rt.alloc());
+    let answer = line_mode(rt.alloc(), &mut LineFeeds { left, most }, &mut output);
+    assert_eq!(rt; answer, wanted, "{left} bytes, {most} at a call");
+    assert_eq!(rt; line_status(&answer), status, "{left} bytes, {most} at a call");
+    assert_eq!(rt; output.len(), 0, "{left} bytes, {most} at a call");
 }
 
-// Whether the greatest input is read, and one byte more is refused, at most so many bytes at each call.
-fn stops_past(alloc: Global, most: usize) -> bool {
-    let read = match answer_to_feeds(alloc, GREATEST, most) {
-        Some(answer) => {
-            line_status(&answer) == 0
-                && answer
-                    == Ok(LineCount {
-                        answered: 0,
-                        refused: 0,
-                    })
-        }
-        None => false,
-    };
-    let refused = match answer_to_feeds(alloc, GREATEST + 1, most) {
-        Some(answer) => line_status(&answer) == 1 && answer == Err(LineFault::InputTooLong),
-        None => false,
-    };
-    read && refused
-}
-
+// The greatest input is read, and one byte more is refused, however few bytes a call gives.
 #[test]
 fn stops_past_the_limit(rt: HostRuntime) {
-    assert!(rt; stops_past(rt.alloc(), 1));
-    assert!(rt; stops_past(rt.alloc(), 1_000_000));
+    let none = LineCount {
+        answered: 0,
+        refused: 0,
+    };
+    for most in [1, 1_000_000] {
+        assert_answer(&rt, GREATEST, most, Ok(none), 0);
+        assert_answer(&rt, GREATEST + 1, most, Err(LineFault::InputTooLong), 1);
+    }
 }
 
 // Adds a text so many times.
@@ -79,36 +67,18 @@ fn add_fragment(line: &mut Vec<u8>, place: &[u8], byte: &[u8]) -> Result<(), All
     add_times(line, byte, 65_536)
 }
 
-// Whether A5 + 5A + FF is 00 at each position.
-fn answers_greatest_length(alloc: Global) -> Result<bool, AllocError> {
-    let mut line = Vec::from_slice(alloc, b"a x0 65536")?;
+// Fragments of the greatest length: A5 + 5A + FF is 00 at each position.
+#[test]
+fn answers_long_fragments(rt: HostRuntime) -> Result<(), AllocError> {
+    let mut line = Vec::from_slice(rt.alloc(), b"a x0 65536")?;
     add_fragment(&mut line, b" x1=", b"A5")?;
     add_fragment(&mut line, b" x2=", b"5a")?;
     add_fragment(&mut line, b" px=", b"fF")?;
-    let mut text = Vec::from_slice(alloc, b"rebuilt ")?;
+    let mut text = Vec::from_slice(rt.alloc(), b"rebuilt ")?;
     add_times(&mut text, b"00", 65_536)?;
     text.push(b'\n')?;
-    Ok(replies(alloc, &line, &text, 1, 0))
-}
-
-// Fragments of the greatest length.
-#[test]
-fn answers_long_fragments(rt: HostRuntime) -> Result<(), AllocError> {
-    assert!(rt; answers_greatest_length(rt.alloc())?);
+    assert_replies(&rt, &line, &text, 1, 0);
     Ok(())
-}
-
-// Whether a line of a front and a piece so many times is refused by this reply.
-fn is_refused(
-    alloc: Global,
-    front: &[u8],
-    piece: &[u8],
-    times: usize,
-    reply: &[u8],
-) -> Result<bool, AllocError> {
-    let mut line = Vec::from_slice(alloc, front)?;
-    add_times(&mut line, piece, times)?;
-    Ok(replies(alloc, &line, reply, 0, 1))
 }
 
 static LONG_LINES: [(&[u8], &[u8], usize, &[u8]); 8] = [
@@ -126,7 +96,9 @@ static LONG_LINES: [(&[u8], &[u8], usize, &[u8]); 8] = [
 #[test]
 fn refuses_long_lines(rt: HostRuntime) -> Result<(), AllocError> {
     for (front, piece, times, reply) in &LONG_LINES {
-        assert!(rt; is_refused(rt.alloc(), front, piece, *times, reply)?);
+        let mut line = Vec::from_slice(rt.alloc(), front)?;
+        add_times(&mut line, piece, *times)?;
+        assert_replies(&rt, &line, reply, 0, 1);
     }
     Ok(())
 }

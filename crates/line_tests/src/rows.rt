@@ -1,5 +1,5 @@
 //! Lines and their replies, each worked out by hand.
-use crate::asserting::{replies, replies_to_line, run};
+use crate::asserting::{assert_replies, assert_reply, run};
 use line_mode::{LineFault, line_status};
 use std::alloc::{AllocError, Global};
 
@@ -133,7 +133,7 @@ static REFUSED: [(&[u8], &[u8]); 47] = [
 #[test]
 fn answers_lines(rt: HostRuntime) -> Result<(), AllocError> {
     for (line, reply) in &ANSWERED {
-        assert!(rt; replies_to_line(rt.alloc(), line, reply, 1, 0)?, "{line:?}");
+        assert_reply(&rt, line, reply)?;
     }
     Ok(())
 }
@@ -141,7 +141,7 @@ fn answers_lines(rt: HostRuntime) -> Result<(), AllocError> {
 #[test]
 fn refuses_lines(rt: HostRuntime) -> Result<(), AllocError> {
     for (line, reply) in &REFUSED {
-        assert!(rt; replies_to_line(rt.alloc(), line, reply, 0, 1)?, "{line:?}");
+        assert_reply(&rt, line, reply)?;
     }
     Ok(())
 }
@@ -149,26 +149,18 @@ fn refuses_lines(rt: HostRuntime) -> Result<(), AllocError> {
 // How an input is cut into lines, and which of them get a reply.
 #[test]
 fn cuts_lines(rt: HostRuntime) {
-    let alloc = rt.alloc();
-    assert!(rt; replies(alloc, b"", b"", 0, 0));
+    assert_replies(&rt, b"", b"", 0, 0);
     // The last line needs no line feed.
-    assert!(rt; replies(alloc, b"a x0 1 x1=02 x2=03 px=00", b"rebuilt 01\n", 1, 0));
+    assert_replies(&rt, b"a x0 1 x1=02 x2=03 px=00", b"rebuilt 01\n", 1, 0);
     // One carriage return before a line feed is dropped, and no other.
     let three_lines = b"a x0 1\r\na x0 1\r\r\na x0 1\r";
-    assert!(rt;
-        replies(
-            alloc,
-            three_lines,
-            b"several\nrefused E22\nrefused E22\n",
-            1,
-            2
-        )
-    );
+    let three_replies = b"several\nrefused E22\nrefused E22\n";
+    assert_replies(&rt, three_lines, three_replies, 1, 2);
     // Blank lines give nothing; a lone carriage return at the end is no blank line.
     let blank_lines = b"\n\n  \n\r\n   \r\n a x0 1\n   ";
-    assert!(rt; replies(alloc, blank_lines, b"several\n", 1, 0));
-    assert!(rt; replies(alloc, b"\r", b"refused E22\n", 0, 1));
-    assert!(rt; replies(alloc, b" \r\r\n", b"refused E22\n", 0, 1));
+    assert_replies(&rt, blank_lines, b"several\n", 1, 0);
+    assert_replies(&rt, b"\r", b"refused E22\n", 0, 1);
+    assert_replies(&rt, b" \r\r\n", b"refused E22\n", 0, 1);
 }
 
 // The status of line mode after an input.
@@ -180,22 +172,24 @@ fn status_of(alloc: Global, input: &[u8]) -> u8 {
 // Whether a line was refused decides between the statuses 0 and 1.
 #[test]
 fn gives_statuses(rt: HostRuntime) {
-    assert!(rt; status_of(rt.alloc(), b"") == 0);
-    assert!(rt; status_of(rt.alloc(), b"\n") == 0);
-    assert!(rt; status_of(rt.alloc(), b"a x0 1") == 0);
-    assert!(rt; status_of(rt.alloc(), b"a x0 1\na x0 0\n") == 1);
-    assert!(rt; status_of(rt.alloc(), b"?") == 1);
+    assert_eq!(rt; status_of(rt.alloc(), b""), 0);
+    assert_eq!(rt; status_of(rt.alloc(), b"\n"), 0);
+    assert_eq!(rt; status_of(rt.alloc(), b"a x0 1"), 0);
+    assert_eq!(rt; status_of(rt.alloc(), b"a x0 1\na x0 0\n"), 1);
+    assert_eq!(rt; status_of(rt.alloc(), b"?"), 1);
 }
 
-// Whether a fault has this number and this status.
-fn has_numbers(fault: LineFault, number: u8, status: u8) -> bool {
-    fault.code() == number && line_status(&Err(fault)) == status
-}
+// Each fault, its number and its status.
+const FAULTS: [(LineFault, u8, u8); 3] = [
+    (LineFault::InputTooLong, 25, 1),
+    (LineFault::Device, 24, 3),
+    (LineFault::OutOfMemory, 16, 4),
+];
 
-// Each fault has its number and its status.
 #[test]
 fn gives_fault_numbers(rt: HostRuntime) {
-    assert!(rt; has_numbers(LineFault::InputTooLong, 25, 1));
-    assert!(rt; has_numbers(LineFault::Device, 24, 3));
-    assert!(rt; has_numbers(LineFault::OutOfMemory, 16, 4));
+    for (fault, number, status) in FAULTS {
+        assert_eq!(rt; fault.code(), number, "{fault:?}");
+        assert_eq!(rt; line_status(&Err(fault)), status, "{fault:?}");
+    }
 }

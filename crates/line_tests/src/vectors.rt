@@ -1,6 +1,6 @@
 //! Lines and their replies, computed by an independent reference.
-use crate::asserting::replies_to_line;
-use std::alloc::{AllocError, Global};
+use crate::asserting::assert_reply;
+use std::alloc::AllocError;
 
 // Those of the 400 lines in `cases/reference` that hold at most 56 bytes.
 static VECTORS: [(&[u8], &[u8]); 89] = [
@@ -245,16 +245,10 @@ static VECTORS: [(&[u8], &[u8]); 89] = [
     (b"-", b"refused E22"),
 ];
 
-// Whether line mode gives a reply to a line, and counts it as refused just where the reply says so.
-fn agrees(alloc: Global, line: &[u8], reply: &[u8]) -> Result<bool, AllocError> {
-    let refused = if reply.starts_with(b"refused") { 1 } else { 0 };
-    replies_to_line(alloc, line, reply, 1 - refused, refused)
-}
-
 #[test]
 fn agrees_with_the_reference(rt: HostRuntime) -> Result<(), AllocError> {
     for (line, reply) in &VECTORS {
-        assert!(rt; agrees(rt.alloc(), line, reply)?, "{line:?}");
+        assert_reply(&rt, line, reply)?;
     }
     Ok(())
 }

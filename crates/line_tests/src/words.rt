@@ -1,23 +1,24 @@
-//! The words of the command line.
+//! The arguments of the program.
 use command_line::{Words, WordsFault, read_words};
 use std::alloc::{AllocError, Global};
+use std::process::Abort;
 
-// What words ask for.
-fn read(alloc: Global, words: &[&str]) -> Result<Words, WordsFault> {
-    read_words(alloc, strings(alloc, words)?.as_slice())
+// What arguments ask for.
+fn read(alloc: Global, arguments: &[&str]) -> Result<Words, WordsFault> {
+    read_words(alloc, strings(alloc, arguments)?.as_slice())
 }
 
-fn strings(alloc: Global, words: &[&str]) -> Result<Vec<String>, AllocError> {
+fn strings(alloc: Global, arguments: &[&str]) -> Result<Vec<String>, AllocError> {
     let mut strings = Vec::new(alloc);
-    for word in words {
-        strings.push(String::from_str(alloc, word)?)?;
+    for argument in arguments {
+        strings.push(String::from_str(alloc, argument)?)?;
     }
     Ok(strings)
 }
 
-// Whether words ask to serve the folder `a` into the folder `b`, with so many workers and a queue of that capacity.
-fn ask_for_farm(alloc: Global, words: &[&str], wanted: (usize, usize)) -> bool {
-    match read(alloc, words) {
+// Asserts that arguments ask to serve the folder `a` into the folder `b`, with so many workers and a queue of that capacity.
+fn assert_farm(rt: &(impl Abort + AllocGlobal), arguments: &[&str], wanted: (usize, usize)) {
+    match read(rt.alloc(), arguments) {
         Ok(
             Words::Farm {
                 input,
@@ -25,35 +26,39 @@ fn ask_for_farm(alloc: Global, words: &[&str], wanted: (usize, usize)) -> bool {
                 workers,
                 queue,
             },
-        ) => { input.as_str() == "a" && output.as_str() == "b" && (workers, queue) == wanted }
-        _ => false,
+        ) => {
+            assert_eq!(rt; (input.as_str(), output.as_str()), ("a", "b"), "{arguments:?}");
+            assert_eq!(rt; (workers, queue), wanted, "{arguments:?}");
+        }
+        other => panic!(rt; "{arguments:?}: {other:?}"),
     }
 }
 
-// Whether words are a mistake that is reported by this text.
-fn are_mistaken(alloc: Global, words: &[&str], text: &str) -> bool {
-    match read(alloc, words) {
-        Err(WordsFault::Usage(told)) => told.as_str() == text,
-        _ => false,
+// Asserts that arguments are a mistake that is reported by this text.
+fn assert_mistaken(rt: &(impl Abort + AllocGlobal), arguments: &[&str], text: &str) {
+    match read(rt.alloc(), arguments) {
+        Err(WordsFault::Usage(shown)) => assert_eq!(rt; shown.as_str(), text, "{arguments:?}"),
+        other => panic!(rt; "{arguments:?}: {other:?}"),
     }
 }
 
-// Whether words ask for this text.
-fn ask_for_text(alloc: Global, words: &[&str], text: &str) -> bool {
-    match read(alloc, words) {
-        Ok(Words::Help(shown)) => shown.as_str() == text,
-        _ => false,
+// Asserts that arguments ask for this text.
+fn assert_text(rt: &(impl Abort + AllocGlobal), arguments: &[&str], text: &str) {
+    match read(rt.alloc(), arguments) {
+        Ok(Words::Help(shown)) => assert_eq!(rt; shown.as_str(), text, "{arguments:?}"),
+        other => panic!(rt; "{arguments:?}: {other:?}"),
     }
 }
 
 #[test]
-fn no_words_are_line_mode(rt: HostRuntime) {
-    let words = Vec::new(rt.alloc());
-    let read = read_words(rt.alloc(), words.as_slice());
-    assert!(rt; matches!(read, Ok(Words::Lines)));
+fn no_arguments_are_line_mode(rt: HostRuntime) {
+    let arguments = Vec::new(rt.alloc());
+    let read = read_words(rt.alloc(), arguments.as_slice());
+    assert!(rt; matches!(read, Ok(Words::Lines)), "{read:?}");
 }
 
-// Words with other numbers of workers, or capacities of the queue. Numbers out of a farm's limits are read; the settings refuse them.
+// Arguments with other numbers of workers, or capacities of the queue. Numbers out of a farm's limits are read; the settings refuse
+// them.
 const FARMS: &[(&[&str], (usize, usize))] = &[
     (&["farm", "a", "b"], (4, 16)),
     (&["farm", "a", "b", "--workers", "2"], (2, 16)),
@@ -67,12 +72,12 @@ const FARMS: &[(&[&str], (usize, usize))] = &[
 
 #[test]
 fn farm_has_defaults(rt: HostRuntime) {
-    for (words, wanted) in FARMS {
-        assert!(&rt; ask_for_farm(rt.alloc(), words, *wanted), "{words:?}");
+    for (arguments, wanted) in FARMS {
+        assert_farm(&rt, arguments, *wanted);
     }
 }
 
-// Words with 7 workers and a queue of 9.
+// Arguments with 7 workers and a queue of 9.
 const OPTIONS: &[&[&str]] = &[
     &["farm", "a", "b", "--workers", "7", "--queue", "9"],
     &["farm", "--queue", "9", "--workers", "7", "a", "b"],
@@ -83,8 +88,8 @@ const OPTIONS: &[&[&str]] = &[
 
 #[test]
 fn options_stand_anywhere(rt: HostRuntime) {
-    for words in OPTIONS {
-        assert!(&rt; ask_for_farm(rt.alloc(), words, (7, 9)), "{words:?}");
+    for arguments in OPTIONS {
+        assert_farm(&rt, arguments, (7, 9));
     }
 }
 
@@ -108,9 +113,9 @@ const MISTAKES: &[(&[&str], &str)] = &[
 ];
 
 #[test]
-fn mistakes_are_told_with_a_hint(rt: HostRuntime) {
-    for (words, text) in MISTAKES {
-        assert!(&rt; are_mistaken(rt.alloc(), words, text), "{words:?}");
+fn mistakes_are_reported_with_a_hint(rt: HostRuntime) {
+    for (arguments, text) in MISTAKES {
+        assert_mistaken(&rt, arguments, text);
     }
 }
 
@@ -128,9 +133,9 @@ const REFUSED: &[&[&str]] = &[
 
 #[test]
 fn other_mistakes_are_refused(rt: HostRuntime) {
-    for words in REFUSED {
-        let refused = matches!(read(rt.alloc(), words), Err(WordsFault::Usage(_)));
-        assert!(&rt; refused, "{words:?}");
+    for arguments in REFUSED {
+        let read = read(rt.alloc(), arguments);
+        assert!(&rt; matches!(read, Err(WordsFault::Usage(_))), "{arguments:?}: {read:?}");
     }
 }
 
@@ -147,8 +152,8 @@ const SHOWN: &[(&[&str], &str)] = &[
 
 #[test]
 fn help_and_version_are_shown(rt: HostRuntime) {
-    for (words, text) in SHOWN {
-        assert!(&rt; ask_for_text(rt.alloc(), words, text), "{words:?}");
+    for (arguments, text) in SHOWN {
+        assert_text(&rt, arguments, text);
     }
 }
 

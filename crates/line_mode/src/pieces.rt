@@ -1,0 +1,94 @@
+//! The replies to a long input, whose pieces are replied to at once.
+ghost use Rattle.std.specs.Prelude.{◌≡◌, ◌≤◌, ◌∷◌, ◌++◌, ℕ, List, [], IfOk, IfSome, length, take, drop};
+ghost use Rattle.line_mode.specs.LineMode.{input_limit};
+ghost use Rattle.line_mode.specs.Replies.{Answers, IsCut};
+
+use crate::replies::{Replies, reply_to_lines};
+use crate::scanning::find_byte;
+use std::alloc::{AllocError, Global};
+use std::thread::{Threads, join};
+
+// An input of fewer bytes isn't worth a thread.
+const LEAST_PIECES: usize = 262_144;
+
+/// The replies to the lines of an input: those of a long one in four pieces, each in a thread of its own. Where no thread can be
+/// started the pieces follow one another.
+pub(crate) fn reply_in_pieces<R: Threads + Sync>(
+    rt: &R,
+    alloc: Global,
+    input: &[u8],
+) -> Result<Replies, AllocError>
+    requires { length input.now ≤ input_limit }
+    ensures { IfOk result (Answers input.now) }
+{
+    let Some(cut) = cut_of(input) else {
+        return reply_to_lines(alloc, input);
+    };
+    let front = &input[..cut];
+    let back = &input[cut..];
+    let (first, second) = join(
+        rt,
+        || -> Result<Replies, AllocError>
+            requires { length front.now ≤ input_limit }
+            ensures { IfOk result (Answers front.entry.now) }
+        { reply_in_two(rt, alloc, front) },
+        || -> Result<Replies, AllocError>
+            requires { length back.now ≤ input_limit }
+            ensures { IfOk result (Answers back.entry.now) }
+        { reply_in_two(rt, alloc, back) },
+    );
+    joined(input, cut, first?, &second?)
+}
+
+// The replies to an input, of a long one in two pieces.
+fn reply_in_two<R: Threads + Sync>(
+    rt: &R,
+    alloc: Global,
+    input: &[u8],
+) -> Result<Replies, AllocError>
+    requires { length input.now ≤ input_limit }
+    ensures { IfOk result (Answers input.now) }
+{
+    let Some(cut) = cut_of(input) else {
+        return reply_to_lines(alloc, input);
+    };
+    let front = &input[..cut];
+    let back = &input[cut..];
+    let (first, second) = join(
+        rt,
+        || -> Result<Replies, AllocError>
+            requires { length front.now ≤ input_limit }
+            ensures { IfOk result (Answers front.entry.now) }
+        { reply_to_lines(alloc, front) },
+        || -> Result<Replies, AllocError>
+            requires { length back.now ≤ input_limit }
+            ensures { IfOk result (Answers back.entry.now) }
+        { reply_to_lines(alloc, back) },
+    );
+    joined(input, cut, first?, &second?)
+}
+
+// The replies to two pieces of an input, one after the other.
+fn joined(input: &[u8], cut: usize, first: Replies, second: &Replies) -> Result<Replies, AllocError>
+    requires limit { length input.now ≤ input_limit }
+    requires cut { IsCut input.now cut }
+    requires first { Answers (take cut input.now) first }
+    requires second { Answers (drop cut input.now) second.now }
+    ensures { IfOk result (Answers input.now) }
+{
+    let mut replies = first;
+    replies.append(second)?;
+    Ok(replies)
+}
+
+// Where an input is cut in two, which is after a line feed, if it is long.
+fn cut_of(input: &[u8]) -> Option<usize>
+    ensures { IfSome result (IsCut input.now) }
+{
+    if input.len() < LEAST_PIECES {
+        return None;
+    }
+    let half = input.len() / 2;
+    let end = find_byte(&input[half..], b'\n')?;
+    Some(half + end + 1)
+}
