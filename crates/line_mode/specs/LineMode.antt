@@ -57,8 +57,10 @@ StopsReading before after OutOfMemory = Unit {0}
 
 -- what a fault tells of the reader and the writer: nothing is written before all input was read
 abbrev pub Explains : Option (List ℕ) → Option (List ℕ) → Option (List ℕ) → Option (List ℕ) → LineFault → Type 0
-Explains input_before input_after output_before output_after InputTooLong = ReadsPastLimit input_before input_after × Keeps output_before output_after
-Explains input_before input_after output_before output_after Device = Keeps output_before output_after ⊎ ((input : List ℕ) × IsWholeInput input_before input_after input)
+Explains input_before input_after output_before output_after InputTooLong =
+    ReadsPastLimit input_before input_after × Keeps output_before output_after
+Explains input_before input_after output_before output_after Device =
+    Keeps output_before output_after ⊎ ((input : List ℕ) × IsWholeInput input_before input_after input)
 Explains input_before input_after output_before output_after OutOfMemory = Keeps output_before output_after
 
 -- ---- numbers

@@ -27,7 +27,11 @@ fn assert_farm(rt: &(impl Abort + AllocGlobal), arguments: &[&str], wanted: (usi
                 queue,
             },
         ) => {
-            assert_eq!(rt; (input.as_str(), output.as_str()), ("a", "b"), "{arguments:?}");
+            assert_eq!(rt;
+                (input.as_str(), output.as_str()),
+                ("a", "b"),
+                "{arguments:?}"
+            );
             assert_eq!(rt; (workers, queue), wanted, "{arguments:?}");
         }
         other => panic!(rt; "{arguments:?}: {other:?}"),
@@ -135,7 +139,10 @@ const REFUSED: &[&[&str]] = &[
 fn other_mistakes_are_refused(rt: HostRuntime) {
     for arguments in REFUSED {
         let read = read(rt.alloc(), arguments);
-        assert!(&rt; matches!(read, Err(WordsFault::Usage(_))), "{arguments:?}: {read:?}");
+        assert!(&rt;
+            matches!(read, Err(WordsFault::Usage(_))),
+            "{arguments:?}: {read:?}"
+        );
     }
 }
 

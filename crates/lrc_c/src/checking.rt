@@ -63,8 +63,8 @@ pub(crate) fn write_coupled_if_zero(
     write_checked(checks, wants, couples, len, a, b, c, d)
 }
 
-/// The same without pairs: tests whether four combinations of lent bytes are 00 at every place, and writes what is wanted, in one pass. Where
-/// some combination isn't 00 the rooms are written up to some place, and the answer is false.
+/// The same without pairs: tests whether four combinations of lent bytes are 00 at every place, and writes what is wanted, in one pass.
+/// Where some combination isn't 00 the rooms are written up to some place, and the answer is false.
 pub(crate) fn write_if_zero(
     rows: [[Gf; 16]; 4],
     at: &[Lent; 16],

@@ -7,7 +7,8 @@ ghost use Rattle.lrc_code.specs.Sets.{is_in};
 ghost use Rattle.lrc_c.specs.Arguments.{AreWhole, is_set};
 ghost use Rattle.lrc_c.specs.Lent.{lent};
 ghost use Rattle.lrc_c.specs.Paired.{ArePairsOf};
-ghost use Rattle.lrc_c.specs.RebuiltMany.{AreAllAsked, AreAnswered, AreBothSums, IsAimed, IsAsked, IsLostOf, IsReady, IsTargetOf, IsTermRow, IsTold, IsUsedRow, IsWantedOf, status_at};
+ghost use Rattle.lrc_c.specs.RebuiltMany.{AreAllAsked, AreAnswered, AreBothSums, IsAimed, IsAsked, IsLostOf, IsReady, IsTargetOf};
+ghost use Rattle.lrc_c.specs.RebuiltMany.{IsTermRow, IsTold, IsUsedRow, IsWantedOf, status_at};
 
 use crate::arguments::{are_whole, code_numbered, set_of};
 use crate::checking::{are_sixteen, bytes_of, write_coupled_if_zero};
@@ -292,11 +293,15 @@ pub extern "C" fn lrc_rebuild_many_into(
     d: &mut [u8],
     statuses: &mut [u32; 4],
 ) -> u32
-    ensures answer { (o : Code) → AreAllAsked code survivors (lent at.now) len targets.now (length a.old) (length b.old) (length c.old) (length d.old) o
+    ensures answer { (o : Code) → AreAllAsked code survivors (lent at.now) len targets.now (length a.old) (length b.old) (length c.old)
+        (length d.old) o
         → AreAnswered o (is_set survivors) (lent at.now) len targets.now statuses.new a.new b.new c.new d.new }
-    ensures greatest { (o : Code) → AreAllAsked code survivors (lent at.now) len targets.now (length a.old) (length b.old) (length c.old) (length d.old) o
-        → result ≡ max (max (slice_index statuses.new 0) (slice_index statuses.new 1)) (max (slice_index statuses.new 2) (slice_index statuses.new 3)) }
-    ensures refused { ((o : Code) → ¬ AreAllAsked code survivors (lent at.now) len targets.now (length a.old) (length b.old) (length c.old) (length d.old) o)
+    ensures greatest { (o : Code) → AreAllAsked code survivors (lent at.now) len targets.now (length a.old) (length b.old) (length c.old)
+        (length d.old) o
+        → result ≡ max (max (slice_index statuses.new 0) (slice_index statuses.new 1))
+        (max (slice_index statuses.new 2) (slice_index statuses.new 3)) }
+    ensures refused { ((o : Code) → ¬ AreAllAsked code survivors (lent at.now) len targets.now (length a.old) (length b.old) (length c.old)
+        (length d.old) o)
         → (result ≡ 3) × (statuses.new ≡ statuses.old) × (a.new ≡ a.old) × (b.new ≡ b.old) × (c.new ≡ c.old) × (d.new ≡ d.old) }
 {
     let Some(own) = code_numbered(code) else {

@@ -1,5 +1,6 @@
 -- What holds of the tables of both codes.
-use Rattle.std.proofs.Common.{◌≡◌, ℕ, true, false, Bool, Some, List, [], ◌∷◌, length, map, get_or, slice_index, refl, sym, ◌∙◌, ap, ap₂, cond, All, nat_lt}
+use Rattle.std.proofs.Common.{◌≡◌, ℕ, true, false, Bool, Some, List, [], ◌∷◌, length, map, get_or, slice_index, refl, sym, ◌∙◌, ap, ap₂}
+use Rattle.std.proofs.Common.{cond, All, nat_lt}
 use Rattle.std.specs.Prelude.{if◌then◌else◌, ◌||◌}
 use Rattle.std.specs.List.{list_any}
 use Rattle.std.proofs.lemmas.List.Folds.{list_any_at}

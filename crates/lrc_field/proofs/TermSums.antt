@@ -14,7 +14,8 @@ use Rattle.lrc_field.proofs.FieldLaws.{times-one}
 
 sum_at-append : (xs ys : List Term) (i : ℕ) → sum_at (xs ++ ys) i ≡ bit_xor (sum_at xs i) (sum_at ys i)
 sum_at-append [] ys i = sym (xor_zero_l (sum_at ys i))
-sum_at-append (x ∷ xs) ys i = ap (bit_xor (product_at x i)) (sum_at-append xs ys i) ∙ sym (xor_assoc (product_at x i) (sum_at xs i) (sum_at ys i))
+sum_at-append (x ∷ xs) ys i = ap (bit_xor (product_at x i)) (sum_at-append xs ys i)
+    ∙ sym (xor_assoc (product_at x i) (sum_at xs i) (sum_at ys i))
 
 pub sum_at-snoc : (xs : List Term) (t : Term) (i : ℕ) → sum_at (xs ++ t ∷ []) i ≡ bit_xor (sum_at xs i) (product_at t i)
 sum_at-snoc xs t i = sum_at-append xs (t ∷ []) i ∙ ap (bit_xor (sum_at xs i)) (xor_zero_r (product_at t i))

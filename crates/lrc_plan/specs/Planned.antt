@@ -1,5 +1,6 @@
 -- What a plan promises.
-use Rattle.std.specs.Prelude.{◌≡◌, ℕ, Bool, true, ◌≢◌, ◌≤◌, ◌+◌, ◌↔◌, Option, IfSome, IsNone, IsSomeAnd, List, length, All, is_none, zero, suc, if◌then◌else◌, not, ◌&&◌, filter, IsSome, map}
+use Rattle.std.specs.Prelude.{◌≡◌, ℕ, Bool, true, ◌≢◌, ◌≤◌, ◌+◌, ◌↔◌, Option, IfSome, IsNone, IsSomeAnd, List, length, All, is_none, zero}
+use Rattle.std.specs.Prelude.{suc, if◌then◌else◌, not, ◌&&◌, filter, IsSome, map}
 use Rattle.lrc_code.specs.declared.places.Place.{Place}
 use Rattle.lrc_code.specs.Code.{Code, Solves}
 use Rattle.lrc_code.specs.Sums.{GivesBytes}

@@ -71,7 +71,8 @@ pub(crate) fn answer_by(
     plan: &RowPlan,
     request: &Request,
 ) -> Result<Outcome, AllocError>
-    requires { AnswerBy (tables_of request.now.code) (λ p. is_among p request.now.survivors) request.now.target plan.now.value plan.now.checks }
+    requires { AnswerBy (tables_of request.now.code) (λ p. is_among p request.now.survivors) request.now.target plan.now.value
+        plan.now.checks }
     ensures { IfOk result (IsAnswer request.now) }
 {
     recall_invariant(request);

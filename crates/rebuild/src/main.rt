@@ -69,7 +69,12 @@ fn command_words(rt: &HostRuntime) -> io::Result<Vec<String>> {
 
 // Replies to the lines of standard input on standard output, and gives the exit status.
 fn answer_lines<T: Threads + Sync>(rt: &T, system: &HostRuntime) -> u8 {
-    let answered = line_mode_in(rt, system.alloc(), &mut system.stdin(), &mut system.stdout());
+    let answered = line_mode_in(
+        rt,
+        system.alloc(),
+        &mut system.stdin(),
+        &mut system.stdout(),
+    );
     if let Err(fault) = answered {
         let _ = eprintln!(system; "E{}", fault.code());
     }

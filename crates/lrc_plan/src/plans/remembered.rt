@@ -33,7 +33,13 @@ impl Model for Known {
 
     ghost Value = { KnownPlan };
 
-    ghost view = { λ k. record { code = k.code; survivors = k.survivors; target = k.target; value = k.plan.value; checks = k.plan.checks } };
+    ghost view = { λ k. record {
+      code = k.code;
+      survivors = k.survivors;
+      target = k.target;
+      value = k.plan.value;
+      checks = k.plan.checks;
+    } };
 
     ghost invariant = { λ k. IsRowPlan (tables_of k.code) (is_in k.survivors) k.target k.plan.value k.plan.checks };
 }

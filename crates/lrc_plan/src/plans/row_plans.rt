@@ -14,8 +14,8 @@ use crate::plans::rows::{determines, row_of, row_with_pivot};
 use lrc_code::{Code, Place, PlaceSet, Reduced, reduce_in};
 use lrc_field::Gf;
 
-/// How a lost fragment is rebuilt from survivors: coefficients by the places' indexes, 00 at places that don't survive. Where the others of the
-/// target's group survive, the value reads these alone.
+/// How a lost fragment is rebuilt from survivors: coefficients by the places' indexes, 00 at places that don't survive. Where the others of
+/// the target's group survive, the value reads these alone.
 #[derive(Clone, Copy)]
 pub struct RowPlan {
     /// What the survivors' bytes are multiplied with to give the target's byte; none where two stripes with the same

@@ -43,5 +43,6 @@ returns-clause-terms c =
     let long = length-take-le c.loop-k.count ts (omega arith) in
     record {
       room = record { few = omega (arith, long); lengths = c.loop-k.invariant.lengths };
-      sums = λ i. c.loop-k.invariant.sums i ∙ combination-all c.args.coefficients.now (column (lent c.args.at.now) i) c.loop-k.k (omega arith);
+      sums = λ i. c.loop-k.invariant.sums i ∙ combination-all c.args.coefficients.now (column (lent c.args.at.now) i) c.loop-k.k
+          (omega arith);
     }

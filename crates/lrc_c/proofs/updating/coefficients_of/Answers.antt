@@ -20,7 +20,8 @@ coefficient_of-requires-4 c = row_fits c.args.code _ _ c.parities-rows.ensures c
 pub returns : goal.returns
 returns c =
     let along = λ (row : List ℕ). ap (λ ps. coefficient_at ps row c.args.place) c.places-places.ensures in
-    let row = λ (i : ℕ). ap (λ rows. coefficient_at (tables_of c.args.code).places (row_at rows i) c.args.place) (c.parities-rows.ensures ∙ parities_by_row c.args.code) in
+    let row = λ (i : ℕ). ap (λ rows. coefficient_at (tables_of c.args.code).places (row_at rows i) c.args.place)
+    (c.parities-rows.ensures ∙ parities_by_row c.args.code) in
     coefficients c.args.code c.args.place _ _ _ _
     (c.coefficient_of.ensures ∙ along _ ∙ row 0) (c.coefficient_of-2.ensures ∙ along _ ∙ row 1)
     (c.coefficient_of-3.ensures ∙ along _ ∙ row 2) (c.coefficient_of-4.ensures ∙ along _ ∙ row 3)

@@ -13,6 +13,8 @@ returns c =
     let whole : ℕ → ℕ = λ k. bit_xor (x k) (bit_xor (y k) (z k)) in
     let at : ℕ → ℕ = λ k. three_at c.args.first.now c.args.second.now c.args.third.now (c.args.i + k) in
     let one = λ (k : ℕ). ap₂ bit_xor (sym (times-one (x k) (c.type_inv.first (c.args.i + k)).fits))
-    (ap₂ bit_xor (sym (times-one (y k) (c.type_inv.second (c.args.i + k)).fits)) (sym (times-one (z k) (c.type_inv.third (c.args.i + k)).fits))) in
+    (ap₂ bit_xor (sym (times-one (y k) (c.type_inv.second (c.args.i + k)).fits))
+    (sym (times-one (z k) (c.type_inv.third (c.args.i + k)).fits))) in
     quad_same c.added_quad.result whole at (λ k lt. one k)
-    (c.added_quad.ensures x (λ k. bit_xor (y k) (z k)) c.load_quad-3.ensures (c.added_quad-later.ensures y z c.load_quad.ensures c.load_quad-2.ensures))
+    (c.added_quad.ensures x (λ k. bit_xor (y k) (z k)) c.load_quad-3.ensures
+    (c.added_quad-later.ensures y z c.load_quad.ensures c.load_quad-2.ensures))

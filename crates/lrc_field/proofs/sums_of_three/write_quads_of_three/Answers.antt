@@ -10,9 +10,11 @@ quads-preserved c =
     let i = c.quads.i in
     record {
       within = omega arith;
-      ahead = quad_same c.quad_of_three-next.result (λ k. sum (from + i + 128 + k)) (λ k. sum (from + (i + 128) + k)) (λ k lt. ap sum (omega arith)) c.quad_of_three-next.ensures;
+      ahead = quad_same c.quad_of_three-next.result (λ k. sum (from + i + 128 + k)) (λ k. sum (from + (i + 128) + k))
+          (λ k lt. ap sum (omega arith)) c.quad_of_three-next.ensures;
       set = c.put_quad.ensures.set (λ k. sum (from + k)) c.quads.invariant.set
-          (quad_same c.quads.sums (λ k. sum (from + i + k)) (λ k. sum (from + (i + k))) (λ k lt. ap sum (omega arith)) c.quads.invariant.ahead);
+          (quad_same c.quads.sums (λ k. sum (from + i + k)) (λ k. sum (from + (i + k)))
+          (λ k lt. ap sum (omega arith)) c.quads.invariant.ahead);
     }
 
 pub returns-clause-sums : goal.returns-clause-sums

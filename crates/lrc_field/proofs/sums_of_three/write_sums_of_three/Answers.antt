@@ -11,7 +11,8 @@ singles-preserved c =
     record {
       within = omega arith;
       set = c.put.ensures.set (λ k. sum (from + k)) c.singles.invariant.set
-          (lanes_same c.block_of_three-sums.result (λ k. sum (from + i + k)) (λ k. sum (from + (i + k))) (λ k lt. ap sum (omega arith)) c.block_of_three-sums.ensures);
+          (lanes_same c.block_of_three-sums.result (λ k. sum (from + i + k)) (λ k. sum (from + (i + k)))
+          (λ k lt. ap sum (omega arith)) c.block_of_three-sums.ensures);
     }
 
 pub returns-clause-sums : goal.returns-clause-sums
@@ -20,4 +21,5 @@ returns-clause-sums c = λ k lt.
     let from = c.args.from in
     let rest = length c.singles.dst - 32 in
     c.put-2.ensures.set (λ n. sum (from + n)) (λ n h. c.singles.invariant.set n (omega arith))
-    (lanes_same c.block_of_three-sums-2.result (λ n. sum (from + rest + n)) (λ n. sum (from + (rest + n))) (λ n h. ap sum (omega arith)) c.block_of_three-sums-2.ensures) k (omega arith)
+    (lanes_same c.block_of_three-sums-2.result (λ n. sum (from + rest + n)) (λ n. sum (from + (rest + n)))
+    (λ n h. ap sum (omega arith)) c.block_of_three-sums-2.ensures) k (omega arith)

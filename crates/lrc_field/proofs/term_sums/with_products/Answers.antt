@@ -12,9 +12,11 @@ returns c = λ f h.
       | then-byte-eq1 v ↦
           let one = sym c.byte.ensures ∙ v.if-byte-eq1.true in
           rw v.result-is (lanes_added c.args.sums v.load.result v.added.result f (λ k. times c.args.c (x k)) v.added.ensures h
-          (lanes_same v.load.result x (λ k. times c.args.c (x k)) (λ k lt. one_product c.args.c (x k) one (c.type_inv.bytes (c.args.i + k)).fits) v.load.ensures))
+          (lanes_same v.load.result x (λ k. times c.args.c (x k))
+          (λ k lt. one_product c.args.c (x k) one (c.type_inv.bytes (c.args.i + k)).fits) v.load.ensures))
       | else-byte-eq1 v ↦
-          rw v.result-is (lanes_added c.args.sums v.scaled.result v.added-else-byte-eq1.result f (λ k. times c.args.c (x k)) v.added-else-byte-eq1.ensures h
+          rw v.result-is (lanes_added c.args.sums v.scaled.result v.added-else-byte-eq1.result f
+          (λ k. times c.args.c (x k)) v.added-else-byte-eq1.ensures h
           (lanes_same v.scaled.result (λ k. times c.args.c (slice_index v.load-else-byte-eq1.result k)) (λ k. times c.args.c (x k))
           (λ k lt. ap (times c.args.c) (v.load-else-byte-eq1.ensures.each k lt)) (v.scaled.ensures c.args.c v.new-tables.ensures)))
     ]

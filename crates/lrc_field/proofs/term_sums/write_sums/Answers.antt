@@ -11,7 +11,8 @@ sixes-preserved c =
     record {
       within = omega arith;
       set = c.put_six.ensures.set (λ k. sum (from + k)) c.sixes.invariant.set
-          (six_same c.six_sums_at-sums.result (λ k. sum (from + i + k)) (λ k. sum (from + (i + k))) (λ k lt. ap sum (omega arith)) c.six_sums_at-sums.ensures);
+          (six_same c.six_sums_at-sums.result (λ k. sum (from + i + k)) (λ k. sum (from + (i + k)))
+          (λ k lt. ap sum (omega arith)) c.six_sums_at-sums.ensures);
     }
 
 pub singles-preserved : goal.singles-preserved
@@ -22,7 +23,8 @@ singles-preserved c =
     record {
       within = omega arith;
       set = c.put.ensures.set (λ k. sum (from + k)) c.singles.invariant.set
-          (lanes_same c.sums_at-sums.result (λ k. sum (from + i + k)) (λ k. sum (from + (i + k))) (λ k lt. ap sum (omega arith)) c.sums_at-sums.ensures);
+          (lanes_same c.sums_at-sums.result (λ k. sum (from + i + k)) (λ k. sum (from + (i + k)))
+          (λ k lt. ap sum (omega arith)) c.sums_at-sums.ensures);
     }
 
 pub returns-clause-sums : goal.returns-clause-sums
@@ -31,7 +33,8 @@ returns-clause-sums c = λ k lt.
     let from = c.args.from in
     let last = length c.singles.dst - 32 in
     c.put-2.ensures.set (λ n. sum (from + n)) (λ n h. c.singles.invariant.set n (omega arith))
-    (lanes_same c.sums_at-sums-2.result (λ n. sum (from + last + n)) (λ n. sum (from + (last + n))) (λ n h. ap sum (omega arith)) c.sums_at-sums-2.ensures) k (omega arith)
+    (lanes_same c.sums_at-sums-2.result (λ n. sum (from + last + n)) (λ n. sum (from + (last + n)))
+    (λ n h. ap sum (omega arith)) c.sums_at-sums-2.ensures) k (omega arith)
 
 pub returns-then-byte-eq1-3-clause-sums : goal.returns-then-byte-eq1-3-clause-sums
 returns-then-byte-eq1-3-clause-sums c = λ k lt.

@@ -14,7 +14,8 @@ pub returns : goal.returns
 returns c =
     let r = c.args.request.now in
     let plan = c.plan_rows-plan.result in
-    let is : IsRowPlan (tables_of r.code) (is_in c.survivors-survivors.result) r.target plan.value plan.checks = rw (sym c.code.ensures, sym c.target-target.ensures) c.plan_rows-plan.ensures in
+    let is : IsRowPlan (tables_of r.code) (is_in c.survivors-survivors.result) r.target plan.value plan.checks =
+    rw (sym c.code.ensures, sym c.target-target.ensures) c.plan_rows-plan.ensures in
     one_answer r c.recall_invariant.ensures.accepted c.recall_invariant.ensures.bytes
     (is_in c.survivors-survivors.result) c.survivors-survivors.ensures plan.value plan.checks is
     c.are_zero-possible.result c.are_zero-possible.ensures.yes c.are_zero-possible.ensures.no

@@ -25,7 +25,8 @@ returns-then-not-possible c =
 pub returns-in_ok-bytes-in-Some : goal.returns-in_ok-bytes-in-Some
 returns-in_ok-bytes-in-Some c =
     let r = c.args.request.now in
-    let by = subst (λ v. AnswerBy (tables_of r.code) (λ p. is_among p r.survivors) r.target v c.args.plan.now.checks) c.in-Some.is c.requires in
+    let by = subst (λ v. AnswerBy (tables_of r.code) (λ p. is_among p r.survivors) r.target v c.args.plan.now.checks) c.in-Some.is
+    c.requires in
     subst (λ f. IsAnswer r (Rebuilt f)) (sym c.new.ensures)
     (rebuilt r c.recall_invariant.ensures.accepted c.recall_invariant.ensures.bytes
     (λ p. is_among p r.survivors) (λ p. refl) c.args.plan.now.checks by.1
@@ -34,7 +35,8 @@ returns-in_ok-bytes-in-Some c =
 pub returns-in-None : goal.returns-in-None
 returns-in-None c =
     let r = c.args.request.now in
-    let by = subst (λ v. AnswerBy (tables_of r.code) (λ p. is_among p r.survivors) r.target v c.args.plan.now.checks) c.in-None.is c.requires in
+    let by = subst (λ v. AnswerBy (tables_of r.code) (λ p. is_among p r.survivors) r.target v c.args.plan.now.checks) c.in-None.is
+    c.requires in
     several r c.recall_invariant.ensures.accepted c.recall_invariant.ensures.bytes
     (λ p. is_among p r.survivors) (λ p. refl) c.args.plan.now.checks by.1
     (c.are_zero-possible.ensures.yes c.if-not-possible.false) by.0

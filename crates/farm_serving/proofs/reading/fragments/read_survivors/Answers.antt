@@ -3,7 +3,7 @@ use Rattle.std.proofs.lemmas.List.{map-append}
 use Rattle.lrc_code.specs.Survivors.{survivor_of, survivors_of}
 use Rattle.lrc_code.specs.declared.places.Place.{Place}
 use Rattle.lrc_code.specs.declared.places.Place.TheVariants as place
-use Rattle.lrc_code.specs.declared.requests.Fragment.{Fragment}
+use Rattle.lrc_code.specs.declared.fragments.Fragment.{Fragment}
 use Rattle.farm_lists.proofs.Parts.{part_skipped, part_taken}
 use Rattle.farm_serving.proofs.ReadSurvivors.{failures_more, kept_none, kept_some, places_more, unread_none, unread_some}
 use Rattle.farm_serving.proofs.reading.fragments.read_survivors.Goals as goal

@@ -9,7 +9,8 @@ use Rattle.lrc_plan.proofs.Values.{group_target_row, not_local}
 use Rattle.lrc_plan.proofs.plans.group_rows.local_row.Goals as goal
 
 pub cut_row-requires-clause-row : goal.cut_row-requires-clause-row
-cut_row-requires-clause-row c = group_target_row c.args.code (is_in c.args.survivors) c.args.target c.in_ok-group.field-0 c.group_row-row.result c.requires.place
+cut_row-requires-clause-row c = group_target_row c.args.code
+    (is_in c.args.survivors) c.args.target c.in_ok-group.field-0 c.group_row-row.result c.requires.place
     (sym c.in_ok-group.ensures) c.group_row-row.ensures c.if-determines.ensures.yes
 
 pub returns-then-determines : goal.returns-then-determines

@@ -1,7 +1,7 @@
 use Rattle.std.proofs.Common.{◌≤◌, length, drop}
 use Rattle.lrc_code.specs.Requests.{AreSources}
 use Rattle.lrc_code.specs.Survivors.{survivors_of}
-use Rattle.lrc_code.proofs.requests.sources_of.Given as goal
+use Rattle.lrc_code.proofs.fragments.sources_of.Given as goal
 
 abbrev pub invariant-fragments : goal.invariant-fragments
 invariant-fragments l = record {

@@ -1,10 +1,10 @@
 use Rattle.std.proofs.Common.{◌≡◌, ◌+◌, ◌-◌, ◌<◌, ◌∙◌, ap, sym, subst, set, drop, length, arith}
-use Rattle.lrc_code.specs.declared.requests.Fragment.{Fragment}
+use Rattle.lrc_code.specs.declared.fragments.Fragment.{Fragment}
 use Rattle.lrc_code.specs.Places.{index_of}
 use Rattle.lrc_code.specs.Requests.{AreSources}
 use Rattle.lrc_code.specs.Survivors.{survivors_of}
 use Rattle.lrc_code.proofs.SourceLists.{sources_more}
-use Rattle.lrc_code.proofs.requests.sources_of.Goals as goal
+use Rattle.lrc_code.proofs.fragments.sources_of.Goals as goal
 
 pub fragments-preserved : goal.fragments-preserved
 fragments-preserved c =
