@@ -25,7 +25,34 @@ returns c = λ len h.
     subst (λ t. IsEncoding wide len t (copies ++ parities)) (sym is)
     (encoding Wide len copies c.in_ok-px.px.items c.in_ok-py.py.items c.in_ok-p0.p0.items c.in_ok-p1.p1.items refl
     (subst (HaveLength len) is h)
-    (All-from_recursion AreBytes copies (c.in_ok-x0.ensures.bytes, (c.in_ok-x1.ensures.bytes, (c.in_ok-x2.ensures.bytes, (c.in_ok-x3.ensures.bytes, (c.in_ok-x4.ensures.bytes, (c.in_ok-x5.ensures.bytes, (c.in_ok-y0.ensures.bytes, (c.in_ok-y1.ensures.bytes, (c.in_ok-y2.ensures.bytes, (c.in_ok-y3.ensures.bytes, (c.in_ok-y4.ensures.bytes, (c.in_ok-y5.ensures.bytes, tt)))))))))))))
+    (All-from_recursion AreBytes copies (
+      c.in_ok-x0.ensures.bytes,
+      (
+        c.in_ok-x1.ensures.bytes,
+        (
+          c.in_ok-x2.ensures.bytes,
+          (
+            c.in_ok-x3.ensures.bytes,
+            (
+              c.in_ok-x4.ensures.bytes,
+              (
+                c.in_ok-x5.ensures.bytes,
+                (
+                  c.in_ok-y0.ensures.bytes,
+                  (
+                    c.in_ok-y1.ensures.bytes,
+                    (
+                      c.in_ok-y2.ensures.bytes,
+                      (c.in_ok-y3.ensures.bytes, (c.in_ok-y4.ensures.bytes, (c.in_ok-y5.ensures.bytes, tt))),
+                    ),
+                  ),
+                ),
+              ),
+            ),
+          ),
+        ),
+      ),
+    ))
     (record {
       ix = subst (λ t. IsParity (row_at (parity_rows Wide) 0) t len c.in_ok-px.px.items) is (c.in_ok-px.ensures len h);
       iy = subst (λ t. IsParity (row_at (parity_rows Wide) 1) t len c.in_ok-py.py.items) is (c.in_ok-py.ensures len h);
