@@ -26,7 +26,11 @@ pub(crate) fn assert_replies(
 }
 
 /// Asserts the reply to a line, each without its line feed: a refusal where the reply says so, else an answer.
-pub(crate) fn assert_reply(rt: &(impl Abort + AllocGlobal), line: &[u8], reply: &[u8]) -> Result<(), AllocError> {
+pub(crate) fn assert_reply(
+    rt: &(impl Abort + AllocGlobal),
+    line: &[u8],
+    reply: &[u8],
+) -> Result<(), AllocError> {
     let refused = if reply.starts_with(b"refused") { 1 } else { 0 };
     let input = ended(rt.alloc(), line)?;
     let text = ended(rt.alloc(), reply)?;

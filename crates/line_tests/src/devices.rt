@@ -161,7 +161,11 @@ fn ends_at_failed_reads(rt: HostRuntime) {
             let reading = Calls::OneFails(k, ErrorKind::Other);
             let run = run_ten(rt.alloc(), most, reading, Calls::AllWork);
             assert_faulty(&rt, &run);
-            assert_eq!(rt; (run.text.len(), run.writes), (0, 0), "read {k}, {most} at a call");
+            assert_eq!(rt;
+                (run.text.len(), run.writes),
+                (0, 0),
+                "read {k}, {most} at a call"
+            );
         }
     }
 }
@@ -176,7 +180,10 @@ fn ends_at_failed_writes(rt: HostRuntime) {
             let writing = Calls::OneFails(k, ErrorKind::Other);
             let run = run_ten(rt.alloc(), most, Calls::AllWork, writing);
             assert_faulty(&rt, &run);
-            assert!(rt; TEN_REPLIES.starts_with(&run.text), "write {k}, {most} at a call");
+            assert!(rt;
+                TEN_REPLIES.starts_with(&run.text),
+                "write {k}, {most} at a call"
+            );
         }
     }
 }

@@ -36,7 +36,11 @@ fn assert_answer(
     let mut output = Vec::new(rt.alloc());
     let answer = line_mode(rt.alloc(), &mut LineFeeds { left, most }, &mut output);
     assert_eq!(rt; answer, wanted, "{left} bytes, {most} at a call");
-    assert_eq!(rt; line_status(&answer), status, "{left} bytes, {most} at a call");
+    assert_eq!(rt;
+        line_status(&answer),
+        status,
+        "{left} bytes, {most} at a call"
+    );
     assert_eq!(rt; output.len(), 0, "{left} bytes, {most} at a call");
 }
 

@@ -33,7 +33,11 @@ fn assert_replies_in<R: Threads + Abort + Sync>(
     let mut output = Vec::new(alloc);
     let mut rest = input.as_bytes();
     let answer = line_mode_in(rt, alloc, &mut rest, &mut output);
-    assert!(rt; output.as_slice() == text.as_bytes(), "{} bytes", input.len());
+    assert!(rt;
+        output.as_slice() == text.as_bytes(),
+        "{} bytes",
+        input.len()
+    );
     assert_eq!(rt; answer, Ok(count), "{} bytes", input.len());
 }
 
@@ -62,7 +66,13 @@ fn long_lines_are_not_cut(rt: HostRuntime) -> Result<(), AllocError> {
         answered: 1,
         refused: 1,
     };
-    assert_replies_in(&rt, rt.alloc(), input.as_str(), "several\nrefused E22\n", refused);
+    assert_replies_in(
+        &rt,
+        rt.alloc(),
+        input.as_str(),
+        "several\nrefused E22\n",
+        refused,
+    );
     input.push_str("\na x0 1")?;
     let answered = LineCount {
         answered: 2,

@@ -27,7 +27,11 @@ fn assert_farm(rt: &(impl Abort + AllocGlobal), arguments: &[&str], wanted: (usi
                 queue,
             },
         ) => {
-            assert_eq!(rt; (input.as_str(), output.as_str()), ("a", "b"), "{arguments:?}");
+            assert_eq!(rt;
+                (input.as_str(), output.as_str()),
+                ("a", "b"),
+                "{arguments:?}"
+            );
             assert_eq!(rt; (workers, queue), wanted, "{arguments:?}");
         }
         other => panic!(rt; "{arguments:?}: {other:?}"),
@@ -96,7 +100,8 @@ fn options_stand_anywhere(rt: HostRuntime) {
 const MISTAKES: &[(&[&str], &str)] = &[
     (
         &["farm", "a"],
-        "error: the following required arguments were not provided:\n  <OUT>\n\nUsage: rebuild farm [OPTIONS] <IN> <OUT>\n\nFor more information, try '--help'.\n",
+        "error: the following required arguments were not provided:\n  <OUT>\n\n\
+Usage: rebuild farm [OPTIONS] <IN> <OUT>\n\nFor more information, try '--help'.\n",
     ),
     (
         &["farm", "a", "b", "--queue", "65536"],
@@ -104,7 +109,8 @@ const MISTAKES: &[(&[&str], &str)] = &[
     ),
     (
         &["shelf"],
-        "error: unrecognized subcommand 'shelf'\n\n  tip: a similar subcommand exists: 'help'\n\nUsage: rebuild [COMMAND]\n\nFor more information, try '--help'.\n",
+        "error: unrecognized subcommand 'shelf'\n\n  tip: a similar subcommand exists: 'help'\n\n\
+Usage: rebuild [COMMAND]\n\nFor more information, try '--help'.\n",
     ),
     (
         &["--"],
@@ -135,7 +141,10 @@ const REFUSED: &[&[&str]] = &[
 fn other_mistakes_are_refused(rt: HostRuntime) {
     for arguments in REFUSED {
         let read = read(rt.alloc(), arguments);
-        assert!(&rt; matches!(read, Err(WordsFault::Usage(_))), "{arguments:?}: {read:?}");
+        assert!(&rt;
+            matches!(read, Err(WordsFault::Usage(_))),
+            "{arguments:?}: {read:?}"
+        );
     }
 }
 
