@@ -4,14 +4,14 @@
 # The processor level that programs are built for: v3 has 32-byte vectors (AVX2), v2 those of 16 bytes.
 CPU := $(shell grep -q avx2 /proc/cpuinfo && echo x86-64-v3 || echo x86-64-v2)
 
-# Where `make install` puts the program, its manual pages and its completions; DESTDIR stands in front, for those who pack them.
+# Where `make install` puts the program, its manual pages and its completions; DESTDIR comes before it, for those who pack them.
 PREFIX := /usr/local
 DESTDIR :=
 PLACE = $(DESTDIR)$(PREFIX)
 # The modules of rebuild-lists, below its prefix.
 MODULES := share/rebuild-lists/rebuild_lists
 
-# The C library's version, which its header tells; the first number of the shared object's name changes with its calls.
+# The C library's version, which its header says; the first number of the shared object's name changes with its calls.
 LIBRARY_VERSION := $(shell sed -n 's/^.define LRC_VERSION "\(.*\)"$$/\1/p' include/lrc.h)
 SONAME := liblrc.so.0
 # TARGET=aarch64-unknown-linux-gnu has the library built, and installed, for another kind of processor. The shared object is linked by
@@ -100,9 +100,9 @@ uninstall-ceph:
 try-ceph: ceph
 	scripts/try-ceph.sh
 
-# What the gate runs behind the proofs, over the programs and tests that they leave in each crate's out/. No two of these share a file
+# What the gate runs after the proofs, over the programs and tests that they leave in each crate's out/. No two of these share a file
 # that one of them writes, so several run at once.
-BEHIND := refusals.py try.sh no-compile.sh reference-lines.sh ends.sh demo.sh examples.py manual.sh completions.sh install.sh \
+AFTER := refusals.py try.sh no-compile.sh reference-lines.sh ends.sh demo.sh examples.py manual.sh completions.sh install.sh \
   version.sh numbers.py growth.py memory.py companion-test.py ceph.sh
 
 # library.sh builds in a copy of its own, so it runs beside the proofs.
@@ -111,15 +111,15 @@ test:
 	scripts/architecture.py
 	scripts/sweep.py
 	@$(MAKE) --no-print-directory -j2 proofs library.sh
-	@$(MAKE) --no-print-directory --output-sync=target -j$(shell nproc) $(BEHIND)
+	@$(MAKE) --no-print-directory --output-sync=target -j$(shell nproc) $(AFTER)
 
 # A proof was seen to take 3 GB at most, less than rt allows for, so RT_JOBS has it run one on each processor.
 proofs:
 	scripts/build.py settle
-	RT_JOBS=$(shell nproc) rt ci
+	RT_JOBS=$(shell nproc) scripts/timed.sh rt ci
 
-.PHONY: proofs library.sh $(BEHIND)
-library.sh $(BEHIND):
+.PHONY: proofs library.sh $(AFTER)
+library.sh $(AFTER):
 	scripts/$@
 
 wrong-bodies:

@@ -1,14 +1,17 @@
-/* Two farms in C, for their times alone: serve careful|careless IN OUT THREADS. Both rebuild by ISA-L, test each check
- * and make digests by OpenSSL.
+/* Three farms in C, for their times alone: serve careful|eight|careless IN OUT THREADS. All rebuild by ISA-L and test each
+ * check; digests are OpenSSL's, but for eight.
  *
  * The careful one keeps what ours promises of reading and writing: it reads the survivors of a batch of requests in the
  * lists' order, rebuilds and digests the batch in threads, drops the survivors and goes on; when all fragments and reports
  * are made it writes them in order. So nothing is written where a read fails.
  *
+ * The one called eight is the careful one, but makes the digests when all is rebuilt, in threads, eight of one length at once.
+ *
  * In the careless one each thread takes the next request, reads, rebuilds, digests and writes it; then the reports are
  * written. A fault in its middle leaves any of the files.
  *
  * They trust their lists, and take every request to have one answer. */
+#include "digests.h"
 #include "rebuild.h"
 #include <fcntl.h>
 #include <openssl/evp.h>
@@ -31,7 +34,7 @@ struct text {
 };
 
 static struct request *racks[MOST_RACKS], *in_order[MOST_RACKS * MOST_REQUESTS];
-static int counts[MOST_RACKS], rack_count, total, workers, batch_end;
+static int counts[MOST_RACKS], rack_count, total, workers, batch_end, by_eight;
 static const char *in, *out;
 static atomic_int next;
 
@@ -116,7 +119,12 @@ static int read_list(int rack)
     return 1;
 }
 
-/* Rebuilds a request's fragment into `rebuilt`, and digests it. `checks` is room for the checks. */
+static void digest(struct request *request, const unsigned char *rebuilt)
+{
+    EVP_Digest(rebuilt, request->asked.length, request->digest, NULL, EVP_sha256(), NULL);
+}
+
+/* Rebuilds a request's fragment into `rebuilt`, and digests it, unless that is done later. `checks` is room for the checks. */
 static void answer(struct request *request, unsigned char *rebuilt, unsigned char *checks)
 {
     unsigned char *sums[CHECK_ROWS + 1] = {rebuilt};
@@ -124,7 +132,8 @@ static void answer(struct request *request, unsigned char *rebuilt, unsigned cha
         sums[row] = checks + (row - 1) * MOST_LENGTH;
     if (rebuild(&request->asked, request->sources, sums) != REBUILT)
         stop("a request that isn't rebuilt");
-    EVP_Digest(rebuilt, request->asked.length, request->digest, NULL, EVP_sha256(), NULL);
+    if (!by_eight)
+        digest(request, rebuilt);
 }
 
 static void in_threads(void *(*work)(void *))
@@ -211,6 +220,28 @@ static void answer_in_batches(void)
     free(memory);
 }
 
+/* Digests the next eight requests, and so on: at once where their lengths are equal. */
+static void *digest_by_eight(void *unused)
+{
+    for (int first; (first = atomic_fetch_add(&next, LANES)) < total;) {
+        const unsigned char *messages[LANES];
+        unsigned char digests[LANES][DIGEST];
+        int count = total - first < LANES ? total - first : LANES, alike = count == LANES;
+        for (int i = 0; i < count; i++) {
+            messages[i] = in_order[first + i]->rebuilt;
+            alike &= in_order[first + i]->asked.length == in_order[first]->asked.length;
+        }
+        if (alike)
+            digest_eight(messages, in_order[first]->asked.length, digests);
+        for (int i = 0; i < count; i++)
+            if (alike)
+                memcpy(in_order[first + i]->digest, digests[i], DIGEST);
+            else
+                digest(in_order[first + i], messages[i]);
+    }
+    return unused;
+}
+
 /* ---- reports */
 
 static struct text report_of(int rack)
@@ -254,9 +285,10 @@ static void write_all(void)
 int main(int count, char **words)
 {
     workers = count == 5 ? atoi(words[4]) : 0;
-    int careful = count == 5 && strcmp(words[1], "careful") == 0;
+    by_eight = count == 5 && strcmp(words[1], "eight") == 0;
+    int careful = count == 5 && (by_eight || strcmp(words[1], "careful") == 0);
     if (workers < 1 || workers > MOST_THREADS || (!careful && strcmp(words[1], "careless") != 0))
-        stop("serve careful|careless IN OUT THREADS");
+        stop("serve careful|eight|careless IN OUT THREADS");
     in = words[2];
     out = words[3];
     make_inverses();
@@ -266,6 +298,9 @@ int main(int count, char **words)
         answer_in_batches();
     else
         in_threads(serve_requests);
+    atomic_store(&next, 0);
+    if (by_eight)
+        in_threads(digest_by_eight);
     write_all();
     printf("served %d racks, %d answers\n", rack_count, total);
     return 0;

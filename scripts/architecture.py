@@ -69,7 +69,8 @@ def main():
     absent = [name for name in sorted(named) if not any(file.endswith("/" + name) for file in files)]
     if absent:
         sys.exit(f"architecture: docs/ARCHITECTURE.md names files that aren't there: {', '.join(absent)}")
-    print(f"architecture: {len(list(sources()))} sources and {len(list(scripts()))} scripts say what they are for, and {len(named)} named files are there")
+    counts = len(list(sources())), len(list(scripts()))
+    print(f"architecture: {counts[0]} sources and {counts[1]} scripts say what they are for, and {len(named)} named files are there")
 
 
 main()

@@ -1,11 +1,13 @@
 #!/usr/bin/env python3
-"""Times the built program on generated folders, beside two C programs that serve them with ISA-L and OpenSSL at the same number of
-threads: a careful one that keeps our promises of reading and writing, and a careless one that writes as it goes.
+"""Times the built program on generated folders, beside three C programs that serve them with ISA-L and OpenSSL at the same number of
+threads: a careful one that keeps our promises of reading and writing, one that makes eight digests at once besides, and a careless one
+that writes as it goes.
 
     bench-farm.py LEVEL [SHAPE ..]      for a level of the processor, as x86-64-v3; the shapes by their numbers in the table, else all
 
 All runs of a shape are made in turn, and the shortest time of each is shown (BENCH_PASSES of them, 9). What the C programs leave is
-compared with what ours leaves. The folders are in memory where there is room. C programs know no feeds, so a shape with several is ours alone."""
+compared with what ours leaves. The folders are in memory where there is room. C programs know no feeds, so a
+shape with several is ours alone."""
 
 import dataclasses
 import filecmp
@@ -22,7 +24,7 @@ PASSES = int(os.environ.get("BENCH_PASSES", "9"))
 COMPILER = os.environ.get("CC", "gcc")
 # Room for the folders of the largest shape and what three farms make of it.
 ROOM = 4_000_000_000
-PEERS = ("careful", "careless")
+PEERS = ("careful", "eight", "careless")
 
 
 @dataclasses.dataclass(frozen=True)
@@ -90,7 +92,8 @@ def serve(farm, shape, scratch):
 
 def compare(farm, scratch):
     names = sorted(os.listdir(scratch / "ours"))
-    if names != sorted(os.listdir(scratch / farm)) or filecmp.cmpfiles(scratch / "ours", scratch / farm, names, shallow=False)[1:] != ([], []):
+    differing = filecmp.cmpfiles(scratch / "ours", scratch / farm, names, shallow=False)[1:]
+    if names != sorted(os.listdir(scratch / farm)) or differing != ([], []):
         sys.exit(f"bench-farm: the {farm} program leaves other files")
 
 
@@ -130,10 +133,10 @@ def main(level, numbers):
     with tempfile.TemporaryDirectory(dir=place) as folder:
         scratch = pathlib.Path(folder)
         peers = build(scratch, level)
-        print(f"\nFolders of so many racks and requests for fragments of so many bytes, half of them inside one group, in {scratch.parent}: ms from the program's")
-        print(f"start to its end, the least of {PASSES} runs in turn. A ratio is the C program's time divided by ours.\n")
-        print("| | Folder | Threads | ours | careful C | ratio | careless C | ratio | our peak MB | load |")
-        print("|---|---|---|---|---|---|---|---|---|---|")
+        print(f"\nFolders of so many racks and requests for fragments of so many bytes, half of them inside one group, in {scratch.parent}:")
+        print(f"ms from the program's start to its end, the least of {PASSES} runs in turn. A ratio is the C program's time divided by ours.\n")
+        print("| | Folder | Threads | ours | careful C | ratio | by eight | ratio | careless C | ratio | our peak MB | load |")
+        print("|---|---|---|---|---|---|---|---|---|---|---|---|")
         for number, shape in enumerate(SHAPES, 1):
             if not numbers or number in numbers:
                 print(row(number, shape, *time_shape(shape, peers, scratch)), flush=True)

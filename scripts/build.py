@@ -6,8 +6,8 @@
     build.py settle                 puts back what a build that was killed has left
 
 Crates are proved beside each other, each as soon as those that it uses are there. The crate with the longest way to the end has all
-processors, the next half of them at a lower priority, and the others one each at a lower one still. A crate whose sources, and those of the crates below it,
-are as they were when it was proved is not proved again, and a build that was interrupted goes on where it was.
+processors, the next half of them at a lower priority, and the others one each at a lower one still. A crate whose sources, and those of
+the crates below it, are as they were when it was proved is not proved again, and a build that was interrupted goes on where it was.
 
 `rt` locks every crate that it reads, so two crates above a third can't be proved at once in one place. So each is proved in a room
 of its own below out/: a copy of its sources and of those below it, with the libraries below it as hard links."""
@@ -360,7 +360,7 @@ def main(name, level, jobs):
     if build.done:
         print(f"As they were proved before: {', '.join(it.name for it in build.done)}")
     else:
-        print("The first time this takes minutes, the program more than ten on four processors; after a change what changed is proved.")
+        print("The first time this takes minutes, the program some twelve on four processors; after a change what changed is proved.")
     sys.stdout.flush()
     try:
         build.run()

@@ -154,7 +154,8 @@ for workers in 1 16; do
   ulimit -S -n "$files"
   [ "$(grep -c ',rebuilt,' "$scratch/hundred-out/rack0.report.csv")" = 100 ] || fail few-open-files 'left survivors out'
   for number in $(seq 100); do
-    cmp -s "$scratch/hundred/s$number.px" "$scratch/hundred-out/rack0-$((number - 1)).s$number.x0" || fail few-open-files "rebuilt another s$number.x0"
+    cmp -s "$scratch/hundred/s$number.px" "$scratch/hundred-out/rack0-$((number - 1)).s$number.x0" ||
+      fail few-open-files "rebuilt another s$number.x0"
   done
   rm "$scratch/hundred-out/"*
 done

@@ -43,8 +43,8 @@ quietly() {
 quietly 'make library' make -s library CPU=x86-64-v2 JOBS=1
 asked=$(nm -u "$archive" | awk 'NF == 2 && $2 != "memcpy" && $2 != "memset" { print $2 }')
 [ -z "$asked" ] || fail "the archive asks for $asked"
-exports='lrc_add lrc_apply lrc_cheapest_reads_into lrc_combine lrc_encode_into lrc_plan_into lrc_reads_into lrc_rebuild_into lrc_rebuild_many_into '
-exports+='lrc_scale_add lrc_update_into lrc_verify_at lrc_version '
+exports='lrc_add lrc_apply lrc_cheapest_reads_into lrc_combine lrc_encode_into lrc_plan_into lrc_reads_into lrc_rebuild_into '
+exports+='lrc_rebuild_many_into lrc_scale_add lrc_update_into lrc_verify_at lrc_version '
 [ "$(nm -g --defined-only "$archive" | awk 'NF == 3 { print $3 }' | LC_ALL=C sort | tr '\n' ' ')" = "$exports" ] ||
   fail "the archive has other names: $(nm -g --defined-only "$archive")"
 
@@ -154,7 +154,8 @@ fi
 if has python3 'the example in Python'; then
   quietly 'the example in Python' python3 library/examples/lrc.py "$here/lib/liblrc.so.0"
   # Imported it runs nothing, and a number that ctypes would cut to one of a code is refused.
-  quietly 'the example in Python, imported' env PYTHONPATH=library/examples PYTHONDONTWRITEBYTECODE=1 python3 - "$here/lib/liblrc.so.0" << 'END'
+  quietly 'the example in Python, imported' env PYTHONPATH=library/examples PYTHONDONTWRITEBYTECODE=1 \
+    python3 - "$here/lib/liblrc.so.0" << 'END'
 import sys
 import lrc
 try:
@@ -171,7 +172,8 @@ if has go 'the example in Go'; then
     "CGO_LDFLAGS=-L$here/lib -llrc -Wl,-rpath,$here/lib" go run .
 fi
 if has rustc 'the example in Rust'; then
-  quietly 'the example in Rust' rustc --edition 2021 --crate-type rlib --crate-name lrc -o "$scratch/liblrc_rust.rlib" library/examples/rust/src/lib.rs
+  quietly 'the example in Rust' rustc --edition 2021 --crate-type rlib --crate-name lrc -o "$scratch/liblrc_rust.rlib" \
+    library/examples/rust/src/lib.rs
   quietly 'the example in Rust' rustc --edition 2021 --extern "lrc=$scratch/liblrc_rust.rlib" -L "native=$here/lib" \
     -C "link-arg=-Wl,-rpath,$here/lib" -o "$scratch/rust" \
     library/examples/rust/examples/stripe.rs
@@ -186,7 +188,8 @@ if has aarch64-linux-gnu-gcc 'the library for ARM' && has qemu-aarch64 'the libr
     # The questions what to read take minutes under qemu.
     short=()
     [ $test = test ] || short=(-DSHORT)
-    quietly 'the tests for ARM' aarch64-linux-gnu-gcc -std=c11 -O2 "${warnings[@]}" -Iinclude ${short[@]+"${short[@]}"} -static -o "$scratch/arm" \
+    quietly 'the tests for ARM' aarch64-linux-gnu-gcc -std=c11 -O2 "${warnings[@]}" -Iinclude ${short[@]+"${short[@]}"} \
+      -static -o "$scratch/arm" \
       library/$test.c crates/lrc_c/out/$target/liblrc_c.a
     qemu-aarch64 "$scratch/arm" > "$scratch/told" || fail "on ARM: $(tail -n 1 "$scratch/told")"
     echo "library: on ARM: $(tail -n 1 "$scratch/told")"
@@ -194,7 +197,8 @@ if has aarch64-linux-gnu-gcc 'the library for ARM' && has qemu-aarch64 'the libr
   quietly 'make install-library for ARM' make -s install-library TARGET=$target "DESTDIR=$scratch/arm-root" PREFIX=$prefix
   (cd "$scratch/arm-root$prefix" && find . \( -type f -o -type l \) -printf '%P\n') | LC_ALL=C sort | diff "$scratch/wanted" - ||
     fail 'make install-library for ARM: other files came (< must come, > came)'
-  readelf -h "$scratch/arm-root$prefix/lib/liblrc.so.$version" | grep -q 'Machine: *AArch64' || fail 'the shared object for ARM is of another machine'
+  readelf -h "$scratch/arm-root$prefix/lib/liblrc.so.$version" | grep -q 'Machine: *AArch64' ||
+    fail 'the shared object for ARM is of another machine'
 fi
 cmp "$shared" crates/lrc_c/out/liblrc.so.0 || fail 'the library for ARM came over that for this machine'
 

@@ -78,7 +78,8 @@ def main():
     crates = sys.argv[1:] or sorted(it.parent.name for it in ROOT.glob("crates/*/must-fail"))
     with tempfile.TemporaryDirectory() as copy:
         copy = pathlib.Path(copy)
-        files = subprocess.run(["git", "ls-files", "-z", "--cached", "--others", "--exclude-standard"], cwd=ROOT, capture_output=True, check=True)
+        listing = ["git", "ls-files", "-z", "--cached", "--others", "--exclude-standard"]
+        files = subprocess.run(listing, cwd=ROOT, capture_output=True, check=True)
         for name in filter(None, files.stdout.decode().split("\0")):
             if (ROOT / name).exists():
                 (copy / name).parent.mkdir(parents=True, exist_ok=True)

@@ -2,8 +2,8 @@
 """Refuses the built program its memory and its threads, and sees that every run ends as it must.
 
 Each allocation is refused in a run of its own, 1, 2, 3 and so on until a run meets no refusal, and so is each thread, by
-refuse.c, which is preloaded. The threads of a run are counted, too. Then address space is limited. It runs what was built last: crates/rebuild/out/rebuild, and
-the tests out/<crate>_tests of the crates that TESTS names.
+refuse.c, which is preloaded. The threads of a run are counted, too. Then address space is limited. It runs what was built last:
+crates/rebuild/out/rebuild, and the tests out/<crate>_tests of the crates that TESTS names.
 """
 
 import collections
@@ -57,7 +57,8 @@ COUNTED = 256
 OPENING = 16_384
 PART = 1_048_576
 
-# The greatest queue. A lane of it takes two allocations of LARGE bytes or more, its items and their records, and one of the least queue none.
+# The greatest queue. A lane of it takes two allocations of LARGE bytes or more, its items and their records, and one of the least queue
+# none.
 # The demo's folder is one batch, so the farm runs once.
 MOST_QUEUE = 1_024
 LARGE = 16 * MOST_QUEUE
@@ -470,7 +471,8 @@ def compare_queues(library):
             counts[queue] = ran.large
     if counts[MOST_QUEUE] != counts[1] + 2 * LARGE_IN_LANE:
         raise Fault(f"queues: allocations of {LARGE} bytes and more by the queue: {counts}")
-    print(f"refusals queues: {counts[MOST_QUEUE] - counts[1]} more large allocations with a queue of {MOST_QUEUE} than with one of 1", flush=True)
+    more = counts[MOST_QUEUE] - counts[1]
+    print(f"refusals queues: {more} more large allocations with a queue of {MOST_QUEUE} than with one of 1", flush=True)
 
 
 def main():

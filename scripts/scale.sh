@@ -112,8 +112,8 @@ times() {
   rebuild-lists split "$timed/long.csv" "$timed/store" "$timed/work" --racks 1 --requests $((4000 / folders))
   cat <<END
 
-$folders folders of $((4000 / folders)) requests each for 64 KiB, from files in $place, each served by one worker. MB/s: 10^6 rebuilt bytes a
-second, from the start of GNU parallel to its end. The shortest of 3 times; $(nproc) processors,
+$folders folders of $((4000 / folders)) requests each for 64 KiB, from files in $place, each served by one worker. MB/s: 10^6 rebuilt
+bytes a second, from the start of GNU parallel to its end. The shortest of 3 times; $(nproc) processors,
 $(sed -n 's/^model name[[:space:]]*: //p' /proc/cpuinfo | head -n 1), load $(cut -d ' ' -f 1 /proc/loadavg).
 
 | Jobs at once | Seconds | MB/s |

@@ -1,6 +1,6 @@
 #!/usr/bin/env python3
 """Names what nothing uses: lemmas and definitions of crates/*/specs and crates/*/proofs, and `pub(crate)` items of crates/*/src that no
-other file names; and each cycle of imports among the files of a crate's src.
+other file names; each cycle of imports among the files of a crate's src; and each line and file of a crate that is too long.
 
 The answers to a function's goals and its invariants are used by the prover and not named. Imports are those that `rt tidy` has left, so a
 name that is imported is used."""
@@ -13,6 +13,9 @@ import sys
 ROOT = pathlib.Path(__file__).resolve().parent.parent
 CRATES = ROOT / "crates"
 SIGNATURE = re.compile(r"^(?:(?:abbrev|unfoldable|pub|record|data) )*([^\s:({]+)(?: .*)? : ")
+MOST_CHARACTERS = 140
+# Files of tests may have more.
+MOST_LINES = 400
 ITEM = re.compile(r"^\s*pub\(crate\) (?:fn|struct|enum|trait|type|const|static|mod) (\w+)", re.M)
 # Lines of a block that define no name.
 DIRECTIVES = {"module", "where"}
@@ -113,15 +116,32 @@ def cycles():
         for one in graph:
             for two in graph[one]:
                 if one in graph.get(two, ()) and one < two:
-                    yield f"crates/{crate.name}/src: {one.relative_to(crate / 'src')} and {two.relative_to(crate / 'src')} import each other"
+                    names = [str(it.relative_to(crate / "src")) for it in (one, two)]
+                    yield f"crates/{crate.name}/src: {names[0]} and {names[1]} import each other"
+
+
+def long_texts():
+    for crate in sorted(CRATES.iterdir()):
+        for part in ("src", "specs", "proofs"):
+            for file in sorted((crate / part).rglob("*.*t")):
+                lines = file.read_text().splitlines()
+                for number, line in enumerate(lines, 1):
+                    if len(line) > MOST_CHARACTERS:
+                        yield f"{file.relative_to(ROOT)}:{number}: a line of {len(line)} characters"
+                if part == "src" and len(lines) > MOST_LINES and not is_of_tests(file):
+                    yield f"{file.relative_to(ROOT)}: {len(lines)} lines"
+
+
+def is_of_tests(file):
+    return "tests" in file.parts or "_tests/" in str(file)
 
 
 def main():
-    found = [*unused_lemmas(), *unused_items(), *cycles()]
+    found = [*unused_lemmas(), *unused_items(), *cycles(), *long_texts()]
     print(*found, sep="\n")
     if found:
         sys.exit(f"sweep: {len(found)} things to take away")
-    print("sweep: all that is named is used, and no files import each other")
+    print("sweep: all that is named is used, and no files import each other, and no line or file is too long")
 
 
 main()

@@ -130,7 +130,8 @@ part_bench() {
 
 RELEASE=$(ceph-osd --version 2> /dev/null | sed -n 's/^ceph version \([0-9.]*\).*/\1/p' || true)
 if [ -n "$RELEASE" ]; then export RELEASE; else unset RELEASE; fi
-echo "Ceph ${RELEASE:-(no ceph-osd is installed)}; $(sed -n 's/^model name\t: //p' /proc/cpuinfo | head -n 1), $(getconf _NPROCESSORS_ONLN) processors"
+echo "Ceph ${RELEASE:-(no ceph-osd is installed)}; $(sed -n 's/^model name\t: //p' /proc/cpuinfo | head -n 1)," \
+  "$(getconf _NPROCESSORS_ONLN) processors"
 parts=("$@")
 [ $# -gt 0 ] || parts=(abi host tool pool farm reads recovery bench)
 for part in "${parts[@]}"; do

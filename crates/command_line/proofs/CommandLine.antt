@@ -1,5 +1,6 @@
 -- Lemmas on the words of the command line.
-use Rattle.std.proofs.Common.{◌≡◌, ◌∙◌, ◌<◌, ◌^◌, ◌⊎◌, ℕ, List, [], Option, Some, None, Result, Ok, Err, inl, inr, codes, refl, subst, sym, ap, option_map}
+use Rattle.std.proofs.Common.{◌≡◌, ◌∙◌, ◌<◌, ◌^◌, ◌⊎◌, ℕ, List, [], Option, Some, None, Result, Ok, Err, inl, inr, codes, refl, subst, sym}
+use Rattle.std.proofs.Common.{ap, option_map}
 use Rattle.std.specs.Option.{option_map_or}
 use Rattle.std.specs.Prelude.{IfNone, IfSome}
 use Rattle.std.proofs.lemmas.Result.{OkIff-at_err, OkIff-at_ok}
@@ -11,7 +12,8 @@ use Rattle.clap.specs.Words.{IsAmong, Row, Text, fault_of, one_text, rows_of, su
 use Rattle.clap.specs.declared.error.kind.ErrorKind.{ErrorKind}
 use Rattle.clap.specs.declared.error.kind.ErrorKind.TheVariants as kind
 use Rattle.clap.proofs.WalkLemmas.{one_text-rows}
-use Rattle.command_line.specs.Command.{Asks, HasNumber, IsNoFarm, LacksValues, MatchesFault, MatchesWords, Refuses, Shows, ShowsFault, program}
+use Rattle.command_line.specs.Command.{Asks, HasNumber, IsNoFarm, LacksValues, MatchesFault, MatchesWords, Refuses, Shows, ShowsFault}
+use Rattle.command_line.specs.Command.{program}
 use Rattle.command_line.specs.declared.words.Words.{Words}
 use Rattle.command_line.specs.declared.words.Words.TheVariants.{Lines, Farm, Help}
 use Rattle.command_line.specs.declared.words.WordsFault.{WordsFault}
@@ -45,7 +47,8 @@ pub lacks_number : (f : Found) (id : Text) (r : Option ℕ)
 lacks_number f id None value = λ n has.
     let (e, gives) = value has.text (one_text-rows f id ∙ has.is) in
     let r : Result ℕ ParseIntError = Err e in
-    OkIff-at_err r (IsWritten has.text) (digits_value 10 (without_leading_plus has.text)) e gives.0 refl (has.numeral, rw has.value has.fits)
+    OkIff-at_err r (IsWritten has.text) (digits_value 10 (without_leading_plus has.text)) e gives.0 refl
+    (has.numeral, rw has.value has.fits)
 lacks_number f id (Some v) value = tt
 
 module _ {A B C : Type 0} where
@@ -54,7 +57,8 @@ module _ {A B C : Type 0} where
 
   -- a subcommand by its name and its matches
   pub joined : (name : C → A) (rows : C → B) (o : Option C) (n : A) (rs : B)
-      → Some n ≡ option_map name o → Some rs ≡ option_map (λ (p : A × B). p.1) (option_map (both name rows) o) → option_map (both name rows) o ≡ Some (n, rs)
+      → Some n ≡ option_map name o → Some rs ≡ option_map (λ (p : A × B). p.1) (option_map (both name rows) o)
+      → option_map (both name rows) o ≡ Some (n, rs)
   joined name rows None n rs e f = cc
   joined name rows (Some b) n rs e f = let p : n ≡ name b = cc in let q : rs ≡ rows b = cc in rw (p, q) refl
 
@@ -74,13 +78,15 @@ no_farm met rows e lacks input output workers queue farm =
     lacks input output workers queue (rw same farm.values)
 
 -- what the matches ask for, the words ask for
-pub asked_by_matches : (words : List Text) (met : Option (Text × List Row)) → met ≡ subcommand_of program words → fault_of program words ≡ []
+pub asked_by_matches : (words : List Text) (met : Option (Text × List Row)) → met ≡ subcommand_of program words
+    → fault_of program words ≡ []
     → (w : Words) → MatchesWords met w → Asks w words
 asked_by_matches words met e faultless Lines h = absurd h
 asked_by_matches words met e faultless (Farm input output workers queue) h = record { faultless = faultless; farm_is = rw (← e) h }
 asked_by_matches words met e faultless (Help text) h = absurd h
 
-pub refused_by_matches : (words : List Text) (met : Option (Text × List Row)) → met ≡ subcommand_of program words → fault_of program words ≡ []
+pub refused_by_matches : (words : List Text) (met : Option (Text × List Row)) → met ≡ subcommand_of program words
+    → fault_of program words ≡ []
     → (f : WordsFault) → MatchesFault met f → Refuses f words
 refused_by_matches words met e faultless (Usage text) h = inr record { faultless = faultless; no_farm = rw (← e) h }
 refused_by_matches words met e faultless OutOfMemory h = tt
@@ -98,5 +104,6 @@ asked_by_kind words k (inr among) (Help text) (inr version) = inr (subst (λ x. 
 pub refused_by_kind : (words : List Text) (k : ErrorKind) → (k ≡ kind.OutOfMemory) ⊎ IsAmong k (fault_of program words)
     → (f : WordsFault) → ShowsFault k f → Refuses f words
 refused_by_kind words k (inl out) (Usage text) (not_help, not_version, not_out) = absurd (not_out out)
-refused_by_kind words k (inr among) (Usage text) (not_help, not_version, not_out) = inl record { mistake = k; among = among; not_help = not_help; not_version = not_version }
+refused_by_kind words k (inr among) (Usage text) (not_help, not_version, not_out) =
+    inl record { mistake = k; among = among; not_help = not_help; not_version = not_version }
 refused_by_kind words k has OutOfMemory h = tt

@@ -1,8 +1,8 @@
 -- The command line, by the matches that clap's own definition of reading gives.
 use Rattle.std.specs.Prelude.{Bool, ◌≡◌, ◌≢◌, ◌<◌, ◌∷◌, ◌^◌, ◌⊎◌, ℕ, List, [], Option, Result, Ok, Some, codes, pos, true, string_bytes}
 use Rattle.std.specs.Str.Parse.{IsNumeral, digits_value, without_leading_plus}
-use Rattle.clap.specs.Words.{App, IsAmong, Row, Rule, Shape, Text, fault_of, first_of, new_app, new_rule, one_of}
-use Rattle.clap.specs.Words.{subcommand_of, with_rule, with_subcommand}
+use Rattle.clap.specs.Words.{App, IsAmong, Row, Rule, Shape, Text, fault_of, first_of, new_app, new_rule, one_of, subcommand_of, with_rule}
+use Rattle.clap.specs.Words.{with_subcommand}
 use Rattle.clap.specs.declared.builder.value_parser.ValueParser.TheVariants.{Signed}
 use Rattle.clap.specs.declared.builder.command.Command.{Command}
 use Rattle.clap.specs.declared.builder.command.Command.TheViews.{out-Command}
@@ -21,14 +21,17 @@ folder_rule name = record (new_rule name) { required = true; value_names = 1 }
 
 -- an option with a number of at most 65,535
 abbrev pub number_rule : Text → Text → Rule
-number_rule name default =
-    record (new_rule name) { long = Some name; defaults = default ∷ []; value_names = 1; parser = Some (Signed (pos 0) (pos 65535)) }
+number_rule name default = record (new_rule name) {
+  long = Some name;
+  defaults = default ∷ [];
+  value_names = 1;
+  parser = Some (Signed (pos 0) (pos 65535));
+}
 
 -- `farm IN OUT [--workers N] [--queue Q]`
 abbrev pub farm : App
-farm =
-    let folders : App = with_rule (with_rule (new_app (codes "farm")) (folder_rule (codes "in"))) (folder_rule (codes "out")) in
-    with_rule (with_rule folders (number_rule (codes "workers") (codes "4"))) (number_rule (codes "queue") (codes "16"))
+farm = with_rule (with_rule (with_rule (with_rule (new_app (codes "farm")) (folder_rule (codes "in"))) (folder_rule (codes "out")))
+    (number_rule (codes "workers") (codes "4"))) (number_rule (codes "queue") (codes "16"))
 
 -- a command's shape, where the program's name is not among the arguments and there is a version to show
 abbrev pub program_shape : Shape → Shape

@@ -1,5 +1,6 @@
 -- One rack more has put what its feeds drew.
-use Rattle.std.proofs.Common.{◌≡◌, ◌≢◌, ℕ, suc, ◌+◌, ◌<◌, ◌&&◌, List, [], ◌∷◌, ◌++◌, length, map, refl, sym, ap, ◌∙◌, subst, inl, inr, ⊎_elim, arith, nat_eq, cond}
+use Rattle.std.proofs.Common.{◌≡◌, ◌≢◌, ℕ, suc, ◌+◌, ◌<◌, ◌&&◌, List, [], ◌∷◌, ◌++◌, length, map, refl, sym, ap, ◌∙◌, subst, inl, inr}
+use Rattle.std.proofs.Common.{⊎_elim, arith, nat_eq, cond}
 use Rattle.std.specs.List.{sum_by, All}
 use Rattle.std.proofs.lemmas.Bool.{cases_eq}
 use Rattle.std.proofs.lemmas.Bool.Decides.{nat_tests}
@@ -53,16 +54,21 @@ jobs_elsewhere rack f r k (Solve a b q ∷ js) apart all =
     omega arith
 
 -- of the jobs of a feed this holds, if it does of what they drew
-so_jobs_of : (P : ℕ → ℕ → ℕ → Asked → Type 0) (rack f : ℕ) (js : List Job) → All (IsOfFeed rack f) js → ((i : ℕ) (x : ℕ × Asked) → get_elem? (draws_of js) i ≡ some x → P rack f x.0 x.1) → Every (IsSoJob P) js
+so_jobs_of : (P : ℕ → ℕ → ℕ → Asked → Type 0) (rack f : ℕ) (js : List Job) → All (IsOfFeed rack f) js
+    → ((i : ℕ) (x : ℕ × Asked) → get_elem? (draws_of js) i ≡ some x → P rack f x.0 x.1) → Every (IsSoJob P) js
 so_jobs_of P rack f [] all so = tt
 so_jobs_of P rack f (Stop ∷ js) all so = absurd (all 0 Stop (omega arith))
 so_jobs_of P rack f (Solve a b q ∷ js) all so =
     let is = all 0 (Solve a b q) (omega arith) in
-    let Q : ℕ × ℕ → Type 0 = λ p. P p.0 p.1 b q.now in
-    (subst Q (λ i. (sym is.0 i, sym is.1 i)) (so 0 (b, q.now) refl), so_jobs_of P rack f js (λ i d low. all (suc i) d (omega arith)) (λ i. so (suc i)))
+    let Q : ℕ × ℕ → Type 0 = λ p. P p.0 p.1 b q.now in (
+      subst Q (λ i. (sym is.0 i, sym is.1 i)) (so 0 (b, q.now) refl),
+      so_jobs_of P rack f js (λ i d low. all (suc i) d (omega arith))
+          (λ i. so (suc i)),
+    )
 
 -- what holds of items by one saying holds by a weaker one
-weaker_item : (P Q : ℕ → ℕ → ℕ → Asked → Type 0) → ((r f k : ℕ) (q : Asked) → P r f k q → Q r f k q) → (x : Item Job) → IsSoItem P x → IsSoItem Q x
+weaker_item : (P Q : ℕ → ℕ → ℕ → Asked → Type 0) → ((r f k : ℕ) (q : Asked) → P r f k q → Q r f k q) → (x : Item Job) → IsSoItem P x
+    → IsSoItem Q x
 weaker_item P Q step (Value s i (Solve a b q)) so = step (slot_rack a) (slot_feed a) b q.now so
 weaker_item P Q step (Value s i Stop) so = tt
 weaker_item P Q step (End s i) so = tt
@@ -95,7 +101,8 @@ abbrev all_draws : List (PutView Job) → List Draws
 all_draws puts = map (λ (e : PutView Job). draws_of (values e.put)) puts
 
 -- one rack more
-pub puts_more : (racks : List (List (List Order))) (feeds : List (List Order)) (puts more : List (PutView Job)) → HavePut racks puts → HasDrawn (length racks) feeds more → HavePut (racks ++ feeds ∷ []) (puts ++ more)
+pub puts_more : (racks : List (List (List Order))) (feeds : List (List Order)) (puts more : List (PutView Job)) → HavePut racks puts
+    → HasDrawn (length racks) feeds more → HavePut (racks ++ feeds ∷ []) (puts ++ more)
 puts_more racks feeds puts more was new = record {
   count = count_too (length racks) new.n was.count;
   drawn = drawn_too (length racks) (all_draws more) was.drawn;
@@ -104,7 +111,8 @@ puts_more racks feeds puts more was new = record {
       each = λ r f at. ⊎_elim
           (λ old. let low = at_below racks r f old in
           let P : ℕ × List Draws → Type 0 = λ p. AreDrawn f p.0 p.1 in
-          subst P (λ i. (sym (count_old r (λ e. absurd (omega arith))) i, sym (drawn_old r (λ e. absurd (omega arith))) i)) (was.put_drawn.all_drawn.each r f old))
+          subst P (λ i. (sym (count_old r (λ e. absurd (omega arith))) i, sym (drawn_old r (λ e. absurd (omega arith))) i))
+          (was.put_drawn.all_drawn.each r f old))
           (λ (here : (r ≡ length racks) × (feeds ≡ f)).
           let P : ℕ × List Draws × List (List Order) → Type 0 = λ p. AreDrawn p.2 p.0 p.1 in
           subst P (λ i. (sym (count_new r here.0) i, sym (drawn_new r here.0) i, here.1 i)) new.are)
@@ -130,9 +138,11 @@ puts_more racks feeds puts more was new = record {
               let f = ap (once_below k) (count_old r apart) in omega arith)
         ];
     right = λ s e at. ⊎_elim
-        (λ (old : (j : ℕ) × (get_elem? puts j ≡ some e)). λ i x here. weaker_item (IsDrawnAt was.drawn) (IsDrawnAt (drawn_too (length racks) (all_draws more) was.drawn)) still x (was.put_drawn.right old.0 e old.1 i x here))
+        (λ (old : (j : ℕ) × (get_elem? puts j ≡ some e)). λ i x here. weaker_item (IsDrawnAt was.drawn)
+        (IsDrawnAt (drawn_too (length racks) (all_draws more) was.drawn)) still x (was.put_drawn.right old.0 e old.1 i x here))
         (λ (now : (j : ℕ) × (get_elem? more j ≡ some e)). job_items (IsDrawnAt (drawn_too (length racks) (all_draws more) was.drawn)) e.put
-        (so_jobs_of (IsDrawnAt (drawn_too (length racks) (all_draws more) was.drawn)) (length racks) now.0 (values e.put) (new.each now.0 e now.1)
+        (so_jobs_of (IsDrawnAt (drawn_too (length racks) (all_draws more) was.drawn)) (length racks) now.0 (values e.put)
+        (new.each now.0 e now.1)
         (λ i x here. subst (λ (l : List Draws). IsDrawnBy l now.0 x.0 x.1) (sym (drawn_new (length racks) refl))
         (draws_of (values e.put), i, at_map (λ (e : PutView Job). draws_of (values e.put)) more now.0 e now.1, here))))
         (at_either puts more s e at);
@@ -154,32 +164,38 @@ puts_more racks feeds puts more was new = record {
     still : (r f k : ℕ) (q : Asked) → IsDrawnAt was.drawn r f k q → IsDrawnAt (drawn_too (length racks) (all_draws more) was.drawn) r f k q
     still r f k q by =
         elim (cases_eq r (length racks)) [
-          | inl same ↦ absurd (let none = (was.put_drawn.all_drawn.beyond r (omega arith)).1 in some-ne-none by.0 (sym by.2 ∙ ap (λ (l : List Draws). get_elem? l f) none))
+          | inl same ↦ absurd (let none = (was.put_drawn.all_drawn.beyond r (omega arith)).1 in some-ne-none by.0
+              (sym by.2 ∙ ap (λ (l : List Draws). get_elem? l f) none))
           | inr apart ↦ subst (λ (l : List Draws). IsDrawnBy l f k q) (sym (drawn_old r apart)) by
         ]
 
     here_weight : (r k : ℕ) → r ≡ length racks → sum_by (put_weight r k) more ≡ once_below k new.n
     here_weight r k same =
         same_sums (put_weight r k) (λ (e : PutView Job). times k (drawn_numbers (draws_of (values e.put)))) more
-        (λ f e at. weigh_jobs r k e.put ∙ (ap (λ j. jobs_to j k (values e.put)) same ∙ jobs_here (length racks) f k (values e.put) (new.each f e at)))
+        (λ f e at. weigh_jobs r k e.put ∙ (ap (λ j. jobs_to j k (values e.put)) same
+        ∙ jobs_here (length racks) f k (values e.put) (new.each f e at)))
         ∙ (sym (sum_map (λ (d : Draws). times k (drawn_numbers d)) (λ (e : PutView Job). draws_of (values e.put)) more) ∙ new.are.once k)
 
     other_weight : (r k : ℕ) → (r ≡ length racks → ⊥) → sum_by (put_weight r k) more ≡ 0
-    other_weight r k apart = total_none (put_weight r k) more (λ f e at. weigh_jobs r k e.put ∙ jobs_elsewhere (length racks) f r k (values e.put) (λ e. apart (sym e)) (new.each f e at))
+    other_weight r k apart = total_none (put_weight r k) more
+        (λ f e at. weigh_jobs r k e.put ∙ jobs_elsewhere (length racks) f r k (values e.put) (λ e. apart (sym e)) (new.each f e at))
 
 -- and the end for the stops
 weighs_nothing : (r k : ℕ) (xs : List (Item Job)) → Each AsksNothing xs → sum_by (job_weight r k) xs ≡ 0
 weighs_nothing r k [] each = refl
 weighs_nothing r k (Value s i (Solve a b q) ∷ xs) each = absurd (each 0 (Value s i (Solve a b q)) refl)
-weighs_nothing r k (Value s i Stop ∷ xs) each = let a' = sum_by-cons (job_weight r k) (Value s i Stop) xs in let b' = weighs_nothing r k xs (λ j. each (suc j)) in omega arith
-weighs_nothing r k (End s i ∷ xs) each = let a' = sum_by-cons (job_weight r k) (End s i) xs in let b' = weighs_nothing r k xs (λ j. each (suc j)) in omega arith
+weighs_nothing r k (Value s i Stop ∷ xs) each = let a' = sum_by-cons (job_weight r k) (Value s i Stop) xs in
+    let b' = weighs_nothing r k xs (λ j. each (suc j)) in omega arith
+weighs_nothing r k (End s i ∷ xs) each = let a' = sum_by-cons (job_weight r k) (End s i) xs in
+    let b' = weighs_nothing r k xs (λ j. each (suc j)) in omega arith
 
 so_nothing : (P : ℕ → ℕ → ℕ → Asked → Type 0) (x : Item Job) → AsksNothing x → IsSoItem P x
 so_nothing P (Value s i (Solve a b q)) asks = absurd asks
 so_nothing P (Value s i Stop) asks = tt
 so_nothing P (End s i) asks = tt
 
-pub puts_stops : (racks : List (List (List Order))) (puts : List (PutView Job)) (stops last : PutView Job) → HavePut racks puts → HasPutStops stops last → HavePut racks (puts ++ last ∷ [])
+pub puts_stops : (racks : List (List (List Order))) (puts : List (PutView Job)) (stops last : PutView Job) → HavePut racks puts
+    → HasPutStops stops last → HavePut racks (puts ++ last ∷ [])
 puts_stops racks puts stops last was s =
     let nothing : Each AsksNothing last.put = subst (λ (u : PutView Job). Each AsksNothing u.put) (sym s.stops_is) s.nothing in
     record {
@@ -194,7 +210,8 @@ puts_stops racks puts stops last was s =
             let e : sum_by (put_weight r k) puts ≡ once_below k (was.count r) = was.put_drawn.once r k in omega arith;
         right = λ j e at. ⊎_elim
             (λ old. was.put_drawn.right j e old)
-            (λ (new : (j ≡ length puts) × (last ≡ e)). subst (λ (u : PutView Job). Each (IsSoItem (IsDrawnAt was.drawn)) u.put) new.1 (λ i x here. so_nothing (IsDrawnAt was.drawn) x (nothing i x here)))
+            (λ (new : (j ≡ length puts) × (last ≡ e)). subst (λ (u : PutView Job). Each (IsSoItem (IsDrawnAt was.drawn)) u.put) new.1
+            (λ i x here. so_nothing (IsDrawnAt was.drawn) x (nothing i x here)))
             (at_snoc_or puts last e j at);
       };
     }

@@ -34,30 +34,38 @@ use Rattle.farm_core.proofs.Settled.{there}
 use Rattle.farm_core.proofs.Merged.{map_length}
 use Rattle.farm_core.proofs.AllRacks.{puts_none, puts_more}
 
-two_sums : {A B : Type 0} (f : A → ℕ) (g : B → ℕ) (xs : List A) (ys : List B) → length xs ≡ length ys → ((k : ℕ) (x : A) (y : B) → get_elem? xs k ≡ some x → get_elem? ys k ≡ some y → f x ≡ g y) → sum_by f xs ≡ sum_by g ys
+two_sums : {A B : Type 0} (f : A → ℕ) (g : B → ℕ) (xs : List A) (ys : List B) → length xs ≡ length ys
+    → ((k : ℕ) (x : A) (y : B) → get_elem? xs k ≡ some x → get_elem? ys k ≡ some y → f x ≡ g y) → sum_by f xs ≡ sum_by g ys
 two_sums f g [] [] long same = refl
 two_sums f g [] (y ∷ ys) long same = absurd (omega arith)
 two_sums f g (x ∷ xs) [] long same = absurd (omega arith)
-two_sums f g (x ∷ xs) (y ∷ ys) long same = let a = sum_by-cons f x xs in let b = sum_by-cons g y ys in let c = same 0 x y refl refl in let d = two_sums f g xs ys (omega arith) (λ k. same (suc k)) in omega arith
+two_sums f g (x ∷ xs) (y ∷ ys) long same = let a = sum_by-cons f x xs in let b = sum_by-cons g y ys in let c = same 0 x y refl refl in
+    let d = two_sums f g xs ys (omega arith) (λ k. same (suc k)) in omega arith
 
 module _ {A : Type 0} where
   pub snoc_old : (xs : List A) (a b : A) (k : ℕ) → k < length xs → get_elem? (xs ++ a ∷ []) k ≡ some b → get_elem? xs k ≡ some b
-  snoc_old xs a b k low at = ⊎_elim (λ old. old) (λ (new : (k ≡ length xs) × (a ≡ b)). absurd (let e = new.0 in omega arith)) (at_snoc_or xs a b k at)
+  snoc_old xs a b k low at = ⊎_elim (λ old. old) (λ (new : (k ≡ length xs) × (a ≡ b)). absurd (let e = new.0 in omega arith))
+      (at_snoc_or xs a b k at)
 
   pub snoc_new : (xs : List A) (a b : A) (k : ℕ) → k ≡ length xs → get_elem? (xs ++ a ∷ []) k ≡ some b → a ≡ b
-  snoc_new xs a b k is at = ⊎_elim (λ old. absurd (let l = at_below xs k b old in omega arith)) (λ (new : (k ≡ length xs) × (a ≡ b)). new.1) (at_snoc_or xs a b k at)
+  snoc_new xs a b k is at = ⊎_elim (λ old. absurd (let l = at_below xs k b old in omega arith)) (λ (new : (k ≡ length xs) × (a ≡ b)). new.1)
+      (at_snoc_or xs a b k at)
 
 abbrev Handle : Type 0
 Handle = PromisedHandle Worked WorkOf
 
-pub joined_next : (hs : List Handle) (js : List (TakeView Job)) (rs : List (PutView Replied)) (h : Handle) (j : TakeView Job) (r : PutView Replied) → WorkersJoined hs js rs → HasWorked h.promise.0.value.jobs h.promise.0.value.replies j r → WorkersJoined (hs ++ h ∷ []) (js ++ j ∷ []) (rs ++ r ∷ [])
+pub joined_next : (hs : List Handle) (js : List (TakeView Job)) (rs : List (PutView Replied)) (h : Handle) (j : TakeView Job)
+    (r : PutView Replied) → WorkersJoined hs js rs → HasWorked h.promise.0.value.jobs h.promise.0.value.replies j r
+    → WorkersJoined (hs ++ h ∷ []) (js ++ j ∷ []) (rs ++ r ∷ [])
 joined_next hs js rs h j r was one = record {
   jobs_count = length_push js j ∙ (ap (λ n. n + 1) was.jobs_count ∙ sym (length_push hs h));
   replies_count = length_push rs r ∙ (ap (λ n. n + 1) was.replies_count ∙ sym (length_push hs h));
   each = λ k h' j' r' at_h at_j at_r. ⊎_elim
-      (λ old. let low = at_below hs k h' old in was.each k h' j' r' old (snoc_old js j j' k (let e = was.jobs_count in omega arith) at_j) (snoc_old rs r r' k (let e = was.replies_count in omega arith) at_r))
+      (λ old. let low = at_below hs k h' old in was.each k h' j' r' old (snoc_old js j j' k (let e = was.jobs_count in omega arith) at_j)
+      (snoc_old rs r r' k (let e = was.replies_count in omega arith) at_r))
       (λ (new : (k ≡ length hs) × (h ≡ h')). let e = new.0 in
-      let P : Handle × TakeView Job × PutView Replied → Type 0 = λ p. HasWorked p.0.promise.0.value.jobs p.0.promise.0.value.replies p.1 p.2 in
+      let P : Handle × TakeView Job × PutView Replied → Type 0 =
+      λ p. HasWorked p.0.promise.0.value.jobs p.0.promise.0.value.replies p.1 p.2 in
       let same_j = snoc_new js j j' k (let f = was.jobs_count in omega arith) at_j in
       let same_r = snoc_new rs r r' k (let f = was.replies_count in omega arith) at_r in
       subst P (λ i. (new.1 i, same_j i, same_r i)) one)
@@ -65,7 +73,9 @@ joined_next hs js rs h j r was one = record {
 }
 
 -- the replies of each answer what it took
-pub answered_all : (R : TakeView Job → PutView Replied → Type 0) (js : List (TakeView Job)) (rs : List (PutView Replied)) → length js ≡ length rs → ((k : ℕ) (j : TakeView Job) (r : PutView Replied) → get_elem? js k ≡ some j → get_elem? rs k ≡ some r → R j r) → AllZip R js rs
+pub answered_all : (R : TakeView Job → PutView Replied → Type 0) (js : List (TakeView Job)) (rs : List (PutView Replied))
+    → length js ≡ length rs → ((k : ℕ) (j : TakeView Job) (r : PutView Replied) → get_elem? js k ≡ some j → get_elem? rs k ≡ some r → R j r)
+    → AllZip R js rs
 answered_all R [] [] same each = tt
 answered_all R [] (r ∷ rs) same each = absurd (omega arith)
 answered_all R (j ∷ js) [] same each = absurd (omega arith)
@@ -75,7 +85,8 @@ abbrev FeederHandle : Type 0
 FeederHandle = PromisedHandle (Option Fed) FeedOf
 
 -- one feeder more is joined
-pub fed_next : (hs : List FeederHandle) (fs : List Fed) (h : FeederHandle) (f : Fed) → FeedersJoined hs fs → LeftBy h.promise.0.value f → FeedersJoined (hs ++ h ∷ []) (fs ++ f ∷ [])
+pub fed_next : (hs : List FeederHandle) (fs : List Fed) (h : FeederHandle) (f : Fed) → FeedersJoined hs fs → LeftBy h.promise.0.value f
+    → FeedersJoined (hs ++ h ∷ []) (fs ++ f ∷ [])
 fed_next hs fs h f was one = record {
   count = length_push fs f ∙ (ap (λ n. n + 1) was.count ∙ sym (length_push hs h));
   each = λ k h' f' at_h at_f. ⊎_elim
@@ -86,7 +97,8 @@ fed_next hs fs h f was one = record {
       (at_snoc_or hs h h' k at_h);
 }
 
-right_own : (id : TableId) (was : SeatRecord) (list : List Order) (all : Type 0) (o : Option TableId) (close : Option ℕ) (left : SeatRecord) (r : TableId) → o ≡ Some r → IsRightLeft id was list all o close left → r ≡ id
+right_own : (id : TableId) (was : SeatRecord) (list : List Order) (all : Type 0) (o : Option TableId) (close : Option ℕ) (left : SeatRecord)
+    (r : TableId) → o ≡ Some r → IsRightLeft id was list all o close left → r ≡ id
 right_own id was list all None close left r is said = absurd (cc)
 right_own id was list all (Some q) close left r is said = (let e : q ≡ r = cc in sym e ∙ said.0)
 
@@ -94,7 +106,8 @@ right_own id was list all (Some q) close left r is said = (let e : q ≡ r = cc 
 left_own : (gate : GateName) (f : Feeder) (fed : Fed) → f.gate.now ≡ gate → LeftBy f fed → IsOfGate gate.id fed
 left_own gate f fed same left = (
   left.gate_is ∙ (f.own.0 ∙ ap (λ (g : GateName). g.id) same),
-  λ r is. right_own f.gate.now.id f.seat.has f.list.now (_) fed.right fed.close fed.seat.has r is left.right ∙ ap (λ (g : GateName). g.id) same,
+  λ r is. right_own f.gate.now.id f.seat.has f.list.now (_) fed.right fed.close fed.seat.has r is left.right
+      ∙ ap (λ (g : GateName). g.id) same,
   left.within,
 )
 
@@ -112,39 +125,54 @@ module _ (gate : GateName) (hs : List FeederHandle) (fs : List Fed) (joined : Fe
         count = joined.count ∙ (sym long ∙ are.count);
         rights = are.rights ∙ (long ∙ sym joined.count);
         shares =
-            two_sums (λ (f : Fed). f.seat.has.share) (λ (h : FeederHandle). h.promise.0.value.seat.has.share) fs hs joined.count (λ k f h at_f at_h. (joined.each k h f at_h at_f).share_is)
+            two_sums (λ (f : Fed). f.seat.has.share) (λ (h : FeederHandle). h.promise.0.value.seat.has.share) fs hs joined.count
+            (λ k f h at_f at_h. (joined.each k h f at_h at_f).share_is)
             ∙ (sym (sum_map (λ (f : Feeder). f.seat.has.share) (λ (h : FeederHandle). h.promise.0.value) hs) ∙ are.shares);
         each = λ k list fed at_list at.
             let h = there hs k (let a = at_below fs k fed at in let b = joined.count in omega arith) in
             let f = h.0.promise.0.value in
             let is = are.each k f (at_map (λ (h : FeederHandle). h.promise.0.value) hs k h.0 h.1) in
             let same : f.list.now ≡ list = some-injective _ _ (sym is.2 ∙ at_list) in
-            let P : GateName × ℕ × ℕ × List Order → Type 0 = λ p. HasFed p.0 f.seat (slot_of p.1 p.2) p.3 f.jobs fed.seat fed.right fed.close fed.jobs in
-            (f.seat, f.jobs, f.unclosed.0, f.unclosed.1, subst P (λ i. (is.3 i, is.0 i, is.1 i, same i)) (joined.each k h.0 fed h.1 at), (let low = f.few.1 in let e = is.1 in omega arith));
+            let P : GateName × ℕ × ℕ × List Order → Type 0 =
+            λ p. HasFed p.0 f.seat (slot_of p.1 p.2) p.3 f.jobs fed.seat fed.right fed.close fed.jobs in (
+              f.seat,
+              f.jobs,
+              f.unclosed.0,
+              f.unclosed.1,
+              subst P (λ i. (is.3 i, is.0 i, is.1 i, same i))
+                  (joined.each k h.0 fed h.1 at),
+              (let low = f.few.1 in let e = is.1 in omega arith),
+            );
       }
 
 -- a list of one more has a last
-pub last_of : {A : Type 0} (xs : List A) (n : ℕ) → length xs ≡ n + 1 → (front : List A) × (x : A) × (xs ≡ front ++ x ∷ []) × (length front ≡ n)
+pub last_of : {A : Type 0} (xs : List A) (n : ℕ) → length xs ≡ n + 1 → (front : List A) × (x : A) × (xs ≡ front ++ x ∷ [])
+    × (length front ≡ n)
 last_of [] n long = absurd (omega arith)
 last_of (x ∷ []) n long = ([], x, refl, omega arith)
 last_of (x ∷ y ∷ xs) zero long = absurd (omega arith)
 last_of (x ∷ y ∷ xs) (suc n) long = let r = last_of (y ∷ xs) n (omega arith) in (x ∷ r.0, r.1, ap (λ l. x ∷ l) r.2, ap suc r.3)
 
 -- one rack more is joined
-pub racks_next : (racks : List RackFeeders) (puts more : List (PutView Job)) (r : RackFeeders) (fs : List Fed) → HavePutRacks racks puts → FeedersJoined r.handles.items fs
-    → ((rack : ℕ) (lists : List (List Order)) → AreFed r.gate.now rack lists fs → HasDrawn rack lists more) → HavePutRacks (racks ++ r ∷ []) (puts ++ more)
+pub racks_next : (racks : List RackFeeders) (puts more : List (PutView Job)) (r : RackFeeders) (fs : List Fed) → HavePutRacks racks puts
+    → FeedersJoined r.handles.items fs
+    → ((rack : ℕ) (lists : List (List Order)) → AreFed r.gate.now rack lists fs → HasDrawn rack lists more)
+    → HavePutRacks (racks ++ r ∷ []) (puts ++ more)
 racks_next racks puts more r fs was joined drawn lists are =
     let parts = last_of lists (length racks) (sym are.count ∙ length_push racks r) in
     let front = parts.0 in let feeds = parts.1 in
     let before : AreAllFeeders front racks = record {
       count = sym parts.3;
-      each = λ k feeds' r' at at_r. are.each k feeds' r' (subst (λ l. get_elem? l k ≡ some feeds') (sym parts.2) (at_front front (feeds ∷ []) k feeds' at)) (at_front racks (r ∷ []) k r' at_r);
+      each = λ k feeds' r' at at_r. are.each k feeds' r' (subst (λ l. get_elem? l k ≡ some feeds') (sym parts.2)
+          (at_front front (feeds ∷ []) k feeds' at)) (at_front racks (r ∷ []) k r' at_r);
     } in
     let here : AreRackFeeders r.gate.now (length front) feeds (feeders_of r.handles.items) =
-    are.each (length front) feeds r (subst (λ l. get_elem? l (length front) ≡ some feeds) (sym parts.2) (at_back front (feeds ∷ []) 0 feeds refl (length front) (omega arith)))
+    are.each (length front) feeds r (subst (λ l. get_elem? l (length front) ≡ some feeds) (sym parts.2)
+    (at_back front (feeds ∷ []) 0 feeds refl (length front) (omega arith)))
     (at_back racks (r ∷ []) 0 r refl (length front) (let e = parts.3 in omega arith)) in
     subst (λ (l : List (List (List Order))). HavePut l (puts ++ more)) (sym parts.2)
-    (puts_more front feeds puts more (was front before) (drawn (length front) feeds (rack_fed r.gate.now r.handles.items fs joined (length front) feeds here)))
+    (puts_more front feeds puts more (was front before) (drawn (length front) feeds
+    (rack_fed r.gate.now r.handles.items fs joined (length front) feeds here)))
 
 pub racks_none : HavePutRacks [] []
 racks_none [] are = puts_none

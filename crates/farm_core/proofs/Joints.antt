@@ -1,5 +1,6 @@
 -- The joined seat of a rack tells what its feeders drew.
-use Rattle.std.proofs.Common.{◌≡◌, ℕ, zero, suc, ◌+◌, ◌<◌, ◌||◌, ◌⊎◌, List, [], ◌∷◌, ◌++◌, length, take, map, Bool, true, false, refl, sym, ap, ◌∙◌, subst, inl, inr, ⊎_elim, arith, append-nil, length-append, Option, Some, None}
+use Rattle.std.proofs.Common.{◌≡◌, ℕ, zero, suc, ◌+◌, ◌<◌, ◌||◌, ◌⊎◌, List, [], ◌∷◌, ◌++◌, length, take, map, Bool, true, false, refl, sym}
+use Rattle.std.proofs.Common.{ap, ◌∙◌, subst, inl, inr, ⊎_elim, arith, append-nil, length-append, Option, Some, None}
 use Rattle.std.specs.List.{sum_by, All}
 use Rattle.std.specs.Option.{is_some}
 use Rattle.std.proofs.lemmas.List.{take_all}
@@ -30,7 +31,8 @@ use Rattle.farm_core.specs.declared.jobs.Job.TheVariants.{Solve, Stop}
 use Rattle.farm_core.specs.declared.threads.feeder.Fed.{Fed}
 use Rattle.farm_core.specs.Orders.{before_close, HasClose}
 use Rattle.farm_core.specs.Jobs.{IsOfRack, IsOfFeed, numbers_of, requests_of}
-use Rattle.farm_core.specs.Feed.{HasFed, IsRightLeft, AreRising, Draws, drawn_numbers, drawn_requests, DrewAll, right_back, draws_of, IsOfGate, IsJoint, AreFed, HasDrawn}
+use Rattle.farm_core.specs.Feed.{HasFed, IsRightLeft, AreRising, Draws, drawn_numbers, drawn_requests, DrewAll, right_back, draws_of}
+use Rattle.farm_core.specs.Feed.{IsOfGate, IsJoint, AreFed, HasDrawn}
 use Rattle.farm_core.proofs.Settled.{there}
 use Rattle.farm_core.proofs.Merged.{map_length}
 use Rattle.farm_core.specs.RunFeeds.{slot_of}
@@ -57,10 +59,13 @@ joint_look s = record {
 pub joint_more : (s t : SeatRecord) (parts : List SeatRecord) → IsJoint s parts → IsJoint (joined s t) (parts ++ t ∷ [])
 joint_more s t parts was = record {
   share = let a = was.share in let b = total_snoc (λ (q : SeatRecord). q.share) parts t in omega arith;
-  numbers = λ x. let a = was.numbers x in let b = total_snoc (λ (q : SeatRecord). times x q.numbers) parts t in let c = times-append x s.numbers t.numbers in omega arith;
+  numbers = λ x. let a = was.numbers x in let b = total_snoc (λ (q : SeatRecord). times x q.numbers) parts t in
+      let c = times-append x s.numbers t.numbers in omega arith;
   used = let a = was.used in let b = total_snoc (λ (q : SeatRecord). q.used) parts t in omega arith;
-  made = let a = was.made in let b = total_snoc (λ (q : SeatRecord). length q.made) parts t in let c = length-append s.made t.made in omega arith;
-  unclosed = λ none. let both = or_false s.knows t.knows none in each_snoc (λ (q : SeatRecord). q.knows ≡ false) parts t (was.unclosed both.0) both.1;
+  made = let a = was.made in let b = total_snoc (λ (q : SeatRecord). length q.made) parts t in
+      let c = length-append s.made t.made in omega arith;
+  unclosed = λ none. let both = or_false s.knows t.knows none in each_snoc (λ (q : SeatRecord). q.knows ≡ false) parts t
+      (was.unclosed both.0) both.1;
 }
 
 -- the first of the parts goes to the end
@@ -92,20 +97,24 @@ draws_length r [] all = refl
 draws_length r (Solve a b q ∷ js) all = ap suc (draws_length r js (λ k d low. all (suc k) d (omega arith)))
 draws_length r (Stop ∷ js) all = absurd (all 0 Stop (omega arith))
 
-left_back : (gate : TableId) (was : SeatRecord) (list : List Order) (all : Type 0) (right : Option TableId) (close : Option ℕ) (left : SeatRecord) → is_some right ≡ true → IsRightLeft gate was list all right close left
+left_back : (gate : TableId) (was : SeatRecord) (list : List Order) (all : Type 0) (right : Option TableId) (close : Option ℕ)
+    (left : SeatRecord) → is_some right ≡ true → IsRightLeft gate was list all right close left
     → (left.used ≡ was.used) × (left.made ≡ was.made) × (left.knows ≡ false → all × ¬ HasClose list)
 left_back gate was list all None close left back is = absurd (cc)
 left_back gate was list all (Some r) close left back is = (is.2, is.3, is.4)
 
-left_spent : (gate : TableId) (was : SeatRecord) (list : List Order) (all : Type 0) (right : Option TableId) (close : Option ℕ) (left : SeatRecord) → right ≡ None → IsRightLeft gate was list all right close left → all × HasClose list
+left_spent : (gate : TableId) (was : SeatRecord) (list : List Order) (all : Type 0) (right : Option TableId) (close : Option ℕ)
+    (left : SeatRecord) → right ≡ None → IsRightLeft gate was list all right close left → all × HasClose list
 left_spent gate was list all None close left spent is = (is.2, is.3)
 left_spent gate was list all (Some r) close left spent is = absurd (cc)
 
 -- each right came back, or some didn't
-scan : (feds : List Fed) → Each (λ (f : Fed). is_some f.right ≡ true) feds ⊎ ((k : ℕ) × (f : Fed) × (get_elem? feds k ≡ some f) × (f.right ≡ None))
+scan : (feds : List Fed) → Each (λ (f : Fed). is_some f.right ≡ true) feds
+    ⊎ ((k : ℕ) × (f : Fed) × (get_elem? feds k ≡ some f) × (f.right ≡ None))
 scan [] = inl (λ k f at. absurd (some-ne-none f (sym at)))
 scan (f ∷ feds) = ⊎_elim
-    (λ back. ⊎_elim (λ all. inl (both f feds back all)) (λ (w : (k : ℕ) × (g : Fed) × (get_elem? feds k ≡ some g) × (g.right ≡ None)). inr (suc w.0, w.1, w.2, w.3)) (scan feds))
+    (λ back. ⊎_elim (λ all. inl (both f feds back all)) (λ (w : (k : ℕ) × (g : Fed) × (get_elem? feds k ≡ some g) × (g.right ≡ None)). inr
+    (suc w.0, w.1, w.2, w.3)) (scan feds))
     (λ spent. inr (0, f, refl, spent))
     (tell f.right)
   where
@@ -113,14 +122,16 @@ scan (f ∷ feds) = ⊎_elim
     tell None = inr refl
     tell (Some r) = inl refl
 
-    both : (f : Fed) (feds : List Fed) → is_some f.right ≡ true → Each (λ (f : Fed). is_some f.right ≡ true) feds → Each (λ (f : Fed). is_some f.right ≡ true) (f ∷ feds)
+    both : (f : Fed) (feds : List Fed) → is_some f.right ≡ true → Each (λ (f : Fed). is_some f.right ≡ true) feds
+        → Each (λ (f : Fed). is_some f.right ≡ true) (f ∷ feds)
     both f feds back all zero g at = subst (λ (u : Fed). is_some u.right ≡ true) (some-injective f g at) back
     both f feds back all (suc k) g at = all k g at
 
 module _ {A : Type 0} where
   pub same_sums : (f g : A → ℕ) (xs : List A) → ((k : ℕ) (x : A) → get_elem? xs k ≡ some x → f x ≡ g x) → sum_by f xs ≡ sum_by g xs
   same_sums f g [] same = refl
-  same_sums f g (x ∷ xs) same = let a = sum_by-cons f x xs in let b = sum_by-cons g x xs in let c = same 0 x refl in let d = same_sums f g xs (λ k. same (suc k)) in omega arith
+  same_sums f g (x ∷ xs) same = let a = sum_by-cons f x xs in let b = sum_by-cons g x xs in let c = same 0 x refl in
+      let d = same_sums f g xs (λ k. same (suc k)) in omega arith
 
 module _ (gate : GateName) (rack : ℕ) (lists : List (List Order)) (feds : List Fed) (fed : AreFed gate rack lists feds) where
   abbrev draws_at : Fed → Draws
@@ -132,14 +143,16 @@ module _ (gate : GateName) (rack : ℕ) (lists : List (List Order)) (feds : List
   abbrev drawn : List Draws
   drawn = map (λ (e : PutView Job). draws_of (values e.put)) (map jobs_at feds)
 
-  vals_are : (f : Fed) (seat : SeatView) (k : ℕ) (list : List Order) (jobs : PutView Job) → (h : HasFed gate seat (slot_of rack k) list jobs f.seat f.right f.close f.jobs) → values f.jobs.put ≡ values h.put
+  vals_are : (f : Fed) (seat : SeatView) (k : ℕ) (list : List Order) (jobs : PutView Job)
+      → (h : HasFed gate seat (slot_of rack k) list jobs f.seat f.right f.close f.jobs) → values f.jobs.put ≡ values h.put
   vals_are f seat k list jobs h =
       ap (λ (e : PutView Job). values e.put) h.jobs_is
       ∙ (values-append h.put (End jobs.sender (length h.put) ∷ []) ∙ append-nil (values h.put))
 
   -- what the feeder at a place left
   at_feed : (k : ℕ) (f : Fed) → get_elem? feds k ≡ some f
-      → (list : List Order) × (get_elem? lists k ≡ some list) × (seat : SeatView) × (jobs : PutView Job) × (seat.has.used ≡ 0) × (seat.has.made ≡ []) × HasFed gate seat (slot_of rack k) list jobs f.seat f.right f.close f.jobs
+      → (list : List Order) × (get_elem? lists k ≡ some list) × (seat : SeatView) × (jobs : PutView Job) × (seat.has.used ≡ 0)
+      × (seat.has.made ≡ []) × HasFed gate seat (slot_of rack k) list jobs f.seat f.right f.close f.jobs
   at_feed k f at =
       let l = there lists k (let a = at_below feds k f at in let b = fed.count in omega arith) in
       let h = fed.each k l.0 f l.1 at in
@@ -162,21 +175,27 @@ module _ (gate : GateName) (rack : ℕ) (lists : List (List Order)) (feds : List
       let h = at_feed k f at in
       numbers_drawn (values f.jobs.put) ∙ (ap numbers_of (vals_are f h.2 k h.0 h.3 h.6) ∙ sym h.6.numbers_are)
 
-  requests_at : (k : ℕ) (f : Fed) (list : List Order) → get_elem? feds k ≡ some f → get_elem? lists k ≡ some list → drawn_requests (draws_at f) ≡ take (length (draws_at f)) (before_close list)
+  requests_at : (k : ℕ) (f : Fed) (list : List Order) → get_elem? feds k ≡ some f → get_elem? lists k ≡ some list
+      → drawn_requests (draws_at f) ≡ take (length (draws_at f)) (before_close list)
   requests_at k f list at at_list =
       let h = at_feed k f at in
       let same : h.0 ≡ list = some-injective _ _ (sym h.1 ∙ at_list) in
       let vals = vals_are f h.2 k h.0 h.3 h.6 in
       let long : length (values h.6.put) ≡ length (draws_at f) =
       sym (draws_length (slot_of rack k) (values h.6.put) h.6.rack_is) ∙ ap (λ (l : List Job). length (draws_of l)) (sym vals) in
-      requests_drawn (values f.jobs.put) ∙ (ap requests_of vals ∙ (h.6.requests_are ∙ (ap (λ n. take n (before_close h.0)) long ∙ ap (λ (l : List Order). take (length (draws_at f)) (before_close l)) same)))
+      requests_drawn (values f.jobs.put) ∙ (ap requests_of vals
+      ∙ (h.6.requests_are ∙ (ap (λ n. take n (before_close h.0)) long
+      ∙ ap (λ (l : List Order). take (length (draws_at f)) (before_close l)) same)))
 
-  drew_all : (k : ℕ) (f : Fed) (list : List Order) → get_elem? feds k ≡ some f → get_elem? lists k ≡ some list → (h : (list : List Order) × (get_elem? lists k ≡ some list) × (seat : SeatView) × (jobs : PutView Job) × (seat.has.used ≡ 0) × (seat.has.made ≡ []) × HasFed gate seat (slot_of rack k) list jobs f.seat f.right f.close f.jobs)
+  drew_all : (k : ℕ) (f : Fed) (list : List Order) → get_elem? feds k ≡ some f → get_elem? lists k ≡ some list
+      → (h : (list : List Order) × (get_elem? lists k ≡ some list) × (seat : SeatView) × (jobs : PutView Job) × (seat.has.used ≡ 0)
+      × (seat.has.made ≡ []) × HasFed gate seat (slot_of rack k) list jobs f.seat f.right f.close f.jobs)
       → length (values h.6.put) ≡ length (before_close h.0) → DrewAll (draws_at f) list
   drew_all k f list at at_list h all =
       let same : h.0 ≡ list = some-injective _ _ (sym h.1 ∙ at_list) in
       let vals = vals_are f h.2 k h.0 h.3 h.6 in
-      requests_drawn (values f.jobs.put) ∙ (ap requests_of vals ∙ (h.6.requests_are ∙ (take_all (length (values h.6.put)) (before_close h.0) (omega arith) ∙ ap before_close same)))
+      requests_drawn (values f.jobs.put) ∙ (ap requests_of vals
+      ∙ (h.6.requests_are ∙ (take_all (length (values h.6.put)) (before_close h.0) (omega arith) ∙ ap before_close same)))
 
   -- the joined seat, of which all rights that came back were spent
   pub rack_drawn : (s : SeatRecord) (back : ℕ) → IsJoint s (map (λ (f : Fed). f.seat.has) feds) → IsSound gate.size s
@@ -193,12 +212,14 @@ module _ (gate : GateName) (rack : ℕ) (lists : List (List Order)) (feds : List
           rising = λ k d at.
               let f = from_drawn k d at in
               let h = at_feed k f.0 f.1 in
-              let up : AreRising (drawn_numbers (draws_at f.0)) = subst AreRising (sym (numbers_drawn (values f.0.jobs.put) ∙ ap numbers_of (vals_are f.0 h.2 k h.0 h.3 h.6))) h.6.rising in
+              let up : AreRising (drawn_numbers (draws_at f.0)) =
+              subst AreRising (sym (numbers_drawn (values f.0.jobs.put) ∙ ap numbers_of (vals_are f.0 h.2 k h.0 h.3 h.6))) h.6.rising in
               subst (λ (l : Draws). AreRising (drawn_numbers l)) f.2 up;
           once = λ x.
               sum_map (λ (l : Draws). times x (drawn_numbers l)) (λ (e : PutView Job). draws_of (values e.put)) (map jobs_at feds)
               ∙ (sum_map (λ (e : PutView Job). times x (drawn_numbers (draws_of (values e.put)))) jobs_at feds
-              ∙ (same_sums (λ (f : Fed). times x (drawn_numbers (draws_at f))) (λ (f : Fed). times x f.seat.has.numbers) feds (λ k f at. ap (times x) (numbers_at k f at))
+              ∙ (same_sums (λ (f : Fed). times x (drawn_numbers (draws_at f))) (λ (f : Fed). times x f.seat.has.numbers) feds
+              (λ k f at. ap (times x) (numbers_at k f at))
               ∙ (sym (sum_map (λ (t : SeatRecord). times x t.numbers) (λ (f : Fed). f.seat.has) feds)
               ∙ (sym (joint.numbers x) ∙ whole.1 x))));
           prefixes = λ k list d at_list at.
@@ -206,26 +227,39 @@ module _ (gate : GateName) (rack : ℕ) (lists : List (List Order)) (feds : List
               subst (λ (l : Draws). drawn_requests l ≡ take (length l) (before_close list)) f.2 (requests_at k f.0 list f.1 at_list);
           ended = ⊎_elim
               (λ all.
-              let used : s.used ≡ 0 = joint.used ∙ (sum_map (λ (t : SeatRecord). t.used) (λ (f : Fed). f.seat.has) feds ∙ total_none (λ (f : Fed). f.seat.has.used) feds (λ k f at. let h = at_feed k f at in (left_back gate.id h.2.has h.0 _ f.right f.close f.seat.has (all k f at) h.6.right).0 ∙ h.4)) in
-              let made : length s.made ≡ 0 = joint.made ∙ (sum_map (λ (t : SeatRecord). length t.made) (λ (f : Fed). f.seat.has) feds ∙ total_none (λ (f : Fed). length f.seat.has.made) feds (λ k f at. let h = at_feed k f at in ap (λ (l : List ℕ). length l) ((left_back gate.id h.2.has h.0 _ f.right f.close f.seat.has (all k f at) h.6.right).1 ∙ h.5))) in
+              let used : s.used ≡ 0 = joint.used ∙ (sum_map (λ (t : SeatRecord). t.used) (λ (f : Fed). f.seat.has) feds
+              ∙ total_none (λ (f : Fed). f.seat.has.used) feds
+              (λ k f at. let h = at_feed k f at in (left_back gate.id h.2.has h.0 _ f.right f.close f.seat.has (all k f at) h.6.right).0
+              ∙ h.4)) in
+              let made : length s.made ≡ 0 = joint.made ∙ (sum_map (λ (t : SeatRecord). length t.made) (λ (f : Fed). f.seat.has) feds
+              ∙ total_none (λ (f : Fed). length f.seat.has.made) feds
+              (λ k f at. let h = at_feed k f at in ap (λ (l : List ℕ). length l)
+              ((left_back gate.id h.2.has h.0 _ f.right f.close f.seat.has (all k f at) h.6.right).1 ∙ h.5))) in
               let none = joint.unclosed (spent used made (came all ∙ sym fed.rights)) in
               inl (λ k list d at_list at.
               let f = from_drawn k d at in
               let h = at_feed k f.0 f.1 in
-              let told = (left_back gate.id h.2.has h.0 _ f.0.right f.0.close f.0.seat.has (all k f.0 f.1) h.6.right).2 (none k f.0.seat.has (at_map (λ (f : Fed). f.seat.has) feds k f.0 f.1)) in
-              let same : h.0 ≡ list = some-injective _ _ (sym h.1 ∙ at_list) in
-              (subst (λ l. ¬ HasClose l) same told.1, subst (λ (l : Draws). DrewAll l list) f.2 (drew_all k f.0 list f.1 at_list h told.0))))
+              let told = (left_back gate.id h.2.has h.0 _ f.0.right f.0.close f.0.seat.has (all k f.0 f.1) h.6.right).2
+              (none k f.0.seat.has (at_map (λ (f : Fed). f.seat.has) feds k f.0 f.1)) in
+              let same : h.0 ≡ list = some-injective _ _ (sym h.1 ∙ at_list) in (
+                subst (λ l. ¬ HasClose l) same told.1,
+                subst (λ (l : Draws). DrewAll l list) f.2
+                    (drew_all k f.0 list f.1 at_list h told.0),
+              )))
               (λ (w : (k : ℕ) × (f : Fed) × (get_elem? feds k ≡ some f) × (f.right ≡ None)).
               let h = at_feed w.0 w.1 w.2 in
               let told = left_spent gate.id h.2.has h.0 _ w.1.right w.1.close w.1.seat.has w.3 h.6.right in
-              let here : get_elem? drawn w.0 ≡ some (draws_at w.1) = at_map (λ (e : PutView Job). draws_of (values e.put)) (map jobs_at feds) w.0 w.1.jobs (at_map jobs_at feds w.0 w.1 w.2) in
+              let here : get_elem? drawn w.0 ≡ some (draws_at w.1) =
+              at_map (λ (e : PutView Job). draws_of (values e.put)) (map jobs_at feds) w.0 w.1.jobs (at_map jobs_at feds w.0 w.1 w.2) in
               inr (w.0, h.0, draws_at w.1, h.1, here, told.1, drew_all w.0 w.1 h.0 w.2 h.1 h told.0))
               (scan feds);
         };
         each = λ k e at.
             let f = from_map jobs_at feds k e at in
             let h = at_feed k f.0 f.1 in
-            subst (λ (u : PutView Job). All (IsOfFeed rack k) (values u.put)) f.2 (subst (λ (l : List Job). All (IsOfFeed rack k) l) (sym (vals_are f.0 h.2 k h.0 h.3 h.6)) (jobs_of_feed rack k (few_at k f.0 f.1) (values h.6.put) h.6.rack_is));
+            subst (λ (u : PutView Job). All (IsOfFeed rack k) (values u.put)) f.2
+            (subst (λ (l : List Job). All (IsOfFeed rack k) l) (sym (vals_are f.0 h.2 k h.0 h.3 h.6))
+            (jobs_of_feed rack k (few_at k f.0 f.1) (values h.6.put) h.6.rack_is));
       }
 
 -- a seat that knows a closing and spends rights makes no close
@@ -247,7 +281,8 @@ spend_next size was s s' count (Err e) spending closed = record {
 }
 
 -- so it knew of none
-pub spend_ends : (size : GateSize) (was s : SeatRecord) (count : ℕ) → IsSound size s → (was.knows ≡ true → IsSpending size was s count) → was.used ≡ 0 → length was.made ≡ 0 → count ≡ size.rights → was.knows ≡ false
+pub spend_ends : (size : GateSize) (was s : SeatRecord) (count : ℕ) → IsSound size s → (was.knows ≡ true → IsSpending size was s count)
+    → was.used ≡ 0 → length was.made ≡ 0 → count ≡ size.rights → was.knows ≡ false
 spend_ends size was s count sound spending used made all = tell was.knows (λ is.
     let p = spending is in
     let a = p.used in let b = p.made in
@@ -264,7 +299,8 @@ rights_of (f ∷ feds) = right_back f.right ++ rights_of feds
 
 pub rights_snoc : (feds : List Fed) (f : Fed) → rights_of (feds ++ f ∷ []) ≡ rights_of feds ++ right_back f.right
 rights_snoc [] f = append-nil (right_back f.right)
-rights_snoc (g ∷ feds) f = ap (λ l. right_back g.right ++ l) (rights_snoc feds f) ∙ sym (append_assoc (right_back g.right) (rights_of feds) (right_back f.right))
+rights_snoc (g ∷ feds) f = ap (λ l. right_back g.right ++ l) (rights_snoc feds f)
+    ∙ sym (append_assoc (right_back g.right) (rights_of feds) (right_back f.right))
 
 pub all_back : (feds : List Fed) → Each (λ (f : Fed). is_some f.right ≡ true) feds → length (rights_of feds) ≡ length feds
 all_back [] back = refl
@@ -279,7 +315,8 @@ all_back (f ∷ feds) back =
 
 pub rights_own : (gate : TableId) (feds : List Fed) → Each (IsOfGate gate) feds → Each (λ r. r ≡ gate) (rights_of feds)
 rights_own gate [] own = λ k r at. absurd (some-ne-none r (sym at))
-rights_own gate (f ∷ feds) own = both (right_back f.right) (rights_of feds) (one f.right (own 0 f refl).1) (rights_own gate feds (λ k. own (suc k)))
+rights_own gate (f ∷ feds) own = both (right_back f.right) (rights_of feds) (one f.right (own 0 f refl).1)
+    (rights_own gate feds (λ k. own (suc k)))
   where
     only : (q : TableId) (k : ℕ) (r : TableId) → get_elem? (q ∷ []) k ≡ some r → q ≡ gate → r ≡ gate
     only q zero r at is = sym (some-injective q r at) ∙ is

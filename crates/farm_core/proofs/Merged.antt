@@ -1,5 +1,6 @@
 -- From one reply to each number that was drawn to lawful merges of all racks.
-use Rattle.std.proofs.Common.{◌≡◌, ℕ, zero, suc, ◌<◌, ◌≤◌, List, [], ◌∷◌, ◌++◌, length, take, map, get_or, refl, sym, ap, ◌∙◌, subst, inl, inr, arith, Option, Some, None, length-append}
+use Rattle.std.proofs.Common.{◌≡◌, ℕ, zero, suc, ◌<◌, ◌≤◌, List, [], ◌∷◌, ◌++◌, length, take, map, get_or, refl, sym, ap, ◌∙◌, subst, inl}
+use Rattle.std.proofs.Common.{inr, arith, Option, Some, None, length-append}
 use Rattle.std.specs.Prelude.{IsSome}
 use Rattle.std.specs.List.{sum_by, AllZip}
 use Rattle.std.proofs.lemmas.Bool.{cases_lt}
@@ -21,7 +22,8 @@ use Rattle.farm_core.specs.RunFeeds.{slot_feed}
 use Rattle.farm_core.specs.Feed.{Draws, drawn_numbers, AreDrawn, IsDrawnBy}
 use Rattle.farm_core.specs.Expected.{AreAnswers, AreExpected}
 use Rattle.farm_core.specs.Merge.{IsLawfulMerge, IsFedAnswer, AreAllMergedAnswers}
-use Rattle.farm_core.specs.Boards.{Held, held_at, HasRoom, HasRooms, most_served, AreOneEach, filled, merge_of, AreMergedRows, IsOutcomeOf, HoldsAll}
+use Rattle.farm_core.specs.Boards.{Held, held_at, HasRoom, HasRooms, most_served, AreOneEach, filled, merge_of, AreMergedRows, IsOutcomeOf}
+use Rattle.farm_core.specs.Boards.{HoldsAll}
 use Rattle.farm_core.specs.Jobs.{IsSoReply}
 use Rattle.farm_core.specs.Settled.{AreAllDrawn, IsDrawnAt}
 use Rattle.farm_core.proofs.Settled.{there}
@@ -35,7 +37,8 @@ once_zero : (k n : ℕ) → n ≤ k → once_below k n < 1
 once_zero k n high = grind (arith, nat_tests)
 
 module _ {A B : Type 0} where
-  pub zip_places : (R : A → B → Type 0) (xs : List A) (ys : List B) → length xs ≡ length ys → ((k : ℕ) (x : A) (y : B) → get_elem? xs k ≡ some x → get_elem? ys k ≡ some y → R x y) → AllZip R xs ys
+  pub zip_places : (R : A → B → Type 0) (xs : List A) (ys : List B) → length xs ≡ length ys
+      → ((k : ℕ) (x : A) (y : B) → get_elem? xs k ≡ some x → get_elem? ys k ≡ some y → R x y) → AllZip R xs ys
   zip_places R [] [] same each = tt
   zip_places R [] (y ∷ ys) same each = absurd (omega arith)
   zip_places R (x ∷ xs) [] same each = absurd (omega arith)
@@ -68,7 +71,9 @@ all_times x (d ∷ ds) =
     let b = sum_by-cons (λ (e : Draws). times x (drawn_numbers e)) d ds in
     let c = all_times x ds in omega arith
 
-all_short : (ds : List Draws) (feeds : List (List Order)) → length ds ≡ length feeds → ((f : ℕ) (list : List Order) (d : Draws) → get_elem? feeds f ≡ some list → get_elem? ds f ≡ some d → length d ≤ length (before_close list)) → length (all_numbers ds) ≤ most_served feeds
+all_short : (ds : List Draws) (feeds : List (List Order)) → length ds ≡ length feeds
+    → ((f : ℕ) (list : List Order) (d : Draws) → get_elem? feeds f ≡ some list → get_elem? ds f ≡ some d
+    → length d ≤ length (before_close list)) → length (all_numbers ds) ≤ most_served feeds
 all_short [] [] same each = omega arith
 all_short [] (l ∷ feeds) same each = absurd (omega arith)
 all_short (d ∷ ds) [] same each = absurd (omega arith)
@@ -90,7 +95,8 @@ drawn_fit feeds n drawn are =
     let c = take_le (length d) (before_close list) in omega arith) in
     omega arith
 
-pub all_fit : (racks : List (List (List Order))) (count : ℕ → ℕ) (drawn : ℕ → List Draws) → AreAllDrawn racks count drawn → (r k : ℕ) → k < count r → HasRoom racks r k
+pub all_fit : (racks : List (List (List Order))) (count : ℕ → ℕ) (drawn : ℕ → List Draws) → AreAllDrawn racks count drawn → (r k : ℕ)
+    → k < count r → HasRoom racks r k
 all_fit racks count drawn all r k low =
     elim (cases_lt r (length racks)) [
       | inl here ↦
@@ -106,15 +112,18 @@ filled_at (None ∷ row) k e at = absurd (some-ne-none e (sym at))
 filled_at (Some x ∷ row) zero e at = ap Some (some-injective x e at)
 filled_at (Some x ∷ row) (suc k) e at = filled_at row k e at
 
-filled_count : (row : List (Option Entry)) (n : ℕ) → ((k : ℕ) → k < n → IsSome (get_or row k None)) → ((k : ℕ) → n ≤ k → get_or row k None ≡ None) → length (filled row) ≡ n
+filled_count : (row : List (Option Entry)) (n : ℕ) → ((k : ℕ) → k < n → IsSome (get_or row k None))
+    → ((k : ℕ) → n ≤ k → get_or row k None ≡ None) → length (filled row) ≡ n
 filled_count [] zero has lacks = refl
 filled_count [] (suc n) has lacks = absurd (no_some (has 0 (omega arith)))
 filled_count (None ∷ row) zero has lacks = refl
 filled_count (None ∷ row) (suc n) has lacks = absurd (no_some (has 0 (omega arith)))
 filled_count (Some x ∷ row) zero has lacks = absurd (no_some (subst (λ (o : Option Entry). IsSome o) (lacks 0 (omega arith)) refl))
-filled_count (Some x ∷ row) (suc n) has lacks = ap suc (filled_count row n (λ k low. has (suc k) (omega arith)) (λ k high. lacks (suc k) (omega arith)))
+filled_count (Some x ∷ row) (suc n) has lacks = ap suc (filled_count row n (λ k low. has (suc k) (omega arith))
+    (λ k high. lacks (suc k) (omega arith)))
 
-module _ (racks : List (List (List Order))) (count : ℕ → ℕ) (drawn : ℕ → List Draws) (all_drawn : AreAllDrawn racks count drawn) (b : Held) (xs : List Replied) (held : HoldsAll b racks xs) (each : AreOneEach count xs) (right : Each (IsSoReply (IsDrawnAt drawn)) xs) where
+module _ (racks : List (List (List Order))) (count : ℕ → ℕ) (drawn : ℕ → List Draws) (all_drawn : AreAllDrawn racks count drawn) (b : Held)
+    (xs : List Replied) (held : HoldsAll b racks xs) (each : AreOneEach count xs) (right : Each (IsSoReply (IsDrawnAt drawn)) xs) where
   -- the entry of a place is of a number that was drawn for its request
   entry_drawn : (r k : ℕ) (e : Entry) → held_at b r k ≡ Some e → IsDrawnBy (drawn r) (slot_feed e.rack) k e.request
   entry_drawn r k e is =
@@ -123,55 +132,72 @@ module _ (racks : List (List (List Order))) (count : ℕ → ℕ) (drawn : ℕ �
       let Q : ℕ × ℕ × Entry → Type 0 = λ p. IsDrawnBy (drawn p.0) (slot_feed p.2.rack) p.1 p.2.request in
       subst Q (λ i. (a.3 i, a.4 i, a.5 i)) (right a.0 y a.2)
 
-  row_merged : (r : ℕ) (feeds : List (List Order)) (row : List (Option Entry)) → get_elem? racks r ≡ some feeds → get_or b.table r [] ≡ row → IsLawfulMerge feeds (merge_of row)
+  row_merged : (r : ℕ) (feeds : List (List Order)) (row : List (Option Entry)) → get_elem? racks r ≡ some feeds → get_or b.table r [] ≡ row
+      → IsLawfulMerge feeds (merge_of row)
   row_merged r feeds row at is =
       let cell : (k : ℕ) → get_or row k None ≡ held_at b r k = (λ k. ap (λ (l : List (Option Entry)). get_or l k None) (sym is)) in
       let long : length (filled row) ≡ count r = filled_count row (count r)
-      (λ k low. subst (λ (o : Option Entry). IsSome o) (sym (cell k)) (held.some r k (let a = each r k in let c = once_pos k (count r) low in omega arith)))
+      (λ k low. subst (λ (o : Option Entry). IsSome o) (sym (cell k))
+      (held.some r k (let a = each r k in let c = once_pos k (count r) low in omega arith)))
       (λ k high. cell k ∙ held.none r k (let a = each r k in let c = once_zero k (count r) high in omega arith)) in
-      drawn_is_lawful feeds (count r) (drawn r) (all_drawn.each r feeds at) (merge_of row) (map_length (λ (e : Entry). (slot_feed e.rack, e.request)) (filled row) ∙ long)
+      drawn_is_lawful feeds (count r) (drawn r) (all_drawn.each r feeds at) (merge_of row)
+      (map_length (λ (e : Entry). (slot_feed e.rack, e.request)) (filled row) ∙ long)
       (λ k x here.
       let e = from_map (λ (e : Entry). (slot_feed e.rack, e.request)) (filled row) k x here in
       subst (λ (p : ℕ × Asked). IsDrawnBy (drawn r) p.0 k p.1) e.2 (entry_drawn r k e.0 (sym (cell k) ∙ filled_at row k e.0 e.1)))
 
   pub rows_merged : HasRooms racks b.table → AreMergedRows racks b.table
   rows_merged rooms =
-      let same : length racks ≡ length b.table = sym (map_length most_served racks) ∙ (sym (ap (λ (l : List ℕ). length l) rooms) ∙ map_length (λ (row : List (Option Entry)). length row) b.table) in
+      let same : length racks ≡ length b.table = sym (map_length most_served racks)
+      ∙ (sym (ap (λ (l : List ℕ). length l) rooms) ∙ map_length (λ (row : List (Option Entry)). length row) b.table) in
       zip_places (λ feeds row. IsLawfulMerge feeds (merge_of row)) racks b.table same
       (λ r feeds row at at_row. row_merged r feeds row at (place_is b.table r row [] at_row))
 
-fed_answers : (es : List Entry) (answers : List (ℕ × Outcome)) → AllZip IsOutcomeOf es answers → AllZip IsFedAnswer (map (λ (e : Entry). (slot_feed e.rack, e.request)) es) answers
+fed_answers : (es : List Entry) (answers : List (ℕ × Outcome)) → AllZip IsOutcomeOf es answers
+    → AllZip IsFedAnswer (map (λ (e : Entry). (slot_feed e.rack, e.request)) es) answers
 fed_answers [] [] all = tt
 fed_answers [] (a ∷ more) all = absurd all
 fed_answers (e ∷ es) [] all = absurd all
 fed_answers (e ∷ es) (a ∷ more) all = ((all.0.0, all.0.1), fed_answers es more all.1)
 
 -- the outcomes of merged rows are the answers to a lawful merge of each rack's feeds
-pub merged_answers : (racks : List (List (List Order))) (table : List (List (Option Entry))) (answers : List (List (ℕ × Outcome))) → AreMergedRows racks table → AllZip (λ row outs. AllZip IsOutcomeOf (filled row) outs) table answers → AreAllMergedAnswers racks answers
+pub merged_answers : (racks : List (List (List Order))) (table : List (List (Option Entry))) (answers : List (List (ℕ × Outcome)))
+    → AreMergedRows racks table → AllZip (λ row outs. AllZip IsOutcomeOf (filled row) outs) table answers
+    → AreAllMergedAnswers racks answers
 merged_answers [] [] [] merged all = tt
 merged_answers [] [] (a ∷ more) merged all = absurd all
 merged_answers [] (row ∷ table) more merged all = absurd merged
 merged_answers (feeds ∷ racks) [] more merged all = absurd merged
 merged_answers (feeds ∷ racks) (row ∷ table) [] merged all = absurd all
-merged_answers (feeds ∷ racks) (row ∷ table) (a ∷ more) merged all = ((merge_of row, merged.0, fed_answers (filled row) a all.0), merged_answers racks table more merged.1 all.1)
+merged_answers (feeds ∷ racks) (row ∷ table) (a ∷ more) merged all =
+    ((merge_of row, merged.0, fed_answers (filled row) a all.0), merged_answers racks table more merged.1 all.1)
 
-one_answers : (es : List Entry) (outcomes : List Outcome) → AllZip (λ (e : Entry) (o : Outcome). IsOutcomeOf e (slot_feed e.rack, o)) es outcomes → AreAnswers (map (λ (x : ℕ × Asked). x.1) (map (λ (e : Entry). (slot_feed e.rack, e.request)) es)) outcomes
+one_answers : (es : List Entry) (outcomes : List Outcome)
+    → AllZip (λ (e : Entry) (o : Outcome). IsOutcomeOf e (slot_feed e.rack, o)) es outcomes
+    → AreAnswers (map (λ (x : ℕ × Asked). x.1) (map (λ (e : Entry). (slot_feed e.rack, e.request)) es)) outcomes
 one_answers [] [] all = tt
 one_answers [] (o ∷ more) all = absurd all
 one_answers (e ∷ es) [] all = absurd all
 one_answers (e ∷ es) (o ∷ more) all = (all.0.1, one_answers es more all.1)
 
 -- where each rack has one feed, they are the answers to its list
-pub expected_answers : (racks : List (List Order)) (table : List (List (Option Entry))) (answers : List (List Outcome)) → AreMergedRows (map (λ list. list ∷ []) racks) table → AllZip (λ row outs. AllZip (λ (e : Entry) (o : Outcome). IsOutcomeOf e (slot_feed e.rack, o)) (filled row) outs) table answers → AreExpected racks answers
+pub expected_answers : (racks : List (List Order)) (table : List (List (Option Entry))) (answers : List (List Outcome))
+    → AreMergedRows (map (λ list. list ∷ []) racks) table → AllZip
+    (λ row outs. AllZip (λ (e : Entry) (o : Outcome). IsOutcomeOf e (slot_feed e.rack, o)) (filled row) outs) table answers
+    → AreExpected racks answers
 expected_answers [] [] [] merged all = tt
 expected_answers [] [] (a ∷ more) merged all = absurd all
 expected_answers [] (row ∷ table) more merged all = absurd merged
 expected_answers (list ∷ racks) [] more merged all = absurd merged
 expected_answers (list ∷ racks) (row ∷ table) [] merged all = absurd all
-expected_answers (list ∷ racks) (row ∷ table) (a ∷ more) merged all =
-    (subst (λ (l : List Asked). AreAnswers l a) (merge_of_one list (merge_of row) merged.0) (one_answers (filled row) a all.0), expected_answers racks table more merged.1 all.1)
+expected_answers (list ∷ racks) (row ∷ table) (a ∷ more) merged all = (
+  subst (λ (l : List Asked). AreAnswers l a) (merge_of_one list (merge_of row) merged.0)
+      (one_answers (filled row) a all.0),
+  expected_answers racks table more merged.1 all.1,
+)
 
-pub zip_map : {A B C : Type 0} (R : A → C → Type 0) (f : B → C) (xs : List A) (ys : List B) → AllZip (λ x y. R x (f y)) xs ys → AllZip R xs (map f ys)
+pub zip_map : {A B C : Type 0} (R : A → C → Type 0) (f : B → C) (xs : List A) (ys : List B) → AllZip (λ x y. R x (f y)) xs ys
+    → AllZip R xs (map f ys)
 zip_map R f [] [] all = tt
 zip_map R f [] (y ∷ ys) all = absurd all
 zip_map R f (x ∷ xs) [] all = absurd all

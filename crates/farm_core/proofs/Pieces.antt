@@ -1,9 +1,9 @@
 -- Lawful merges of consecutive pieces of feeds.
-use Rattle.std.proofs.Common.{◌≡◌, ◌⊎◌, ℕ, zero, suc, ◌+◌, ◌<◌, ◌≤◌, ◌++◌, Bool, true, false, cond, List, [], ◌∷◌, length, take, get_or, refl, sym, ap, ◌∙◌, subst, inl, inr, ⊎_elim, arith, length-append}
+use Rattle.std.proofs.Common.{◌≡◌, ◌⊎◌, ℕ, zero, suc, ◌+◌, ◌<◌, ◌≤◌, ◌++◌, Bool, true, false, cond, List, [], ◌∷◌, length, take, get_or}
+use Rattle.std.proofs.Common.{refl, sym, ap, ◌∙◌, subst, inl, inr, ⊎_elim, arith, length-append}
 use Rattle.std.specs.Prelude.{◌==◌}
 use Rattle.std.specs.List.{All}
 use Rattle.std.proofs.lemmas.List.{length-take, take-append-le}
-use Rattle.std.proofs.lemmas.Bool.{cases_lt}
 use mathlib.Core.Option.{some, some-ne-none, some-injective}
 use lib.ListN.{get_elem?}
 use Rattle.lrc_code.specs.Requests.{Asked}
@@ -11,7 +11,7 @@ use Rattle.farm_lanes.proofs.Lists.{at_below}
 use Rattle.farm_core.specs.declared.orders.Order.{Order}
 use Rattle.farm_core.specs.declared.orders.Order.TheVariants.{Rebuild, Close}
 use Rattle.farm_core.specs.Orders.{before_close, HasClose}
-use Rattle.farm_core.specs.Merge.{AreOpen, CloseEndsAll, HaveClose, IsEnded, IsLawfulMerge, IsWhole, PiecesJoin, joined, of_feed}
+use Rattle.farm_core.specs.Merge.{AreOpen, CloseEndsAll, HaveClose, IsWhole, PiecesJoin, joined, of_feed}
 
 -- ---- one feed
 
@@ -35,7 +35,8 @@ no_close has = let within = has.1 in omega (arith, within)
 pub open_append : (list more : List Order) → (HasClose list → ⊥) → before_close (list ++ more) ≡ before_close list ++ before_close more
 open_append [] more not = refl
 open_append (Close ∷ list) more not = absurd (not (close_first list))
-open_append (Rebuild r ∷ list) more not = ap (λ (t : List Asked). r ∷ t) (open_append list more (λ has. not (close_later (Rebuild r) list has)))
+open_append (Rebuild r ∷ list) more not = ap (λ (t : List Asked). r ∷ t)
+    (open_append list more (λ has. not (close_later (Rebuild r) list has)))
 
 -- after a close they don't
 pub closed_append : (list more : List Order) → HasClose list → before_close (list ++ more) ≡ before_close list
@@ -55,7 +56,8 @@ close_comes (o ∷ list) more has = close_later o (list ++ more) (close_comes li
 pub stays_open : (list more : List Order) → (HasClose list → ⊥) → (HasClose more → ⊥) → HasClose (list ++ more) → ⊥
 stays_open [] more first last has = last has
 stays_open (Close ∷ list) more first last has = first (close_first list)
-stays_open (Rebuild r ∷ list) more first last has = stays_open list more (λ h. first (close_later (Rebuild r) list h)) last (close_behind r (list ++ more) has)
+stays_open (Rebuild r ∷ list) more first last has = stays_open list more (λ h. first (close_later (Rebuild r) list h)) last
+    (close_behind r (list ++ more) has)
 
 pub closes_or_not : (list : List Order) → HasClose list ⊎ (HasClose list → ⊥)
 closes_or_not [] = inr no_close
@@ -66,7 +68,8 @@ closes_or_not (Rebuild r ∷ list) = elim (closes_or_not list) [
 ]
 
 -- the first requests of a list stay so with what is after it
-front_stays : (list more : List Order) (k : ℕ) → k ≤ length (before_close list) → take k (before_close (list ++ more)) ≡ take k (before_close list)
+front_stays : (list more : List Order) (k : ℕ) → k ≤ length (before_close list)
+    → take k (before_close (list ++ more)) ≡ take k (before_close list)
 front_stays list more k within = elim (closes_or_not list) [
   | inl has ↦ ap (take k) (closed_append list more has)
   | inr not ↦ ap (take k) (open_append list more not) ∙ take-append-le k (before_close list) (before_close more) within
@@ -84,7 +87,8 @@ pub of_feed_append : (feed : ℕ) (merge more : List (ℕ × Asked)) → of_feed
 of_feed_append feed [] more = refl
 of_feed_append feed (x ∷ merge) more = by (x.0 == feed) (of_feed feed (merge ++ more)) (of_feed feed merge) (of_feed_append feed merge more)
   where
-    by : (b : Bool) (both first : List Asked) → both ≡ first ++ of_feed feed more → cond b (x.1 ∷ both) both ≡ cond b (x.1 ∷ first) first ++ of_feed feed more
+    by : (b : Bool) (both first : List Asked) → both ≡ first ++ of_feed feed more
+        → cond b (x.1 ∷ both) both ≡ cond b (x.1 ∷ first) first ++ of_feed feed more
     by true both first is = ap (λ (t : List Asked). x.1 ∷ t) is
     by false both first is = is
 
@@ -97,7 +101,8 @@ module _ {A : Type 0} where
   joined_length (xs ∷ lists) (ys ∷ behind) = ap suc (joined_length lists behind)
 
   -- a list of two, and what it is of
-  pub joined_from : (lists behind : List (List A)) (k : ℕ) (l : List A) → length lists ≡ length behind → get_elem? (joined lists behind) k ≡ some l
+  pub joined_from : (lists behind : List (List A)) (k : ℕ) (l : List A) → length lists ≡ length behind
+      → get_elem? (joined lists behind) k ≡ some l
       → (xs : List A) × (ys : List A) × (get_elem? lists k ≡ some xs) × (get_elem? behind k ≡ some ys) × (xs ++ ys ≡ l)
   joined_from [] behind k l same at = absurd (some-ne-none l (sym at))
   joined_from (xs ∷ lists) [] k l same at = absurd (omega arith)
@@ -105,7 +110,8 @@ module _ {A : Type 0} where
   joined_from (xs ∷ lists) (ys ∷ behind) (suc k) l same at = joined_from lists behind k l (omega arith) at
 
   -- a list, and what it becomes
-  pub joined_at : (lists behind : List (List A)) (k : ℕ) (xs : List A) → get_elem? lists k ≡ some xs → (ys : List A) × (get_elem? (joined lists behind) k ≡ some (xs ++ ys))
+  pub joined_at : (lists behind : List (List A)) (k : ℕ) (xs : List A) → get_elem? lists k ≡ some xs → (ys : List A)
+      × (get_elem? (joined lists behind) k ≡ some (xs ++ ys))
   joined_at [] behind k xs at = absurd (some-ne-none xs (sym at))
   joined_at (x ∷ lists) [] k xs at = ([], at ∙ ap some (sym (nothing xs)))
     where
@@ -115,7 +121,8 @@ module _ {A : Type 0} where
   joined_at (x ∷ lists) (y ∷ behind) zero xs at = (y, ap (λ t. some (t ++ y)) (some-injective _ _ at))
   joined_at (x ∷ lists) (y ∷ behind) (suc k) xs at = joined_at lists behind k xs at
 
-  pub joined_back : (lists behind : List (List A)) (k : ℕ) (ys : List A) → length lists ≡ length behind → get_elem? behind k ≡ some ys → (xs : List A) × (get_elem? (joined lists behind) k ≡ some (xs ++ ys))
+  pub joined_back : (lists behind : List (List A)) (k : ℕ) (ys : List A) → length lists ≡ length behind → get_elem? behind k ≡ some ys
+      → (xs : List A) × (get_elem? (joined lists behind) k ≡ some (xs ++ ys))
   joined_back lists [] k ys same at = absurd (some-ne-none ys (sym at))
   joined_back [] (y ∷ behind) k ys same at = absurd (omega arith)
   joined_back (x ∷ lists) (y ∷ behind) zero ys same at = (x, ap (λ t. some (x ++ t)) (some-injective _ _ at))
@@ -132,7 +139,8 @@ have_comes feeds behind same has =
     let at = joined_back feeds behind has.0 has.1 same has.2 in
     (has.0, at.0 ++ has.1, at.1, close_comes at.0 has.1 has.3)
 
-pub are_open : (feeds behind : List (List Order)) → length feeds ≡ length behind → AreOpen feeds → AreOpen behind → AreOpen (joined feeds behind)
+pub are_open : (feeds behind : List (List Order)) → length feeds ≡ length behind → AreOpen feeds → AreOpen behind
+    → AreOpen (joined feeds behind)
 are_open feeds behind same first last k l at has =
     let from = joined_from feeds behind k l same at in
     stays_open from.0 from.1 (first k from.0 from.2) (last k from.1 from.3) (subst HasClose (sym from.4) has)
@@ -171,21 +179,26 @@ pieces_join feeds behind merge more same opened first last = record {
     whole : (f : ℕ) (l : List Order) → get_elem? feeds f ≡ some l → of_feed f merge ≡ before_close l
     whole f l at = ⊎_elim
         (λ (never : (f : ℕ) (l : List Order) → get_elem? feeds f ≡ some l → (HasClose l → ⊥) × IsWhole merge f l). (never f l at).1)
-        (λ (shut : (f : ℕ) × (l : List Order) × (get_elem? feeds f ≡ some l) × HasClose l × IsWhole merge f l). absurd (opened shut.0 shut.1 shut.2 shut.3))
+        (λ (shut : (f : ℕ) × (l : List Order) × (get_elem? feeds f ≡ some l) × HasClose l × IsWhole merge f l). absurd
+        (opened shut.0 shut.1 shut.2 shut.3))
         first.ended
 
-    both : (f : ℕ) (l r : List Order) → get_elem? feeds f ≡ some l → of_feed f more ≡ before_close r → of_feed f (merge ++ more) ≡ before_close (l ++ r)
+    both : (f : ℕ) (l r : List Order) → get_elem? feeds f ≡ some l → of_feed f more ≡ before_close r
+        → of_feed f (merge ++ more) ≡ before_close (l ++ r)
     both f l r at is =
         of_feed_append f merge more
         ∙ ap (λ (t : List Asked). t ++ of_feed f more) (whole f l at)
         ∙ ap (λ (t : List Asked). before_close l ++ t) is
         ∙ sym (open_append l r (opened f l at))
 
-    prefix : (f : ℕ) (l r : List Order) → get_elem? feeds f ≡ some l → get_elem? behind f ≡ some r → of_feed f (merge ++ more) ≡ take (length (of_feed f (merge ++ more))) (before_close (l ++ r))
+    prefix : (f : ℕ) (l r : List Order) → get_elem? feeds f ≡ some l → get_elem? behind f ≡ some r
+        → of_feed f (merge ++ more) ≡ take (length (of_feed f (merge ++ more))) (before_close (l ++ r))
     prefix f l r at at_r =
         let k : ℕ = length (of_feed f more) in
-        let parts : of_feed f (merge ++ more) ≡ before_close l ++ of_feed f more = of_feed_append f merge more ∙ ap (λ (t : List Asked). t ++ of_feed f more) (whole f l at) in
-        let size : length (of_feed f (merge ++ more)) ≡ length (before_close l) + k = ap (λ (t : List Asked). length t) parts ∙ length-append (before_close l) (of_feed f more) in
+        let parts : of_feed f (merge ++ more) ≡ before_close l ++ of_feed f more =
+        of_feed_append f merge more ∙ ap (λ (t : List Asked). t ++ of_feed f more) (whole f l at) in
+        let size : length (of_feed f (merge ++ more)) ≡ length (before_close l) + k =
+        ap (λ (t : List Asked). length t) parts ∙ length-append (before_close l) (of_feed f more) in
         parts
         ∙ ap (λ (t : List Asked). before_close l ++ t) (last.prefixes f r at_r)
         ∙ sym (front (before_close l) (before_close r) k (length (of_feed f (merge ++ more))) size)
@@ -195,26 +208,37 @@ pieces_join feeds behind merge more same opened first last = record {
     known = subst (λ (n : ℕ). All (λ x. x.0 < n) (merge ++ more)) (sym (joined_length feeds behind))
         (all_both merge more first.known (subst (λ (n : ℕ). All (λ x. x.0 < n) more) (sym same) last.known))
       where
-        all_both : (xs ys : List (ℕ × Asked)) → All (λ x. x.0 < length feeds) xs → All (λ x. x.0 < length feeds) ys → All (λ x. x.0 < length feeds) (xs ++ ys)
+        all_both : (xs ys : List (ℕ × Asked)) → All (λ x. x.0 < length feeds) xs → All (λ x. x.0 < length feeds) ys
+            → All (λ x. x.0 < length feeds) (xs ++ ys)
         all_both [] ys a b k d within = b k d within
         all_both (x ∷ xs) ys a b zero d within = a 0 d (omega arith)
-        all_both (x ∷ xs) ys a b (suc k) d within = all_both xs ys (λ i e low. a (suc i) e (omega (arith, low))) b k d (omega (arith, within))
+        all_both (x ∷ xs) ys a b (suc k) d within = all_both xs ys (λ i e low. a (suc i) e (omega (arith, low))) b k d
+            (omega (arith, within))
 
 pub close_ends_all : CloseEndsAll
 close_ends_all feeds behind merge has first = record {
   known = subst (λ (n : ℕ). All (λ x. x.0 < n) merge) (sym (joined_length feeds behind)) first.known;
   prefixes = λ f l at.
-      let low : f < length feeds = (let a = at_below (joined feeds behind) f l at in let b = joined_length feeds behind in omega (arith, a, b)) in
+      let low : f < length feeds = (let a = at_below (joined feeds behind) f l at in
+      let b = joined_length feeds behind in omega (arith, a, b)) in
       let there = member feeds f low in
       let becomes = joined_at feeds behind f there.0 there.1 in
       let is : there.0 ++ becomes.0 ≡ l = some-injective _ _ (sym becomes.1 ∙ at) in
       subst (λ (x : List Order). of_feed f merge ≡ take (length (of_feed f merge)) (before_close x)) is
       (prefix f there.0 becomes.0 there.1);
   ended = ⊎_elim
-      (λ (never : (f : ℕ) (l : List Order) → get_elem? feeds f ≡ some l → (HasClose l → ⊥) × IsWhole merge f l). absurd ((never has.0 has.1 has.2).0 has.3))
+      (λ (never : (f : ℕ) (l : List Order) → get_elem? feeds f ≡ some l → (HasClose l → ⊥) × IsWhole merge f l). absurd
+      ((never has.0 has.1 has.2).0 has.3))
       (λ (shut : (f : ℕ) × (l : List Order) × (get_elem? feeds f ≡ some l) × HasClose l × IsWhole merge f l).
       let becomes = joined_at feeds behind shut.0 shut.1 shut.2 in
-      inr (shut.0, shut.1 ++ becomes.0, becomes.1, close_stays shut.1 becomes.0 shut.3, shut.4 ∙ sym (closed_append shut.1 becomes.0 shut.3)))
+      inr (
+        shut.0,
+        shut.1 ++ becomes.0,
+        becomes.1,
+        close_stays shut.1 becomes.0 shut.3,
+        shut.4
+            ∙ sym (closed_append shut.1 becomes.0 shut.3),
+      ))
       first.ended;
 }
   where
@@ -223,9 +247,11 @@ close_ends_all feeds behind merge has first = record {
     member (x ∷ xs) zero low = (x, refl)
     member (x ∷ xs) (suc f) low = member xs f (omega arith)
 
-    prefix : (f : ℕ) (l r : List Order) → get_elem? feeds f ≡ some l → of_feed f merge ≡ take (length (of_feed f merge)) (before_close (l ++ r))
+    prefix : (f : ℕ) (l r : List Order) → get_elem? feeds f ≡ some l
+        → of_feed f merge ≡ take (length (of_feed f merge)) (before_close (l ++ r))
     prefix f l r at =
         let is = first.prefixes f l at in
         let size = ap (λ (t : List Asked). length t) is in
-        let few : length (of_feed f merge) ≤ length (before_close l) = omega (arith, size, length-take (length (of_feed f merge)) (before_close l)) in
+        let few : length (of_feed f merge) ≤ length (before_close l) =
+        omega (arith, size, length-take (length (of_feed f merge)) (before_close l)) in
         is ∙ sym (front_stays l r (length (of_feed f merge)) few)

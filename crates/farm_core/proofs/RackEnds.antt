@@ -25,7 +25,8 @@ abbrev fed_jobs : Fed → PutView Job
 fed_jobs f = f.jobs
 
 module _ {A B C : Type 0} where
-  same_maps : (f : A → C) (g : B → C) (xs : List A) (ys : List B) → length xs ≡ length ys → ((k : ℕ) (x : A) (y : B) → get_elem? xs k ≡ some x → get_elem? ys k ≡ some y → f x ≡ g y) → map f xs ≡ map g ys
+  same_maps : (f : A → C) (g : B → C) (xs : List A) (ys : List B) → length xs ≡ length ys
+      → ((k : ℕ) (x : A) (y : B) → get_elem? xs k ≡ some x → get_elem? ys k ≡ some y → f x ≡ g y) → map f xs ≡ map g ys
   same_maps f g [] [] long same = refl
   same_maps f g [] (y ∷ ys) long same = absurd (omega arith)
   same_maps f g (x ∷ xs) [] long same = absurd (omega arith)
@@ -43,7 +44,8 @@ as_given f fed left = ap as_new left.jobs_is ∙ sym f.unused
 pub rack_ends : (hs : List FeederHandle) (fs : List Fed) → FeedersJoined hs fs → AreEndsOf (feeders_of hs) (map fed_jobs fs)
 rack_ends hs fs joined =
     maps_twice fed_jobs as_new fs
-    ∙ (same_maps (λ (f : Fed). as_new f.jobs) (λ (h : FeederHandle). h.promise.0.value.jobs) fs hs joined.count (λ k f h at_f at_h. as_given h.promise.0.value f (joined.each k h f at_h at_f))
+    ∙ (same_maps (λ (f : Fed). as_new f.jobs) (λ (h : FeederHandle). h.promise.0.value.jobs) fs hs joined.count
+    (λ k f h at_f at_h. as_given h.promise.0.value f (joined.each k h f at_h at_f))
     ∙ sym (maps_twice (λ (h : FeederHandle). h.promise.0.value) jobs_at hs))
 
 -- one rack more
@@ -53,7 +55,9 @@ given_snoc given g = flat_map-append (λ (g : Given). g.1) given (g ∷ []) ∙ 
 pub ends_snoc : (given : List Given) (g : Given) → ends_given (given ++ g ∷ []) ≡ ends_given given ++ map jobs_at g.1
 ends_snoc given g = ap (map jobs_at) (given_snoc given g) ∙ map-append jobs_at (all_given given) g.1
 
-pub ends_next : (racks : List RackFeeders) (puts new : List (PutView Job)) (r : RackFeeders) (fs : List Fed) → AreEndsOf (all_given (started_of racks)) puts → FeedersJoined r.handles.items fs → new ≡ puts ++ map fed_jobs fs → AreEndsOf (all_given (started_of (racks ++ r ∷ []))) new
+pub ends_next : (racks : List RackFeeders) (puts new : List (PutView Job)) (r : RackFeeders) (fs : List Fed)
+    → AreEndsOf (all_given (started_of racks)) puts → FeedersJoined r.handles.items fs → new ≡ puts ++ map fed_jobs fs
+    → AreEndsOf (all_given (started_of (racks ++ r ∷ []))) new
 ends_next racks puts new r fs was joined is =
     ap (map as_new) is
     ∙ (map-append as_new puts (map fed_jobs fs)

@@ -1,5 +1,6 @@
 -- The feeders of a rack, and of all racks.
-use Rattle.std.proofs.Common.{◌≡◌, ℕ, zero, suc, ◌+◌, ◌*◌, ◌/◌, ◌<◌, ◌≤◌, List, [], ◌∷◌, ◌++◌, length, drop, get_or, replicate, refl, sym, ap, ◌∙◌, subst, arith}
+use Rattle.std.proofs.Common.{◌≡◌, ℕ, zero, suc, ◌+◌, ◌*◌, ◌/◌, ◌<◌, ◌≤◌, List, [], ◌∷◌, ◌++◌, length, drop, get_or, replicate, refl, sym}
+use Rattle.std.proofs.Common.{ap, ◌∙◌, subst, arith}
 use Rattle.std.specs.List.{sum_by}
 use Rattle.std.proofs.lemmas.List.{length-replicate, get_or-replicate}
 use Rattle.std.proofs.lemmas.List.Sums.{sum_by-cons}
@@ -20,7 +21,8 @@ module _ {A : Type 0} where
       subst P (sym (get_or-replicate n k a a (omega arith)) ∙ place_is (replicate n a) k x a here) one
 
   -- numbers of a rest of a list
-  pub sum_rest : (f : A → ℕ) (xs : List A) (k : ℕ) (x : A) → get_elem? xs k ≡ some x → sum_by f (drop k xs) ≡ f x + sum_by f (drop (suc k) xs)
+  pub sum_rest : (f : A → ℕ) (xs : List A) (k : ℕ) (x : A) → get_elem? xs k ≡ some x
+      → sum_by f (drop k xs) ≡ f x + sum_by f (drop (suc k) xs)
   sum_rest f [] k x at = absurd (some-ne-none x (sym at))
   sum_rest f (y ∷ xs) zero x at = sum_by-cons f y xs ∙ ap (λ z. f z + sum_by f xs) (some-injective y x at)
   sum_rest f (y ∷ xs) (suc k) x at = sum_rest f xs k x at
@@ -34,7 +36,8 @@ module _ {A : Type 0} where
   pub sum_same : (f : A → ℕ) (xs : List A) (n : ℕ) → Each (λ x. f x ≡ n) xs → sum_by f xs ≡ n * length xs
   sum_same f [] n each = omega arith
   sum_same f (x ∷ xs) n each =
-      let a = sum_by-cons f x xs in let b = sum_same f xs n (λ k. each (suc k)) in let c = each 0 x refl in let d = times_more n (length xs) in omega arith
+      let a = sum_by-cons f x xs in let b = sum_same f xs n (λ k. each (suc k)) in let c = each 0 x refl in
+      let d = times_more n (length xs) in omega arith
     where
       times_more : (n m : ℕ) → n * suc m ≡ n * m + n
       times_more n m = grind (arith)
@@ -54,16 +57,21 @@ module _ {A : Type 0} where
   got xs k x is low = let t = there xs k low in subst (λ y. get_elem? xs k ≡ some y) (sym (is ∙ place_is xs k t.0 x t.1)) t.1
 
   pub each_back : (P : A → Type 0) (all front rest : List A) → all ≡ front ++ rest → Each P all → Each P rest
-  each_back P all front rest is each k x at = each (length front + k) x (subst (λ l. get_elem? l (length front + k) ≡ some x) (sym is) (at_back front rest k x at (length front + k) refl))
+  each_back P all front rest is each k x at = each (length front + k) x
+      (subst (λ l. get_elem? l (length front + k) ≡ some x) (sym is) (at_back front rest k x at (length front + k) refl))
 
 -- the feeds of a rack, and those of the racks from a place on
-pub feeds_at : (lists : List (List (List Order))) (k : ℕ) (feeds : List (List Order)) → k < length lists → feeds ≡ get_or lists k [] → get_elem? lists k ≡ some feeds
-feeds_at lists k feeds low is = let t = there lists k low in subst (λ y. get_elem? lists k ≡ some y) (sym (is ∙ place_is lists k t.0 [] t.1)) t.1
+pub feeds_at : (lists : List (List (List Order))) (k : ℕ) (feeds : List (List Order)) → k < length lists → feeds ≡ get_or lists k []
+    → get_elem? lists k ≡ some feeds
+feeds_at lists k feeds low is = let t = there lists k low in subst (λ y. get_elem? lists k ≡ some y)
+    (sym (is ∙ place_is lists k t.0 [] t.1)) t.1
 
-pub feeds_rest : (lists : List (List (List Order))) (k : ℕ) (feeds : List (List Order)) → k < length lists → feeds ≡ get_or lists k [] → all_feeds_of (drop k lists) ≡ length feeds + all_feeds_of (drop (k + 1) lists)
+pub feeds_rest : (lists : List (List (List Order))) (k : ℕ) (feeds : List (List Order)) → k < length lists → feeds ≡ get_or lists k []
+    → all_feeds_of (drop k lists) ≡ length feeds + all_feeds_of (drop (k + 1) lists)
 feeds_rest lists k feeds low is =
     let next : suc k ≡ k + 1 = omega arith in
-    sum_rest (λ (f : List (List Order)). length f) lists k feeds (feeds_at lists k feeds low is) ∙ ap (λ m. length feeds + all_feeds_of (drop m lists)) next
+    sum_rest (λ (f : List (List Order)). length f) lists k feeds (feeds_at lists k feeds low is)
+    ∙ ap (λ m. length feeds + all_feeds_of (drop m lists)) next
 
 pub feeds_past : (lists : List (List (List Order))) (k : ℕ) → length lists ≤ k → all_feeds_of (drop k lists) ≡ 0
 feeds_past lists k past = sum_past (λ (f : List (List Order)). length f) lists k past

@@ -17,7 +17,8 @@ use Rattle.farm_core.specs.Ready.{AreAllGiven, ends_given, rooms_of, IsReady}
 use Rattle.farm_core.proofs.Merged.{map_length}
 use Rattle.farm_core.proofs.Starts.{mapped_length}
 
-pub is_ready : (room : Room) (lists : List (List (List Order))) (n w : ℕ) (puts rest : List (PutView Job)) (takes : List (TakeView Job)) (reply_puts : List (PutView Replied)) (reply_takes nil : List (TakeView Replied))
+pub is_ready : (room : Room) (lists : List (List (List Order))) (n w : ℕ) (puts rest : List (PutView Job)) (takes : List (TakeView Job))
+    (reply_puts : List (PutView Replied)) (reply_takes nil : List (TakeView Replied))
     → (jobs : AreNewEnds (n + 1) w puts takes) → (replies : AreNewEnds w 1 reply_puts reply_takes)
     → puts ≡ rest ++ room.stops ∷ [] → reply_takes ≡ nil ++ room.desk.replies ∷ []
     → HoldsNothing lists room.desk.board → n ≤ 64 → length lists ≤ 16 → 0 < w → w ≤ 16
@@ -25,12 +26,15 @@ pub is_ready : (room : Room) (lists : List (List (List Order))) (n w : ℕ) (put
     → ((lane : LaneName Job) → Each (λ t. t ≡ new_take lane) takes → Each (λ (e : WorkerEnds). e.jobs ≡ new_take lane) room.workers.items)
     → ends_given (rooms_of room.racks.items) ≡ rest → AreAllGiven lists (rooms_of room.racks.items)
     → room.space.ends.racks ≡ length lists → room.space.ends.workers ≡ w → IsReady room
-is_ready room lists n w puts rest takes reply_puts reply_takes nil jobs replies stops desk nothing few_feeders few_racks working few worker_replies worker_jobs feeder_jobs given space_racks space_workers =
+is_ready room lists n w puts rest takes reply_puts reply_takes nil jobs replies stops desk nothing few_feeders few_racks working few
+    worker_replies worker_jobs feeder_jobs given space_racks space_workers =
     let popped = popped_put jobs.lane n puts rest room.stops jobs.put_ends stops in
     let last = popped_take replies.lane 0 reply_takes nil room.desk.replies replies.take_ends desk in
-    let racked : length (rooms_of room.racks.items) ≡ length room.racks.items = map_length (λ (r : RackRoom). (r.gate.now, r.feeders.items)) room.racks.items in
+    let racked : length (rooms_of room.racks.items) ≡ length room.racks.items =
+    map_length (λ (r : RackRoom). (r.gate.now, r.feeders.items)) room.racks.items in
     let racks : length room.racks.items ≡ length lists = sym racked ∙ given.count in
-    let worked : length reply_puts ≡ length room.workers.items = mapped_length (λ (e : WorkerEnds). e.replies) room.workers.items reply_puts worker_replies in
+    let worked : length reply_puts ≡ length room.workers.items =
+    mapped_length (λ (e : WorkerEnds). e.replies) room.workers.items reply_puts worker_replies in
     let workers : length room.workers.items ≡ w = sym worked ∙ replies.put_ends.count in
     let same : lists ≡ room.desk.board.racks = sym nothing.0 in
     let all_jobs = jobs.ends in
@@ -46,7 +50,12 @@ is_ready room lists n w puts rest takes reply_puts reply_takes nil jobs replies 
       all_jobs = omega arith;
       all_replies = omega arith;
       workers_are = record {
-        each = λ k e at. (takes_are k e at, replies.put_ends.each k e.replies (subst (λ (l : List (PutView Replied)). get_elem? l k ≡ some e.replies) worker_replies (at_map (λ (x : WorkerEnds). x.replies) room.workers.items k e at)));
+        each = λ k e at. (
+          takes_are k e at,
+          replies.put_ends.each k e.replies
+              (subst (λ (l : List (PutView Replied)). get_elem? l k ≡ some e.replies) worker_replies
+              (at_map (λ (x : WorkerEnds). x.replies) room.workers.items k e at)),
+        );
       };
       racks_are = subst (λ (l : List (List (List Order))). AreAllGiven l (rooms_of room.racks.items)) same given;
       ends_are = subst (λ (l : List (PutView Job)). AreNewPutEnds jobs.lane n l) (sym feeder_jobs) popped.1;

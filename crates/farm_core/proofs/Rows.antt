@@ -1,5 +1,6 @@
 -- Laws of rows and tables of replies.
-use Rattle.std.proofs.Common.{ℕ, ◌≡◌, ◌+◌, List, [], ◌∷◌, ◌++◌, length, get_or, map, replicate, arith, refl, sym, ap, ◌∙◌, subst, suc, zero, Option, Some, None}
+use Rattle.std.proofs.Common.{ℕ, ◌≡◌, List, [], ◌∷◌, ◌++◌, length, get_or, map, replicate, arith, refl, sym, ap, ◌∙◌, subst, suc, zero}
+use Rattle.std.proofs.Common.{Option, Some, None}
 use Rattle.std.specs.Option.{option_map}
 use Rattle.std.specs.List.{AllZip}
 use Rattle.std.proofs.Math.ListN.{get_or-map}
@@ -16,14 +17,16 @@ pub entries-replicate : (n : ℕ) → entries (replicate n None) ≡ replicate n
 entries-replicate zero = refl
 entries-replicate (suc n) = ap (λ t. None ∷ t) (entries-replicate n)
 
-pub all_zip_push : {A B : Type 0} (R : A → B → Type 0) (xs : List A) (ys : List B) (x : A) (y : B) → AllZip R xs ys → R x y → AllZip R (xs ++ x ∷ []) (ys ++ y ∷ [])
+pub all_zip_push : {A B : Type 0} (R : A → B → Type 0) (xs : List A) (ys : List B) (x : A) (y : B) → AllZip R xs ys → R x y
+    → AllZip R (xs ++ x ∷ []) (ys ++ y ∷ [])
 all_zip_push R [] [] x y all here = (here, tt)
 all_zip_push R [] (q ∷ ys) x y all here = absurd all
 all_zip_push R (p ∷ xs) [] x y all here = absurd all
 all_zip_push R (p ∷ xs) (q ∷ ys) x y all here = (all.0, all_zip_push R xs ys x y all.1 here)
 
 -- a row has a cell for each request that is served
-pub shape_at : (racks : List (List Order)) (table : List (List (Option Entry))) → HasShape racks table → (rack : ℕ) → length (get_or table rack []) ≡ length (served racks rack)
+pub shape_at : (racks : List (List Order)) (table : List (List (Option Entry))) → HasShape racks table → (rack : ℕ)
+    → length (get_or table rack []) ≡ length (served racks rack)
 shape_at racks table shape rack =
     sym (get_or-map (λ (row : List (Option Entry)). length row) table rack [])
     ∙ ap (λ ns. get_or ns rack 0) shape
@@ -39,10 +42,13 @@ pub Answers-more : (cells : List (Option Replied)) (cell : Option Replied) (repl
     AllZip Answers (entries cells) os → cell ≡ Some reply → reply.result ≡ Done o → IsAnswer reply.request o → os' ≡ os ++ o ∷ []
     → AllZip Answers (entries (cells ++ cell ∷ [])) os'
 Answers-more cells cell reply os os' o all is says right grown =
-    let here : Answers (option_map entry_of cell) o = subst (λ (c : Option Replied). Answers (option_map entry_of c) o) (sym is) (right, says) in
-    let more : AllZip Answers (entries cells ++ option_map entry_of cell ∷ []) (os ++ o ∷ []) = all_zip_push Answers (entries cells) os (option_map entry_of cell) o all here in
+    let here : Answers (option_map entry_of cell) o = subst (λ (c : Option Replied). Answers (option_map entry_of c) o) (sym is)
+    (right, says) in
+    let more : AllZip Answers (entries cells ++ option_map entry_of cell ∷ []) (os ++ o ∷ []) =
+    all_zip_push Answers (entries cells) os (option_map entry_of cell) o all here in
     let seen : AllZip Answers (entries (cells ++ cell ∷ [])) (os ++ o ∷ []) =
-    subst (λ (row : List (Option Entry)). AllZip Answers row (os ++ o ∷ [])) (sym (map-append (option_map entry_of) cells (cell ∷ []))) more in
+    subst (λ (row : List (Option Entry)). AllZip Answers row (os ++ o ∷ []))
+    (sym (map-append (option_map entry_of) cells (cell ∷ []))) more in
     subst (λ (t : List Outcome). AllZip Answers (entries (cells ++ cell ∷ [])) t) (sym grown) seen
 
 -- a row that begins with these entries
@@ -55,11 +61,13 @@ filled_front [] rest = refl
 filled_front (e ∷ es) rest = ap (λ l. e ∷ l) (filled_front es rest)
 
 -- one entry more, and its outcome
-pub outcomes_more : {B : Type 0} (R : Entry → B → Type 0) (cells : List (Option Replied)) (cell : Option Replied) (reply : Replied) (os os' : List B) (o : B)
+pub outcomes_more : {B : Type 0} (R : Entry → B → Type 0) (cells : List (Option Replied)) (cell : Option Replied) (reply : Replied)
+    (os os' : List B) (o : B)
     → ((es : List Entry) × (entries cells ≡ map Some es) × AllZip R es os) → cell ≡ Some reply → R (entry_of reply) o → os' ≡ os ++ o ∷ []
     → (es : List Entry) × (entries (cells ++ cell ∷ []) ≡ map Some es) × AllZip R es os'
 outcomes_more R cells cell reply os os' o was is one grown = (
   was.0 ++ entry_of reply ∷ [],
-  map-append (option_map entry_of) cells (cell ∷ []) ∙ (ap (λ (l : List (Option Entry)). l ++ option_map entry_of cell ∷ []) was.1 ∙ (ap (λ (x : Option Replied). map Some was.0 ++ option_map entry_of x ∷ []) is ∙ sym (map-append Some was.0 (entry_of reply ∷ [])))),
+  map-append (option_map entry_of) cells (cell ∷ []) ∙ (ap (λ (l : List (Option Entry)). l ++ option_map entry_of cell ∷ []) was.1
+      ∙ (ap (λ (x : Option Replied). map Some was.0 ++ option_map entry_of x ∷ []) is ∙ sym (map-append Some was.0 (entry_of reply ∷ [])))),
   subst (λ l. AllZip R (was.0 ++ entry_of reply ∷ []) l) (sym grown) (all_zip_push R was.0 os (entry_of reply) o was.2 one),
 )

@@ -1,5 +1,6 @@
 -- From settled lanes to one reply for each request.
-use Rattle.std.proofs.Common.{◌≡◌, ℕ, zero, suc, ◌+◌, ◌<◌, ◌≤◌, ◌&&◌, List, [], ◌∷◌, ◌++◌, length, refl, sym, ap, subst, ⊎_elim, arith, nat_eq, cond}
+use Rattle.std.proofs.Common.{◌≡◌, ℕ, zero, suc, ◌+◌, ◌<◌, ◌≤◌, ◌&&◌, List, [], ◌∷◌, ◌++◌, length, refl, sym, ap, subst, ⊎_elim, arith}
+use Rattle.std.proofs.Common.{nat_eq, cond}
 use Rattle.std.specs.Prelude.{⊤}
 use Rattle.std.specs.List.{sum_by, All, AllZip}
 use Rattle.std.proofs.lemmas.List.Sums.{sum_by-cons, sum_by-append}
@@ -28,13 +29,16 @@ jobs_to r k (Stop ∷ js) = jobs_to r k js
 
 pub weigh_jobs : (r k : ℕ) (xs : List (Item Job)) → sum_by (job_weight r k) xs ≡ jobs_to r k (values xs)
 weigh_jobs r k [] = refl
-weigh_jobs r k (Value s i (Solve a b q) ∷ xs) = let a' = sum_by-cons (job_weight r k) (Value s i (Solve a b q)) xs in let b' = weigh_jobs r k xs in omega arith
-weigh_jobs r k (Value s i Stop ∷ xs) = let a' = sum_by-cons (job_weight r k) (Value s i Stop) xs in let b' = weigh_jobs r k xs in omega arith
+weigh_jobs r k (Value s i (Solve a b q) ∷ xs) = let a' = sum_by-cons (job_weight r k) (Value s i (Solve a b q)) xs in
+    let b' = weigh_jobs r k xs in omega arith
+weigh_jobs r k (Value s i Stop ∷ xs) = let a' = sum_by-cons (job_weight r k) (Value s i Stop) xs in
+    let b' = weigh_jobs r k xs in omega arith
 weigh_jobs r k (End s i ∷ xs) = let a' = sum_by-cons (job_weight r k) (End s i) xs in let b' = weigh_jobs r k xs in omega arith
 
 pub weigh_replies : (r k : ℕ) (xs : List (Item Replied)) → sum_by (reply_weight r k) xs ≡ replies_to r k (values xs)
 weigh_replies r k [] = refl
-weigh_replies r k (Value s i x ∷ xs) = let a' = sum_by-cons (reply_weight r k) (Value s i x) xs in let b' = weigh_replies r k xs in omega arith
+weigh_replies r k (Value s i x ∷ xs) = let a' = sum_by-cons (reply_weight r k) (Value s i x) xs in
+    let b' = weigh_replies r k xs in omega arith
 weigh_replies r k (End s i ∷ xs) = let a' = sum_by-cons (reply_weight r k) (End s i) xs in let b' = weigh_replies r k xs in omega arith
 
 -- as many replies as jobs, at each place
@@ -45,7 +49,8 @@ replied r k (Stop ∷ js) rs all = replied r k js rs all
 replied r k (Solve a b q ∷ js) [] all = absurd all
 replied r k (Solve a b q ∷ js) (y ∷ ys) all =
     let rest = replied r k js ys all.1 in
-    let same : cond (nat_eq (slot_rack y.rack) r && nat_eq y.number k) 1 0 ≡ cond (nat_eq (slot_rack a) r && nat_eq b k) 1 0 + 0 = rw (all.0.0, all.0.1) (omega arith) in
+    let same : cond (nat_eq (slot_rack y.rack) r && nat_eq y.number k) 1 0 ≡ cond (nat_eq (slot_rack a) r && nat_eq b k) 1 0 + 0 =
+    rw (all.0.0, all.0.1) (omega arith) in
     omega arith
 
 module _ {A : Type 0} where
@@ -120,7 +125,8 @@ module _ (P : ℕ → ℕ → ℕ → Asked → Type 0) where
   job_items (End s i ∷ xs) every (suc k) x at = job_items xs every k x at
 
   -- the replies of all workers are so
-  pub all_so : (takers : List (TakeView Job)) (ended : List (PutView Replied)) → AllZip HasAnswered takers ended → ((t : ℕ) (e : TakeView Job) → get_elem? takers t ≡ some e → Each (IsSoItem P) e.taken)
+  pub all_so : (takers : List (TakeView Job)) (ended : List (PutView Replied)) → AllZip HasAnswered takers ended
+      → ((t : ℕ) (e : TakeView Job) → get_elem? takers t ≡ some e → Each (IsSoItem P) e.taken)
       → (s : ℕ) (e : PutView Replied) → get_elem? ended s ≡ some e → Each IsSoReplyItem e.put
   all_so [] [] all so s e at = absurd (some-ne-none e (sym at))
   all_so [] (w ∷ ws) all so s e at = absurd all
@@ -132,11 +138,16 @@ module _ (P : ℕ → ℕ → ℕ → Asked → Type 0) where
 
 module _ {T : Type 0} where
   -- what holds of all that was put holds of all that was taken
-  pub taken_have : (puts takes : List (List (Item T))) (prefix : ℕ → ℕ) → IsLawful puts takes prefix → (P : Item T → Type 0) → ((s : ℕ) (xs : List (Item T)) → get_elem? puts s ≡ some xs → Each P xs) → (t : ℕ) (ys : List (Item T)) → get_elem? takes t ≡ some ys → Each P ys
-  taken_have puts takes prefix lawful P all t ys here i y at = let u = lawful.unaltered t ys here i y at in all (sender_of y) u.0 u.1 (number_of y) y u.2
+  pub taken_have : (puts takes : List (List (Item T))) (prefix : ℕ → ℕ) → IsLawful puts takes prefix → (P : Item T → Type 0)
+      → ((s : ℕ) (xs : List (Item T)) → get_elem? puts s ≡ some xs → Each P xs) → (t : ℕ) (ys : List (Item T)) → get_elem? takes t ≡ some ys
+      → Each P ys
+  taken_have puts takes prefix lawful P all t ys here i y at = let u =
+      lawful.unaltered t ys here i y at in all (sender_of y) u.0 u.1 (number_of y) y u.2
 
   -- where as much was taken as was put, the weights are the same
-  pub all_weighed : (put taken : ℕ) (ended : List (PutView T)) (takers : List (TakeView T)) → IsSettled put taken (puts_of ended) (takes_of takers) → sum_by (λ (e : PutView T). length e.put) ended ≤ sum_by (λ (e : TakeView T). length e.taken) takers → (g : Item T → ℕ)
+  pub all_weighed : (put taken : ℕ) (ended : List (PutView T)) (takers : List (TakeView T))
+      → IsSettled put taken (puts_of ended) (takes_of takers)
+      → sum_by (λ (e : PutView T). length e.put) ended ≤ sum_by (λ (e : TakeView T). length e.taken) takers → (g : Item T → ℕ)
       → sum_by (λ (e : PutView T). sum_by g e.put) ended ≡ sum_by (λ (e : TakeView T). sum_by g e.taken) takers
   all_weighed put taken ended takers settled enough g =
       let a = sum_map {B = List (Item T)} (λ xs. sum_by g xs) (λ (e : PutView T). e.put) ended in
@@ -157,12 +168,16 @@ module _ {T : Type 0} where
       ones_of [] = refl
       ones_of (x ∷ xs) = let a = sum_by-cons (λ (_ : Item T). 1) x xs in let b = ones_of xs in omega arith
 
-      same_sums : {E : Type 0} (f : E → List (Item T)) (es : List E) → sum_by (λ e. sum_by (λ _. 1) (f e)) es ≡ sum_by (λ e. length (f e)) es
+      same_sums : {E : Type 0} (f : E → List (Item T)) (es : List E)
+          → sum_by (λ e. sum_by (λ _. 1) (f e)) es ≡ sum_by (λ e. length (f e)) es
       same_sums f [] = refl
-      same_sums f (e ∷ es) = let a = sum_by-cons (λ e. sum_by (λ _. 1) (f e)) e es in let b = sum_by-cons (λ e. length (f e)) e es in let c = same_sums f es in let d = ones_of (f e) in omega arith
+      same_sums f (e ∷ es) = let a = sum_by-cons (λ e. sum_by (λ _. 1) (f e)) e es in let b = sum_by-cons (λ e. length (f e)) e es in
+          let c = same_sums f es in let d = ones_of (f e) in omega arith
 
 -- what all workers took, they replied to
-pub all_replied : (r k : ℕ) (takers : List (TakeView Job)) (ended : List (PutView Replied)) → AllZip HasAnswered takers ended → sum_by (λ (e : TakeView Job). sum_by (job_weight r k) e.taken) takers ≡ sum_by (λ (e : PutView Replied). sum_by (reply_weight r k) e.put) ended
+pub all_replied : (r k : ℕ) (takers : List (TakeView Job)) (ended : List (PutView Replied)) → AllZip HasAnswered takers ended
+    → sum_by (λ (e : TakeView Job). sum_by (job_weight r k) e.taken) takers
+    ≡ sum_by (λ (e : PutView Replied). sum_by (reply_weight r k) e.put) ended
 all_replied r k [] [] all = refl
 all_replied r k [] (w ∷ ws) all = absurd all
 all_replied r k (t ∷ ts) [] all = absurd all
@@ -176,7 +191,9 @@ all_replied r k (t ∷ ts) (w ∷ ws) all =
     omega arith
 
 -- what a run knows when all threads were joined, all left was taken and both lanes were settled
-pub record Ran (P : ℕ → ℕ → ℕ → Asked → Type 0) (count : ℕ → ℕ) (ended : List (PutView Job)) (takers : List (TakeView Job)) (last last_left : TakeView Job) (more : List (Item Job)) (own : List Replied) (replied : List (PutView Replied)) (desk : TakeView Replied) : Type 0 where
+pub record Ran (P : ℕ → ℕ → ℕ → Asked → Type 0) (count : ℕ → ℕ) (ended : List (PutView Job)) (takers : List (TakeView Job))
+    (last last_left : TakeView Job) (more : List (Item Job)) (own : List Replied) (replied : List (PutView Replied))
+    (desk : TakeView Replied) : Type 0 where
   pub once : (r k : ℕ) → sum_by (λ (e : PutView Job). sum_by (job_weight r k) e.put) ended ≡ once_below k (count r)
   pub all_put : Each (λ e. Each (IsSoItem P) e.put) ended
   pub answered : AllZip HasAnswered (takers ++ last ∷ []) replied
@@ -185,13 +202,17 @@ pub record Ran (P : ℕ → ℕ → ℕ → Asked → Type 0) (count : ℕ → �
   pub put_jobs : ℕ
   pub taken_jobs : ℕ
   pub jobs_settled : IsSettled put_jobs taken_jobs (puts_of ended) (takes_of (takers ++ last_left ∷ []))
-  pub jobs_taken : sum_by (λ (e : PutView Job). length e.put) ended ≤ sum_by (λ (e : TakeView Job). length e.taken) (takers ++ last_left ∷ [])
+  pub jobs_taken : sum_by (λ (e : PutView Job). length e.put) ended ≤ sum_by (λ (e : TakeView Job). length e.taken)
+      (takers ++ last_left ∷ [])
   pub put_replies : ℕ
   pub taken_replies : ℕ
   pub replies_settled : IsSettled put_replies taken_replies (puts_of replied) (takes_of (desk ∷ []))
   pub replies_taken : sum_by (λ (e : PutView Replied). length e.put) replied ≤ sum_by (λ (e : TakeView Replied). length e.taken) (desk ∷ [])
 
-module _ (P : ℕ → ℕ → ℕ → Asked → Type 0) (count : ℕ → ℕ) (ended : List (PutView Job)) (takers : List (TakeView Job)) (last last_left : TakeView Job) (more : List (Item Job)) (own : List Replied) (replies : List (PutView Replied)) (desk : TakeView Replied) (ran : Ran P count ended takers last last_left more own replies desk) where
+module _ (P : ℕ → ℕ → ℕ → Asked → Type 0) (count : ℕ → ℕ) (ended : List (PutView Job)) (takers : List (TakeView Job))
+    (last last_left : TakeView Job) (more : List (Item Job)) (own : List Replied) (replies : List (PutView Replied))
+    (desk : TakeView Replied)
+    (ran : Ran P count ended takers last last_left more own replies desk) where
   pub one_each : AreOneEach count (values desk.taken ++ own)
   one_each r k =
       let f : TakeView Job → ℕ = λ e. sum_by (job_weight r k) e.taken in
@@ -219,24 +240,30 @@ module _ (P : ℕ → ℕ → ℕ → Asked → Type 0) (count : ℕ → ℕ) (e
 
   last_so : (e : TakeView Job) → e ≡ last_left → Each (IsSoItem P) e.taken
   last_so e same = subst (λ (x : TakeView Job). Each (IsSoItem P) x.taken) (sym same)
-      (jobs_so (length takers + 0) last_left.taken (at_map (λ (x : TakeView Job). x.taken) (takers ++ last_left ∷ []) (length takers + 0) last_left (at_back takers (last_left ∷ []) 0 last_left refl (length takers + 0) refl)))
+      (jobs_so (length takers + 0) last_left.taken (at_map (λ (x : TakeView Job). x.taken) (takers ++ last_left ∷ [])
+      (length takers + 0) last_left (at_back takers (last_left ∷ []) 0 last_left refl (length takers + 0) refl)))
 
   parts_so : Each (IsSoItem P) (last.taken ++ more)
   parts_so = subst (Each (IsSoItem P)) ran.more_taken (last_so last_left refl)
 
   each_so : (t : ℕ) (e : TakeView Job) → get_elem? (takers ++ last ∷ []) t ≡ some e → Each (IsSoItem P) e.taken
   each_so t e at = ⊎_elim
-      (λ was. jobs_so t e.taken (at_map (λ (x : TakeView Job). x.taken) (takers ++ last_left ∷ []) t e (at_front takers (last_left ∷ []) t e was)))
-      (λ (new : (t ≡ length takers) × (last ≡ e)). subst (λ (x : TakeView Job). Each (IsSoItem P) x.taken) new.1 (λ i y there. parts_so i y (at_front last.taken more i y there)))
+      (λ was. jobs_so t e.taken (at_map (λ (x : TakeView Job). x.taken) (takers ++ last_left ∷ []) t e
+      (at_front takers (last_left ∷ []) t e was)))
+      (λ (new : (t ≡ length takers) × (last ≡ e)). subst (λ (x : TakeView Job). Each (IsSoItem P) x.taken) new.1
+      (λ i y there. parts_so i y (at_front last.taken more i y there)))
       (at_snoc_or takers last e t at)
 
   desk_so : Each (IsSoReplyItem P) desk.taken
   desk_so = taken_have (puts_of replies) (takes_of (desk ∷ [])) ran.replies_settled.prefix ran.replies_settled.lawful (IsSoReplyItem P)
-      (λ s xs at. let u = from_map (λ (e : PutView Replied). e.put) replies s xs at in subst (Each (IsSoReplyItem P)) u.2 (all_so P (takers ++ last ∷ []) replies ran.answered each_so s u.0 u.1))
+      (λ s xs at. let u = from_map (λ (e : PutView Replied). e.put) replies s xs at in subst (Each (IsSoReplyItem P)) u.2
+      (all_so P (takers ++ last ∷ []) replies ran.answered each_so s u.0 u.1))
       0 desk.taken refl
 
   own_so : Every (IsSoReply P) own
-  own_so = so_replies P (values more) own ran.own_replies (so_jobs P more (λ i y there. parts_so (length last.taken + i) y (at_back last.taken more i y there (length last.taken + i) refl)))
+  own_so = so_replies P (values more) own ran.own_replies
+      (so_jobs P more (λ i y there. parts_so (length last.taken + i) y (at_back last.taken more i y there (length last.taken + i) refl)))
 
   pub each_is_so : Each (IsSoReply P) (values desk.taken ++ own)
-  each_is_so = every_each (IsSoReply P) (values desk.taken ++ own) (every_append (IsSoReply P) (values desk.taken) own (reply_values P desk.taken desk_so) own_so)
+  each_is_so = every_each (IsSoReply P) (values desk.taken ++ own)
+      (every_append (IsSoReply P) (values desk.taken) own (reply_values P desk.taken desk_so) own_so)

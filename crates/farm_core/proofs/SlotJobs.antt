@@ -16,7 +16,8 @@ unfolding slot_of slot_feed
 feed_is rack feed few = mod-mul-add rack 4 feed few
 
 job_of_feed : (rack feed : ℕ) → feed < 4 → (job : Job) → IsOfRack (slot_of rack feed) job → IsOfFeed rack feed job
-job_of_feed rack feed few (Solve slot number request) is = (ap slot_rack is ∙ rack_is rack feed few, ap slot_feed is ∙ feed_is rack feed few)
+job_of_feed rack feed few (Solve slot number request) is =
+    (ap slot_rack is ∙ rack_is rack feed few, ap slot_feed is ∙ feed_is rack feed few)
 job_of_feed rack feed few Stop is = absurd is
 
 -- the jobs of a feed's slot are that feed's

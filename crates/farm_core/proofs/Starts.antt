@@ -19,7 +19,8 @@ use Rattle.farm_core.specs.Boards.{Held, HasHeld}
 use Rattle.farm_core.specs.Jobs.{HasPutStops}
 use Rattle.farm_core.specs.Settled.{HasCleared, HasJoined, HavePut}
 use Rattle.farm_core.specs.Threads.{ends_of, feeders_of, WorkersJoined}
-use Rattle.farm_core.specs.Ready.{Given, AreAllFeeders, AreAllGiven, AreEndsOf, HavePutRacks, all_given, as_new, ends_given, rooms_of, started_of, IsReady}
+use Rattle.farm_core.specs.Ready.{Given, AreAllFeeders, AreAllGiven, AreEndsOf, HavePutRacks, all_given, as_new, ends_given, rooms_of}
+use Rattle.farm_core.specs.Ready.{started_of, IsReady}
 use Rattle.farm_core.proofs.AllRacks.{puts_stops}
 use Rattle.farm_core.proofs.Clears.{collected_racks}
 use Rattle.farm_core.proofs.Merged.{map_length}
@@ -33,17 +34,21 @@ module _ {A B : Type 0} where
   mapped_length f xs ys is = sym (ap (λ (l : List B). length l) is) ∙ map_length f xs
 
 -- feeders of all racks, once their threads are started
-all_feeders : (lists : List (List (List Order))) (racks : List RackFeeders) → AreAllGiven lists (started_of racks) → AreAllFeeders lists racks
+all_feeders : (lists : List (List (List Order))) (racks : List RackFeeders) → AreAllGiven lists (started_of racks)
+    → AreAllFeeders lists racks
 all_feeders lists racks are = record {
   count = sym (map_length (λ (r : RackFeeders). (r.gate.now, feeders_of r.handles.items)) racks) ∙ are.count;
-  each = λ k feeds r at_l at_r. are.each k feeds (r.gate.now, feeders_of r.handles.items) at_l (at_map (λ (r : RackFeeders). (r.gate.now, feeders_of r.handles.items)) racks k r at_r);
+  each = λ k feeds r at_l at_r. are.each k feeds (r.gate.now, feeders_of r.handles.items) at_l
+      (at_map (λ (r : RackFeeders). (r.gate.now, feeders_of r.handles.items)) racks k r at_r);
 }
 
 module _ (room : Room) (ready : IsReady room) where
   abbrev racks : List (List (List Order))
   racks = room.desk.board.racks
 
-  module _ (rs : List RackFeeders) (puts : List (PutView Job)) (given : started_of rs ≡ rooms_of room.racks.items) (joined : HavePutRacks rs puts) (were : AreEndsOf (all_given (started_of rs)) puts) (last : PutView Job) (stops : HasPutStops room.stops last) where
+  module _ (rs : List RackFeeders) (puts : List (PutView Job)) (given : started_of rs ≡ rooms_of room.racks.items)
+      (joined : HavePutRacks rs puts) (were : AreEndsOf (all_given (started_of rs)) puts) (last : PutView Job)
+      (stops : HasPutStops room.stops last) where
     -- the ends as they were
     news : map as_new puts ≡ ends_given (rooms_of room.racks.items)
     news = were ∙ ap ends_given given
@@ -52,23 +57,29 @@ module _ (room : Room) (ready : IsReady room) where
     count = sym (map_length as_new puts) ∙ (ap (λ (l : List (PutView Job)). length l) news ∙ ready.ends_are.count)
 
     all_put : HavePut racks (puts ++ last ∷ [])
-    all_put = puts_stops racks puts room.stops last (joined racks (all_feeders racks rs (subst (λ (l : List Given). AreAllGiven racks l) (sym given) ready.racks_are))) stops
+    all_put = puts_stops racks puts room.stops last (joined racks
+        (all_feeders racks rs (subst (λ (l : List Given). AreAllGiven racks l) (sym given) ready.racks_are))) stops
 
     puts_are : (k : ℕ) (e : PutView Job) → get_elem? (puts ++ last ∷ []) k ≡ some e → (e.lane ≡ ready.jobs_lane) × (e.sender ≡ k)
     puts_are k e at = ⊎_elim
         (λ old.
-        let here : as_new e ≡ new_put ready.jobs_lane k = ready.ends_are.each k (as_new e) (subst (λ (l : List (PutView Job)). get_elem? l k ≡ some (as_new e)) news (at_map as_new puts k e old)) in (
+        let here : as_new e ≡ new_put ready.jobs_lane k =
+        ready.ends_are.each k (as_new e) (subst (λ (l : List (PutView Job)). get_elem? l k ≡ some (as_new e)) news
+        (at_map as_new puts k e old)) in (
           ap (λ (u : PutView Job). u.lane) here,
           ap (λ (u : PutView Job). u.sender) here,
         ))
         (λ (new : (k ≡ length puts) × (last ≡ e)). (
-          sym (ap (λ (u : PutView Job). u.lane) new.1) ∙ (ap (λ (u : PutView Job). u.lane) stops.stops_is ∙ ap (λ (u : PutView Job). u.lane) ready.stops_is),
-          sym (ap (λ (u : PutView Job). u.sender) new.1) ∙ (ap (λ (u : PutView Job). u.sender) stops.stops_is ∙ (ap (λ (u : PutView Job). u.sender) ready.stops_is ∙ (sym count ∙ sym new.0))),
+          sym (ap (λ (u : PutView Job). u.lane) new.1) ∙ (ap (λ (u : PutView Job). u.lane) stops.stops_is
+              ∙ ap (λ (u : PutView Job). u.lane) ready.stops_is),
+          sym (ap (λ (u : PutView Job). u.sender) new.1) ∙ (ap (λ (u : PutView Job). u.sender) stops.stops_is
+              ∙ (ap (λ (u : PutView Job). u.sender) ready.stops_is ∙ (sym count ∙ sym new.0))),
         ))
         (at_snoc_or puts last e k at)
 
     -- all threads were joined
-    pub has_joined : (ws : List Handle) (js : List (TakeView Job)) (rs : List (PutView Replied)) (desk : TakeView Replied) (c : Held) (fault : Option CollectFault)
+    pub has_joined : (ws : List Handle) (js : List (TakeView Job)) (rs : List (PutView Replied)) (desk : TakeView Replied) (c : Held)
+        (fault : Option CollectFault)
         → ends_of ws ≡ room.workers.items → WorkersJoined ws js rs → HasCleared racks room.desk.replies c fault desk
         → HasJoined c.racks (puts ++ last ∷ []) js rs desk c fault
     has_joined ws js rs desk c fault ends workers cleared =

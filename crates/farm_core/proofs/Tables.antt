@@ -1,5 +1,6 @@
 -- Laws of the table of replies.
-use Rattle.std.proofs.Common.{ℕ, ◌≡◌, ◌<◌, List, [], ◌∷◌, length, get_or, set, map, replicate, arith, refl, sym, ap, ◌∙◌, subst, suc, zero, inl, inr, Option, Some, None}
+use Rattle.std.proofs.Common.{ℕ, ◌≡◌, ◌<◌, List, [], ◌∷◌, length, get_or, set, map, replicate, arith, refl, sym, ap, ◌∙◌, subst, suc, zero}
+use Rattle.std.proofs.Common.{inl, inr, Option, Some, None}
 use Rattle.std.specs.List.{AllZip}
 use Rattle.std.proofs.lemmas.List.{get_or_default, length-replicate, get_or-set_same, get_or-set_other}
 use Rattle.std.proofs.lemmas.Bool.{cases_eq}
@@ -17,23 +18,28 @@ abbrev Table : Type 0
 Table = List (List (Option Entry))
 
 -- the row at a rack, whatever is in for one that is not there
-pub row_is : (table : Table) (rack : ℕ) (row : List (Option Entry)) → row ≡ get_or table rack row → rack < length table → row ≡ get_or table rack []
+pub row_is : (table : Table) (rack : ℕ) (row : List (Option Entry)) → row ≡ get_or table rack row → rack < length table
+    → row ≡ get_or table rack []
 row_is table rack row is low = is ∙ get_or_default table rack row [] low
 
 -- a row for each list, with no reply
 pub shape_nothing : (racks : List (List Order)) → HasShape racks (map (λ orders. replicate (length (before_close orders)) None) racks)
 shape_nothing [] = refl
 shape_nothing (orders ∷ racks) =
-    let here : length (replicate {A = Option Entry} (length (before_close orders)) None) ≡ length (before_close orders) = length-replicate _ _ in
+    let here : length (replicate {A = Option Entry} (length (before_close orders)) None) ≡ length (before_close orders) =
+    length-replicate _ _ in
     let rest = shape_nothing racks in cc
 
-pub missing_from_gap : (racks : List (List Order)) (table : Table) → HasShape racks table → (r k : ℕ) → IsGap (get_or table r []) k → IsMissing (record { racks = racks; table = table }) r k
+pub missing_from_gap : (racks : List (List Order)) (table : Table) → HasShape racks table → (r k : ℕ) → IsGap (get_or table r []) k
+    → IsMissing (record { racks = racks; table = table }) r k
 missing_from_gap racks table shape r k gap = let len = shape_at racks table shape r in let low = gap.0 in (omega arith, gap.1)
 
-pub gap_from_missing : (racks : List (List Order)) (table : Table) → HasShape racks table → (r k : ℕ) → IsMissing (record { racks = racks; table = table }) r k → IsGap (get_or table r []) k
+pub gap_from_missing : (racks : List (List Order)) (table : Table) → HasShape racks table → (r k : ℕ)
+    → IsMissing (record { racks = racks; table = table }) r k → IsGap (get_or table r []) k
 gap_from_missing racks table shape r k missing = let len = shape_at racks table shape r in let low = missing.0 in (omega arith, missing.1)
 
-pub least_missing_from_gap : (racks : List (List Order)) (table : Table) → HasShape racks table → (rack number : ℕ) → IsLeastGap table rack number → IsLeastMissing (record { racks = racks; table = table }) rack number
+pub least_missing_from_gap : (racks : List (List Order)) (table : Table) → HasShape racks table → (rack number : ℕ)
+    → IsLeastGap table rack number → IsLeastMissing (record { racks = racks; table = table }) rack number
 least_missing_from_gap racks table shape rack number least = (
   missing_from_gap racks table shape rack number least.1.0,
   λ r k before missing.
@@ -44,7 +50,8 @@ least_missing_from_gap racks table shape rack number least = (
       ],
 )
 
-pub complete_from_no_gaps : (racks : List (List Order)) (table : Table) → HasShape racks table → HasNoGaps table → IsComplete (record { racks = racks; table = table })
+pub complete_from_no_gaps : (racks : List (List Order)) (table : Table) → HasShape racks table → HasNoGaps table
+    → IsComplete (record { racks = racks; table = table })
 complete_from_no_gaps racks table shape none r k missing = none r k (gap_from_missing racks table shape r k missing)
 
 -- the answers of one rack
@@ -62,7 +69,8 @@ row_answers (Some e ∷ row) (r ∷ rs) (o ∷ os) len place all =
 
 -- the answers of all racks
 pub table_answers : {V : Type 0} (items : V → List Outcome) (racks : List (List Order)) (table : Table) (vs : List V) → HasShape racks table
-    → ((rack k : ℕ) (e : Entry) (d : Asked) → get_or (get_or table rack []) k None ≡ Some e → e.request ≡ get_or (before_close (get_or racks rack [])) k d)
+    → ((rack k : ℕ) (e : Entry) (d : Asked) → get_or (get_or table rack []) k None ≡ Some e
+    → e.request ≡ get_or (before_close (get_or racks rack [])) k d)
     → AllZip (λ row v. AllZip Answers row (items v)) table vs → AreExpected racks (map items vs)
 table_answers items [] [] [] shape place all = tt
 table_answers items racks [] (v ∷ vs) shape place all = absurd all
@@ -71,17 +79,22 @@ table_answers items [] (row ∷ table) (v ∷ vs) shape place all = cc
 table_answers items (orders ∷ racks) [] [] shape place all = cc
 table_answers items (orders ∷ racks) (row ∷ table) (v ∷ vs) shape place all =
     let len : length row ≡ length (before_close orders) = cc in
-    let less : HasShape racks table = cc in
-    (row_answers row (before_close orders) (items v) len (λ k e d is. place 0 k e d is) all.0, table_answers items racks table vs less (λ r k e d is. place (suc r) k e d is) all.1)
+    let less : HasShape racks table = cc in (
+      row_answers row (before_close orders) (items v) len (λ k e d is. place 0 k e d is) all.0,
+      table_answers items racks table vs less
+          (λ r k e d is. place (suc r) k e d is) all.1,
+    )
 
-pub none_starved_row : (row : List (Option Entry)) (os : List Outcome) → AllZip Answers row os → (k : ℕ) (e : Entry) → get_or row k None ≡ Some e → e.result ≡ Starved → ⊥
+pub none_starved_row : (row : List (Option Entry)) (os : List Outcome) → AllZip Answers row os → (k : ℕ) (e : Entry)
+    → get_or row k None ≡ Some e → e.result ≡ Starved → ⊥
 none_starved_row [] os all k e is starved = cc
 none_starved_row (c ∷ row) [] all k e is starved = absurd all
 none_starved_row (None ∷ row) (o ∷ os) all k e is starved = absurd all.0
 none_starved_row (Some f ∷ row) (o ∷ os) all zero e is starved = let done = all.0.1 in cc
 none_starved_row (Some f ∷ row) (o ∷ os) all (suc k) e is starved = none_starved_row row os all.1 k e is starved
 
-pub none_starved : {V : Type 0} (items : V → List Outcome) (table : Table) (vs : List V) → AllZip (λ row v. AllZip Answers row (items v)) table vs
+pub none_starved : {V : Type 0} (items : V → List Outcome) (table : Table) (vs : List V)
+    → AllZip (λ row v. AllZip Answers row (items v)) table vs
     → (r k : ℕ) (e : Entry) → get_or (get_or table r []) k None ≡ Some e → e.result ≡ Starved → ⊥
 none_starved items [] vs all r k e is starved = cc
 none_starved items (row ∷ table) [] all r k e is starved = absurd all
@@ -93,14 +106,17 @@ get_none zero k = refl
 get_none (suc n) zero = refl
 get_none (suc n) (suc k) = get_none n k
 
-pub none_yet : (racks : List (List Order)) (r k : ℕ) → get_or (get_or (map (λ orders. replicate {A = Option Entry} (length (before_close orders)) None) racks) r []) k None ≡ None
+pub none_yet : (racks : List (List Order)) (r k : ℕ) → get_or
+    (get_or (map (λ orders. replicate {A = Option Entry} (length (before_close orders)) None) racks) r []) k None ≡ None
 none_yet [] r k = refl
 none_yet (orders ∷ racks) zero k = get_none (length (before_close orders)) k
 none_yet (orders ∷ racks) (suc r) k = none_yet racks r k
 
 -- a reply put into its row
-pub added : (racks : List (List Order)) (table : Table) (rack number : ℕ) (row new : List (Option Entry)) (e : Entry) → row ≡ get_or table rack row → rack < length table → number < length row
-    → new ≡ set row number (Some e) → IsAdded (record { racks = racks; table = table }) rack number e (record { racks = racks; table = set table rack new })
+pub added : (racks : List (List Order)) (table : Table) (rack number : ℕ) (row new : List (Option Entry)) (e : Entry)
+    → row ≡ get_or table rack row → rack < length table → number < length row
+    → new ≡ set row number (Some e) → IsAdded (record { racks = racks; table = table }) rack number e
+    (record { racks = racks; table = set table rack new })
 added racks table rack number row new e is low within now =
     let at : get_or (set table rack new) rack [] ≡ new = get_or-set_same table rack new [] low in
     let was : row ≡ get_or table rack [] = row_is table rack row is low in

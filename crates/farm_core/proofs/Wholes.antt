@@ -23,17 +23,21 @@ abbrev Handle : Type 0
 Handle = PromisedHandle Worked WorkOf
 
 -- what a worker put replies to what it took
-pub worked_answered : (jobs : TakeView Job) (replies : PutView Replied) (j : TakeView Job) (r : PutView Replied) → HasWorked jobs replies j r → HasAnswered j r
+pub worked_answered : (jobs : TakeView Job) (replies : PutView Replied) (j : TakeView Job) (r : PutView Replied)
+    → HasWorked jobs replies j r → HasAnswered j r
 worked_answered jobs replies j r w =
     let P : TakeView Job × PutView Replied → Type 0 = λ p. HasAnswered p.0 p.1 in
     let mark = End replies.sender (length w.put) in
     let vals : values (w.put ++ mark ∷ []) ≡ values w.put = values-append w.put (mark ∷ []) ∙ append-nil (values w.put) in
     subst P (λ i. (sym w.jobs_is i, sym w.replies_is i)) (subst (λ l. AreReplies (values w.took) l) (sym vals) w.answered)
 
-module _ (L : LaneName Job) (M : LaneName Replied) (hs : List Handle) (js : List (TakeView Job)) (rs : List (PutView Replied)) (ends : List WorkerEnds) (joined : WorkersJoined hs js rs) (given : ends_of hs ≡ ends) (are : AreWorkerEnds L M ends) where
+module _ (L : LaneName Job) (M : LaneName Replied) (hs : List Handle) (js : List (TakeView Job)) (rs : List (PutView Replied))
+    (ends : List WorkerEnds) (joined : WorkersJoined hs js rs) (given : ends_of hs ≡ ends) (are : AreWorkerEnds L M ends) where
   -- the ends of the worker at a place
-  given_at : (k : ℕ) (h : Handle) → get_elem? hs k ≡ some h → (h.promise.0.value.jobs ≡ new_take L) × (h.promise.0.value.replies ≡ new_put M k)
-  given_at k h at = are.each k h.promise.0.value (subst (λ (l : List WorkerEnds). get_elem? l k ≡ some h.promise.0.value) given (at_map (λ (x : Handle). x.promise.0.value) hs k h at))
+  given_at : (k : ℕ) (h : Handle) → get_elem? hs k ≡ some h → (h.promise.0.value.jobs ≡ new_take L)
+      × (h.promise.0.value.replies ≡ new_put M k)
+  given_at k h at = are.each k h.promise.0.value (subst (λ (l : List WorkerEnds). get_elem? l k ≡ some h.promise.0.value) given
+      (at_map (λ (x : Handle). x.promise.0.value) hs k h at))
 
   pub workers_answered : AllZip HasAnswered js rs
   workers_answered = answered_all HasAnswered js rs (joined.jobs_count ∙ sym joined.replies_count)
@@ -55,5 +59,8 @@ module _ (L : LaneName Job) (M : LaneName Replied) (hs : List Handle) (js : List
       let h = there hs k (let e = joined.replies_count in omega arith) in
       let j = there js k (let e = joined.jobs_count in let f = joined.replies_count in omega arith) in
       let w = joined.each k h.0 j.0 r h.1 j.1 at in
-      let g = (given_at k h.0 h.1).1 in
-      (ap (λ (e : PutView Replied). e.lane) w.replies_is ∙ ap (λ (e : PutView Replied). e.lane) g, ap (λ (e : PutView Replied). e.sender) w.replies_is ∙ ap (λ (e : PutView Replied). e.sender) g)
+      let g = (given_at k h.0 h.1).1 in (
+        ap (λ (e : PutView Replied). e.lane) w.replies_is ∙ ap (λ (e : PutView Replied). e.lane) g,
+        ap
+            (λ (e : PutView Replied). e.sender) w.replies_is ∙ ap (λ (e : PutView Replied). e.sender) g,
+      )

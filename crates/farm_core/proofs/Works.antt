@@ -14,7 +14,8 @@ use Rattle.farm_core.specs.declared.jobs.Job.TheVariants.{Solve, Stop}
 use Rattle.farm_core.specs.Replies.{Replied}
 use Rattle.farm_core.specs.Jobs.{solves, IsReplyTo, AreReplies, HasWorked, SaysStop}
 
-pub zip_append : {A B : Type 0} (R : A → B → Type 0) (xs xs' : List A) (ys ys' : List B) → AllZip R xs ys → AllZip R xs' ys' → AllZip R (xs ++ xs') (ys ++ ys')
+pub zip_append : {A B : Type 0} (R : A → B → Type 0) (xs xs' : List A) (ys ys' : List B) → AllZip R xs ys → AllZip R xs' ys'
+    → AllZip R (xs ++ xs') (ys ++ ys')
 zip_append R [] xs' [] ys' all more = more
 zip_append R [] xs' (y ∷ ys) ys' all more = absurd all
 zip_append R (x ∷ xs) xs' [] ys' all more = absurd all
@@ -25,18 +26,23 @@ solves-append [] ys = refl
 solves-append (Solve a b q ∷ xs) ys = ap (λ l. Solve a b q ∷ l) (solves-append xs ys)
 solves-append (Stop ∷ xs) ys = solves-append xs ys
 
-pub replies_append : (js js' : List Job) (rs rs' : List Replied) → AreReplies js rs → AreReplies js' rs' → AreReplies (js ++ js') (rs ++ rs')
-replies_append js js' rs rs' was more = subst (λ l. AllZip IsReplyTo l (rs ++ rs')) (sym (solves-append js js')) (zip_append IsReplyTo (solves js) (solves js') rs rs' was more)
+pub replies_append : (js js' : List Job) (rs rs' : List Replied) → AreReplies js rs → AreReplies js' rs'
+    → AreReplies (js ++ js') (rs ++ rs')
+replies_append js js' rs rs' was more = subst (λ l. AllZip IsReplyTo l (rs ++ rs')) (sym (solves-append js js'))
+    (zip_append IsReplyTo (solves js) (solves js') rs rs' was more)
 
 module _ {T : Type 0} where
-  pub taken_more : (e e' : TakeView T) (lane : LaneName T) (ys : List (Item T)) (x : Item T) → e ≡ take_end lane ys → e' ≡ with_taken e x → e' ≡ take_end lane (ys ++ x ∷ [])
+  pub taken_more : (e e' : TakeView T) (lane : LaneName T) (ys : List (Item T)) (x : Item T) → e ≡ take_end lane ys → e' ≡ with_taken e x
+      → e' ≡ take_end lane (ys ++ x ∷ [])
   taken_more e e' lane ys x was more = more ∙ ap (λ (u : TakeView T). with_taken u x) was
 
-  pub put_more : (e e' : PutView T) (lane : LaneName T) (s : ℕ) (xs : List (Item T)) (x : Item T) → e ≡ put_end lane s xs → e' ≡ with_put e x → e' ≡ put_end lane s (xs ++ x ∷ [])
+  pub put_more : (e e' : PutView T) (lane : LaneName T) (s : ℕ) (xs : List (Item T)) (x : Item T) → e ≡ put_end lane s xs
+      → e' ≡ with_put e x → e' ≡ put_end lane s (xs ++ x ∷ [])
   put_more e e' lane s xs x was more = more ∙ ap (λ (u : PutView T). with_put u x) was
 
 -- with these ends, unused at first, a worker took some items, and put one reply to each job that it took, in that order
-pub record IsWorking (jobs : TakeView Job) (replies : PutView Replied) (jobs_now : TakeView Job) (replies_now : PutView Replied) : Type 0 where
+pub record IsWorking (jobs : TakeView Job) (replies : PutView Replied) (jobs_now : TakeView Job)
+    (replies_now : PutView Replied) : Type 0 where
   pub took : List (Item Job)
   pub put : List (Item Replied)
   pub only_values : Each (λ x. is_end x ≡ false) put
@@ -62,21 +68,25 @@ module _ (jobs : TakeView Job) (replies : PutView Replied) where
     took = was.took ++ x ∷ [];
     put = was.put;
     only_values = was.only_values;
-    answered = subst (λ l. AllZip IsReplyTo l (values was.put)) (sym (ap solves (values-append was.took (x ∷ [])) ∙ (solves-append (values was.took) (values (x ∷ [])) ∙ (ap (λ l. solves (values was.took) ++ l) none ∙ append-nil (solves (values was.took)))))) was.answered;
+    answered = subst (λ l. AllZip IsReplyTo l (values was.put))
+        (sym (ap solves (values-append was.took (x ∷ [])) ∙ (solves-append (values was.took) (values (x ∷ []))
+        ∙ (ap (λ l. solves (values was.took) ++ l) none ∙ append-nil (solves (values was.took)))))) was.answered;
     jobs_is = taken_more j j' jobs.lane was.took x was.jobs_is more;
     replies_is = was.replies_is;
   }
 
   -- an item was taken, and its reply put
   pub work_replies : (j j' : TakeView Job) (r r' : PutView Replied) (x : Item Job) (y : Item Replied) → IsWorking jobs replies j r
-      → AreReplies (values (x ∷ [])) (values (y ∷ [])) → is_end y ≡ false → j' ≡ with_taken j x → r' ≡ with_put r y → IsWorking jobs replies j' r'
+      → AreReplies (values (x ∷ [])) (values (y ∷ [])) → is_end y ≡ false → j' ≡ with_taken j x → r' ≡ with_put r y
+      → IsWorking jobs replies j' r'
   work_replies j j' r r' x y was one value more more_r = record {
     took = was.took ++ x ∷ [];
     put = was.put ++ y ∷ [];
     only_values = each_snoc (λ x. is_end x ≡ false) was.put y was.only_values value;
     answered =
         let P : List Job × List Replied → Type 0 = λ p. AreReplies p.0 p.1 in
-        subst P (λ i. (sym (values-append was.took (x ∷ [])) i, sym (values-append was.put (y ∷ [])) i)) (replies_append (values was.took) (values (x ∷ [])) (values was.put) (values (y ∷ [])) was.answered one);
+        subst P (λ i. (sym (values-append was.took (x ∷ [])) i, sym (values-append was.put (y ∷ [])) i))
+        (replies_append (values was.took) (values (x ∷ [])) (values was.put) (values (y ∷ [])) was.answered one);
     jobs_is = taken_more j j' jobs.lane was.took x was.jobs_is more;
     replies_is = put_more r r' replies.lane replies.sender was.put y was.replies_is more_r;
   }
@@ -93,8 +103,11 @@ module _ (jobs : TakeView Job) (replies : PutView Replied) where
     replies_is = more ∙ ap (λ (u : PutView Replied). with_put u (End u.sender (length u.put))) was.replies_is;
   }
 
-pub goes_on : (j j' : TakeView Job) (x : Item Job) → Each (λ y. ¬ SaysStop y) j.taken → ¬ SaysStop x → j' ≡ with_taken j x → Each (λ y. ¬ SaysStop y) j'.taken
-goes_on j j' x was other more = subst (Each (λ y. ¬ SaysStop y)) (sym (ap (λ (u : TakeView Job). u.taken) more)) (each_snoc (λ y. ¬ SaysStop y) j.taken x was other)
+pub goes_on : (j j' : TakeView Job) (x : Item Job) → Each (λ y. ¬ SaysStop y) j.taken → ¬ SaysStop x → j' ≡ with_taken j x
+    → Each (λ y. ¬ SaysStop y) j'.taken
+goes_on j j' x was other more = subst (Each (λ y. ¬ SaysStop y)) (sym (ap (λ (u : TakeView Job). u.taken) more))
+    (each_snoc (λ y. ¬ SaysStop y) j.taken x was other)
 
 pub none_stops : (j : TakeView Job) → IsUnusedTake j → Each (λ y. ¬ SaysStop y) j.taken
-none_stops j unused = subst (Each (λ y. ¬ SaysStop y)) (sym (ap (λ (u : TakeView Job). u.taken) unused)) (λ k x at. absurd (some-ne-none x (sym at)))
+none_stops j unused = subst (Each (λ y. ¬ SaysStop y)) (sym (ap (λ (u : TakeView Job). u.taken) unused))
+    (λ k x at. absurd (some-ne-none x (sym at)))

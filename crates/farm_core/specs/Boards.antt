@@ -1,5 +1,6 @@
 -- What a farm holds of the replies to the requests of some racks' feeds, and the refusal that it keeps.
-use Rattle.std.specs.Prelude.{ℕ, ◌≡◌, ◌+◌, ◌<◌, ◌==◌, ◌&&◌, if◌then◌else◌, List, [], ◌∷◌, length, map, slice_index_or, Option, Some, None, ◌++◌, IsSome}
+use Rattle.std.specs.Prelude.{ℕ, ◌≡◌, ◌+◌, ◌<◌, ◌==◌, ◌&&◌, if◌then◌else◌, List, [], ◌∷◌, length, map, slice_index_or, Option, Some, None}
+use Rattle.std.specs.Prelude.{◌++◌, IsSome}
 use Rattle.std.specs.List.{sum_by, AllZip}
 use Rattle.lrc_code.specs.declared.outcomes.Outcome.{Outcome}
 use Rattle.lrc_code.specs.Answers.{IsAnswer}
@@ -77,7 +78,8 @@ IsOutcomeOf e answer = (answer.0 ≡ slot_feed e.rack) × IsAnswer e.request ans
 
 -- this entry is that of a reply among these, by this number of this rack
 abbrev pub IsAmong : List Replied → ℕ → ℕ → Entry → Type 0
-IsAmong xs rack number e = (i : ℕ) × (x : Replied) × (get_elem? xs i ≡ some x) × (slot_rack x.rack ≡ rack) × (x.number ≡ number) × (entry_of x ≡ e)
+IsAmong xs rack number e = (i : ℕ) × (x : Replied) × (get_elem? xs i ≡ some x) × (slot_rack x.rack ≡ rack) × (x.number ≡ number)
+    × (entry_of x ≡ e)
 
 -- just these replies are held
 pub record HoldsAll (b : Held) (racks : List (List (List Order))) (xs : List Replied) : Type 0 where
@@ -89,7 +91,8 @@ pub record HoldsAll (b : Held) (racks : List (List (List Order))) (xs : List Rep
 -- the reply is by a number that no feed of its rack may draw, or the second by its number; it is handed back
 abbrev pub IsNotHeld : Held → Replied → CollectFault → Type 0
 IsNotHeld b reply (Stranger back) = (back ≡ reply) × (HasRoom b.racks (slot_rack reply.rack) reply.number → ⊥)
-IsNotHeld b reply (Double back) = (back ≡ reply) × HasRoom b.racks (slot_rack reply.rack) reply.number × IsSome (held_at b (slot_rack reply.rack) reply.number)
+IsNotHeld b reply (Double back) = (back ≡ reply) × HasRoom b.racks (slot_rack reply.rack) reply.number
+    × IsSome (held_at b (slot_rack reply.rack) reply.number)
 
 -- of these replies one was refused, and those before it are held
 pub record WasNotHeld (racks : List (List (List Order))) (b : Held) (fault : CollectFault) (xs : List Replied) : Type 0 where

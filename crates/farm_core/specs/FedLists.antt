@@ -29,4 +29,5 @@ all_feeds_of racks = sum_by (λ (feeds : List (List Order)). length feeds) racks
 -- there are more than 16 racks; or not, and some rack has no feed or more than 4. They are handed back
 abbrev pub IsBadFeeds : Vec (Vec RackList Global) Global → FeedsFault → Type 0
 IsBadFeeds racks (TooManyRacks back) = (back ≡ racks) × (rack_limit < length racks.items)
-IsBadFeeds racks (BadFeeds back) = (back ≡ racks) × (length racks.items ≤ rack_limit) × ¬ Each IsFewFeeds (map (λ rack. rack.items) racks.items)
+IsBadFeeds racks (BadFeeds back) = (back ≡ racks) × (length racks.items ≤ rack_limit)
+    × ¬ Each IsFewFeeds (map (λ rack. rack.items) racks.items)

@@ -1,5 +1,6 @@
 -- What a feeder leaves in its end and its seat, and what a rack's feeders drew together.
-use Rattle.std.specs.Prelude.{◌≡◌, ℕ, ◌+◌, ◌<◌, ◌≤◌, List, [], ◌∷◌, ◌++◌, length, take, Option, Some, None, Bool, true, false, if◌then◌else◌, ◌⊎◌, map}
+use Rattle.std.specs.Prelude.{◌≡◌, ℕ, ◌+◌, ◌<◌, ◌≤◌, List, [], ◌∷◌, ◌++◌, length, take, Option, Some, None, Bool, true, false}
+use Rattle.std.specs.Prelude.{if◌then◌else◌, ◌⊎◌, map}
 use Rattle.std.specs.List.{All, sum_by}
 use mathlib.Core.Option.{some}
 use lib.ListN.{get_elem?}
@@ -44,12 +45,15 @@ refused_draws None knows = 0
 -- the right is back, and unless the seat was told of a closing everything was put, of a list without a close; or the right was
 -- spent on the close of the list, of which the seat knows, and everything before it was put
 abbrev pub IsRightLeft : TableId → SeatRecord → List Order → Type 0 → Option TableId → Option ℕ → SeatRecord → Type 0
-IsRightLeft gate was list All_put (Some right) close left = (right ≡ gate) × (close ≡ None) × (left.used ≡ was.used) × (left.made ≡ was.made) × (left.knows ≡ false → All_put × ¬ HasClose list)
-IsRightLeft gate was list All_put None close left = (left.used ≡ was.used + 1) × IsMade was.made close left.made × All_put × HasClose list × (left.knows ≡ true)
+IsRightLeft gate was list All_put (Some right) close left =
+    (right ≡ gate) × (close ≡ None) × (left.used ≡ was.used) × (left.made ≡ was.made) × (left.knows ≡ false → All_put × ¬ HasClose list)
+IsRightLeft gate was list All_put None close left = (left.used ≡ was.used + 1) × IsMade was.made close left.made × All_put × HasClose list
+    × (left.knows ≡ true)
 
 -- With this seat and this end, unused at first, a feeder put a job for each of the first requests of its list, with the
 -- numbers that it drew, which rise, and then its end mark.
-pub record HasFed (gate : GateName) (seat : SeatView) (rack : ℕ) (list : List Order) (jobs : PutView Job) (seat_left : SeatView) (right_left : Option TableId) (close : Option ℕ) (jobs_left : PutView Job) : Type 0 where
+pub record HasFed (gate : GateName) (seat : SeatView) (rack : ℕ) (list : List Order) (jobs : PutView Job) (seat_left : SeatView)
+    (right_left : Option TableId) (close : Option ℕ) (jobs_left : PutView Job) : Type 0 where
   pub put : List (Item Job)
   pub only_values : Each (λ x. is_end x ≡ false) put
   pub jobs_is : jobs_left ≡ put_end jobs.lane jobs.sender (put ++ End jobs.sender (length put) ∷ [])
@@ -85,14 +89,18 @@ pub record AreDrawn (feeds : List (List Order)) (n : ℕ) (drawn : List Draws) :
   pub count : length drawn ≡ length feeds
   pub rising : Each (λ draws. AreRising (drawn_numbers draws)) drawn
   pub once : (x : ℕ) → sum_by (λ (draws : Draws). times x (drawn_numbers draws)) drawn ≡ once_below x n
-  pub prefixes : (feed : ℕ) (list : List Order) (draws : Draws) → get_elem? feeds feed ≡ some list → get_elem? drawn feed ≡ some draws → drawn_requests draws ≡ take (length draws) (before_close list)
+  pub prefixes : (feed : ℕ) (list : List Order) (draws : Draws) → get_elem? feeds feed ≡ some list → get_elem? drawn feed ≡ some draws
+      → drawn_requests draws ≡ take (length draws) (before_close list)
   pub ended :
-      ((feed : ℕ) (list : List Order) (draws : Draws) → get_elem? feeds feed ≡ some list → get_elem? drawn feed ≡ some draws → ¬ HasClose list × DrewAll draws list)
-      ⊎ ((feed : ℕ) × (list : List Order) × (draws : Draws) × (get_elem? feeds feed ≡ some list) × (get_elem? drawn feed ≡ some draws) × HasClose list × DrewAll draws list)
+      ((feed : ℕ) (list : List Order) (draws : Draws) → get_elem? feeds feed ≡ some list → get_elem? drawn feed ≡ some draws
+      → ¬ HasClose list × DrewAll draws list)
+      ⊎ ((feed : ℕ) × (list : List Order) × (draws : Draws) × (get_elem? feeds feed ≡ some list) × (get_elem? drawn feed ≡ some draws)
+      × HasClose list × DrewAll draws list)
 
 -- the feed drew this number for this request
 abbrev pub IsDrawnBy : List Draws → ℕ → ℕ → Asked → Type 0
-IsDrawnBy drawn feed number request = (draws : Draws) × (i : ℕ) × (get_elem? drawn feed ≡ some draws) × (get_elem? draws i ≡ some (number, request))
+IsDrawnBy drawn feed number request = (draws : Draws) × (i : ℕ) × (get_elem? drawn feed ≡ some draws)
+    × (get_elem? draws i ≡ some (number, request))
 
 -- the numbers and the requests of jobs
 abbrev pub draws_of : List Job → Draws
@@ -115,7 +123,8 @@ right_back (Some right) = right ∷ []
 
 -- the seat is this gate's, and so is the right that came back; no more was drawn than the seat's share
 abbrev pub IsOfGate : TableId → Fed → Type 0
-IsOfGate gate fed = (fed.seat.gate ≡ gate) × ((right : TableId) → fed.right ≡ Some right → right ≡ gate) × (fed.seat.has.draws ≤ fed.seat.has.share)
+IsOfGate gate fed = (fed.seat.gate ≡ gate) × ((right : TableId) → fed.right ≡ Some right → right ≡ gate)
+    × (fed.seat.has.draws ≤ fed.seat.has.share)
 
 -- these are what the feeders of a rack left, in order, which had all seats and all rights of its gate
 pub record AreFed (gate : GateName) (rack : ℕ) (lists : List (List Order)) (feds : List Fed) : Type 0 where
@@ -123,7 +132,8 @@ pub record AreFed (gate : GateName) (rack : ℕ) (lists : List (List Order)) (fe
   pub rights : gate.size.rights ≡ length feds
   pub shares : sum_by (λ (f : Fed). f.seat.has.share) feds ≡ gate.size.total
   pub each : (feed : ℕ) (list : List Order) (fed : Fed) → get_elem? lists feed ≡ some list → get_elem? feds feed ≡ some fed
-      → (seat : SeatView) × (jobs : PutView Job) × (seat.has.used ≡ 0) × (seat.has.made ≡ []) × HasFed gate seat (slot_of rack feed) list jobs fed.seat fed.right fed.close fed.jobs × (feed < feed_limit)
+      → (seat : SeatView) × (jobs : PutView Job) × (seat.has.used ≡ 0) × (seat.has.made ≡ [])
+      × HasFed gate seat (slot_of rack feed) list jobs fed.seat fed.right fed.close fed.jobs × (feed < feed_limit)
 
 -- the feeders of a rack drew the numbers below n, as is lawful, and each put its jobs by what it drew
 pub record HasDrawn (rack : ℕ) (lists : List (List Order)) (puts : List (PutView Job)) : Type 0 where

@@ -50,7 +50,8 @@ requests_of (Stop ∷ jobs) = requests_of jobs
 
 -- With these ends, unused at first, a worker took some items, and put one reply to each job that it took, in that order, and
 -- then its end mark.
-pub record HasWorked (jobs : TakeView Job) (replies : PutView Replied) (jobs_left : TakeView Job) (replies_left : PutView Replied) : Type 0 where
+pub record HasWorked (jobs : TakeView Job) (replies : PutView Replied) (jobs_left : TakeView Job)
+    (replies_left : PutView Replied) : Type 0 where
   pub took : List (Item Job)
   pub put : List (Item Replied)
   pub only_values : Each (λ x. is_end x ≡ false) put

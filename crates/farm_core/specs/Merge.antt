@@ -59,7 +59,8 @@ MergeOfOneIsIt = (list : List Order) (merge : List (ℕ × Asked)) → IsLawfulM
 
 -- so the answers of a rack with one feed are the answers to its list
 abbrev pub AnswersOfOneAreIts : Type 0
-AnswersOfOneAreIts = (list : List Order) (answers : List (ℕ × Outcome)) → AreMergedAnswers (list ∷ []) answers → AreAnswers (before_close list) (map (λ x. x.1) answers)
+AnswersOfOneAreIts = (list : List Order) (answers : List (ℕ × Outcome)) → AreMergedAnswers (list ∷ []) answers
+    → AreAnswers (before_close list) (map (λ x. x.1) answers)
 
 -- lists, each with the one of the same number after it, where there is one
 abbrev pub joined : {A : Type 0} → List (List A) → List (List A) → List (List A)
@@ -74,4 +75,5 @@ PiecesJoin = (feeds behind : List (List Order)) (merge more : List (ℕ × Asked
 
 -- A lawful merge of feeds of which one has a close is one too of these feeds with whatever is after them.
 abbrev pub CloseEndsAll : Type 0
-CloseEndsAll = (feeds behind : List (List Order)) (merge : List (ℕ × Asked)) → HaveClose feeds → IsLawfulMerge feeds merge → IsLawfulMerge (joined feeds behind) merge
+CloseEndsAll = (feeds behind : List (List Order)) (merge : List (ℕ × Asked)) → HaveClose feeds → IsLawfulMerge feeds merge
+    → IsLawfulMerge (joined feeds behind) merge

@@ -29,12 +29,14 @@ pub record IsNewGate (feeds : ℕ) (gate : GateName) (own : RackSeats) : Type 0 
 pub record AreGates (lists : List (List (List Order))) (gates : List GateName) (seats : List RackSeats) : Type 0 where
   pub gates_count : length gates ≡ length lists
   pub seats_count : length seats ≡ length lists
-  pub each : (rack : ℕ) (feeds : List (List Order)) (gate : GateName) (own : RackSeats) → get_elem? lists rack ≡ some feeds → get_elem? gates rack ≡ some gate → get_elem? seats rack ≡ some own → IsNewGate (length feeds) gate own
+  pub each : (rack : ℕ) (feeds : List (List Order)) (gate : GateName) (own : RackSeats) → get_elem? lists rack ≡ some feeds
+      → get_elem? gates rack ≡ some gate → get_elem? seats rack ≡ some own → IsNewGate (length feeds) gate own
 
 -- the feeders of all racks, in order, with these lists
 pub record AreAllFeeders (lists : List (List (List Order))) (racks : List RackFeeders) : Type 0 where
   pub count : length racks ≡ length lists
-  pub each : (k : ℕ) (feeds : List (List Order)) (r : RackFeeders) → get_elem? lists k ≡ some feeds → get_elem? racks k ≡ some r → AreRackFeeders r.gate.now k feeds (feeders_of r.handles.items)
+  pub each : (k : ℕ) (feeds : List (List Order)) (r : RackFeeders) → get_elem? lists k ≡ some feeds → get_elem? racks k ≡ some r
+      → AreRackFeeders r.gate.now k feeds (feeders_of r.handles.items)
 
 -- with whatever lists these were the feeders, their ends put what was drawn
 abbrev pub HavePutRacks : List RackFeeders → List (PutView Job) → Type 0
@@ -62,7 +64,8 @@ ends_given given = map (λ (f : Feeder). f.jobs) (all_given given)
 -- for each rack in order the feeders of its lists
 pub record AreAllGiven (lists : List (List (List Order))) (given : List Given) : Type 0 where
   pub count : length given ≡ length lists
-  pub each : (k : ℕ) (feeds : List (List Order)) (g : Given) → get_elem? lists k ≡ some feeds → get_elem? given k ≡ some g → AreRackFeeders g.0 k feeds g.1
+  pub each : (k : ℕ) (feeds : List (List Order)) (g : Given) → get_elem? lists k ≡ some feeds → get_elem? given k ≡ some g
+      → AreRackFeeders g.0 k feeds g.1
 
 -- a put end as it was when nothing had been put
 abbrev pub as_new : PutView Job → PutView Job

@@ -71,7 +71,8 @@ IsLeastMissing c rack number =
 
 -- each reply that came answers the request of its place
 abbrev pub IsInPlace : Collected → Type 0
-IsInPlace c = (rack number : ℕ) (e : Entry) (d : Asked) → reply_at c rack number ≡ Some e → e.request ≡ slice_index_or (served c.racks rack) number d
+IsInPlace c = (rack number : ℕ) (e : Entry) (d : Asked) → reply_at c rack number ≡ Some e
+    → e.request ≡ slice_index_or (served c.racks rack) number d
 
 -- no reply said that memory was missing
 abbrev pub NoneStarved : Collected → Type 0

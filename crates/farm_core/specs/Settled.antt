@@ -16,21 +16,24 @@ use Rattle.farm_core.specs.Feed.{Draws, AreDrawn, IsDrawnBy}
 use Rattle.farm_core.specs.Jobs.{AreReplies, job_weight, IsSoItem, IsSoReply, HasAnswered}
 
 -- held is what this end, unused at first, took
-pub record HasCleared (racks : List (List (List Order))) (desk : TakeView Replied) (b : Held) (fault : Option CollectFault) (desk_left : TakeView Replied) : Type 0 where
+pub record HasCleared (racks : List (List (List Order))) (desk : TakeView Replied) (b : Held) (fault : Option CollectFault)
+    (desk_left : TakeView Replied) : Type 0 where
   pub took : List (Item Replied)
   pub desk_is : desk_left ≡ take_end desk.lane took
   pub collected : HasHeld racks b fault (values took)
 
 -- whatever the first has, the second has these too
 abbrev pub HasMore : Held → Option CollectFault → List Replied → Held → Option CollectFault → Type 0
-HasMore b fault more b_left fault_left = (racks : List (List (List Order))) (xs : List Replied) → HasHeld racks b fault xs → HasHeld racks b_left fault_left (xs ++ more)
+HasMore b fault more b_left fault_left = (racks : List (List (List Order))) (xs : List Replied) → HasHeld racks b fault xs
+    → HasHeld racks b_left fault_left (xs ++ more)
 
 -- an end that took these too
 abbrev pub took_on : {T : Type 0} → TakeView T → List (Item T) → TakeView T
 took_on e more = take_end e.lane (e.taken ++ more)
 
 -- so many jobs were taken by this end, and replied to at the board
-pub record TookLeft (jobs : TakeView Job) (count : ℕ) (b : Held) (fault : Option CollectFault) (jobs_left : TakeView Job) (b_left : Held) (fault_left : Option CollectFault) : Type 0 where
+pub record TookLeft (jobs : TakeView Job) (count : ℕ) (b : Held) (fault : Option CollectFault) (jobs_left : TakeView Job) (b_left : Held)
+    (fault_left : Option CollectFault) : Type 0 where
   pub more : List (Item Job)
   pub own : List Replied
   pub jobs_is : jobs_left ≡ took_on jobs more
@@ -39,7 +42,8 @@ pub record TookLeft (jobs : TakeView Job) (count : ℕ) (b : Held) (fault : Opti
   pub collected : HasMore b fault own b_left fault_left
 
 -- so many replies were taken by this end, and handed to the board
-pub record TookReplies (desk : TakeView Replied) (count : ℕ) (b : Held) (fault : Option CollectFault) (desk_left : TakeView Replied) (b_left : Held) (fault_left : Option CollectFault) : Type 0 where
+pub record TookReplies (desk : TakeView Replied) (count : ℕ) (b : Held) (fault : Option CollectFault) (desk_left : TakeView Replied)
+    (b_left : Held) (fault_left : Option CollectFault) : Type 0 where
   pub more : List (Item Replied)
   pub desk_is : desk_left ≡ took_on desk more
   pub count_is : length more ≡ count
@@ -65,13 +69,16 @@ pub record HasOneEach (racks : List (List (List Order))) (b : Held) (fault : Opt
   pub right : Each (IsSoReply (IsDrawnAt drawn)) replies
 
 -- these put ends put one job for each number that the racks' feeds drew, and nothing else that asks for a reply
-pub record HasPutDrawn (racks : List (List (List Order))) (count : ℕ → ℕ) (drawn : ℕ → List Draws) (put_ends : List (PutView Job)) : Type 0 where
+pub record HasPutDrawn (racks : List (List (List Order))) (count : ℕ → ℕ) (drawn : ℕ → List Draws)
+    (put_ends : List (PutView Job)) : Type 0 where
   pub all_drawn : AreAllDrawn racks count drawn
-  pub once : (rack number : ℕ) → sum_by (λ (e : PutView Job). sum_by (job_weight rack number) e.put) put_ends ≡ once_below number (count rack)
+  pub once : (rack number : ℕ) → sum_by (λ (e : PutView Job). sum_by (job_weight rack number) e.put) put_ends
+      ≡ once_below number (count rack)
   pub right : Each (λ e. Each (IsSoItem (IsDrawnAt drawn)) e.put) put_ends
 
 -- all feeders, workers and the collector were joined: what their ends and the board have
-pub record HasJoined (racks : List (List (List Order))) (put_ends : List (PutView Job)) (job_ends : List (TakeView Job)) (reply_ends : List (PutView Replied)) (desk : TakeView Replied) (b : Held) (fault : Option CollectFault) : Type 0 where
+pub record HasJoined (racks : List (List (List Order))) (put_ends : List (PutView Job)) (job_ends : List (TakeView Job))
+    (reply_ends : List (PutView Replied)) (desk : TakeView Replied) (b : Held) (fault : Option CollectFault) : Type 0 where
   pub count : ℕ → ℕ
   pub drawn : ℕ → List Draws
   pub put_drawn : HasPutDrawn racks count drawn put_ends

@@ -29,10 +29,12 @@ abbrev pub feeders_of : List (PromisedHandle (Option Fed) FeedOf) → List Feede
 feeders_of handles = map (λ h. h.promise.0.value) handles
 
 -- the ends at each place are what the worker of that place left
-pub record WorkersJoined (handles : List (PromisedHandle Worked WorkOf)) (jobs : List (TakeView Job)) (replies : List (PutView Replied)) : Type 0 where
+pub record WorkersJoined (handles : List (PromisedHandle Worked WorkOf)) (jobs : List (TakeView Job))
+    (replies : List (PutView Replied)) : Type 0 where
   pub jobs_count : length jobs ≡ length handles
   pub replies_count : length replies ≡ length handles
-  pub each : (k : ℕ) (h : PromisedHandle Worked WorkOf) (j : TakeView Job) (r : PutView Replied) → get_elem? handles k ≡ some h → get_elem? jobs k ≡ some j → get_elem? replies k ≡ some r → HasWorked h.promise.0.value.jobs h.promise.0.value.replies j r
+  pub each : (k : ℕ) (h : PromisedHandle Worked WorkOf) (j : TakeView Job) (r : PutView Replied) → get_elem? handles k ≡ some h
+      → get_elem? jobs k ≡ some j → get_elem? replies k ≡ some r → HasWorked h.promise.0.value.jobs h.promise.0.value.replies j r
 
 -- the workers' ends as they were given: unused ends of two lanes, in the order of the places
 pub record AreWorkerEnds (jobs_lane : LaneName Job) (replies_lane : LaneName Replied) (ends : List WorkerEnds) : Type 0 where
@@ -41,7 +43,8 @@ pub record AreWorkerEnds (jobs_lane : LaneName Job) (replies_lane : LaneName Rep
 -- what each feeder left is at its place
 pub record FeedersJoined (handles : List (PromisedHandle (Option Fed) FeedOf)) (feds : List Fed) : Type 0 where
   pub count : length feds ≡ length handles
-  pub each : (k : ℕ) (h : PromisedHandle (Option Fed) FeedOf) (f : Fed) → get_elem? handles k ≡ some h → get_elem? feds k ≡ some f → LeftBy h.promise.0.value f
+  pub each : (k : ℕ) (h : PromisedHandle (Option Fed) FeedOf) (f : Fed) → get_elem? handles k ≡ some h → get_elem? feds k ≡ some f
+      → LeftBy h.promise.0.value f
 
 -- all seats and rights of these feeders are this gate's
 abbrev pub AreOfGate : GateName → List (PromisedHandle (Option Fed) FeedOf) → Type 0

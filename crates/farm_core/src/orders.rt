@@ -49,7 +49,15 @@ impl RackList {
         if orders.len() > MOST_ORDERS {
             return Err(TooManyOrders { orders });
         }
-        Ok(RackList { orders })
+        Ok(RackList::from_checked(orders))
+    }
+
+    /// The list of orders that are known to be few enough: they are not counted again. Takes no memory.
+    pub fn from_checked(orders: Vec<Order>) -> RackList
+        requires { length orders.items ≤ order_limit }
+        ensures { result ≡ orders.items }
+    {
+        RackList { orders }
     }
 
     /// The orders.

@@ -125,7 +125,8 @@ pub(crate) fn settle_all<'a, R: Wait, P: Pause>(
     joined: Joined<'a>,
     pause: &P,
 ) -> Board<'a>
-    requires joined { HasJoined joined.all.board.racks joined.put_ends.items joined.job_ends.items joined.reply_ends.items joined.desk joined.all.board joined.all.fault }
+    requires joined { HasJoined joined.all.board.racks joined.put_ends.items joined.job_ends.items joined.reply_ends.items joined.desk
+        joined.all.board joined.all.fault }
     requires workers { 0 < length joined.job_ends.items }
     requires room { (joined.desk_room.items ≡ []) × (0 < vec_capacity joined.desk_room) }
     ensures { (result.racks ≡ joined.entry.all.board.racks) × AreMergedRows result.racks result.table }

@@ -7,7 +7,8 @@ pub greatest-snoc : (xs : List ℕ) (n : ℕ) → All (λ x. x < n) xs → great
 greatest-snoc [] n h = refl
 greatest-snoc (x ∷ xs) n h =
     let less : x < n = h zero 0 (omega arith) in
-    ap (greater_of (Some x)) (greatest-snoc xs n (λ k d lt. h (suc k) d (omega arith))) ∙ ap (λ m. Some m) (let m : max x n ≡ n = omega arith in m)
+    ap (greater_of (Some x)) (greatest-snoc xs n (λ k d lt. h (suc k) d (omega arith)))
+    ∙ ap (λ m. Some m) (let m : max x n ≡ n = omega arith in m)
 
 greater-assoc : (a b c : Option ℕ) → greater_of (greater_of a b) c ≡ greater_of a (greater_of b c)
 greater-assoc None b c = refl

@@ -32,5 +32,8 @@ module _ {T : Type 0} where
   taken_weight_in g v = sum_by g v.taken
 
   -- one view changes
-  pub each_set : (P : EndRecord T → Type 0) (views : List (EndRecord T)) (id : ℕ) (w : EndRecord T) → ((j : ℕ) (u : EndRecord T) → j ≢ id → get_elem? views j ≡ some u → P u) → P w → (j : ℕ) (u : EndRecord T) → get_elem? (set views id w) j ≡ some u → P u
-  each_set P views id w others mine j u e = ⊎_elim (λ (x : (j ≡ id) × (w ≡ u)). subst P x.1 mine) (λ (x : (j ≢ id) × (get_elem? views j ≡ some u)). others j u x.0 x.1) (at_set views id j w u e)
+  pub each_set : (P : EndRecord T → Type 0) (views : List (EndRecord T)) (id : ℕ) (w : EndRecord T)
+      → ((j : ℕ) (u : EndRecord T) → j ≢ id → get_elem? views j ≡ some u → P u) → P w → (j : ℕ) (u : EndRecord T)
+      → get_elem? (set views id w) j ≡ some u → P u
+  each_set P views id w others mine j u e = ⊎_elim (λ (x : (j ≡ id) × (w ≡ u)). subst P x.1 mine)
+      (λ (x : (j ≢ id) × (get_elem? views j ≡ some u)). others j u x.0 x.1) (at_set views id j w u e)

@@ -19,7 +19,8 @@ module _ {A : Type 0} where
   total_part f (x ∷ xs) zero v e = omega (arith, sum_by-cons f x xs, ap f (some-injective x v e))
   total_part f (x ∷ xs) (suc k) v e = omega (arith, sum_by-cons f x xs, total_part f xs k v e)
 
-  pub total_two : (f : A → ℕ) (l : List A) (k j : ℕ) (v w : A) → j ≢ k → get_elem? l k ≡ some v → get_elem? l j ≡ some w → f v + f w ≤ sum_by f l
+  pub total_two : (f : A → ℕ) (l : List A) (k j : ℕ) (v w : A) → j ≢ k → get_elem? l k ≡ some v → get_elem? l j ≡ some w
+      → f v + f w ≤ sum_by f l
   total_two f [] k j v w n e d = absurd (some-ne-none v (sym e))
   total_two f (x ∷ xs) zero zero v w n e d = absurd (n refl)
   total_two f (x ∷ xs) zero (suc j) v w n e d = omega (arith, sum_by-cons f x xs, ap f (some-injective x v e), total_part f xs j w d)
@@ -34,7 +35,20 @@ module _ {A : Type 0} where
   total_none f [] h = refl
   total_none f (x ∷ xs) h = omega (arith, sum_by-cons f x xs, h zero x refl, total_none f xs (λ k. h (suc k)))
 
-  pub total_alone : (f : A → ℕ) (l : List A) (k : ℕ) (v : A) → get_elem? l k ≡ some v → ((j : ℕ) (w : A) → j ≢ k → get_elem? l j ≡ some w → f w ≡ 0) → sum_by f l ≡ f v
+  pub total_alone : (f : A → ℕ) (l : List A) (k : ℕ) (v : A) → get_elem? l k ≡ some v
+      → ((j : ℕ) (w : A) → j ≢ k → get_elem? l j ≡ some w → f w ≡ 0) → sum_by f l ≡ f v
   total_alone f [] k v e h = absurd (some-ne-none v (sym e))
-  total_alone f (x ∷ xs) zero v e h = omega (arith, sum_by-cons f x xs, ap f (some-injective x v e), total_none f xs (λ j w. h (suc j) w (λ q. omega arith)))
-  total_alone f (x ∷ xs) (suc k) v e h = omega (arith, sum_by-cons f x xs, h zero x (λ q. omega arith) refl, total_alone f xs k v e (λ j w n. h (suc j) w (λ q. n (omega arith))))
+  total_alone f (x ∷ xs) zero v e h = omega (
+    arith,
+    sum_by-cons f x xs,
+    ap f (some-injective x v e),
+    total_none f xs
+        (λ j w. h (suc j) w (λ q. omega arith)),
+  )
+  total_alone f (x ∷ xs) (suc k) v e h = omega (
+    arith,
+    sum_by-cons f x xs,
+    h zero x (λ q. omega arith) refl,
+    total_alone f xs k v e
+        (λ j w n. h (suc j) w (λ q. n (omega arith))),
+  )

@@ -29,7 +29,8 @@ late s = record s { held = s.held - 1; used = s.used + 1; knows = true }
 
 -- the word that a draw found is its number, or the gate was closed
 pub record IsDrawn (size : GateSize) (s : SeatRecord) (found : ℕ) (s' : SeatRecord) : Type 0 where
-  pub given : found < 9223372036854775808 → (s' ≡ accepted s found) × (s.knows ≡ false) × All (λ x. x < found) s.numbers × (s.share ≡ size.total → found ≡ length s.numbers)
+  pub given : found < 9223372036854775808 → (s' ≡ accepted s found) × (s.knows ≡ false) × All (λ x. x < found) s.numbers
+      × (s.share ≡ size.total → found ≡ length s.numbers)
   pub shut : 9223372036854775808 ≤ found → s' ≡ refused s
   pub sound : IsSound size s'
 

@@ -45,7 +45,8 @@ module _ {T : Type 0} where
 
   -- within the list the numbers of each sender rise
   abbrev pub Rises : List (Item T) → Type 0
-  Rises xs = (i j : ℕ) (x y : Item T) → i < j → get_elem? xs i ≡ some x → get_elem? xs j ≡ some y → sender_of x ≡ sender_of y → number_of x < number_of y
+  Rises xs = (i j : ℕ) (x y : Item T) → i < j → get_elem? xs i ≡ some x → get_elem? xs j ≡ some y → sender_of x ≡ sender_of y
+      → number_of x < number_of y
 
   -- the item is at its number in its sender's list
   abbrev pub WasPut : List (List (Item T)) → Item T → Type 0

@@ -48,7 +48,8 @@ module _ {T : Type 0} where
     pub held : (s : ℕ) → (from_sender s items ≡ drop (prefix s) (sent s)) × (prefix s ≤ length (sent s))
     pub once : (s i : ℕ) → sum_by (λ (v : EndRecord T). times_of s i v.taken) views ≡ once_below i (prefix s)
     pub lengths : sum_by (λ (v : EndRecord T). put_length v.puts) views ≡ sum_by (λ (v : EndRecord T). length v.taken) views + length items
-    pub weights : (g : Item T → ℕ) → sum_by (λ (v : EndRecord T). put_weight g v.puts) views ≡ sum_by (λ (v : EndRecord T). sum_by g v.taken) views + sum_by g items
+    pub weights : (g : Item T → ℕ) → sum_by (λ (v : EndRecord T). put_weight g v.puts) views
+        ≡ sum_by (λ (v : EndRecord T). sum_by g v.taken) views + sum_by g items
 
   -- the empty lists of n senders, from the sender s on
   abbrev pub empty_lists : ℕ → ℕ → List (ℕ × List (Item T))
@@ -108,7 +109,8 @@ module _ {T : Type 0} where
   pub record KnowsWhole (v : EndRecord T) (items : List (Item T)) : Type 0 where
     pub prefix : ℕ → ℕ
     pub puts : (k : ℕ) (p : ℕ × List (Item T)) → get_elem? v.puts k ≡ some p → (prefix p.0 ≤ length p.1) × IsNumbered p.0 p.1
-    pub taken : Each (λ x. (k : ℕ) × (p : ℕ × List (Item T)) × (get_elem? v.puts k ≡ some p) × (p.0 ≡ sender_of x) × (get_elem? p.1 (number_of x) ≡ some x)) v.taken
+    pub taken : Each (λ x. (k : ℕ) × (p : ℕ × List (Item T)) × (get_elem? v.puts k ≡ some p) × (p.0 ≡ sender_of x)
+        × (get_elem? p.1 (number_of x) ≡ some x)) v.taken
     pub once : (s i : ℕ) → times_of s i v.taken ≡ once_below i (prefix s)
     pub lengths : put_length v.puts ≡ length v.taken + length items
     pub weights : (g : Item T → ℕ) → put_weight g v.puts ≡ sum_by g v.taken + sum_by g items

@@ -4,7 +4,7 @@ use mathlib.Core.Option.{some}
 use lib.ListN.{get_elem?}
 
 module _ {A : Type 0} where
-  -- of each member, with its place, this holds
+  -- of each member, with its index, this holds
   abbrev pub EachAt : (ℕ → A → Type 0) → List A → Type 0
   EachAt P xs = (k : ℕ) (x : A) → get_elem? xs k ≡ some x → P k x
 

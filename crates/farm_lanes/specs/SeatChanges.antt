@@ -36,4 +36,12 @@ without s share held = record s { share = s.share - share; held = s.held - held 
 
 -- two seats became one
 abbrev pub joined : SeatRecord → SeatRecord → SeatRecord
-joined s t = record { share = s.share + t.share; draws = s.draws + t.draws; numbers = s.numbers ++ t.numbers; held = s.held + t.held; used = s.used + t.used; knows = s.knows || t.knows; made = s.made ++ t.made }
+joined s t = record {
+  share = s.share + t.share;
+  draws = s.draws + t.draws;
+  numbers = s.numbers ++ t.numbers;
+  held = s.held + t.held;
+  used = s.used + t.used;
+  knows = s.knows || t.knows;
+  made = s.made ++ t.made;
+}

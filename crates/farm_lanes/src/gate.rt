@@ -72,7 +72,8 @@ impl<A: Allocator> Gate<A> {
         ensures rises { IfOk result (λ n. All (λ x. x < n) seat.old.has.numbers) }
         ensures whole { IfOk result (λ n. seat.old.has.share ≡ self.now.size.total → n ≡ length seat.old.has.numbers) }
         ensures spent { seat.old.has.share ≡ seat.old.has.draws → (result ≡ Err GateRefusal.SeatSpent) × (seat.new.has ≡ seat.old.has) }
-        ensures refused { seat.old.has.share ≢ seat.old.has.draws → IfErr result (λ e. (e ≡ GateRefusal.Closed) × (seat.new.has ≡ refused seat.old.has)) }
+        ensures refused { seat.old.has.share ≢ seat.old.has.draws
+            → IfErr result (λ e. (e ≡ GateRefusal.Closed) × (seat.new.has ≡ refused seat.old.has)) }
         ensures sound { seat.old.has.share ≢ seat.old.has.draws → IsSound self.now.size seat.new.has }
     {
         if seat.budget == 0 {
@@ -95,8 +96,10 @@ impl<A: Allocator> Gate<A> {
     pub fn close(&self, seat: &mut Seat, right: Right) -> Result<u64, AlreadyClosed>
         requires own { (seat.old.gate ≡ self.now.id) × (right ≡ self.now.id) }
         ensures gate { seat.new.gate ≡ seat.old.gate }
-        ensures closed { MatchResult result (λ n. (seat.new.has ≡ made_close seat.old.has n) × (seat.old.has.knows ≡ false)) (λ _. seat.new.has ≡ missed_close seat.old.has) }
-        ensures kept { (seat.new.has.share ≡ seat.old.has.share) × (seat.new.has.draws ≡ seat.old.has.draws) × (seat.new.has.numbers ≡ seat.old.has.numbers) }
+        ensures closed { MatchResult result (λ n. (seat.new.has ≡ made_close seat.old.has n) × (seat.old.has.knows ≡ false))
+            (λ _. seat.new.has ≡ missed_close seat.old.has) }
+        ensures kept { (seat.new.has.share ≡ seat.old.has.share) × (seat.new.has.draws ≡ seat.old.has.draws)
+            × (seat.new.has.numbers ≡ seat.old.has.numbers) }
         ensures sound { IsSound self.now.size seat.new.has }
     {
         let Right { raw } = right;

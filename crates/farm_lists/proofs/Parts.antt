@@ -1,12 +1,11 @@
 -- A part of the listed survivors keeps what the list's form promises of them.
-use Rattle.std.proofs.Common.{◌≡◌, ◌<◌, ◌≤◌, ◌+◌, ◌++◌, ◌∙◌, ℕ, Bool, true, false, cond, List, [], ◌∷◌, Some, None, length, map, take, get_or, refl, sym, ap, ap₂, arith, inl, inr, eqb}
+use Rattle.std.proofs.Common.{◌≡◌, ◌<◌, ◌≤◌, ◌+◌, ◌++◌, ◌∙◌, ℕ, Bool, true, false, cond, List, [], ◌∷◌, Some, None, length, map, take, get_or, refl, ap, ap₂, arith, inl, inr, eqb}
 use Rattle.std.specs.Prelude.{◌||◌, ◌&&◌, not, nat_le}
 use Rattle.std.specs.List.{list_any, list_all, AllByRecursion, IsDistinct}
 use Rattle.std.proofs.lemmas.Map.Steps.{length-le_from_distinct_below}
 use Rattle.std.proofs.lemmas.List.{length-map, take_more}
 use Rattle.std.proofs.lemmas.Bool.{eqb-true, eq-eqb}
 use Rattle.lrc_code.specs.declared.places.Place.{Place}
-use Rattle.lrc_code.specs.declared.requests.RequestFault.{RequestFault}
 use Rattle.lrc_code.specs.declared.requests.RequestFault.TheVariants as fault
 use Rattle.lrc_code.specs.declared.codes.Code.{Code as CodeName}
 use Rattle.lrc_code.specs.Code.{has_place}
@@ -112,19 +111,15 @@ part_accepted r ss e part =
     let placed = and_parts (has_place (tables_of r.code) r.target) (list_all (has_place (tables_of r.code)) r.survivors) p.placed in
     rw (p.named, p.sized, placed.0, at_places (has_place (tables_of r.code)) r.len r.survivors ss part placed.1, not_repeated r.len r.survivors ss part p.once, not_among r.len r.survivors ss r.target part p.lost, same_lengths r.len r.survivors ss part) refl
 
-pub never_refused : (r : ListedRequest) (code : CodeName) (stripe : List ℕ) (target : Place) (len : ℕ) (ss : List Survivor) (f : RequestFault) → listed_refusal r ≡ None → ArePart r.len r.survivors ss
-    → code ≡ r.code → stripe ≡ r.stripe → target ≡ r.target → len ≡ r.len → refusal (record { code = code; stripe = stripe; target = target; len = len; survivors = ss }) ≡ Some f → ⊥
-never_refused r code stripe target len ss f e part o a b c refused =
+-- so is one with the same code, name, target and length
+pub same_accepted : (r : ListedRequest) (code : CodeName) (stripe : List ℕ) (target : Place) (len : ℕ) (ss : List Survivor) → listed_refusal r ≡ None → ArePart r.len r.survivors ss
+    → code ≡ r.code → stripe ≡ r.stripe → target ≡ r.target → len ≡ r.len → refusal (record { code = code; stripe = stripe; target = target; len = len; survivors = ss }) ≡ None
+same_accepted r code stripe target len ss e part o a b c =
     let asked : ℕ → Asked = λ n. record { code = r.code; stripe = r.stripe; target = r.target; len = n; survivors = ss } in
-    let same : refusal (record { code = code; stripe = stripe; target = target; len = len; survivors = ss }) ≡ None =
     ap (λ (k : CodeName). refusal (record { code = k; stripe = stripe; target = target; len = len; survivors = ss })) o
     ∙ ap (λ (s : List ℕ). refusal (record { code = r.code; stripe = s; target = target; len = len; survivors = ss })) a
     ∙ ap (λ (p : Place). refusal (record { code = r.code; stripe = r.stripe; target = p; len = len; survivors = ss })) b
-    ∙ ap (λ n. refusal (asked n)) c ∙ part_accepted r ss e part in
-    none_some f (sym same ∙ refused)
-  where
-    none_some : (g : RequestFault) → None ≡ Some g → ⊥
-    none_some g h = cc
+    ∙ ap (λ n. refusal (asked n)) c ∙ part_accepted r ss e part
 
 -- ---- how many survivors are listed
 

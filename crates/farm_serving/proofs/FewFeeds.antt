@@ -5,9 +5,7 @@ use Rattle.std.proofs.lemmas.List.{length-map}
 use Rattle.std.proofs.lemmas.List.Elements.{recursion_from_All}
 use mathlib.Core.Option.{some, some-injective, some-ne-none}
 use lib.ListN.{get_elem?}
-use Rattle.farm_core.specs.FedLists.{IsBadFeeds, IsFewFeeds}
-use Rattle.farm_core.specs.declared.feeds.FeedsFault.{FeedsFault}
-use Rattle.farm_core.specs.declared.feeds.FeedsFault.TheVariants as fault
+use Rattle.farm_core.specs.FedLists.{AreFeeds, IsFewFeeds}
 use Rattle.farm_core.specs.Orders.{before_close}
 use Rattle.farm_core.specs.declared.orders.Order.{Order}
 use Rattle.farm_core.specs.declared.orders.RackList.{RackList}
@@ -17,7 +15,7 @@ use Rattle.farm_lists.specs.declared.lists.listing.Record.{Record}
 abbrev Lists : Type 0
 Lists = Vec (Vec Record Global) Global
 
-abbrev Rack : Type 0
+abbrev pub Rack : Type 0
 Rack = Vec RackList Global
 
 abbrev served : List (List Order) → List ℕ
@@ -43,11 +41,17 @@ each_few (r ∷ racks) (l ∷ lists) same few zero feeds at =
 each_few (r ∷ racks) (l ∷ lists) same few (suc k) feeds at = each_few racks lists (ap (λ (ns : List (List ℕ)). drop 1 ns) same) few.1 k feeds at
 
 pub few_feeds : (racks : List Rack) (lists : List Lists) → map (λ r. map (λ os. length (before_close os)) r.items) racks ≡ map (λ l. map (λ v. length (listed_before_close v.items)) l.items) lists
-    → All (λ l. (0 < length l.items) × (length l.items ≤ 4)) lists → (k : ℕ) (feeds : List (List Order)) → get_elem? (map (λ r. r.items) racks) k ≡ some feeds → IsFewFeeds feeds
-few_feeds racks lists same few = each_few racks lists same (recursion_from_All (λ (l : Lists). (0 < length l.items) × (length l.items ≤ 4)) lists few)
+    → length lists ≤ 16 → All (λ l. (0 < length l.items) × (length l.items ≤ 4)) lists → AreFeeds (map (λ r. r.items) racks)
+few_feeds racks lists same most few =
+    let sizes = ap (λ (ns : List (List ℕ)). length ns) same in (
+      omega (arith, sizes, length-map racks (λ (r : Rack). served r.items), length-map racks (λ (r : Rack). r.items), length-map lists listed, most),
+      each_few racks lists same (recursion_from_All (λ (l : Lists). (0 < length l.items) × (length l.items ≤ 4)) lists few),
+    )
 
--- so they are feeds of racks
-pub never_bad : (racks : Vec (Vec RackList Global) Global) (f : FeedsFault) → length racks.items ≤ 16 → ((k : ℕ) (feeds : List (List Order)) → get_elem? (map (λ r. r.items) racks.items) k ≡ some feeds → IsFewFeeds feeds)
-    → IsBadFeeds racks f → ⊥
-never_bad racks (fault.TooManyRacks back) few each bad = omega (arith, few, bad.1)
-never_bad racks (fault.BadFeeds back) few each bad = bad.2 each
+-- the feeds of a single rack
+pub feeds_of_one : (racks : List Rack) (feeds : List RackList) → map (λ r. r.items) racks ≡ feeds ∷ [] → (0 < length feeds) × (length feeds ≤ 4) → AreFeeds (map (λ r. r.items) racks)
+feeds_of_one racks feeds is few = subst AreFeeds (sym is) (omega arith, each)
+  where
+    each : (k : ℕ) (x : List (List Order)) → get_elem? (feeds ∷ []) k ≡ some x → IsFewFeeds x
+    each zero x at = subst IsFewFeeds (some-injective feeds x at) few
+    each (suc k) x at = absurd (some-ne-none x (sym at))

@@ -8,7 +8,7 @@ ghost use Rattle.farm_serving.specs.AnsweredRacks.{AreAnswered, IsAnsweredOnce, 
 ghost use Rattle.farm_serving.specs.Serving.{Reads, all_failures, rack_failures};
 
 use crate::cutting::{end_of_positions, end_of_racks, lists_through_close, piece_of};
-use crate::reading::{read_feeds, read_piece};
+use crate::reading::fragments::{read_feeds, read_piece};
 use farm_core::limits::MOST_ORDERS;
 use farm_core::{FarmError, Feeds, Pause, RackList, Settings, run_feeds};
 use farm_lists::Record;
@@ -288,10 +288,7 @@ fn feeds_of_rack(alloc: Global, orders: Vec<RackList>) -> Result<Feeds, AllocErr
 {
     let mut racks = Vec::new(alloc);
     racks.push(orders)?;
-    let Ok(feeds) = Feeds::new(racks) else {
-        unreachable!();
-    };
-    Ok(feeds)
+    Ok(Feeds::from_checked(racks))
 }
 
 // The answers of one rack, and what was left out of its requests, as those of all racks.

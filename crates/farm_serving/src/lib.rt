@@ -34,5 +34,5 @@ pub use farm_lists::{
 pub use farm_shelves::{FolderShelf, MemoryShelf, Shelf, ShelfFault};
 pub use faults::ServeFault;
 pub use folders::serve_folders;
-pub use reading::read_lists;
+pub use reading::lists::read_lists;
 pub use serving::{Served, serve};

@@ -11,7 +11,7 @@ ghost use Rattle.farm_serving.specs.Serving.{Reads, Serves, all_failures, writte
 
 use crate::batches::{Answered, MOST_BATCH_BYTES, answer_lists};
 use crate::faults::ServeFault;
-use crate::reading::read_lists;
+use crate::reading::lists::read_lists;
 use crate::writing::write_files;
 use farm_core::{Pause, Settings};
 use farm_lists::make_files;

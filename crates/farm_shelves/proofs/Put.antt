@@ -1,5 +1,6 @@
 -- A map that was changed at one key, as files.
-use Rattle.std.proofs.Common.{◌≡◌, ◌∙◌, ℕ, Bool, true, false, cond, List, Option, Some, Result, Ok, Err, Vec, Global, refl, ap, option_map, take, length, min}
+use Rattle.std.proofs.Common.{◌≡◌, ◌∙◌, ℕ, Bool, true, false, cond, List, Option, Some, Result, Ok, Err, Vec, Global, refl, ap, option_map}
+use Rattle.std.proofs.Common.{take, length, min}
 use Rattle.std.proofs.Math.Nat.{min_comm}
 use Rattle.std.proofs.lemmas.List.{take_min}
 use Rattle.std.specs.BTreeMap as tree
@@ -13,7 +14,8 @@ use Rattle.std.specs.String.{string_bytes, string_cmp}
 use Rattle.std.proofs.lemmas.Map.Text.{btree_map_updates_text}
 use Rattle.farm_shelves.specs.Files.{Files, put}
 
-over_cond : (b : Bool) (x y : Option (Vec ℕ Global)) → option_map (λ v. v.items) (cond b x y) ≡ cond b (option_map (λ v. v.items) x) (option_map (λ v. v.items) y)
+over_cond : (b : Bool) (x y : Option (Vec ℕ Global)) → option_map (λ v. v.items) (cond b x y)
+    ≡ cond b (option_map (λ v. v.items) x) (option_map (λ v. v.items) y)
 over_cond true x y = refl
 over_cond false x y = refl
 

@@ -1,5 +1,6 @@
 -- A shelf in memory.
-use Rattle.std.specs.Prelude.{◌≡◌, ◌-◌, ◌/◌, ◌==◌, ℕ, Bool, true, false, List, length, take, Option, None, Some, Result, Ok, Err, option_map, if◌then◌else◌}
+use Rattle.std.specs.Prelude.{◌≡◌, ◌-◌, ◌/◌, ◌==◌, ℕ, Bool, true, false, List, length, take, Option, None, Some, Result, Ok, Err}
+use Rattle.std.specs.Prelude.{option_map, if◌then◌else◌}
 use Rattle.std.specs.BTreeMap as tree
 use Rattle.farm_shelves.specs.Files.{Files, put}
 use Rattle.farm_shelves.specs.declared.shelf.ShelfFault.{ShelfFault}

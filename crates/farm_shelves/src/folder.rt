@@ -7,6 +7,8 @@ use crate::shelf::{Shelf, ShelfFault};
 use std::alloc::{AllocError, Global};
 use std::io::{self, ErrorKind, Read};
 use std::rt::Files;
+use std::sync::Mutex;
+use std::sync::atomic::{AtomicUsize, Ordering};
 use std::thread::Threads;
 use std::{fs, mem, thread};
 
@@ -18,6 +20,9 @@ const OPENING: u64 = 16_384;
 
 // The least number of bytes for which a thread is started, with what the opening takes.
 const LEAST_PART: u64 = 1_048_576;
+
+// How many parts of the files there are for each thread that reads them.
+const PARTS_PER_THREAD: usize = 8;
 
 // The memory that is held until files are read ahead. The C library gives free memory back to the system after each batch, unless it
 // has seen a block come back that is as large: it then keeps twice as much. It looks at no block of more than 32 MiB.
@@ -158,16 +163,54 @@ fn worthwhile(files: &[ReadAhead], threads: usize) -> usize
     parts.min(threads).max(1)
 }
 
-// Reads listed files in at most so many threads. A thread that is refused leaves its part to the others.
+// Reads listed files in at most so many threads. Each takes a part of the files whenever it is free, so that a thread that comes late or
+// shares its processor leaves more to the others. A thread that is refused leaves all to them.
 fn read_listed<R: Threads + Sync>(
     rt: &R,
+    alloc: Global,
     system: &HostRuntime,
     files: &mut [ReadAhead],
     threads: usize,
-) {
-    let size = files.len().div_ceil(worthwhile(files, threads)).max(1);
-    let part = |_start: usize, chunk: &mut [ReadAhead]| read_each(system, chunk);
-    thread::for_each_chunk_mut(rt, files, size, &part);
+) -> Result<(), AllocError> {
+    let threads = worthwhile(files, threads);
+    if threads == 1 {
+        read_each(system, files);
+        return Ok(());
+    }
+    let parts = parts_of(alloc, files, threads.saturating_mul(PARTS_PER_THREAD))?;
+    let next = AtomicUsize::new(0);
+    let reader = |_thread: usize| read_parts(system, parts.as_slice(), &next);
+    thread::map_indices(rt, alloc, threads, &reader)?;
+    Ok(())
+}
+
+// The files in so many parts at most, each for the thread that takes it.
+fn parts_of(
+    alloc: Global,
+    files: &mut [ReadAhead],
+    count: usize,
+) -> Result<Vec<Mutex<&mut [ReadAhead]>>, AllocError>
+    requires { 0 < count }
+{
+    let size = files.len().div_ceil(count).max(1);
+    let mut parts = Vec::new(alloc);
+    for part in files.chunks_mut(size) {
+        parts.push(Mutex::new(part))?;
+    }
+    Ok(parts)
+}
+
+// Reads the files of one part after the other, each the next that no thread has taken. Nobody else has a part's lock: if it is refused
+// all the same, its files are read in their turn.
+fn read_parts(system: &HostRuntime, parts: &[Mutex<&mut [ReadAhead]>], next: &AtomicUsize) {
+    for _turn in 0..parts.len() {
+        let Some(part) = parts.get(next.fetch_add(1, Ordering::SeqCst)) else {
+            return;
+        };
+        if let Some(mut files) = part.try_lock() {
+            read_each(system, &mut files);
+        }
+    }
 }
 
 // Opens, reads and closes listed files, one after the other, each into its room.
@@ -333,7 +376,7 @@ impl Shelf for FolderShelf<HostRuntime> {
         self.ahead.clear();
         self.held = Vec::new(alloc);
         let mut ahead = self.list_ahead(alloc, files)?;
-        read_listed(rt, &self.rt, ahead.as_mut_slice(), threads);
+        read_listed(rt, alloc, &self.rt, ahead.as_mut_slice(), threads)?;
         self.ahead = ahead;
         Ok(())
     }

@@ -38,7 +38,8 @@ pub trait Shelf {
         limit: usize,
     ) -> Result<Option<Vec<u8>>, ShelfFault>
         requires { failed self.old < 2 ^ 63 }
-        ensures bytes { IfOk result (λ v. IfSome (files self.old) (λ there. option_map (λ b. b.items) v ≡ option_map (take limit) (there name.now))) }
+        ensures bytes { IfOk result (λ v. IfSome (files self.old)
+            (λ there. option_map (λ b. b.items) v ≡ option_map (take limit) (there name.now))) }
         ensures same { files self.new ≡ files self.old }
         ensures failure { CountsFailure result (failed self.old) (failed self.new) };
 

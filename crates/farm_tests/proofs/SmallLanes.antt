@@ -12,7 +12,8 @@ module _ {T : Type 0} where
   abbrev IsTakeOf : LaneName T → ℕ → TakeView T → Type 0
   IsTakeOf lane t e = e.lane ≡ lane
 
-  pub one_and_one : (lane : LaneName T) (p : PutView T) (t : TakeView T) → lane.ends ≡ 2 → (p.lane ≡ lane) × (p.sender ≡ 0) → t.lane ≡ lane → AreAllEnds (p ∷ []) (t ∷ [])
+  pub one_and_one : (lane : LaneName T) (p : PutView T) (t : TakeView T) → lane.ends ≡ 2 → (p.lane ≡ lane) × (p.sender ≡ 0) → t.lane ≡ lane
+      → AreAllEnds (p ∷ []) (t ∷ [])
   one_and_one lane p t ends puts takes = record {
     lane = lane;
     all = omega arith;
@@ -29,7 +30,9 @@ module _ {T : Type 0} where
       at_take zero e at = subst (IsTakeOf lane 0) (some-injective _ _ at) takes
       at_take (suc k) e at = absurd (some-ne-none e (sym at))
 
-  pub four_and_two : (lane : LaneName T) (a b c d : PutView T) (t u : TakeView T) → lane.ends ≡ 6 → (a.lane ≡ lane) × (a.sender ≡ 0) → (b.lane ≡ lane) × (b.sender ≡ 1) → (c.lane ≡ lane) × (c.sender ≡ 2) → (d.lane ≡ lane) × (d.sender ≡ 3) → t.lane ≡ lane → u.lane ≡ lane
+  pub four_and_two : (lane : LaneName T) (a b c d : PutView T) (t u : TakeView T) → lane.ends ≡ 6 → (a.lane ≡ lane) × (a.sender ≡ 0)
+      → (b.lane ≡ lane) × (b.sender ≡ 1) → (c.lane ≡ lane) × (c.sender ≡ 2) → (d.lane ≡ lane) × (d.sender ≡ 3) → t.lane ≡ lane
+      → u.lane ≡ lane
       → AreAllEnds (a ∷ b ∷ c ∷ d ∷ []) (t ∷ u ∷ [])
   four_and_two lane a b c d t u ends is_a is_b is_c is_d is_t is_u = record {
     lane = lane;

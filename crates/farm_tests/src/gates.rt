@@ -180,7 +180,8 @@ struct Four {
 }
 
 fn open_four(alloc: Global) -> Result<Four, GateError>
-    ensures { IfOk result (λ f. (f.first.gate ≡ f.gate.id) × (f.second.gate ≡ f.gate.id) × (f.third.gate ≡ f.gate.id) × (f.fourth.gate ≡ f.gate.id) × (f.right ≡ f.gate.id)) }
+    ensures { IfOk result (λ f. (f.first.gate ≡ f.gate.id) × (f.second.gate ≡ f.gate.id) × (f.third.gate ≡ f.gate.id)
+        × (f.fourth.gate ≡ f.gate.id) × (f.right ≡ f.gate.id)) }
 {
     let (gate, mut seats, mut rights) = Gate::open(alloc, 4, 1)?;
     let (Some(first), Some(second)) = (seats.pop(), seats.pop()) else {
@@ -244,7 +245,8 @@ fn draw_by_four<R: Threads + Sync>(
     alloc: Global,
     four: Four,
 ) -> Result<FourDrawn, AllocError>
-    requires seats { (four.first.gate ≡ four.gate.id) × (four.second.gate ≡ four.gate.id) × (four.third.gate ≡ four.gate.id) × (four.fourth.gate ≡ four.gate.id) }
+    requires seats { (four.first.gate ≡ four.gate.id) × (four.second.gate ≡ four.gate.id) × (four.third.gate ≡ four.gate.id)
+        × (four.fourth.gate ≡ four.gate.id) }
     requires right { four.right ≡ four.gate.id }
 {
     let Four {
@@ -303,7 +305,8 @@ fn draw_until_closed<R: Threads + Sync>(
     alloc: Global,
     four: Four,
 ) -> Result<(Vec<u64>, Result<u64, AlreadyClosed>), AllocError>
-    requires seats { (four.first.gate ≡ four.gate.id) × (four.second.gate ≡ four.gate.id) × (four.third.gate ≡ four.gate.id) × (four.fourth.gate ≡ four.gate.id) }
+    requires seats { (four.first.gate ≡ four.gate.id) × (four.second.gate ≡ four.gate.id) × (four.third.gate ≡ four.gate.id)
+        × (four.fourth.gate ≡ four.gate.id) }
     requires right { four.right ≡ four.gate.id }
 {
     let Four {

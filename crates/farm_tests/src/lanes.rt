@@ -278,7 +278,8 @@ struct FourToTwo {
 fn four_to_two(alloc: Global, capacity: usize) -> Result<FourToTwo, LaneError>
     requires { (0 < capacity) × (capacity ≤ 1024) }
     ensures ends { IfOk result (λ e. e.a.lane.ends ≡ 6) }
-    ensures puts { IfOk result (λ e. (e.a ≡ new_put e.a.lane 0) × (e.b ≡ new_put e.a.lane 1) × (e.c ≡ new_put e.a.lane 2) × (e.d ≡ new_put e.a.lane 3)) }
+    ensures puts { IfOk result (λ e. (e.a ≡ new_put e.a.lane 0) × (e.b ≡ new_put e.a.lane 1) × (e.c ≡ new_put e.a.lane 2)
+        × (e.d ≡ new_put e.a.lane 3)) }
     ensures takes { IfOk result (λ e. (e.first ≡ new_take e.a.lane) × (e.second ≡ new_take e.a.lane)) }
 {
     let (mut puts, mut takes) = Lane::open(alloc, capacity, 4, 2)?;
@@ -317,7 +318,8 @@ fn run_lane<R: Threads + Wait + Sync>(
     ends: FourToTwo,
 ) -> Result<Run, AllocError>
     requires ends { ends.a.lane.ends ≡ 6 }
-    requires puts { (ends.a ≡ new_put ends.a.lane 0) × (ends.b ≡ new_put ends.a.lane 1) × (ends.c ≡ new_put ends.a.lane 2) × (ends.d ≡ new_put ends.a.lane 3) }
+    requires puts { (ends.a ≡ new_put ends.a.lane 0) × (ends.b ≡ new_put ends.a.lane 1) × (ends.c ≡ new_put ends.a.lane 2)
+        × (ends.d ≡ new_put ends.a.lane 3) }
     requires takes { (ends.first ≡ new_take ends.a.lane) × (ends.second ≡ new_take ends.a.lane) }
 {
     let FourToTwo {

@@ -1,5 +1,7 @@
 -- Steps of the loop over pairs of hexadecimal digits.
-use Rattle.std.proofs.Common.{◌^◌, Bool, eqb, get_or, subst, suc, zero, ◌≡◌, ◌∙◌, ℕ, ◌+◌, ◌*◌, ◌<◌, ◌≤◌, max, true, false, cond, List, length, take, drop, slice_index, slice_set, Option, Some, None, unwrap_or, Ok, Err, refl, sym, ap, arith, inl, inr, [], ◌∷◌, ◌++◌, ◌%◌}
+use Rattle.std.proofs.Common.{◌^◌, Bool, eqb, get_or, subst, suc, zero, ◌≡◌, ◌∙◌, ℕ, ◌+◌, ◌*◌, ◌<◌, ◌≤◌, max, true, false, cond, List}
+use Rattle.std.proofs.Common.{length, take, drop, slice_index, slice_set, Option, Some, None, unwrap_or, Ok, Err, refl, sym, ap, arith, inl}
+use Rattle.std.proofs.Common.{inr, [], ◌∷◌, ◌++◌, ◌%◌}
 use Rattle.std.proofs.lemmas.List.{length-append, take-append-le, take_all, take_more_set}
 use Rattle.std.specs.Prelude.{◌&&◌, nat_lt}
 use Rattle.std.specs.Result.{result_ok}
@@ -48,12 +50,14 @@ pair-low a b h i ea eb = rw (ap (digit_or_error a i) ea, ap (digit_or_error b (i
 
 -- one pair more
 pub decoded-step : (text bytes : List ℕ) (i greatest high low v most : ℕ) → 2 * i + 1 < length text → i < length bytes
-    → high ≡ unwrap_or (hex_digit_value (slice_index text (2 * i))) 255 → low ≡ unwrap_or (hex_digit_value (slice_index text (2 * i + 1))) 255
+    → high ≡ unwrap_or (hex_digit_value (slice_index text (2 * i))) 255
+    → low ≡ unwrap_or (hex_digit_value (slice_index text (2 * i + 1))) 255
     → (high < 16 → low < 16 → v ≡ high * 16 + low) → most ≡ max (max greatest high) low
     → IsDecoded text bytes i greatest → IsDecoded text (slice_set bytes i v) (i + 1) most
 decoded-step text bytes i greatest high low v most fits room eh el value is h = record { good = good; bad = bad }
   where
-    good : most < 16 → decode_pairs 0 text ≡ prepend (take (i + 1) (slice_set bytes i v)) (decode_pairs (2 * (i + 1)) (drop (2 * (i + 1)) text))
+    good : most < 16 → decode_pairs 0 text ≡ prepend (take (i + 1) (slice_set bytes i v))
+        (decode_pairs (2 * (i + 1)) (drop (2 * (i + 1)) text))
     good small =
         let small_high : high < 16 = omega (arith, is, small) in
         let small_low : low < 16 = omega (arith, is, small) in
@@ -61,7 +65,8 @@ decoded-step text bytes i greatest high low v most fits room eh el value is h = 
         (digit-read (slice_index text (2 * i)) high eh small_high) (digit-read (slice_index text (2 * i + 1)) low el small_low) in
         decode_step text bytes i v fits room (read ∙ ap Ok (sym (value small_high small_low))) (h.good (omega (arith, is, small)))
 
-    stopped : (e : FromHexError) → greatest < 16 → pair_value (slice_index text (2 * i)) (slice_index text (2 * i + 1)) (2 * i) ≡ Err e → result_ok (decode_pairs 0 text) ≡ None
+    stopped : (e : FromHexError) → greatest < 16 → pair_value (slice_index text (2 * i)) (slice_index text (2 * i + 1)) (2 * i) ≡ Err e
+        → result_ok (decode_pairs 0 text) ≡ None
     stopped e small p = ap result_ok (decode_err text bytes i e fits p (h.good small))
 
     bad : 16 ≤ most → result_ok (decode_pairs 0 text) ≡ None
@@ -70,14 +75,17 @@ decoded-step text bytes i greatest high low v most fits room eh el value is h = 
           | inr already ↦ h.bad already
           | inl small ↦
               elim (cases_lt high 16) [
-                | inr no_high ↦ stopped _ small (pair-high (slice_index text (2 * i)) (slice_index text (2 * i + 1)) (2 * i) (digit-bad (slice_index text (2 * i)) high eh no_high))
+                | inr no_high ↦ stopped _ small (pair-high (slice_index text (2 * i)) (slice_index text (2 * i + 1)) (2 * i)
+                    (digit-bad (slice_index text (2 * i)) high eh no_high))
                 | inl a_high ↦ stopped _ small (pair-low (slice_index text (2 * i)) (slice_index text (2 * i + 1)) high (2 * i)
-                    (digit-read (slice_index text (2 * i)) high eh a_high) (digit-bad (slice_index text (2 * i + 1)) low el (omega (arith, is, large, small, a_high))))
+                    (digit-read (slice_index text (2 * i)) high eh a_high)
+                    (digit-bad (slice_index text (2 * i + 1)) low el (omega (arith, is, large, small, a_high))))
               ]
         ]
 
 -- all pairs
-pub decoded-done : (text bytes : List ℕ) (i greatest : ℕ) → length bytes ≤ i → length text ≡ 2 * length bytes → IsDecoded text bytes i greatest
+pub decoded-done : (text bytes : List ℕ) (i greatest : ℕ) → length bytes ≤ i → length text ≡ 2 * length bytes
+    → IsDecoded text bytes i greatest
     → result_ok (decode_of text) ≡ cond (nat_lt greatest 16) (Some bytes) None
 decoded-done text bytes i greatest end len h = ap result_ok (decode_of-even text (omega (arith, len))) ∙ elim (cases_lt greatest 16) [
   | inl small ↦
@@ -121,7 +129,8 @@ pub record AreDecoded (text bytes : List ℕ) (i : ℕ) : Type 0 where
   pub so_far : decode_pairs 0 text ≡ prepend bytes (decode_pairs (2 * i) (drop (2 * i) text))
 
 module _ (text bytes : List ℕ) (i high low : ℕ) (fits : 2 * i + 1 < length text)
-    (eh : high ≡ unwrap_or (hex_digit_value (slice_index text (2 * i))) 255) (el : low ≡ unwrap_or (hex_digit_value (slice_index text (2 * i + 1))) 255)
+    (eh : high ≡ unwrap_or (hex_digit_value (slice_index text (2 * i))) 255)
+    (el : low ≡ unwrap_or (hex_digit_value (slice_index text (2 * i + 1))) 255)
     (before : AreDecoded text bytes i) where
   room : i < length (bytes ++ 0 ∷ [])
   room = omega (arith, before.long, length-append bytes (0 ∷ []))
@@ -130,10 +139,11 @@ module _ (text bytes : List ℕ) (i high low : ℕ) (fits : 2 * i + 1 < length t
   front = take-append-le i bytes (0 ∷ []) (omega (arith, before.long)) ∙ take_all i bytes (omega (arith, before.long))
 
   next : IsDecoded text (slice_set (bytes ++ 0 ∷ []) i (high * 16 + low)) (i + 1) (max (max 0 high) low)
-  next = decoded-step text (bytes ++ 0 ∷ []) i 0 high low (high * 16 + low) (max (max 0 high) low) fits room eh el (λ _ _. refl) refl record {
-    good = λ _. before.so_far ∙ ap (λ (f : List ℕ). prepend f (decode_pairs (2 * i) (drop (2 * i) text))) (sym front);
-    bad = λ large. absurd (omega (arith, large));
-  }
+  next = decoded-step text (bytes ++ 0 ∷ []) i 0 high low (high * 16 + low) (max (max 0 high) low) fits room eh el
+      (λ _ _. refl) refl record {
+        good = λ _. before.so_far ∙ ap (λ (f : List ℕ). prepend f (decode_pairs (2 * i) (drop (2 * i) text))) (sym front);
+        bad = λ large. absurd (omega (arith, large));
+      }
 
   pub pair-decoded : high < 16 → low < 16 → AreDecoded text (bytes ++ (high * 16 + low) ∷ []) (i + 1)
   pair-decoded small_high small_low = record {
@@ -147,7 +157,10 @@ module _ (text bytes : List ℕ) (i high low : ℕ) (fits : 2 * i + 1 < length t
   pair-stops even large = ap result_ok (decode_of-even text even) ∙ next.bad (omega (arith, large))
 
 -- all pairs
-pub are_decoded-done : (text bytes : List ℕ) (i : ℕ) → length text % 2 ≡ 0 → length text ≤ 2 * i → AreDecoded text bytes i → result_ok (decode_of text) ≡ Some bytes
+pub are_decoded-done : (text bytes : List ℕ) (i : ℕ) → length text % 2 ≡ 0 → length text ≤ 2 * i → AreDecoded text bytes i
+    → result_ok (decode_of text) ≡ Some bytes
 are_decoded-done text bytes i even end h =
     ap result_ok (decode_of-even text even)
-    ∙ ap result_ok (decode_done text bytes i (omega (arith, h.long)) end (h.so_far ∙ ap (λ (f : List ℕ). prepend f (decode_pairs (2 * i) (drop (2 * i) text))) (sym (take_all i bytes (omega (arith, h.long))))))
+    ∙ ap result_ok (decode_done text bytes i (omega (arith, h.long)) end
+    (h.so_far ∙ ap (λ (f : List ℕ). prepend f (decode_pairs (2 * i) (drop (2 * i) text)))
+    (sym (take_all i bytes (omega (arith, h.long))))))

@@ -14,10 +14,12 @@ below_128 b h = grind arith
 
 -- printable characters are UTF-8
 pub IsUtf8-printable : (bs : List ℕ) → list_all is_printable bs ≡ true → IsUtf8 bs
-IsUtf8-printable bs all = IsUtf8-from_ascii bs (IsAscii-from_all bs (λ k d h. below_128 (get_or bs k d) (AllPass-from_list_all is_printable bs all k d h)))
+IsUtf8-printable bs all = IsUtf8-from_ascii bs (IsAscii-from_all bs
+    (λ k d h. below_128 (get_or bs k d) (AllPass-from_list_all is_printable bs all k d h)))
 
 -- a result that is an `Err` only where a fact fails
-pub ok_unless : {T E : Type 0} (P : T → Type 0) (N : Type 0) (Q : E → Type 0) (r : Result T E) → MatchResult r P (λ e. ¬ N × Q e) → N → IsOk r
+pub ok_unless : {T E : Type 0} (P : T → Type 0) (N : Type 0) (Q : E → Type 0) (r : Result T E) → MatchResult r P (λ e. ¬ N × Q e) → N
+    → IsOk r
 ok_unless P N Q (Ok x) h n = refl
 ok_unless P N Q (Err e) h n = absurd (h.0 n)
 
@@ -28,7 +30,8 @@ both false b h = cc
 -- ---- a test that each byte of a line passes
 
 module _ (q : ℕ → Bool) where
-  onto_first-passes : (x : ℕ) (parts : List (List ℕ)) → q x ≡ true → list_all (list_all q) parts ≡ true → list_all (list_all q) (onto_first x parts) ≡ true
+  onto_first-passes : (x : ℕ) (parts : List (List ℕ)) → q x ≡ true → list_all (list_all q) parts ≡ true
+      → list_all (list_all q) (onto_first x parts) ≡ true
   onto_first-passes x [] e h = ap (λ b. (b && true) && true) e
   onto_first-passes x (part ∷ parts) e h = ap (λ b. (b && list_all q part) && list_all (list_all q) parts) e ∙ h
 
@@ -50,10 +53,13 @@ module _ (q : ℕ → Bool) where
 
   -- the first word passes it too
   pub first_word_passes : (line w : List ℕ) (more : List (List ℕ)) → list_all q line ≡ true → words line ≡ w ∷ more → list_all q w ≡ true
-  first_word_passes line w more h e = (both (list_all q w) (list_all (list_all q) more) (sym (ap (list_all (list_all q)) e) ∙ kept-pass (slice_split is_space line) (parts-pass line h))).0
+  first_word_passes line w more h e = (both (list_all q w) (list_all (list_all q) more)
+      (sym (ap (list_all (list_all q)) e) ∙ kept-pass (slice_split is_space line) (parts-pass line h))).0
 
   -- and so does the second
-  pub second_word_passes : (line w v : List ℕ) (more : List (List ℕ)) → list_all q line ≡ true → words line ≡ w ∷ v ∷ more → list_all q v ≡ true
+  pub second_word_passes : (line w v : List ℕ) (more : List (List ℕ)) → list_all q line ≡ true → words line ≡ w ∷ v ∷ more
+      → list_all q v ≡ true
   second_word_passes line w v more h e =
-      let all = both (list_all q w) (list_all (list_all q) (v ∷ more)) (sym (ap (list_all (list_all q)) e) ∙ kept-pass (slice_split is_space line) (parts-pass line h)) in
+      let all = both (list_all q w) (list_all (list_all q) (v ∷ more))
+      (sym (ap (list_all (list_all q)) e) ∙ kept-pass (slice_split is_space line) (parts-pass line h)) in
       (both (list_all q v) (list_all (list_all q) more) all.1).0

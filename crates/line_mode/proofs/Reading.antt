@@ -7,8 +7,10 @@ use Rattle.line_mode.specs.declared.outcomes.LineFault.TheVariants.{InputTooLong
 use Rattle.line_mode.specs.LineMode.{StopsReading, input_limit}
 
 -- a read whose bytes aren't kept, since they are too many or find no memory
-pub stops_at : (before now after : Option (List ℕ)) (bytes block : List ℕ) (f : LineFault) → Consumes before now bytes → Consumes now after block
+pub stops_at : (before now after : Option (List ℕ)) (bytes block : List ℕ) (f : LineFault) → Consumes before now bytes
+    → Consumes now after block
     → (f ≡ InputTooLong → input_limit < length (bytes ++ block)) → StopsReading before after f
-stops_at before now after bytes block InputTooLong first last long = (bytes ++ block, Consumes-trans before now after bytes block first last, long refl)
+stops_at before now after bytes block InputTooLong first last long =
+    (bytes ++ block, Consumes-trans before now after bytes block first last, long refl)
 stops_at before now after bytes block Device first last long = tt
 stops_at before now after bytes block OutOfMemory first last long = tt

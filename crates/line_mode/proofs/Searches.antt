@@ -1,5 +1,6 @@
 -- Searches and tests of bytes.
-use Rattle.std.proofs.Common.{◌≡◌, ◌∙◌, ℕ, ◌+◌, ◌%◌, ◌<◌, max, Bool, true, false, cond, List, length, drop, Option, Some, None, refl, sym, ap, arith, position}
+use Rattle.std.proofs.Common.{◌≡◌, ◌∙◌, ℕ, ◌+◌, ◌%◌, ◌<◌, max, Bool, true, false, cond, List, length, drop, Option, Some, None, refl, sym}
+use Rattle.std.proofs.Common.{ap, arith, position}
 use Rattle.std.specs.Prelude.{◌&&◌, nat_le, nat_lt}
 use Rattle.std.specs.List.{list_all, position_or_len}
 use Rattle.std.proofs.lemmas.List.Sums.{position_or_len_is}
@@ -17,7 +18,8 @@ position-first test bytes r h = by r h
     by : (r : Option ℕ) → IsFirstByte test bytes r → r ≡ position test bytes
     by None h =
         let end : position_or_len test bytes ≡ length bytes =
-        position_or_len_is test bytes (length bytes) 0 (omega arith) (λ k l. not_true _ (h k (omega arith) l)) (λ l. absurd (omega (arith, l))) in
+        position_or_len_is test bytes (length bytes) 0 (omega arith) (λ k l. not_true _ (h k (omega arith) l))
+        (λ l. absurd (omega (arith, l))) in
         let outside : nat_lt (position_or_len test bytes) (length bytes) ≡ false = grind (arith, end) in
         ap (λ b. cond b (Some (position_or_len test bytes)) None) (sym outside)
     by (Some k) h =

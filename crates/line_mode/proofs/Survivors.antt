@@ -5,7 +5,8 @@ use Rattle.std.proofs.lemmas.List.{append-nil}
 use Rattle.lrc_code.specs.Text.{every}
 
 module _ {X A : Type 0} (f : X → Option A) where
-  first_is : (x : X) (a : A) (rest : Option (List A)) → f x ≡ Some a → option_and_then (λ b. option_map (λ more. b ∷ more) rest) (f x) ≡ option_map (λ more. a ∷ more) rest
+  first_is : (x : X) (a : A) (rest : Option (List A)) → f x ≡ Some a
+      → option_and_then (λ b. option_map (λ more. b ∷ more) rest) (f x) ≡ option_map (λ more. a ∷ more) rest
   first_is x a rest e = rw e refl
 
   -- one more of a list of members
@@ -13,7 +14,8 @@ module _ {X A : Type 0} (f : X → Option A) where
       → option_map (λ more. seen ++ more) (every (map f (x ∷ xs))) ≡ option_map (λ more. (seen ++ a ∷ []) ++ more) (every (map f xs))
   every_step x xs a seen e = ap (option_map (λ more. seen ++ more)) (first_is x a (every (map f xs)) e) ∙ by (every (map f xs))
     where
-      by : (rest : Option (List A)) → option_map (λ more. seen ++ more) (option_map (λ more. a ∷ more) rest) ≡ option_map (λ more. (seen ++ a ∷ []) ++ more) rest
+      by : (rest : Option (List A)) → option_map (λ more. seen ++ more) (option_map (λ more. a ∷ more) rest)
+          ≡ option_map (λ more. (seen ++ a ∷ []) ++ more) rest
       by None = refl
       by (Some more) = ap Some (sym (append_assoc seen (a ∷ []) more))
 

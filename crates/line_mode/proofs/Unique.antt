@@ -16,7 +16,8 @@ some_once : {A : Type 0} (o : Option A) (x y : A) → o ≡ Some x → o ≡ Som
 some_once o x y e f = cc
 
 -- a request that isn't refused isn't a refusal
-not_refused : (line : List ℕ) (asked : Asked) (e : LineRefusal) → request_of line ≡ Some asked → refusal asked ≡ None → refusal_of line ≡ Some e → ⊥
+not_refused : (line : List ℕ) (asked : Asked) (e : LineRefusal) → request_of line ≡ Some asked → refusal asked ≡ None
+    → refusal_of line ≡ Some e → ⊥
 not_refused line asked e is none h =
     let none_there : refusal_of line ≡ None =
     ap (λ o. option_map_or (λ a. option_map Refused (refusal a)) o (Some BadLine)) is ∙ ap (option_map Refused) none

@@ -1,5 +1,6 @@
 -- The words of a line, taken off from its front.
-use Rattle.std.proofs.Common.{◌≡◌, ◌<◌, ◌≤◌, ◌+◌, ◌∙◌, ◌==◌, ℕ, Bool, true, false, List, [], ◌∷◌, length, take, drop, get_or, refl, sym, ap, arith, Some, None, cond, position, not, inl, inr, one-add}
+use Rattle.std.proofs.Common.{◌≡◌, ◌<◌, ◌≤◌, ◌+◌, ◌∙◌, ◌==◌, ℕ, Bool, true, false, List, [], ◌∷◌, length, take, drop, get_or, refl, sym, ap}
+use Rattle.std.proofs.Common.{arith, Some, None, cond, position, not, inl, inr, one-add}
 use Rattle.std.specs.List.{filter, position_or_len}
 use Rattle.std.proofs.lemmas.Bool.Decides.{leb_tells}
 use Rattle.std.proofs.lemmas.List.{drop_all, drop_more, length-take, take_all}
@@ -39,8 +40,10 @@ words-first xs e is some = elim (leb_tells (length xs) e) [ inl p ↦ whole p.1 
         let parts = slice_split_first is_space xs 0 (rw is l) in
         let first : is_word (take e xs) ≡ true = is_word_some (take e xs) (omega (arith, length-take e xs, l, some)) in
         let behind : words (drop e xs) ≡ words (drop (e + 1) xs) =
-        ap words (drop_more xs e 0 l) ∙ words-space (get_or xs e 0) (drop (e + 1) xs) (rw is at (passes_at_first is_space xs 0 (rw is l))) in
-        ap (filter is_word) (rw is at parts) ∙ ap (λ b. cond b (take e xs ∷ words (drop (e + 1) xs)) (words (drop (e + 1) xs))) first ∙ ap (λ ws. take e xs ∷ ws) (sym behind)
+        ap words (drop_more xs e 0 l) ∙ words-space (get_or xs e 0) (drop (e + 1) xs)
+        (rw is at (passes_at_first is_space xs 0 (rw is l))) in
+        ap (filter is_word) (rw is at parts) ∙ ap (λ b. cond b (take e xs ∷ words (drop (e + 1) xs)) (words (drop (e + 1) xs))) first
+        ∙ ap (λ ws. take e xs ∷ ws) (sym behind)
 
     whole : length xs ≤ e → words xs ≡ take e xs ∷ words (drop e xs)
     whole l =
@@ -52,14 +55,16 @@ words-first xs e is some = elim (leb_tells (length xs) e) [ inl p ↦ whole p.1 
 
 -- a line that doesn't begin with a space begins with a word
 starts : (x : ℕ) (xs : List ℕ) (e : ℕ) → is_space x ≡ false → position_or_len is_space (x ∷ xs) ≡ e → 0 < e
-starts x xs e h is = let count : 1 + position_or_len is_space xs ≡ e = ap (λ b. cond (not b) (1 + position_or_len is_space xs) 0) (sym h) ∙ is in omega (arith, count)
+starts x xs e h is = let count : 1 + position_or_len is_space xs ≡ e =
+    ap (λ b. cond (not b) (1 + position_or_len is_space xs) 0) (sym h) ∙ is in omega (arith, count)
 
 -- where every byte is a space there is no word
 pub words_none : (xs : List ℕ) → position is_other xs ≡ None → words xs ≡ []
 words_none xs e = words-skip xs ∙ ap words (drop_all _ xs (omega (arith, from_no_position is_other xs e)))
 
 -- the word in front, between the first other byte and the next space
-pub words_at : (xs : List ℕ) (s e : ℕ) → position is_other xs ≡ Some s → position_or_len is_space (drop s xs) ≡ e → words xs ≡ take e (drop s xs) ∷ words (drop e (drop s xs))
+pub words_at : (xs : List ℕ) (s e : ℕ) → position is_other xs ≡ Some s → position_or_len is_space (drop s xs) ≡ e
+    → words xs ≡ take e (drop s xs) ∷ words (drop e (drop s xs))
 words_at xs s e start is =
     let (at, within) = from_position is_other xs s start in
     let other : is_other (get_or xs s 0) ≡ true = rw at at (passes_at_first is_other xs 0 (rw at within)) in

@@ -5,11 +5,10 @@ use Rattle.lrc_code.specs.Survivors.{survivors_of}
 use Rattle.line_mode.specs.declared.parsing.Parts.{Parts}
 
 abbrev pub asked_of : Parts → Asked
-asked_of parts =
-    record {
-      code = parts.code;
-      stripe = string_bytes parts.stripe;
-      target = parts.target;
-      len = parts.length;
-      survivors = survivors_of parts.survivors.items;
-    }
+asked_of parts = record {
+  code = parts.code;
+  stripe = string_bytes parts.stripe;
+  target = parts.target;
+  len = parts.length;
+  survivors = survivors_of parts.survivors.items;
+}

@@ -28,12 +28,12 @@ pub fn line_mode<R: Read, W: Write>(
     output: &mut W,
 ) -> Result<LineCount, LineFault>
     // All input was read, and what was written is the replies to its lines and nothing else.
-    ensures replied { IfOk result
-        (Replied (R.remaining input.old) (R.remaining input.new) (W.contents output.old) (W.contents output.new)) }
+    ensures replied { IfOk result (Replied (R.remaining input.old) (R.remaining input.new) (W.contents output.old)
+        (W.contents output.new)) }
 
     // An input too long was read past the limit, and nothing is written before all input was read.
-    ensures fault { IfErr result
-        (Explains (R.remaining input.old) (R.remaining input.new) (W.contents output.old) (W.contents output.new)) }
+    ensures fault { IfErr result (Explains (R.remaining input.old) (R.remaining input.new) (W.contents output.old)
+        (W.contents output.new)) }
 {
     let bytes = read_input(alloc, input)?;
     let replies = reply_to_lines(alloc, &bytes)?;
@@ -51,10 +51,10 @@ pub fn line_mode_in<T: Threads + Sync, R: Read, W: Write>(
     input: &mut R,
     output: &mut W,
 ) -> Result<LineCount, LineFault>
-    ensures replied { IfOk result
-        (Replied (R.remaining input.old) (R.remaining input.new) (W.contents output.old) (W.contents output.new)) }
-    ensures fault { IfErr result
-        (Explains (R.remaining input.old) (R.remaining input.new) (W.contents output.old) (W.contents output.new)) }
+    ensures replied { IfOk result (Replied (R.remaining input.old) (R.remaining input.new) (W.contents output.old)
+        (W.contents output.new)) }
+    ensures fault { IfErr result (Explains (R.remaining input.old) (R.remaining input.new) (W.contents output.old)
+        (W.contents output.new)) }
 {
     let bytes = read_input(alloc, input)?;
     let replies = reply_in_pieces(rt, alloc, &bytes)?;

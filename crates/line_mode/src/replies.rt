@@ -58,8 +58,8 @@ impl Replies {
     pub(crate) fn append(&mut self, others: &Replies) -> Result<(), AllocError>
         requires answered { self.old.count.answered + others.now.count.answered < 2 ^ 64 }
         requires refused { self.old.count.refused + others.now.count.refused < 2 ^ 64 }
-        ensures { OnOk result ((these those : List LineReply)
-            → Holds self.old these → Holds others.now those → Holds self.new (these ++ those)) }
+        ensures { OnOk result ((these those : List LineReply) → Holds self.old these → Holds others.now those
+            → Holds self.new (these ++ those)) }
     {
         self.text.extend_from_slice(&others.text)?;
         self.count.answered += others.count.answered;

@@ -7,7 +7,7 @@ use Rattle.lrc_field.proofs.FieldLaws.{times-zero_r}
 use Rattle.lrc_code.specs.Code.{combination}
 use Rattle.lrc_c.specs.declared.lent.Lent.{Lent}
 use Rattle.lrc_c.specs.Lent.{lent, AreUsed, IsUsedAt}
-use Rattle.lrc_field.specs.declared.combining.Term.{Term}
+use Rattle.lrc_field.specs.declared.terms.Term.{Term}
 use Rattle.lrc_field.specs.Combined.{AreZeroBetween}
 use Rattle.lrc_c.specs.Combined.{column, AreTermsOf}
 use Rattle.lrc_c.specs.Stripes.{IsZeroRow}
@@ -65,4 +65,8 @@ zero_terms row bytes xss len ts e t z = λ k ge lt. t.sums k ∙ ap (λ r. combi
 pub used_from : (len : ℕ) (row : List ℕ) (xss : List (List ℕ)) → ((k : ℕ) → k < length row → IsUsedAt row xss len k) → AreUsed row xss len
 used_from len [] xss h = tt
 used_from len (c ∷ row) [] h = tt
-used_from len (c ∷ row) (xs ∷ xss) h = (λ n. h 0 (omega arith) (omega arith) n, used_from len row xss (λ k less lt n. h (suc k) (omega arith) (omega arith) n))
+used_from len (c ∷ row) (xs ∷ xss) h = (
+  λ n. h 0 (omega arith) (omega arith) n,
+  used_from len row xss
+      (λ k less lt n. h (suc k) (omega arith) (omega arith) n),
+)

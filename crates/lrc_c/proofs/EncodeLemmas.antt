@@ -1,12 +1,16 @@
 -- Parities of lent bytes.
-use Rattle.std.proofs.Common.{◌≡◌, ℕ, suc, List, [], ◌∷◌, ◌++◌, All, length, ◌∙◌, arith}
+use Rattle.std.proofs.Common.{◌≡◌, ℕ, suc, ◌<◌, ◌≤◌, List, [], ◌∷◌, ◌++◌, All, length, refl, ap, sym, subst, ◌∙◌, lit<, lit≤, arith}
 use Rattle.lrc_code.specs.declared.codes.Code.{Code as CodeName}
 use Rattle.lrc_code.specs.Code.{AreBytes}
-use Rattle.lrc_code.specs.Codes.{tables_of}
+use Rattle.lrc_code.specs.Codes.{data_count, parities_of, tables_of}
+use Rattle.lrc_code.specs.declared.codes.Code.TheVariants.{Narrow, Wide}
+use Rattle.lrc_code.specs.declared.codes.ParityRows.{ParityRows}
 use Rattle.lrc_code.specs.Encoding.{HaveLength, IsParity, IsEncoding}
 use Rattle.lrc_code.specs.Reduction.{row_at}
-use Rattle.lrc_code.proofs.Encodings.{parity_rows, data_of, encoding}
-use Rattle.lrc_field.specs.declared.combining.Term.{Term}
+use Rattle.lrc_code.proofs.Encodings.{parities_by_row, parity_rows, data_of, encoding}
+use Rattle.lrc_code.proofs.CodeLaws.{four_cases}
+use Rattle.lrc_c.specs.Encoded.{AreShort}
+use Rattle.lrc_field.specs.declared.terms.Term.{Term}
 use Rattle.lrc_c.specs.Lent.{AreUsed}
 use Rattle.lrc_c.specs.Combined.{AreTermsOf, IsWritten}
 
@@ -16,13 +20,47 @@ all_used [] xss len h = tt
 all_used (c ∷ row) [] len h = tt
 all_used (c ∷ row) (xs ∷ xss) len h = (λ n. h 0 [] (omega arith), all_used row xss len (λ k d lt. h (suc k) d (omega arith)))
 
-pub encoded : (code : CodeName) (len : ℕ) (sources : List (List ℕ)) (px py p0 p1 : List ℕ) → length sources ≡ length (data_of code)
-    → HaveLength len sources → All AreBytes sources
-    → IsParity (row_at (parity_rows code) 0) sources len px → IsParity (row_at (parity_rows code) 1) sources len py
-    → IsParity (row_at (parity_rows code) 2) sources len p0 → IsParity (row_at (parity_rows code) 3) sources len p1
-    → IsEncoding (tables_of code) len sources (sources ++ (px ∷ py ∷ p0 ∷ p1 ∷ []))
-encoded code len sources px py p0 p1 many lengths bytes hx hy h0 h1 =
-    encoding code len sources px py p0 p1 many lengths bytes (record { ix = hx; iy = hy; i0 = h0; i1 = h1 })
+data_is : (code : CodeName) → data_count code ≡ length (data_of code)
+data_is Narrow = refl
+data_is Wide = refl
+
+-- a parity of a code's data by its rows of coefficients
+module _ (code : CodeName) (rx ry r0 r1 : List ℕ) (are : (rx ∷ ry ∷ r0 ∷ r1 ∷ []) ≡ parities_of code) where
+  row_is : (i : ℕ) → row_at (rx ∷ ry ∷ r0 ∷ r1 ∷ []) i ≡ row_at (parity_rows code) i
+  row_is i = ap (λ rows. row_at rows i) (are ∙ parities_by_row code)
+
+  pub encoded : (len : ℕ) (sources : List (List ℕ)) (px py p0 p1 : List ℕ) → length sources ≡ data_count code
+      → HaveLength len sources → All AreBytes sources
+      → IsParity rx sources len px → IsParity ry sources len py → IsParity r0 sources len p0 → IsParity r1 sources len p1
+      → IsEncoding (tables_of code) len sources (sources ++ (px ∷ py ∷ p0 ∷ p1 ∷ []))
+  encoded len sources px py p0 p1 many lengths bytes hx hy h0 h1 =
+      encoding code len sources px py p0 p1 (many ∙ data_is code) lengths bytes (record {
+        ix = subst (λ row. IsParity row sources len px) (row_is 0) hx;
+        iy = subst (λ row. IsParity row sources len py) (row_is 1) hy;
+        i0 = subst (λ row. IsParity row sources len p0) (row_is 2) h0;
+        i1 = subst (λ row. IsParity row sources len p1) (row_is 3) h1;
+      })
+
+short : (code : CodeName) (i : ℕ) → i < 4 → length (row_at (parity_rows code) i) ≤ 16
+short Narrow = four_cases _ (lit≤ tt) (lit≤ tt) (lit≤ tt) (lit≤ tt)
+short Wide = four_cases _ (lit≤ tt) (lit≤ tt) (lit≤ tt) (lit≤ tt)
+
+same_length : (code : CodeName) → length (row_at (parity_rows code) 3) ≡ length (row_at (parity_rows code) 2)
+same_length Narrow = refl
+same_length Wide = refl
+
+pub short_rows : (code : CodeName) (rows : ParityRows)
+    → (rows.px.now ∷ rows.py.now ∷ rows.p0.now ∷ rows.p1.now ∷ []) ≡ parities_of code → AreShort rows
+short_rows code rows are =
+    let row_is : (i : ℕ) → row_at (rows.px.now ∷ rows.py.now ∷ rows.p0.now ∷ rows.p1.now ∷ []) i ≡ row_at (parity_rows code) i
+    = λ i. ap (λ rs. row_at rs i) (are ∙ parities_by_row code) in
+    record {
+      px = subst (λ row. length row ≤ 16) (sym (row_is 0)) (short code 0 (lit< tt));
+      py = subst (λ row. length row ≤ 16) (sym (row_is 1)) (short code 1 (lit< tt));
+      p0 = subst (λ row. length row ≤ 16) (sym (row_is 2)) (short code 2 (lit< tt));
+      p1 = subst (λ row. length row ≤ 16) (sym (row_is 3)) (short code 3 (lit< tt));
+      same = ap length (row_is 3) ∙ same_length code ∙ sym (ap length (row_is 2));
+    }
 
 -- what is in a room whose terms are a row's
 pub parity : (row : List ℕ) (xss : List (List ℕ)) (len : ℕ) (ts : List Term) (out : List ℕ) → AreTermsOf row xss len ts → length out ≡ len

@@ -17,7 +17,11 @@ unfolding code_or
 same_code o a b e f = ap (λ x. code_or x Narrow) (sym f ∙ e)
 
 pub same_lost : {n m t : ℕ} {a b : CodeName} {p q : Place} → IsLost n m t a p → IsLost n m t b q → (b ≡ a) × (q ≡ p)
-same_lost {n = n} {a = a} {b = b} {p = p} {q = q} x y = (same_code (code_numbered n) a b x.code_is y.code_is, index_of-eq q p (y.place_is ∙ sym x.place_is))
+same_lost {n = n} {a = a} {b = b} {p = p} {q = q} x y = (
+  same_code (code_numbered n) a b x.code_is y.code_is,
+  index_of-eq q p
+      (y.place_is ∙ sym x.place_is),
+)
 
 pub set_is : (mask : ℕ) (set : List Bool) → ((p : Place) → is_in set p ≡ is_set mask p) → is_in set ≡ is_set mask
 set_is mask set h = fun_ext h

@@ -1,6 +1,6 @@
 -- What is told of several targets.
 use Rattle.std.proofs.Common.{◌≡◌, ℕ, ◌<◌, List, length, Bool, true, false, refl, ap, sym, ◌∙◌, subst, arith, All}
-use Rattle.lrc_field.specs.declared.combining.Term.{Term}
+use Rattle.lrc_field.specs.declared.terms.Term.{Term}
 use Rattle.lrc_code.specs.declared.places.Place.{Place}
 use Rattle.lrc_code.specs.declared.codes.Code.{Code as CodeName}
 use Rattle.lrc_code.specs.Code.{AreBytes}
@@ -28,7 +28,8 @@ use Rattle.lrc_c.proofs.Exports.{set_is}
 use Rattle.lrc_c.proofs.Stripes.{contradiction, rebuilt, several}
 
 module _ (code : CodeName) (survives : Place → Bool) (at : List (List ℕ)) (len : ℕ) (whole : AreWhole code survives at len)
-    (small : All AreBytes at) (sixteen : length at ≡ 16) (checks : List (List ℕ)) (of_survivors : AreCheckRows (tables_of code) survives checks)
+    (small : All AreBytes at) (sixteen : length at ≡ 16) (checks : List (List ℕ))
+    (of_survivors : AreCheckRows (tables_of code) survives checks)
     (some : 0 < len) where
   told_lost : (possible : Bool) (p : Place) (a : Aim) (ts : List Term) (w : Wanted) (out : List ℕ) (room : ℕ)
       → (possible ≡ true → AreZeroRows checks at len) → (possible ≡ false → ¬ AreZeroRows checks at len)
@@ -61,8 +62,10 @@ module _ (code : CodeName) (survives : Place → Bool) (at : List (List ℕ)) (l
       let x = told_lost possible p a ts w out room hy hn ready plan want done long in (x.0, e ∙ x.1, x.2)
 
 -- a number's, from its target's
-pub answered : (code : CodeName) (survives : Place → Bool) (at : List (List ℕ)) (len number status : ℕ) (out : List ℕ) (room : ℕ) (t : Target)
-    → IsTargetOf code survives len number room t → IsTold code survives at len t status out → IsAnswered code survives at len number status out
+pub answered : (code : CodeName) (survives : Place → Bool) (at : List (List ℕ)) (len number status : ℕ) (out : List ℕ) (room : ℕ)
+    (t : Target)
+    → IsTargetOf code survives len number room t → IsTold code survives at len t status out
+    → IsAnswered code survives at len number status out
 answered code survives at len number status out room target.Nothing e told = record {
   nothing = λ n. told;
   target = λ p i. (let lt = index_of-lt p in absurd (omega (arith, lt, i, e)));
@@ -81,4 +84,5 @@ asked_of code survives len number room (target.Lost p) e = λ n. (p, e.0, e.1, e
 
 pub asked : (code : CodeName) (mask : ℕ) (set : List Bool) (len number room : ℕ) (t : Target) → ((p : Place) → is_in set p ≡ is_set mask p)
     → IsTargetOf code (is_in set) len number room t → IsAsked code (is_set mask) len number room
-asked code mask set len number room t h x = subst (λ s. IsAsked code s len number room) (set_is mask set h) (asked_of code (is_in set) len number room t x)
+asked code mask set len number room t h x = subst (λ s. IsAsked code s len number room) (set_is mask set h)
+    (asked_of code (is_in set) len number room t x)

@@ -4,7 +4,7 @@ use Rattle.std.specs.Int.Bits.{bit_xor}
 use Rattle.std.proofs.lemmas.List.{take_more_set}
 use Rattle.std.proofs.lemmas.List.Elements.{All-append}
 use Rattle.lrc_field.specs.Combined.{sum_at}
-use Rattle.lrc_field.specs.declared.combining.Term.{Term}
+use Rattle.lrc_field.specs.declared.terms.Term.{Term}
 use Rattle.lrc_field.specs.declared.pairs.Pair.{Pair}
 use Rattle.lrc_field.specs.Pairs.{scaled_sum_at, first_sum_at, second_sum_at}
 use Rattle.lrc_field.proofs.PairSums.{scaled_at, pair_snoc}
@@ -15,7 +15,7 @@ use Rattle.lrc_c.specs.Combined.{column, AreTermsOf}
 use Rattle.lrc_c.specs.Paired.{ArePairsOf, HavePairsRoom, IsPairOf}
 use Rattle.lrc_field.specs.Field.{times}
 use Rattle.lrc_c.proofs.Combinations.{column_at}
-use Rattle.lrc_c.specs.Windows.{AreCouple, AreSums, IsSomeWritten}
+use Rattle.lrc_c.specs.Windows.{AreCouple, AreSums}
 use Rattle.lrc_c.specs.declared.windows.Wanted.{Wanted}
 use Rattle.lrc_c.specs.declared.windows.Wanted.TheVariants as wanted
 use Rattle.lrc_c.specs.declared.rebuilding_many.Target.{Target}
@@ -23,7 +23,6 @@ use Rattle.lrc_c.specs.declared.rebuilding_many.Target.TheVariants as target
 use Rattle.lrc_c.specs.declared.rebuilding_many.Aim.{Aim}
 use Rattle.lrc_c.specs.declared.rebuilding_many.Aim.TheVariants as aim
 use Rattle.lrc_c.specs.RebuiltMany.{AreBothSums, IsAimed, IsReady, IsTermRow, IsWantedOf}
-use Rattle.lrc_field.specs.Blocks.{AreSet}
 
 -- one pair more
 pub pairs-more : (g : Pair → ℕ) (ps : List Pair) (n i : ℕ) (p : Pair) → n < length ps
@@ -32,7 +31,8 @@ pairs-more g ps n i p h = ap (λ qs. scaled_sum_at g qs i) (take_more_set ps n p
 
 pub rooms-more : (len : ℕ) (ps : List Pair) (n : ℕ) (p : Pair) → n < length ps → HavePairsRoom len (take n ps) → length p.bytes.now ≡ len
     → HavePairsRoom len (take (n + 1) (set ps n p))
-rooms-more len ps n p h all l = subst (HavePairsRoom len) (sym (take_more_set ps n p h)) (All-append (λ (q : Pair). length q.bytes.now ≡ len) (take n ps) (p ∷ []) all one)
+rooms-more len ps n p h all l = subst (HavePairsRoom len) (sym (take_more_set ps n p h))
+    (All-append (λ (q : Pair). length q.bytes.now ≡ len) (take n ps) (p ∷ []) all one)
   where
     one : HavePairsRoom len (p ∷ [])
     one zero d lt = l
@@ -51,7 +51,8 @@ pair_is firsts seconds xss len k p lt long first second bytes = record {
     byte i = ap (λ bs. get_or bs i 0) bytes ∙ sym (column_at xss k i lt)
 
 -- the sums of a row's terms
-pub sums_of : (w : Wanted) (ts : List Term) (row : List ℕ) (xss : List (List ℕ)) (len : ℕ) (f : ℕ → ℕ) → IsWantedOf aim.Sums ts w → AreTermsOf row xss len ts
+pub sums_of : (w : Wanted) (ts : List Term) (row : List ℕ) (xss : List (List ℕ)) (len : ℕ) (f : ℕ → ℕ) → IsWantedOf aim.Sums ts w
+    → AreTermsOf row xss len ts
     → ((i : ℕ) → f i ≡ combination row (column xss i)) → AreSums w f
 sums_of wanted.Nothing ts row xss len f want t h = tt
 sums_of (wanted.Sums us) ts row xss len f want t h = λ i. ap (λ vs. sum_at vs i) want ∙ t.sums i ∙ sym (h i)
@@ -79,15 +80,19 @@ room_of : (code : CodeName) (survives : Place → Bool) (at : List (List ℕ)) (
 room_of code survives at len room target.Nothing ts ready aimed = absurd (subst is_sums aimed tt)
 room_of code survives at len room (target.Lost p) ts ready aimed = ready.1
 
-pub couple_of : (code : CodeName) (survives : Place → Bool) (at : List (List ℕ)) (len a b : ℕ) (t u : Target) (one other : Aim) (ts us : List Term)
+pub couple_of : (code : CodeName) (survives : Place → Bool) (at : List (List ℕ)) (len a b : ℕ) (t u : Target) (one other : Aim)
+    (ts us : List Term)
     (v w : Wanted) (firsts seconds : List ℕ) (ps : List Pair)
-    → IsReady code survives len t a → IsReady code survives len u b → IsAimed code survives at len t one ts → IsAimed code survives at len u other us
+    → IsReady code survives len t a → IsReady code survives len u b → IsAimed code survives at len t one ts
+    → IsAimed code survives at len u other us
     → IsWantedOf one ts v → IsWantedOf other us w → IsTermRow one firsts at len ts → IsTermRow other seconds at len us
     → AreBothSums one other → ArePairsOf firsts seconds at len ps → AreCouple len v w a b ps
 couple_of code survives at len a b t u one other ts us v w firsts seconds ps ra rb aa ab wa wb ta tb both p = record {
   room = p.room;
   first_room = room_of code survives at len a t ts ra (subst (λ x. IsAimed code survives at len t x ts) both.first aa);
   second_room = room_of code survives at len b u us rb (subst (λ x. IsAimed code survives at len u x us) both.second ab);
-  first = sums_of v ts firsts at len (first_sum_at ps) (subst (λ x. IsWantedOf x ts v) both.first wa) (subst (λ x. IsTermRow x firsts at len ts) both.first ta) p.first_sums;
-  second = sums_of w us seconds at len (second_sum_at ps) (subst (λ x. IsWantedOf x us w) both.second wb) (subst (λ x. IsTermRow x seconds at len us) both.second tb) p.second_sums;
+  first = sums_of v ts firsts at len (first_sum_at ps) (subst (λ x. IsWantedOf x ts v) both.first wa)
+      (subst (λ x. IsTermRow x firsts at len ts) both.first ta) p.first_sums;
+  second = sums_of w us seconds at len (second_sum_at ps) (subst (λ x. IsWantedOf x us w) both.second wb)
+      (subst (λ x. IsTermRow x seconds at len us) both.second tb) p.second_sums;
 }

@@ -1,5 +1,6 @@
 -- From plans as rows to what is said of stripes: stripes made of extensions at each position.
-use Rattle.std.proofs.Common.{◌≡◌, ℕ, suc, Option, Some, None, ◌<◌, ◌≤◌, List, [], ◌∷◌, length, map, get_or, slice_index, Bool, true, false, cond, refl, ap, ap₂, sym, ◌∙◌, subst, arith, inl, inr, ◌⊎◌, All, lit<, zero-add}
+use Rattle.std.proofs.Common.{◌≡◌, ℕ, suc, Option, Some, None, ◌<◌, ◌≤◌, List, [], ◌∷◌, length, map, get_or, slice_index, Bool, true, false}
+use Rattle.std.proofs.Common.{cond, refl, ap, ap₂, sym, ◌∙◌, subst, arith, inl, inr, ◌⊎◌, All, lit<, zero-add}
 use Rattle.std.specs.Prelude.{◌||◌, ◌&&◌, ◌==◌, not}
 use Rattle.std.specs.List.{range_with_len, list_any}
 use Rattle.std.specs.Int.Bits.{bit_xor, xor_self, xor_zero_r}
@@ -67,7 +68,8 @@ map-map : (f : Place → List ℕ) (g : List ℕ → ℕ) (ps : List Place) → 
 map-map f g [] = refl
 map-map f g (p ∷ ps) = ap (λ xs. g (f p) ∷ xs) (map-map f g ps)
 
-pub column_by_places : (xss : List (List ℕ)) → length xss ≡ 16 → (k : ℕ) → column xss k ≡ map (λ p. slice_index (at_place xss p) k) all_places
+pub column_by_places : (xss : List (List ℕ)) → length xss ≡ 16 → (k : ℕ)
+    → column xss k ≡ map (λ p. slice_index (at_place xss p) k) all_places
 column_by_places xss l k = ap (λ yss. column yss k) (by_places xss l) ∙ map-map (at_place xss) (λ xs. slice_index xs k) all_places
 
 -- a plan's value, if there is none or some
@@ -101,7 +103,8 @@ module _ (code_name : CodeName) (survives : Place → Bool) (at : List (List ℕ
 
   -- ---- a stripe that keeps the bytes extends them at each position
 
-  keeps_at : (st : Place → List ℕ) → Keeps code survives (at_place at) len st → (p : Place) → has_place code p ≡ true → (length (st p) ≡ len) × AreBytes (st p)
+  keeps_at : (st : Place → List ℕ) → Keeps code survives (at_place at) len st → (p : Place) → has_place code p ≡ true
+      → (length (st p) ≡ len) × AreBytes (st p)
   keeps_at st f p h = in_list (λ q. (length (st q) ≡ len) × AreBytes (st q)) code.places f.in_code.is_stripe p h
 
   -- its bytes at a position, and 00 at the places outside the code
@@ -162,7 +165,8 @@ module _ (code_name : CodeName) (survives : Place → Bool) (at : List (List ℕ
   pub row_used : (row : List ℕ) → ReadsSurvivors survives row → AreUsed row at len
   row_used row reads = used_from len row at (λ k less lt n. each k lt n)
     where
-      lost : (k : ℕ) → k < 16 → (p : Place) → index_of p ≡ k → (u : Bool) → survives p ≡ u → ¬ (get_or row k 0 ≡ 0) → length (get_or at k []) ≡ len
+      lost : (k : ℕ) → k < 16 → (p : Place) → index_of p ≡ k → (u : Bool) → survives p ≡ u → ¬ (get_or row k 0 ≡ 0)
+          → length (get_or at k []) ≡ len
       lost k h p e true l n = ap (λ j. length (get_or at j [])) (sym e) ∙ (own p l).1
       lost k h p e false l n = absurd (n (ap (λ j. get_or row j 0) (sym e) ∙ reads p l))
 
@@ -172,7 +176,8 @@ module _ (code_name : CodeName) (survives : Place → Bool) (at : List (List ℕ
           lost k h (get_or all_places k X0) (index_at k h) (survives (get_or all_places k X0)) refl n
 
   -- the target's row gives the bytes of each stripe that keeps the others
-  pub applied : (target : Place) → has_place code target ≡ true → (row out : List ℕ) → IsValueRow code survives target row → IsParity row at len out
+  pub applied : (target : Place) → has_place code target ≡ true → (row out : List ℕ) → IsValueRow code survives target row
+      → IsParity row at len out
       → (st : Place → List ℕ) → Keeps code survives (at_place at) len st → st target ≡ out
   applied target of_code row out value v st f =
       let long = (keeps_at st f target of_code).0 in

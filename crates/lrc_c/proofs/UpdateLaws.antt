@@ -1,5 +1,6 @@
 -- Parities after a data fragment changed.
-use Rattle.std.proofs.Common.{◌≡◌, ◌≢◌, ℕ, zero, suc, ◌+◌, ◌<◌, ◌≤◌, ◌^◌, Bool, true, false, cond, List, [], ◌∷◌, length, map, take, get_or, refl, ap, ap₂, sym, ◌∙◌, subst, arith, lit<, All}
+use Rattle.std.proofs.Common.{◌≡◌, ◌≢◌, ℕ, zero, suc, ◌+◌, ◌<◌, ◌≤◌, ◌^◌, Bool, true, false, cond, List, [], ◌∷◌, length, map, take, get_or}
+use Rattle.std.proofs.Common.{refl, ap, ap₂, sym, ◌∙◌, subst, arith, lit<, lit≤, All}
 use Rattle.std.specs.Prelude.{◌&&◌, not, if◌then◌else◌}
 use Rattle.std.specs.Int.Bits.{bit_xor, xor_assoc, xor_zero_l, xor_zero_r}
 use Rattle.std.proofs.lemmas.List.{ext_get_or, get_or-map, length-map, take_all}
@@ -12,13 +13,13 @@ use Rattle.lrc_code.specs.declared.codes.Code.{Code as CodeName}
 use Rattle.lrc_code.specs.declared.codes.Code.TheVariants.{Narrow, Wide}
 use Rattle.lrc_code.specs.Places.{all_places, same_place}
 use Rattle.lrc_code.specs.Code.{Code, combination, has_place, bytes_at, AreBytes}
-use Rattle.lrc_code.specs.Codes.{tables_of}
+use Rattle.lrc_code.specs.Codes.{parities_of, tables_of}
 use Rattle.lrc_code.specs.Reduction.{coefficient_at, row_at}
 use Rattle.lrc_code.proofs.CodeLaws.{four_cases}
 use Rattle.lrc_code.proofs.Clearing.{get_or-sums}
 use Rattle.lrc_code.proofs.CodeTables.{combination-at}
 use Rattle.lrc_code.proofs.Combinations.{combination-sum}
-use Rattle.lrc_code.proofs.Encodings.{code_says, data_of, fourth_of, parity_rows}
+use Rattle.lrc_code.proofs.Encodings.{code_says, data_of, fourth_of, parities_by_row, parity_rows}
 use Rattle.lrc_code.proofs.PlaceSums.{same_place-eq, sum_over-same, sum_over-single}
 use Rattle.lrc_code.proofs.RowOps.{length-sums}
 use Rattle.lrc_c.specs.Updated.{is_parity, AreCoefficients, AreSolution, DifferAt, IsCoefficient, IsUpdated, SameOthers}
@@ -54,7 +55,8 @@ coefficient-all ps [] q k h l = ap (λ cs. coefficient_at (take k ps) cs q) (tak
     ends (r ∷ qs) = refl
 coefficient-all [] (c ∷ row) q k h l = absurd (omega arith)
 coefficient-all (p ∷ ps) (c ∷ row) q zero h l = absurd (omega arith)
-coefficient-all (p ∷ ps) (c ∷ row) q (suc k) h l = ap (bit_xor (if same_place p q then c else 0)) (coefficient-all ps row q k (omega arith) (omega arith))
+coefficient-all (p ∷ ps) (c ∷ row) q (suc k) h l = ap (bit_xor (if same_place p q then c else 0))
+    (coefficient-all ps row q k (omega arith) (omega arith))
 
 -- ---- a byte that changes at one data place
 
@@ -84,11 +86,14 @@ are_data Wide = refl
 abbrev single : Place → ℕ → Place → ℕ
 single place x p = cond (same_place place p) x 0
 
-changed : (code : CodeName) (place : Place) (b d : Place → ℕ) (x : ℕ) → SameOthers (tables_of code) place b d → d place ≡ bit_xor (b place) x
+changed : (code : CodeName) (place : Place) (b d : Place → ℕ) (x : ℕ) → SameOthers (tables_of code) place b d
+    → d place ≡ bit_xor (b place) x
     → map d (data_of code) ≡ map (λ p. bit_xor (b p) (single place x p)) (data_of code)
-changed code place b d x same there = map_along (data_of code) d (λ p. bit_xor (b p) (single place x p)) (λ k e lt. at (get_or (data_of code) k e) (each_data (tables_of code) (data_of code) (are_data code) k e lt))
+changed code place b d x same there = map_along (data_of code) d (λ p. bit_xor (b p) (single place x p))
+    (λ k e lt. at (get_or (data_of code) k e) (each_data (tables_of code) (data_of code) (are_data code) k e lt))
   where
-    case_of : (p : Place) (t : Bool) → same_place place p ≡ t → (has_place (tables_of code) p ≡ true) × (is_parity p ≡ false) → d p ≡ bit_xor (b p) (cond t x 0)
+    case_of : (p : Place) (t : Bool) → same_place place p ≡ t → (has_place (tables_of code) p ≡ true) × (is_parity p ≡ false)
+        → d p ≡ bit_xor (b p) (cond t x 0)
     case_of p true t h = subst (λ q. d q ≡ bit_xor (b q) x) (same_place-eq place p t) there
     case_of p false t h = same p h.0 h.1 t ∙ sym (xor_zero_r (b p))
 
@@ -103,10 +108,12 @@ combination-single : (ps : List Place) (row : List ℕ) (place : Place) (x : ℕ
     → combination row (map (single place x) ps) ≡ times (coefficient_at ps row place) x
 combination-single ps row place x =
     combination-at ps row (single place x)
-    ∙ sum_over-same all_places _ (λ q. cond (same_place place q) (times (coefficient_at ps row q) x) 0) (λ q. single_product (coefficient_at ps row q) x (same_place place q))
+    ∙ sum_over-same all_places _ (λ q. cond (same_place place q) (times (coefficient_at ps row q) x) 0)
+    (λ q. single_product (coefficient_at ps row q) x (same_place place q))
     ∙ sum_over-single place (λ q. times (coefficient_at ps row q) x)
 
-pub parities_own : (code : CodeName) → (has_place (tables_of code) Px ≡ true) × (has_place (tables_of code) Py ≡ true) × (has_place (tables_of code) P0 ≡ true) × (has_place (tables_of code) P1 ≡ true)
+pub parities_own : (code : CodeName) → (has_place (tables_of code) Px ≡ true) × (has_place (tables_of code) Py ≡ true)
+    × (has_place (tables_of code) P0 ≡ true) × (has_place (tables_of code) P1 ≡ true)
 parities_own Narrow = (refl, refl, refl, refl)
 parities_own Wide = (refl, refl, refl, refl)
 
@@ -117,7 +124,8 @@ says code b s i h =
     (code_says code b (s.bytes Px own.0) (s.bytes Py own.1) (s.bytes P0 own.2) (s.bytes P1 own.3)).0 s.solves i h
 
 -- a parity's byte changes by its coefficient times the difference
-changes : (code : CodeName) (place : Place) (i : ℕ) → i < 4 → (b d : Place → ℕ) → AreSolution (tables_of code) b → AreSolution (tables_of code) d
+changes : (code : CodeName) (place : Place) (i : ℕ) → i < 4 → (b d : Place → ℕ) → AreSolution (tables_of code) b
+    → AreSolution (tables_of code) d
     → SameOthers (tables_of code) place b d → (x : ℕ) → d place ≡ bit_xor (b place) x
     → fourth_of (d Px) (d Py) (d P0) (d P1) i
     ≡ bit_xor (fourth_of (b Px) (b Py) (b P0) (b P1) i) (times (coefficient_at (data_of code) (row_at (parity_rows code) i) place) x)
@@ -129,9 +137,18 @@ changes code place i h b d sb sd same x there =
 
 -- a row ends before the code's parities do
 same_row : (code : CodeName) (place : Place) (i : ℕ) → i < 4
-    → coefficient_at (tables_of code).places (row_at (parity_rows code) i) place ≡ coefficient_at (data_of code) (row_at (parity_rows code) i) place
+    → coefficient_at (tables_of code).places (row_at (parity_rows code) i) place
+    ≡ coefficient_at (data_of code) (row_at (parity_rows code) i) place
 same_row Narrow place = four_cases _ refl refl refl refl
 same_row Wide place = four_cases _ refl refl refl refl
+
+row_length : (code : CodeName) (i : ℕ) → i < 4 → length (row_at (parity_rows code) i) ≤ length (tables_of code).places
+row_length Narrow = four_cases _ (lit≤ tt) (lit≤ tt) (lit≤ tt) (lit≤ tt)
+row_length Wide = four_cases _ (lit≤ tt) (lit≤ tt) (lit≤ tt) (lit≤ tt)
+
+pub row_fits : (code : CodeName) (rows : List (List ℕ)) (ps : List Place) → rows ≡ parities_of code → ps ≡ (tables_of code).places
+    → (i : ℕ) → i < 4 → length (row_at rows i) ≤ length ps
+row_fits code rows ps e f i h = omega (arith, row_length code i h, ap (λ rs. length (row_at rs i)) (e ∙ parities_by_row code), ap length f)
 
 pub coefficients : (code : CodeName) (place : Place) (px py p0 p1 : ℕ)
     → px ≡ coefficient_at (tables_of code).places (row_at (parity_rows code) 0) place
@@ -140,10 +157,14 @@ pub coefficients : (code : CodeName) (place : Place) (px py p0 p1 : ℕ)
     → p1 ≡ coefficient_at (tables_of code).places (row_at (parity_rows code) 3) place
     → AreCoefficients (tables_of code) place px py p0 p1
 coefficients code place px py p0 p1 ex ey e0 e1 = record {
-  of_px = λ b d sb sd same x there. changes code place 0 (lit< tt) b d sb sd same x there ∙ ap (λ c. bit_xor (b Px) (times c x)) (sym (ex ∙ same_row code place 0 (lit< tt)));
-  of_py = λ b d sb sd same x there. changes code place 1 (lit< tt) b d sb sd same x there ∙ ap (λ c. bit_xor (b Py) (times c x)) (sym (ey ∙ same_row code place 1 (lit< tt)));
-  of_p0 = λ b d sb sd same x there. changes code place 2 (lit< tt) b d sb sd same x there ∙ ap (λ c. bit_xor (b P0) (times c x)) (sym (e0 ∙ same_row code place 2 (lit< tt)));
-  of_p1 = λ b d sb sd same x there. changes code place 3 (lit< tt) b d sb sd same x there ∙ ap (λ c. bit_xor (b P1) (times c x)) (sym (e1 ∙ same_row code place 3 (lit< tt)));
+  of_px = λ b d sb sd same x there. changes code place 0 (lit< tt) b d sb sd same x there
+      ∙ ap (λ c. bit_xor (b Px) (times c x)) (sym (ex ∙ same_row code place 0 (lit< tt)));
+  of_py = λ b d sb sd same x there. changes code place 1 (lit< tt) b d sb sd same x there
+      ∙ ap (λ c. bit_xor (b Py) (times c x)) (sym (ey ∙ same_row code place 1 (lit< tt)));
+  of_p0 = λ b d sb sd same x there. changes code place 2 (lit< tt) b d sb sd same x there
+      ∙ ap (λ c. bit_xor (b P0) (times c x)) (sym (e0 ∙ same_row code place 2 (lit< tt)));
+  of_p1 = λ b d sb sd same x there. changes code place 3 (lit< tt) b d sb sd same x there
+      ∙ ap (λ c. bit_xor (b P1) (times c x)) (sym (e1 ∙ same_row code place 3 (lit< tt)));
 }
 
 -- ---- a parity's bytes
@@ -154,7 +175,8 @@ bytes_in code len s k h all p own =
     let w = in_list (λ q. (length (s q) ≡ len) × AreBytes (s q)) code.places all p own in
     (w.0, w.1 k 0 (subst (λ n. k < n) (sym w.0) h))
 
-pub updated : (code : Code) (place parity : Place) (c : ℕ) (difference old new : List ℕ) → has_place code place ≡ true → has_place code parity ≡ true
+pub updated : (code : Code) (place parity : Place) (c : ℕ) (difference old new : List ℕ) → has_place code place ≡ true
+    → has_place code parity ≡ true
     → IsCoefficient code place parity c → length old ≡ length difference → new ≡ sums old (map (times c) difference)
     → (before after : Place → List ℕ) → DifferAt code place difference before after → before parity ≡ old → after parity ≡ new
 updated code place parity c difference old new own own_parity coefficient long is before after differ e =
@@ -172,17 +194,26 @@ updated code place parity c difference old new own own_parity coefficient long i
     in_length : length (after parity) ≡ length difference
     in_length = (stripe parity own_parity).0
 
-    at : (k : ℕ) → k < length difference → get_or (after parity) k 0 ≡ bit_xor (get_or (before parity) k 0) (times c (get_or difference k 0))
+    at : (k : ℕ) → k < length difference → get_or (after parity) k 0
+        ≡ bit_xor (get_or (before parity) k 0) (times c (get_or difference k 0))
     at k h =
-        let first : length (before place) ≡ length difference = (bytes_in code (length difference) before k h differ.is_before.is_stripe place own).0 in
+        let first : length (before place) ≡ length difference =
+        (bytes_in code (length difference) before k h differ.is_before.is_stripe place own).0 in
         coefficient (bytes_at before k) (bytes_at after k)
-        (record { bytes = λ p o. (bytes_in code (length difference) before k h differ.is_before.is_stripe p o).1; solves = differ.is_before.solves k h })
-        (record { bytes = λ p o. (bytes_in code (length difference) after k h differ.is_after.is_stripe p o).1; solves = differ.is_after.solves k h })
+        (record {
+          bytes = λ p o. (bytes_in code (length difference) before k h differ.is_before.is_stripe p o).1;
+          solves = differ.is_before.solves k h;
+        })
+        (record {
+          bytes = λ p o. (bytes_in code (length difference) after k h differ.is_after.is_stripe p o).1;
+          solves = differ.is_after.solves k h;
+        })
         (λ p o n s. ap (λ xs. get_or xs k 0) (differ.others p o n s))
         (get_or difference k 0)
         (ap (λ xs. get_or xs k 0) differ.there ∙ get_or-sums (before place) difference k (subst (λ n. k < n) (sym first) h) first)
 
-pub is_updated : (code : Code) (place parity : Place) (c : ℕ) (difference old new : List ℕ) → has_place code place ≡ true → has_place code parity ≡ true
+pub is_updated : (code : Code) (place parity : Place) (c : ℕ) (difference old new : List ℕ) → has_place code place ≡ true
+    → has_place code parity ≡ true
     → IsCoefficient code place parity c → (length old ≡ length difference → new ≡ sums old (map (times c) difference))
     → (length old ≢ length difference → new ≡ old) → IsUpdated code place difference parity old new
 is_updated code place parity c difference old new own own_parity coefficient done absent = record {

@@ -1,7 +1,7 @@
 -- Combinations of lent bytes with coefficients, as terms.
-use Rattle.std.specs.Prelude.{◌≡◌, ◌≤◌, ℕ, List, Option, MatchOption, length, map, slice_index}
+use Rattle.std.specs.Prelude.{◌≡◌, ◌≤◌, ℕ, List, length, map, slice_index}
 use Rattle.lrc_field.specs.Field.{times}
-use Rattle.lrc_field.specs.declared.combining.Term.{Term}
+use Rattle.lrc_field.specs.declared.terms.Term.{Term}
 use Rattle.lrc_field.specs.Blocks.{AreSet}
 use Rattle.lrc_field.specs.Combined.{HaveLength, product_at, sum_at}
 use Rattle.lrc_code.specs.Code.{combination}
@@ -24,8 +24,11 @@ pub record AreTermsOf (coefficients : List ℕ) (xss : List (List ℕ)) (len : �
 abbrev pub IsWritten : List Term → List ℕ → ℕ → Type 0
 IsWritten ts bytes i = AreSet (sum_at ts) bytes i
 
--- the term of the products at an index, which has so many bytes; none only where the products are 0
-abbrev pub IsTermAt : List ℕ → List (List ℕ) → ℕ → ℕ → Option Term → Type 0
-IsTermAt coefficients xss len k o =
-    MatchOption o ((i : ℕ) → times (slice_index coefficients k) (slice_index (column xss i) k) ≡ 0)
-    (λ t. (length t.bytes.now ≡ len) × ((i : ℕ) → product_at t i ≡ times (slice_index coefficients k) (slice_index (column xss i) k)))
+-- the products at an index are 0
+abbrev pub HasNoTerm : List ℕ → List (List ℕ) → ℕ → Type 0
+HasNoTerm coefficients xss k = (i : ℕ) → times (slice_index coefficients k) (slice_index (column xss i) k) ≡ 0
+
+-- the term of the products at an index, which has so many bytes
+abbrev pub IsTermOf : List ℕ → List (List ℕ) → ℕ → ℕ → Term → Type 0
+IsTermOf coefficients xss len k t =
+    (length t.bytes.now ≡ len) × ((i : ℕ) → product_at t i ≡ times (slice_index coefficients k) (slice_index (column xss i) k))

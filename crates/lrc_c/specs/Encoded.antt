@@ -1,15 +1,10 @@
 -- Sources that can be encoded.
 use Rattle.std.specs.Prelude.{◌≡◌, ◌≤◌, ℕ, List, length, Some}
 use Rattle.lrc_code.specs.declared.codes.Code.{Code as CodeName}
-use Rattle.lrc_code.specs.declared.codes.Code.TheVariants.{Narrow, Wide}
+use Rattle.lrc_code.specs.declared.codes.ParityRows.{ParityRows}
+use Rattle.lrc_code.specs.Codes.{data_count}
 use Rattle.lrc_code.specs.Encoding.{HaveLength}
-use Rattle.lrc_c.specs.declared.encoding.Rows.{Rows}
 use Rattle.lrc_c.specs.Arguments.{code_numbered}
-
--- how many data fragments a code has
-abbrev pub data_count : CodeName → ℕ
-data_count Narrow = 6
-data_count Wide = 12
 
 -- as many data fragments as the code has, and room for the parities, all of one length
 pub record AreSources (number : ℕ) (sources : List (List ℕ)) (x y z w : ℕ) (code : CodeName) : Type 0 where
@@ -21,7 +16,7 @@ pub record AreSources (number : ℕ) (sources : List (List ℕ)) (x y z w : ℕ)
   pub p1 : w ≡ x
 
 -- rows of at most sixteen coefficients, the last two of one length
-pub record AreShort (rows : Rows) : Type 0 where
+pub record AreShort (rows : ParityRows) : Type 0 where
   pub px : length rows.px.now ≤ 16
   pub py : length rows.py.now ≤ 16
   pub p0 : length rows.p0.now ≤ 16

@@ -1,5 +1,5 @@
 -- Two combinations of the same lent bytes, as pairs.
-use Rattle.std.specs.Prelude.{◌≡◌, ℕ, List, All, Option, MatchOption, length, slice_index}
+use Rattle.std.specs.Prelude.{◌≡◌, ℕ, List, All, length, slice_index}
 use Rattle.lrc_field.specs.Field.{times}
 use Rattle.lrc_field.specs.declared.pairs.Pair.{Pair}
 use Rattle.lrc_field.specs.Pairs.{first_sum_at, second_sum_at}
@@ -26,7 +26,6 @@ pub record IsPairOf (firsts seconds : List ℕ) (xss : List (List ℕ)) (len k :
   pub first : (i : ℕ) → times p.first (slice_index p.bytes.now i) ≡ product_of firsts xss k i
   pub second : (i : ℕ) → times p.second (slice_index p.bytes.now i) ≡ product_of seconds xss k i
 
--- none only where both products are 0
-abbrev pub IsPairAt : List ℕ → List ℕ → List (List ℕ) → ℕ → ℕ → Option Pair → Type 0
-IsPairAt firsts seconds xss len k o =
-    MatchOption o ((i : ℕ) → (product_of firsts xss k i ≡ 0) × (product_of seconds xss k i ≡ 0)) (IsPairOf firsts seconds xss len k)
+-- both products at an index are 0
+abbrev pub HasNoPair : List ℕ → List ℕ → List (List ℕ) → ℕ → Type 0
+HasNoPair firsts seconds xss k = (i : ℕ) → (product_of firsts xss k i ≡ 0) × (product_of seconds xss k i ≡ 0)

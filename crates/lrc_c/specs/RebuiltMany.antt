@@ -1,6 +1,6 @@
 -- The answers for several lost targets.
 use Rattle.std.specs.Prelude.{◌≡◌, ◌≢◌, ℕ, ◌<◌, List, Bool, true, false, Some, slice_index}
-use Rattle.lrc_field.specs.declared.combining.Term.{Term}
+use Rattle.lrc_field.specs.declared.terms.Term.{Term}
 use Rattle.lrc_code.specs.declared.places.Place.{Place}
 use Rattle.lrc_code.specs.declared.codes.Code.{Code as CodeName}
 use Rattle.lrc_code.specs.Code.{has_place}
@@ -31,7 +31,8 @@ IsAsked code survives len number room =
     number ≢ 255 → (p : Place) × (index_of p ≡ number) × IsLostPlace code survives p × (room ≡ len)
 
 -- all four are, of a code and survivors that can be asked of
-pub record AreAllAsked (code_number mask : ℕ) (at : List (List ℕ)) (len : ℕ) (targets : List ℕ) (a b c d : ℕ) (code : CodeName) : Type 0 where
+pub record AreAllAsked (code_number mask : ℕ) (at : List (List ℕ)) (len : ℕ) (targets : List ℕ) (a b c d : ℕ)
+    (code : CodeName) : Type 0 where
   pub code_is : code_numbered code_number ≡ Some code
   pub some : 0 < len
   pub whole : AreWhole code (is_set mask) at len
@@ -47,7 +48,8 @@ pub record IsAnswered (code : CodeName) (survives : Place → Bool) (at : List (
       → (a : Answer) × (status ≡ status_of a) × IsAnswerAt (tables_of code) survives (at_place at) len p a out
 
 -- what is told of all four
-pub record AreAnswered (code : CodeName) (survives : Place → Bool) (at : List (List ℕ)) (len : ℕ) (targets statuses a b c d : List ℕ) : Type 0 where
+pub record AreAnswered (code : CodeName) (survives : Place → Bool) (at : List (List ℕ)) (len : ℕ)
+    (targets statuses a b c d : List ℕ) : Type 0 where
   pub first : IsAnswered code survives at len (slice_index targets 0) (slice_index statuses 0) a
   pub second : IsAnswered code survives at len (slice_index targets 1) (slice_index statuses 1) b
   pub third : IsAnswered code survives at len (slice_index targets 2) (slice_index statuses 2) c

@@ -80,7 +80,8 @@ pub(crate) struct Lost {
 
 /// The code of a number and its place of an index, which is none of the survivors'.
 pub(crate) fn lost_place(number: u8, survivors: u32, target: u8) -> Option<Lost>
-    ensures { MatchOption result ((c : Code) (p : Place) → ¬ IsLost number survivors target c p) (λ a. IsLost number survivors target a.code a.place) }
+    ensures { MatchOption result ((c : Code) (p : Place) → ¬ IsLost number survivors target c p)
+        (λ a. IsLost number survivors target a.code a.place) }
 {
     let Some(code) = code_numbered(number) else {
         return None;

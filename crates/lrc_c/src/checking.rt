@@ -1,5 +1,5 @@
 //! The checks of survivors, and what is written beside them in one pass.
-ghost use Rattle.std.specs.Prelude.{◌≡◌, ◌<◌, ℕ, true, false, length, All, ◌⊎◌};
+ghost use Rattle.std.specs.Prelude.{◌≡◌, true, false, length, All, ◌⊎◌};
 ghost use Rattle.lrc_code.specs.declared.codes.Code.{Code};
 ghost use Rattle.lrc_code.specs.Code.{AreBytes};
 ghost use Rattle.lrc_code.specs.Codes.{tables_of};
@@ -10,11 +10,11 @@ ghost use Rattle.lrc_c.specs.Stripes.{AreZeroRows, IsContradiction, IsPossible};
 ghost use Rattle.lrc_c.specs.Windows.{AreCoupled, AreRooms, AreWritten};
 
 use crate::arguments::{are_whole, code_numbered, set_of};
-use crate::combining::{fill_terms, no_terms};
+use crate::combining::fill_terms;
 use crate::lent::Lent;
 use crate::windows::{Checks, Couples, Wanted, Wants, write_checked};
 use lrc_code::{Code, PlaceSet};
-use lrc_field::Gf;
+use lrc_field::{Gf, no_terms};
 use lrc_plan::check_rows;
 
 /// The coefficients as bytes.
@@ -63,8 +63,8 @@ pub(crate) fn write_coupled_if_zero(
     write_checked(checks, wants, couples, len, a, b, c, d)
 }
 
-/// The same without pairs: tests whether four combinations of lent bytes are 00 at every place, and writes what is wanted, in one pass. Where
-/// some combination isn't 00 the rooms are written up to some place, and the answer is false.
+/// The same without pairs: tests whether four combinations of lent bytes are 00 at every place, and writes what is wanted, in one pass.
+/// Where some combination isn't 00 the rooms are written up to some place, and the answer is false.
 pub(crate) fn write_if_zero(
     rows: [[Gf; 16]; 4],
     at: &[Lent; 16],

@@ -1,12 +1,12 @@
 //! Combinations of lent bytes with coefficients, as terms.
-ghost use Rattle.std.specs.Prelude.{◌≡◌, ◌≢◌, ◌<◌, ◌≤◌, ◌^◌, ℕ, true, false, None, Some, length, slice_index, take};
+ghost use Rattle.std.specs.Prelude.{◌≡◌, ◌≢◌, ◌<◌, ◌≤◌, ℕ, true, false, length, slice_index, take};
 ghost use Rattle.lrc_field.specs.Combined.{AreZeroBetween};
 ghost use Rattle.lrc_code.specs.Encoding.{IsParity};
 ghost use Rattle.lrc_c.specs.Lent.{lent, AreUsed, IsUsedAt};
-ghost use Rattle.lrc_c.specs.Combined.{AreTermsOf, HaveRoom, IsTermAt, IsWritten};
+ghost use Rattle.lrc_c.specs.Combined.{AreTermsOf, HaveRoom, HasNoTerm, IsTermOf, IsWritten};
 
 use crate::lent::Lent;
-use lrc_field::{Gf, Term, combine_into, sums_are_zero_between};
+use lrc_field::{Gf, Term, combine_into, no_terms, sums_are_zero_between};
 
 /// Writes the combination of lent bytes with coefficients over the bytes. Lent bytes whose coefficient is not 00 have
 /// their length.
@@ -90,8 +90,8 @@ pub(crate) fn fill_terms<'a>(
 {
     let mut count = 0;
     for k in 0..coefficients.len() {
-        if has_term(coefficients, at, k, len) {
-            terms[count] = term_of(coefficients, at, k, len);
+        if has_term(coefficients, at, k) {
+            terms[count] = term_of(coefficients, at, k);
             count += 1;
         }
     }
@@ -100,12 +100,11 @@ pub(crate) fn fill_terms<'a>(
 
 // Whether there is a term at an index: else its products are 00.
 #[inline(always)]
-fn has_term(coefficients: &[u8], at: &[Lent], k: usize, len: usize) -> bool
+fn has_term(coefficients: &[u8], at: &[Lent], k: usize) -> bool
     requires { k < length coefficients.now }
     ensures yes { result ≡ true → (k < length at.now) × (slice_index coefficients.now k ≢ 0) }
-    ensures no { result ≡ false → IsTermAt coefficients.now (lent at.now) len k None }
+    ensures no { result ≡ false → HasNoTerm coefficients.now (lent at.now) k }
 {
-    let _ = len;
     let c = coefficients[k];
     if c == 0 {
         return false;
@@ -119,49 +118,14 @@ fn has_term(coefficients: &[u8], at: &[Lent], k: usize, len: usize) -> bool
 // The term at an index, with the coefficient and the lent bytes there. It is no part of an option, since an option's copies wait for
 // their own writes.
 #[inline(always)]
-fn term_of<'a>(coefficients: &[u8], at: &[Lent<'a>], k: usize, len: usize) -> Term<'a>
+fn term_of<'a>(coefficients: &[u8], at: &[Lent<'a>], k: usize) -> Term<'a>
     requires inside { k < length coefficients.now }
     requires lent { k < length at.now }
     requires some { slice_index coefficients.now k ≢ 0 }
-    requires used { AreUsed coefficients.now (lent at.now) len }
-    ensures { IsTermAt coefficients.now (lent at.now) len k (Some result) }
+    ensures { (len : ℕ) → AreUsed coefficients.now (lent at.now) len → IsTermOf coefficients.now (lent at.now) len k result }
 {
-    let _ = len;
     Term {
         scalar: Gf::new(coefficients[k]),
         bytes: at[k].bytes,
-    }
-}
-
-/// An array whose terms nothing reads yet.
-#[inline(always)]
-pub(crate) fn no_terms<'a>() -> [Term<'a>; 16]
-    ensures { length result ≡ 16 }
-{
-    [
-        no_term(),
-        no_term(),
-        no_term(),
-        no_term(),
-        no_term(),
-        no_term(),
-        no_term(),
-        no_term(),
-        no_term(),
-        no_term(),
-        no_term(),
-        no_term(),
-        no_term(),
-        no_term(),
-        no_term(),
-        no_term(),
-    ]
-}
-
-// A place of the array that nothing reads yet.
-fn no_term<'a>() -> Term<'a> {
-    Term {
-        scalar: Gf::new(0),
-        bytes: &[],
     }
 }

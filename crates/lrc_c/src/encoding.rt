@@ -1,8 +1,7 @@
 //! Encoding for C.
 ghost use Rattle.std.specs.Prelude.{◌≡◌, ◌∷◌, [], ◌++◌, length, true, false};
 ghost use Rattle.lrc_code.specs.declared.codes.Code.{Code};
-ghost use Rattle.lrc_code.specs.Code.{narrow, wide};
-ghost use Rattle.lrc_code.specs.Codes.{tables_of};
+ghost use Rattle.lrc_code.specs.Codes.{data_count, tables_of};
 ghost use Rattle.lrc_code.specs.Encoding.{HaveLength, IsEncoding, IsParity};
 ghost use Rattle.lrc_c.specs.Lent.{lent};
 ghost use Rattle.lrc_c.specs.Windows.{AreCoupled, AreRooms, AreWritten};
@@ -10,11 +9,12 @@ ghost use Rattle.lrc_c.specs.Encoded.{AreShort, AreSources};
 
 use crate::arguments::code_numbered;
 use crate::checking::lent_are_bytes;
-use crate::combining::{fill_terms, no_terms};
+use crate::combining::fill_terms;
 use crate::lent::Lent;
 use crate::pairing::{fill_pairs, no_pairs};
 use crate::windows::{Checks, Couples, Wanted, Wants, write_checked};
-use lrc_code::{Code, NARROW_PARITIES, WIDE_PARITIES};
+use lrc_code::{Code, ParityRows};
+use lrc_field::no_terms;
 
 // Whether each slice has so many bytes.
 fn have_length(sources: &[Lent], len: usize) -> bool
@@ -29,52 +29,28 @@ fn have_length(sources: &[Lent], len: usize) -> bool
     true
 }
 
-// The four parities of six data fragments.
-fn encode_narrow(sources: &[Lent], px: &mut [u8], py: &mut [u8], p0: &mut [u8], p1: &mut [u8])
-    requires count { length sources.now ≡ 6 }
+// The four parities of a code's data fragments.
+fn encode_parities(
+    code: Code,
+    sources: &[Lent],
+    px: &mut [u8],
+    py: &mut [u8],
+    p0: &mut [u8],
+    p1: &mut [u8],
+)
+    requires count { length sources.now ≡ data_count code }
     requires lengths { HaveLength (length px.old) (lent sources.now) }
     requires rooms { (length py.old ≡ length px.old) × (length p0.old ≡ length px.old) × (length p1.old ≡ length px.old) }
-    ensures { IsEncoding narrow (length px.old) (lent sources.now) (lent sources.now ++ (px.new ∷ py.new ∷ p0.new ∷ p1.new ∷ [])) }
+    ensures { IsEncoding (tables_of code) (length px.old) (lent sources.now)
+        (lent sources.now ++ (px.new ∷ py.new ∷ p0.new ∷ p1.new ∷ [])) }
 {
     lent_are_bytes(sources);
-    let rows = Rows {
-        px: &NARROW_PARITIES[0],
-        py: &NARROW_PARITIES[1],
-        p0: &NARROW_PARITIES[2],
-        p1: &NARROW_PARITIES[3],
-    };
-    write_parities(rows, sources, px, py, p0, p1);
-}
-
-// The four parities of twelve data fragments.
-fn encode_wide(sources: &[Lent], px: &mut [u8], py: &mut [u8], p0: &mut [u8], p1: &mut [u8])
-    requires count { length sources.now ≡ 12 }
-    requires lengths { HaveLength (length px.old) (lent sources.now) }
-    requires rooms { (length py.old ≡ length px.old) × (length p0.old ≡ length px.old) × (length p1.old ≡ length px.old) }
-    ensures { IsEncoding wide (length px.old) (lent sources.now) (lent sources.now ++ (px.new ∷ py.new ∷ p0.new ∷ p1.new ∷ [])) }
-{
-    lent_are_bytes(sources);
-    let rows = Rows {
-        px: &WIDE_PARITIES[0],
-        py: &WIDE_PARITIES[1],
-        p0: &WIDE_PARITIES[2],
-        p1: &WIDE_PARITIES[3],
-    };
-    write_parities(rows, sources, px, py, p0, p1);
-}
-
-// The coefficients of the data fragments in each parity.
-#[derive(Clone, Copy)]
-struct Rows<'a> {
-    px: &'a [u8],
-    py: &'a [u8],
-    p0: &'a [u8],
-    p1: &'a [u8],
+    write_parities(code.parities(), sources, px, py, p0, p1);
 }
 
 // The four parities of data fragments, in one pass.
 fn write_parities(
-    rows: Rows,
+    rows: ParityRows,
     sources: &[Lent],
     px: &mut [u8],
     py: &mut [u8],
@@ -84,10 +60,10 @@ fn write_parities(
     requires few { AreShort rows }
     requires lengths { HaveLength (length px.old) (lent sources.now) }
     requires rooms { (length py.old ≡ length px.old) × (length p0.old ≡ length px.old) × (length p1.old ≡ length px.old) }
-    ensures px { IsParity rows.entry.px.now (lent sources.now) (length px.old) px.new }
-    ensures py { IsParity rows.entry.py.now (lent sources.now) (length px.old) py.new }
-    ensures p0 { IsParity rows.entry.p0.now (lent sources.now) (length px.old) p0.new }
-    ensures p1 { IsParity rows.entry.p1.now (lent sources.now) (length px.old) p1.new }
+    ensures px { IsParity rows.px.now (lent sources.now) (length px.old) px.new }
+    ensures py { IsParity rows.py.now (lent sources.now) (length px.old) py.new }
+    ensures p0 { IsParity rows.p0.now (lent sources.now) (length px.old) p0.new }
+    ensures p1 { IsParity rows.p1.now (lent sources.now) (length px.old) p1.new }
 {
     let len = px.len();
     let mut px_terms = no_terms();
@@ -147,9 +123,12 @@ pub extern "C" fn lrc_encode_into(
     p0: &mut [u8],
     p1: &mut [u8],
 ) -> u32
-    ensures encoded { (c : Code) → AreSources code (lent sources.now) (length px.old) (length py.old) (length p0.old) (length p1.old) c
-        → (result ≡ 0) × IsEncoding (tables_of c) (length px.old) (lent sources.now) (lent sources.now ++ (px.new ∷ py.new ∷ p0.new ∷ p1.new ∷ [])) }
-    ensures refused { ((c : Code) → ¬ AreSources code (lent sources.now) (length px.old) (length py.old) (length p0.old) (length p1.old) c)
+    ensures encoded { (c : Code) → AreSources code (lent sources.now) (length px.old) (length py.old) (length p0.old)
+        (length p1.old) c
+        → (result ≡ 0) × IsEncoding (tables_of c) (length px.old) (lent sources.now)
+        (lent sources.now ++ (px.new ∷ py.new ∷ p0.new ∷ p1.new ∷ [])) }
+    ensures refused { ((c : Code) → ¬ AreSources code (lent sources.now) (length px.old) (length py.old) (length p0.old)
+        (length p1.old) c)
         → (result ≡ 3) × (px.new ≡ px.old) × (py.new ≡ py.old) × (p0.new ≡ p0.old) × (p1.new ≡ p1.old) }
 {
     let len = px.len();
@@ -165,21 +144,12 @@ pub extern "C" fn lrc_encode_into(
     if !have_length(sources, len) {
         return 3;
     }
-    match code_numbered(code) {
-        Some(Code::Narrow) => {
-            if sources.len() != 6 {
-                return 3;
-            }
-            encode_narrow(sources, px, py, p0, p1);
-            0
-        }
-        Some(Code::Wide) => {
-            if sources.len() != 12 {
-                return 3;
-            }
-            encode_wide(sources, px, py, p0, p1);
-            0
-        }
-        None => 3,
+    let Some(own) = code_numbered(code) else {
+        return 3;
+    };
+    if sources.len() != own.data_count() {
+        return 3;
     }
+    encode_parities(own, sources, px, py, p0, p1);
+    0
 }

@@ -1,9 +1,9 @@
 //! Two combinations of the same lent bytes, as pairs.
-ghost use Rattle.std.specs.Prelude.{◌≡◌, ◌<◌, ◌≤◌, ◌+◌, ℕ, true, false, None, [], length, slice_index, slice_index_or, take};
+ghost use Rattle.std.specs.Prelude.{◌≡◌, ◌<◌, ◌≤◌, ◌+◌, ℕ, true, false, [], length, slice_index, slice_index_or, take};
 ghost use Rattle.lrc_field.specs.Blocks.{AreSet};
 ghost use Rattle.lrc_field.specs.Pairs.{first_sum_at, second_sum_at};
 ghost use Rattle.lrc_c.specs.Lent.{lent, AreUsed};
-ghost use Rattle.lrc_c.specs.Paired.{ArePairsOf, HavePairsRoom, IsPairAt};
+ghost use Rattle.lrc_c.specs.Paired.{ArePairsOf, HasNoPair, HavePairsRoom};
 
 use crate::lent::Lent;
 use lrc_field::{Gf, Pair, combine_pairs_into};
@@ -56,7 +56,7 @@ pub(crate) fn fill_pairs<'a>(
 {
     let mut count = 0;
     for k in 0..firsts.len() {
-        if has_pair(firsts, seconds, at, k, len) {
+        if has_pair(firsts, seconds, at, k) {
             pairs[count] = pair_of(firsts, seconds, at, k);
             count += 1;
         }
@@ -66,15 +66,14 @@ pub(crate) fn fill_pairs<'a>(
 
 // Whether there is a pair at an index: else its products are 00.
 #[inline(always)]
-fn has_pair(firsts: &[u8], seconds: &[u8], at: &[Lent], k: usize, len: usize) -> bool
+fn has_pair(firsts: &[u8], seconds: &[u8], at: &[Lent], k: usize) -> bool
     requires inside { k < length firsts.now }
     requires same { length seconds.now ≡ length firsts.now }
-    requires firsts { AreUsed firsts.now (lent at.now) len }
-    requires seconds { AreUsed seconds.now (lent at.now) len }
-    ensures yes { result ≡ true → (k < length at.now) × (length (slice_index_or (lent at.now) k []) ≡ len) }
-    ensures no { result ≡ false → IsPairAt firsts.now seconds.now (lent at.now) len k None }
+    ensures inside { result ≡ true → k < length at.now }
+    ensures long { result ≡ true → (len : ℕ) → AreUsed firsts.now (lent at.now) len → AreUsed seconds.now (lent at.now) len
+        → length (slice_index_or (lent at.now) k []) ≡ len }
+    ensures no { result ≡ false → HasNoPair firsts.now seconds.now (lent at.now) k }
 {
-    let _ = len;
     if k >= at.len() {
         return false;
     }

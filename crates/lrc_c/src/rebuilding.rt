@@ -14,11 +14,11 @@ ghost use Rattle.lrc_c.specs.Rebuilt.{status_of, IsAnswerAt};
 
 use crate::arguments::{are_whole, lost_place, set_of};
 use crate::checking::{are_sixteen, are_zero, bytes_of, write_if_zero};
-use crate::combining::{fill_terms, no_terms};
+use crate::combining::fill_terms;
 use crate::lent::Lent;
 use crate::windows::{Wanted, Wants};
 use lrc_code::{Code, Place, PlaceSet};
-use lrc_field::Gf;
+use lrc_field::{Gf, no_terms};
 use lrc_plan::plan_rows;
 
 /// What is told of a lost fragment.

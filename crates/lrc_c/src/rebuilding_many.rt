@@ -1,21 +1,24 @@
 //! Rebuilding up to four lost fragments of a stripe in one pass.
-ghost use Rattle.std.specs.Prelude.{◌≡◌, ◌<◌, ◌≤◌, true, false, length, take, max, MatchOption, slice_index};
+ghost use Rattle.std.specs.Prelude.{◌≡◌, ◌<◌, ◌≤◌, not, length, take, max, MatchOption, slice_index};
 ghost use Rattle.lrc_code.specs.declared.codes.Code.{Code};
+ghost use Rattle.lrc_code.specs.Codes.{tables_of};
+ghost use Rattle.lrc_code.specs.Reduction.{IsReduction};
 ghost use Rattle.lrc_code.specs.Sets.{is_in};
 ghost use Rattle.lrc_c.specs.Arguments.{AreWhole, is_set};
 ghost use Rattle.lrc_c.specs.Lent.{lent};
 ghost use Rattle.lrc_c.specs.Paired.{ArePairsOf};
-ghost use Rattle.lrc_c.specs.RebuiltMany.{AreAllAsked, AreAnswered, AreBothSums, IsAimed, IsAsked, IsLostOf, IsReady, IsTargetOf, IsTermRow, IsTold, IsUsedRow, IsWantedOf, status_at};
+ghost use Rattle.lrc_c.specs.RebuiltMany.{AreAllAsked, AreAnswered, AreBothSums, IsAimed, IsAsked, IsLostOf, IsReady, IsTargetOf};
+ghost use Rattle.lrc_c.specs.RebuiltMany.{IsTermRow, IsTold, IsUsedRow, IsWantedOf, status_at};
 
 use crate::arguments::{are_whole, code_numbered, set_of};
 use crate::checking::{are_sixteen, bytes_of, write_coupled_if_zero};
-use crate::combining::{fill_terms, no_terms};
+use crate::combining::fill_terms;
 use crate::lent::Lent;
 use crate::pairing::{are_worth_pairing, fill_pairs, no_pairs};
 use crate::windows::{Couples, Wanted, Wants};
-use lrc_code::{Code, Place, PlaceSet};
-use lrc_field::{Pair, Term};
-use lrc_plan::{check_rows, plan_rows};
+use lrc_code::{Code, Place, PlaceSet, Reduced};
+use lrc_field::{Pair, Term, no_terms};
+use lrc_plan::{checks_from, reduce_by_lost, value_from};
 
 /// The number that stands where no target is asked for.
 pub const NO_PLACE: u8 = 255;
@@ -80,6 +83,7 @@ fn target_of(code: Code, set: PlaceSet, number: u8, room: usize, len: usize) -> 
 // What the plan of a target asks for, with the number of the terms of its combination, which are written to the front.
 fn aim_of<'a>(
     code: Code,
+    reduced: &Reduced,
     set: PlaceSet,
     at: &[Lent<'a>; 16],
     len: usize,
@@ -89,6 +93,7 @@ fn aim_of<'a>(
 ) -> (Aim, usize)
     requires whole { AreWhole code (is_in set) (lent at.now) len }
     requires target { IsLostOf code (is_in set) target }
+    requires reduced { IsReduction (tables_of code) (λ p. not (is_in set p)) reduced.now }
     requires many { length terms.old ≡ 16 }
     ensures len { length terms.new ≡ 16 }
     ensures few { result.1 ≤ 16 }
@@ -100,8 +105,7 @@ fn aim_of<'a>(
     let Target::Lost(place) = target else {
         return (Aim::Nothing, 0);
     };
-    let plan = plan_rows(code, set, place);
-    let Some(found) = plan.value else {
+    let Some(found) = value_from(code, reduced, set, place) else {
         return (Aim::Several, 0);
     };
     *row = bytes_of(&found);
@@ -183,11 +187,13 @@ fn rebuild_four(
     ensures fourth { IsTold code (is_in set) (lent at.now) len targets.fourth result.fourth d.new }
 {
     are_sixteen(at);
-    let checks = check_rows(code, set);
+    let reduced = reduce_by_lost(code, set);
+    let checks = checks_from(code, &reduced, set);
     let mut first_terms = no_terms();
     let mut first_row = [0; 16];
     let (first_aim, first_count) = aim_of(
         code,
+        &reduced,
         set,
         at,
         len,
@@ -199,6 +205,7 @@ fn rebuild_four(
     let mut second_row = [0; 16];
     let (second_aim, second_count) = aim_of(
         code,
+        &reduced,
         set,
         at,
         len,
@@ -210,6 +217,7 @@ fn rebuild_four(
     let mut third_row = [0; 16];
     let (third_aim, third_count) = aim_of(
         code,
+        &reduced,
         set,
         at,
         len,
@@ -221,6 +229,7 @@ fn rebuild_four(
     let mut fourth_row = [0; 16];
     let (fourth_aim, fourth_count) = aim_of(
         code,
+        &reduced,
         set,
         at,
         len,
@@ -284,11 +293,15 @@ pub extern "C" fn lrc_rebuild_many_into(
     d: &mut [u8],
     statuses: &mut [u32; 4],
 ) -> u32
-    ensures answer { (o : Code) → AreAllAsked code survivors (lent at.now) len targets.now (length a.old) (length b.old) (length c.old) (length d.old) o
+    ensures answer { (o : Code) → AreAllAsked code survivors (lent at.now) len targets.now (length a.old) (length b.old) (length c.old)
+        (length d.old) o
         → AreAnswered o (is_set survivors) (lent at.now) len targets.now statuses.new a.new b.new c.new d.new }
-    ensures greatest { (o : Code) → AreAllAsked code survivors (lent at.now) len targets.now (length a.old) (length b.old) (length c.old) (length d.old) o
-        → result ≡ max (max (slice_index statuses.new 0) (slice_index statuses.new 1)) (max (slice_index statuses.new 2) (slice_index statuses.new 3)) }
-    ensures refused { ((o : Code) → ¬ AreAllAsked code survivors (lent at.now) len targets.now (length a.old) (length b.old) (length c.old) (length d.old) o)
+    ensures greatest { (o : Code) → AreAllAsked code survivors (lent at.now) len targets.now (length a.old) (length b.old) (length c.old)
+        (length d.old) o
+        → result ≡ max (max (slice_index statuses.new 0) (slice_index statuses.new 1))
+        (max (slice_index statuses.new 2) (slice_index statuses.new 3)) }
+    ensures refused { ((o : Code) → ¬ AreAllAsked code survivors (lent at.now) len targets.now (length a.old) (length b.old) (length c.old)
+        (length d.old) o)
         → (result ≡ 3) × (statuses.new ≡ statuses.old) × (a.new ≡ a.old) × (b.new ≡ b.old) × (c.new ≡ c.old) × (d.new ≡ d.old) }
 {
     let Some(own) = code_numbered(code) else {

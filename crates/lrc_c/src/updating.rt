@@ -12,7 +12,7 @@ ghost use Rattle.lrc_code.specs.Reduction.{coefficient_at};
 ghost use Rattle.lrc_c.specs.Updated.{is_parity, AreCoefficients, IsRoom, IsUpdate, IsUpdated};
 
 use crate::arguments::code_numbered;
-use lrc_code::{Code, NARROW_PARITIES, Place, WIDE_PARITIES};
+use lrc_code::{Code, Place};
 use lrc_field::{Gf, scale_add_into};
 
 // Whether a place is a parity's.
@@ -76,25 +76,19 @@ fn coefficients_of(code: Code, place: Place) -> Coefficients
     ensures { AreCoefficients (tables_of code) place result.px result.py result.p0 result.p1 }
 {
     let places = code.places();
-    match code {
-        Code::Narrow => Coefficients {
-            px: coefficient_of(&NARROW_PARITIES[0], places, place),
-            py: coefficient_of(&NARROW_PARITIES[1], places, place),
-            p0: coefficient_of(&NARROW_PARITIES[2], places, place),
-            p1: coefficient_of(&NARROW_PARITIES[3], places, place),
-        },
-        Code::Wide => Coefficients {
-            px: coefficient_of(&WIDE_PARITIES[0], places, place),
-            py: coefficient_of(&WIDE_PARITIES[1], places, place),
-            p0: coefficient_of(&WIDE_PARITIES[2], places, place),
-            p1: coefficient_of(&WIDE_PARITIES[3], places, place),
-        },
+    let rows = code.parities();
+    Coefficients {
+        px: coefficient_of(rows.px, places, place),
+        py: coefficient_of(rows.py, places, place),
+        p0: coefficient_of(rows.p0, places, place),
+        p1: coefficient_of(rows.p1, places, place),
     }
 }
 
 // Adds a coefficient times the difference to a parity that has its length.
 fn update(coefficient: u8, difference: &[u8], parity: &mut [u8])
-    ensures given { length parity.old ≡ length difference.now → parity.new ≡ sums parity.old (map (times coefficient) difference.now) }
+    ensures given { length parity.old ≡ length difference.now
+        → parity.new ≡ sums parity.old (map (times coefficient) difference.now) }
     ensures absent { length parity.old ≢ length difference.now → parity.new ≡ parity.old }
 {
     if parity.len() != difference.len() {

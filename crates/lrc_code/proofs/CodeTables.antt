@@ -1,5 +1,6 @@
 -- What holds of the tables of both codes.
-use Rattle.std.proofs.Common.{◌≡◌, ℕ, true, false, Bool, List, [], ◌∷◌, length, map, get_or, slice_index, refl, sym, ◌∙◌, ap, ap₂, cond, All, nat_lt}
+use Rattle.std.proofs.Common.{◌≡◌, ℕ, true, false, Bool, Some, List, [], ◌∷◌, length, map, get_or, slice_index, refl, sym, ◌∙◌, ap, ap₂}
+use Rattle.std.proofs.Common.{cond, All, nat_lt}
 use Rattle.std.specs.Prelude.{if◌then◌else◌, ◌||◌}
 use Rattle.std.specs.List.{list_any}
 use Rattle.std.proofs.lemmas.List.Folds.{list_any_at}
@@ -14,7 +15,9 @@ use Rattle.lrc_code.specs.Places.{index_of, same_place, all_places}
 use Rattle.lrc_code.specs.Code.{combination, narrow, narrow_places, wide_places, narrow_equations, wide_equations, has_place}
 use Rattle.lrc_code.specs.Codes.{tables_of}
 use Rattle.lrc_code.specs.Sums.{sum_over}
-use Rattle.lrc_code.specs.Reduction.{coefficient_at}
+use Rattle.lrc_code.specs.Reduction.{coefficient_at, row_at, rows_by_index}
+use Rattle.lrc_code.specs.Groups.{group_row}
+use Rattle.lrc_code.specs.declared.places.Group.TheVariants as group
 use Rattle.lrc_code.proofs.PlaceSums.{same_place-refl, same_place-comm, sum_over-add, sum_over-same, sum_over-single, combination-sum_over}
 
 -- ---- the codes' places
@@ -159,3 +162,15 @@ coefficient_at-none q (p ∷ ps) (c ∷ row) h =
 pub own_places : (code : CodeName) → All (λ p. has_place (tables_of code) p ≡ true) (tables_of code).places
 own_places code = λ k d lt. list_any_at (same_place (get_or (tables_of code).places k d)) (tables_of code).places k d lt
     (same_place-refl (get_or (tables_of code).places k d))
+
+-- ---- the equations of the groups
+
+pub group_of_x : (code : CodeName) → row_at (rows_by_index (tables_of code)) 0 ≡ group_row (tables_of code) (Some group.X)
+unfolding rows_by_index narrow_equations wide_equations
+group_of_x Narrow = refl
+group_of_x Wide = refl
+
+pub group_of_y : (code : CodeName) → row_at (rows_by_index (tables_of code)) 1 ≡ group_row (tables_of code) (Some group.Y)
+unfolding rows_by_index narrow_equations wide_equations
+group_of_y Narrow = refl
+group_of_y Wide = refl

@@ -1,5 +1,6 @@
 -- The number that a few digits write, digit by digit.
-use Rattle.std.proofs.Common.{◌≡◌, ◌<◌, ◌≤◌, ◌+◌, ◌-◌, ◌*◌, ◌^◌, ◌∙◌, ℕ, zero, suc, Bool, true, false, List, length, take, get_or, refl, sym, arith}
+use Rattle.std.proofs.Common.{◌≡◌, ◌<◌, ◌≤◌, ◌+◌, ◌-◌, ◌*◌, ◌^◌, ◌∙◌, ℕ, zero, suc, Bool, true, false, List, length, take, get_or, refl}
+use Rattle.std.proofs.Common.{sym, arith}
 use Rattle.std.specs.List.{list_all}
 use Rattle.std.specs.Str.Parse.{digits_value}
 use Rattle.std.proofs.lemmas.Bool.{false≢true}
@@ -44,4 +45,5 @@ next_value xs i v within all e =
     omega (arith, same, more, e, d.low)
 
 pub next_small : (i v d : ℕ) → v < 10 ^ i → IsIn d → v * 10 + (d - 48) < 10 ^ (i + 1)
-next_small i v d l r = let p : 10 ^ (i + 1) ≡ 10 ^ i * 10 = rw (let s : i + 1 ≡ suc i = omega arith in s) (pow-suc 10 i) in omega (arith, p, l, r.low, r.high)
+next_small i v d l r = let p : 10 ^ (i + 1) ≡ 10 ^ i * 10 =
+    rw (let s : i + 1 ≡ suc i = omega arith in s) (pow-suc 10 i) in omega (arith, p, l, r.low, r.high)

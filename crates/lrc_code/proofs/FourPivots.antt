@@ -1,6 +1,7 @@
 -- A place of a group, the other group's parity and both global parities: where these four are lost, the equations have a reduction
 -- with a pivot at each.
-use Rattle.std.proofs.Common.{◌≡◌, ◌≢◌, ℕ, suc, zero, ◌<◌, List, [], ◌∷◌, length, map, get_or, Bool, true, false, cond, refl, ap, sym, ◌∙◌, arith, inl, inr, Option, Some, None, lit<}
+use Rattle.std.proofs.Common.{◌≡◌, ◌≢◌, ℕ, suc, zero, ◌<◌, List, [], ◌∷◌, length, map, get_or, Bool, true, false, cond, refl, ap, sym, ◌∙◌}
+use Rattle.std.proofs.Common.{arith, inl, inr, Option, Some, None, lit<}
 use Rattle.std.specs.Prelude.{not, ◌&&◌, ◌||◌, ◌==◌}
 use Rattle.std.specs.List.{list_all}
 use Rattle.std.proofs.lemmas.Bool.{cases_Bool, eqb-true}
@@ -44,14 +45,17 @@ parity (suc (suc zero)) = P0
 parity (suc (suc (suc n))) = P1
 
 -- a parity has 1 in its own row and 0 in the others
-parity_column : (code : CodeName) (q : ℕ) → q < 4 → (s : ℕ) → s < 4 → coefficient (rows_by_index (tables_of code)) s (index_of (parity q)) ≡ cond (s == q) 1 0
+parity_column : (code : CodeName) (q : ℕ) → q < 4 → (s : ℕ) → s < 4
+    → coefficient (rows_by_index (tables_of code)) s (index_of (parity q)) ≡ cond (s == q) 1 0
 unfolding narrow_equations wide_equations rows_by_index
-parity_column Narrow = four_cases (λ q. (s : ℕ) → s < 4 → coefficient (rows_by_index (tables_of Narrow)) s (index_of (parity q)) ≡ cond (s == q) 1 0)
+parity_column Narrow = four_cases (λ q. (s : ℕ) → s < 4 → coefficient (rows_by_index (tables_of Narrow)) s (index_of (parity q))
+    ≡ cond (s == q) 1 0)
     (four_cases (λ s. coefficient (rows_by_index (tables_of Narrow)) s (index_of (parity 0)) ≡ cond (s == 0) 1 0) refl refl refl refl)
     (four_cases (λ s. coefficient (rows_by_index (tables_of Narrow)) s (index_of (parity 1)) ≡ cond (s == 1) 1 0) refl refl refl refl)
     (four_cases (λ s. coefficient (rows_by_index (tables_of Narrow)) s (index_of (parity 2)) ≡ cond (s == 2) 1 0) refl refl refl refl)
     (four_cases (λ s. coefficient (rows_by_index (tables_of Narrow)) s (index_of (parity 3)) ≡ cond (s == 3) 1 0) refl refl refl refl)
-parity_column Wide = four_cases (λ q. (s : ℕ) → s < 4 → coefficient (rows_by_index (tables_of Wide)) s (index_of (parity q)) ≡ cond (s == q) 1 0)
+parity_column Wide = four_cases (λ q. (s : ℕ) → s < 4 → coefficient (rows_by_index (tables_of Wide)) s (index_of (parity q))
+    ≡ cond (s == q) 1 0)
     (four_cases (λ s. coefficient (rows_by_index (tables_of Wide)) s (index_of (parity 0)) ≡ cond (s == 0) 1 0) refl refl refl refl)
     (four_cases (λ s. coefficient (rows_by_index (tables_of Wide)) s (index_of (parity 1)) ≡ cond (s == 1) 1 0) refl refl refl refl)
     (four_cases (λ s. coefficient (rows_by_index (tables_of Wide)) s (index_of (parity 2)) ≡ cond (s == 2) 1 0) refl refl refl refl)
@@ -65,7 +69,8 @@ is_of group.Y (Some group.Y) = true
 is_of g h = false
 
 own_place : CodeName → Group → Place → Bool
-own_place code g p = not (has_place (tables_of code) p && is_of g (group_of p)) || (coefficient (rows_by_index (tables_of code)) (row_of g) (index_of p) == 1)
+own_place code g p = not (has_place (tables_of code) p && is_of g (group_of p)) ||
+    (coefficient (rows_by_index (tables_of code)) (row_of g) (index_of p) == 1)
 
 own_places : (code : CodeName) (g : Group) → list_all (own_place code g) all_places ≡ true
 unfolding narrow_equations wide_equations rows_by_index own_place is_of
@@ -75,10 +80,11 @@ own_places Wide group.X = refl
 own_places Wide group.Y = refl
 
 is_own : (code : CodeName) (g : Group) (p : Place) → own_place code g p ≡ true
-is_own code g = at_places (λ p. own_place code g p ≡ true) (λ k d lt. elim (cases_Bool (own_place code g (get_or all_places k d))) as (λ _. own_place code g (get_or all_places k d) ≡ true) [
-  | inl t ↦ t
-  | inr f ↦ absurd (apart (sym (list_all_at (own_place code g) all_places k d lt f) ∙ own_places code g))
-])
+is_own code g = at_places (λ p. own_place code g p ≡ true)
+    (λ k d lt. elim (cases_Bool (own_place code g (get_or all_places k d))) as (λ _. own_place code g (get_or all_places k d) ≡ true) [
+      | inl t ↦ t
+      | inr f ↦ absurd (apart (sym (list_all_at (own_place code g) all_places k d lt f) ∙ own_places code g))
+    ])
   where
     apart : false ≡ true → ⊥
     apart e = cc
@@ -88,11 +94,13 @@ unfolding is_of
 is_of-same group.X = refl
 is_of-same group.Y = refl
 
-own_one : (code : CodeName) (g : Group) (t : Place) → has_place (tables_of code) t ≡ true → group_of t ≡ Some g → coefficient (rows_by_index (tables_of code)) (row_of g) (index_of t) ≡ 1
+own_one : (code : CodeName) (g : Group) (t : Place) → has_place (tables_of code) t ≡ true → group_of t ≡ Some g
+    → coefficient (rows_by_index (tables_of code)) (row_of g) (index_of t) ≡ 1
 unfolding own_place
 own_one code g t here of =
     eqb-true (coefficient (rows_by_index (tables_of code)) (row_of g) (index_of t)) 1
-    (second (has_place (tables_of code) t) (is_of g (group_of t)) (coefficient (rows_by_index (tables_of code)) (row_of g) (index_of t) == 1) here (ap (is_of g) of ∙ is_of-same g) (is_own code g t))
+    (second (has_place (tables_of code) t) (is_of g (group_of t))
+    (coefficient (rows_by_index (tables_of code)) (row_of g) (index_of t) == 1) here (ap (is_of g) of ∙ is_of-same g) (is_own code g t))
   where
     second : (a b c : Bool) → a ≡ true → b ≡ true → (not (a && b) || c) ≡ true → c ≡ true
     second true true c h k x = x
@@ -120,13 +128,15 @@ row_below : (g : Group) → row_of g < 4
 row_below group.X = lit< tt
 row_below group.Y = lit< tt
 
-pivot_row_is : (code : CodeName) (g : Group) (t : Place) → row_at (four_rows code g t) (row_of g) ≡ map (times 1) (row_at (rows_by_index (tables_of code)) (row_of g))
+pivot_row_is : (code : CodeName) (g : Group) (t : Place) → row_at (four_rows code g t) (row_of g)
+    ≡ map (times 1) (row_at (rows_by_index (tables_of code)) (row_of g))
 unfolding rows_by_index four_rows cleared_at
 pivot_row_is code group.X t = refl
 pivot_row_is code group.Y t = refl
 
 others_are : (code : CodeName) (g : Group) (t : Place) (s : ℕ) → s < 4 → s ≢ row_of g → row_at (four_rows code g t) s
-    ≡ sums (row_at (rows_by_index (tables_of code)) s) (map (times (coefficient (rows_by_index (tables_of code)) s (index_of t))) (map (times 1) (row_at (rows_by_index (tables_of code)) (row_of g))))
+    ≡ sums (row_at (rows_by_index (tables_of code)) s) (map (times (coefficient (rows_by_index (tables_of code)) s (index_of t)))
+    (map (times 1) (row_at (rows_by_index (tables_of code)) (row_of g))))
 unfolding rows_by_index four_rows cleared_at
 others_are code group.X t zero h ne = absurd (ne refl)
 others_are code group.X t (suc zero) h ne = refl
@@ -168,8 +178,10 @@ each code lost group.Y t a p o l0 l1 (suc (suc zero)) h = p 2 (lit< tt) refl l0
 each code lost group.Y t a p o l0 l1 (suc (suc (suc zero))) h = p 3 (lit< tt) refl l1
 each code lost group.Y t a p o l0 l1 (suc (suc (suc (suc i)))) h = absurd (omega arith)
 
-module _ (code : CodeName) (lost : List Bool) (g : Group) (t : Place) (here : has_place (tables_of code) t ≡ true) (of : group_of t ≡ Some g)
-    (lost_t : is_in lost t ≡ true) (lost_other : is_in lost (other_parity g) ≡ true) (lost_p0 : is_in lost P0 ≡ true) (lost_p1 : is_in lost P1 ≡ true) where
+module _ (code : CodeName) (lost : List Bool) (g : Group) (t : Place) (here : has_place (tables_of code) t ≡ true)
+    (of : group_of t ≡ Some g)
+    (lost_t : is_in lost t ≡ true) (lost_other : is_in lost (other_parity g) ≡ true) (lost_p0 : is_in lost P0 ≡ true)
+    (lost_p1 : is_in lost P1 ≡ true) where
   abbrev before : List (List ℕ)
   before = rows_by_index (tables_of code)
 
@@ -192,7 +204,8 @@ module _ (code : CodeName) (lost : List Bool) (g : Group) (t : Place) (here : ha
   )
 
   -- a parity of another row keeps its column
-  at_parity : (q : ℕ) → q < 4 → (row_of g == q) ≡ false → is_in lost (parity q) ≡ true → PivotTo lost (four_rows code g t) 16 q (Some (parity q))
+  at_parity : (q : ℕ) → q < 4 → (row_of g == q) ≡ false → is_in lost (parity q) ≡ true
+      → PivotTo lost (four_rows code g t) 16 q (Some (parity q))
   at_parity q hq ne l = (
     index_of-lt (parity q),
     l,
@@ -201,7 +214,8 @@ module _ (code : CodeName) (lost : List Bool) (g : Group) (t : Place) (here : ha
   )
     where
       kept : (s : ℕ) → s < 4 → coefficient (four_rows code g t) s (index_of (parity q)) ≡ cond (s == q) 1 0
-      kept s hs = cleared_keeps before (four_rows code g t) (row_of g) (index_of t) (row_below g) (index_of-lt t) (equations_shape code) cleared (index_of (parity q)) (index_of-lt (parity q))
+      kept s hs = cleared_keeps before (four_rows code g t) (row_of g) (index_of t) (row_below g) (index_of-lt t)
+          (equations_shape code) cleared (index_of (parity q)) (index_of-lt (parity q))
           (parity_column code q hq (row_of g) (row_below g) ∙ ap (λ b. cond b 1 0) ne) s hs
           ∙ parity_column code q hq s hs
 
@@ -216,7 +230,9 @@ module _ (code : CodeName) (lost : List Bool) (g : Group) (t : Place) (here : ha
     shape = cleared_shape before (four_rows code g t) (row_of g) (index_of t) (row_below g) (index_of-lt t) (equations_shape code) cleared;
     same = cleared_same before (four_rows code g t) (row_of g) (index_of t) (row_below g) (index_of-lt t) (equations_shape code) cleared;
     four = as_many g t;
-    spans = cleared_spans before (four_rows code g t) (row_of g) (index_of t) (row_below g) (equations_shape code) cleared (equations_span code);
-    empty = λ q hq z s hs. cleared_keeps before (four_rows code g t) (row_of g) (index_of t) (row_below g) (index_of-lt t) (equations_shape code) cleared q hq (z (row_of g) (row_below g)) s hs ∙ z s hs;
+    spans = cleared_spans before (four_rows code g t) (row_of g) (index_of t) (row_below g) (equations_shape code) cleared
+        (equations_span code);
+    empty = λ q hq z s hs. cleared_keeps before (four_rows code g t) (row_of g) (index_of t) (row_below g) (index_of-lt t)
+        (equations_shape code) cleared q hq (z (row_of g) (row_below g)) s hs ∙ z s hs;
     pivot = each code lost g t at_target at_parity lost_other lost_p0 lost_p1;
   })

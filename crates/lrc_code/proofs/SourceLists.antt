@@ -4,13 +4,14 @@ use Rattle.std.proofs.Common.{◌≡◌, ℕ, ◌+◌, ◌<◌, List, length, ge
 use Rattle.std.proofs.lemmas.List.{drop_more, map-set}
 use Rattle.lrc_code.specs.declared.places.Place.{Place}
 use Rattle.lrc_code.specs.declared.places.Place.TheVariants.{X0, X1, X2, X3, X4, X5, Y0, Y1, Y2, Y3, Y4, Y5, Px, Py, P0, P1}
-use Rattle.lrc_code.specs.declared.requests.Fragment.{Fragment}
+use Rattle.lrc_code.specs.declared.fragments.Fragment.{Fragment}
 use Rattle.lrc_code.specs.Places.{all_places, index_of, same_place}
 use Rattle.lrc_code.specs.Requests.{AreSources, bytes_of}
 use Rattle.lrc_code.specs.Survivors.{survivors_of}
 
 -- bytes at each place, where those of one place are others
-at_place_set : (q : Place) (b : List ℕ) (f : Place → List ℕ) → map (λ p. cond (same_place p q) b (f p)) all_places ≡ set (map f all_places) (index_of q) b
+at_place_set : (q : Place) (b : List ℕ) (f : Place → List ℕ)
+    → map (λ p. cond (same_place p q) b (f p)) all_places ≡ set (map f all_places) (index_of q) b
 at_place_set X0 b f = refl
 at_place_set X1 b f = refl
 at_place_set X2 b f = refl

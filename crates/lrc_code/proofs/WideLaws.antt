@@ -24,11 +24,13 @@ none_of : (qs : List Place) (b : Place → ℕ) → combination (nones qs) (map 
 none_of [] b = refl
 none_of (q ∷ qs) b = ap₂ bit_xor (times-zero (b q)) (none_of qs b)
 
-sum_of : (ps qs : List Place) (b : Place → ℕ) → ((p : Place) → b p < 2 ^ 8) → combination (ones ps ++ nones qs) (map b (ps ++ qs)) ≡ sum_over ps b
+sum_of : (ps qs : List Place) (b : Place → ℕ) → ((p : Place) → b p < 2 ^ 8)
+    → combination (ones ps ++ nones qs) (map b (ps ++ qs)) ≡ sum_over ps b
 sum_of [] qs b h = none_of qs b
 sum_of (p ∷ ps) qs b h = ap₂ bit_xor (times-one (b p) (h p)) (sum_of ps qs b h)
 
-sum_behind : (qs ps : List Place) (b : Place → ℕ) → ((p : Place) → b p < 2 ^ 8) → combination (nones qs ++ ones ps) (map b (qs ++ ps)) ≡ sum_over ps b
+sum_behind : (qs ps : List Place) (b : Place → ℕ) → ((p : Place) → b p < 2 ^ 8)
+    → combination (nones qs ++ ones ps) (map b (qs ++ ps)) ≡ sum_over ps b
 sum_behind [] [] b h = refl
 sum_behind [] (p ∷ ps) b h = ap₂ bit_xor (times-one (b p) (h p)) (sum_behind [] ps b h)
 sum_behind (q ∷ qs) ps b h = ap₂ bit_xor (times-zero (b q)) (sum_behind qs ps b h)
@@ -44,6 +46,7 @@ wide_equations-parities b h =
         global_0 = says.0 s 2 (lit< tt);
         global_1 = says.0 s 3 (lit< tt);
       }),
-      (λ p. says.1 (four_cases (λ i. fourth_of (b Px) (b Py) (b P0) (b P1) i ≡ combination (row_at (parity_rows Wide) i) (map b (data_of Wide)))
+      (λ p. says.1 (four_cases (λ i. fourth_of (b Px) (b Py) (b P0) (b P1) i
+          ≡ combination (row_at (parity_rows Wide) i) (map b (data_of Wide)))
           (p.local_x ∙ sym (sum_of xs ys b h)) (p.local_y ∙ sym (sum_behind xs ys b h)) p.global_0 p.global_1)),
     )

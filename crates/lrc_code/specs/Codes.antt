@@ -1,5 +1,5 @@
 -- The tables of each code, and its name.
-use Rattle.std.specs.Prelude.{ℕ, List, Option, Some, None, if◌then◌else◌, codes}
+use Rattle.std.specs.Prelude.{ℕ, List, Option, Some, None, if◌then◌else◌, codes, map, take}
 use Rattle.std.specs.Str.{bytes_eq}
 use Rattle.lrc_code.specs.declared.codes.Code.{Code as CodeName}
 use Rattle.lrc_code.specs.declared.codes.Code.TheVariants.{Narrow, Wide}
@@ -9,6 +9,15 @@ use Rattle.lrc_code.specs.Code.{Code, narrow, wide}
 abbrev pub tables_of : CodeName → Code
 tables_of Narrow = narrow
 tables_of Wide = wide
+
+-- how many data fragments a code has; their places are the first of its places
+abbrev pub data_count : CodeName → ℕ
+data_count Narrow = 6
+data_count Wide = 12
+
+-- the data fragments' coefficients in each parity: what the equations have at the data's places
+abbrev pub parities_of : CodeName → List (List ℕ)
+parities_of code = map (take (data_count code)) (tables_of code).equations
 
 -- the codes' names
 abbrev pub code_text : CodeName → List ℕ

@@ -1,14 +1,19 @@
-//! The codes.
-ghost use Rattle.std.specs.Prelude.{◌≡◌, ◌&&◌, not};
+//! The codes, and what is known of each. No other file of the crate asks which code it has.
+ghost use Rattle.std.specs.Prelude.{◌≡◌, ◌∷◌, [], ◌&&◌, not, Some};
 ghost use Rattle.lrc_code.specs.declared.places.Place.{Place};
 ghost use Rattle.lrc_code.specs.Code.{has_place};
-ghost use Rattle.lrc_code.specs.Codes.{code_named, code_text, tables_of};
+ghost use Rattle.lrc_code.specs.Codes.{code_named, code_text, data_count, parities_of, tables_of};
+ghost use Rattle.lrc_code.specs.Groups.{group_row};
+ghost use Rattle.lrc_code.specs.Reduction.{rows_by_index};
 ghost use Rattle.lrc_code.specs.Sets.{is_in};
 ghost use Rattle.lrc_code.specs.Text.{place_named};
 
-use crate::places::Place;
+use crate::places::{Group, Place};
 use crate::sets::PlaceSet;
-use crate::tables::{NARROW_COUNT, WIDE_PLACES};
+use crate::tables::{
+    NARROW_COUNT, NARROW_EQUATIONS, NARROW_PARITIES, WIDE_EQUATIONS, WIDE_PARITIES, WIDE_PLACES,
+};
+use lrc_field::Gf;
 
 /// A code of Huang et al. (section 2).
 #[derive(Clone, Copy, Debug, PartialEq, Eq)]
@@ -19,7 +24,19 @@ pub enum Code {
     Wide,
 }
 
+/// The coefficients of a code's data fragments, in its order, in each parity.
+#[derive(Clone, Copy)]
+pub struct ParityRows {
+    pub px: &'static [u8],
+    pub py: &'static [u8],
+    pub p0: &'static [u8],
+    pub p1: &'static [u8],
+}
+
 impl Code {
+    /// The code of lists, lines and reports that name none.
+    pub const UNNAMED: Code = Code::Narrow;
+
     /// The code of this name, `6-2-2` or `12-2-2`, of bytes that need not be text.
     pub fn parse(name: &[u8]) -> Option<Code>
         ensures { result ≡ code_named name.now }
@@ -51,6 +68,57 @@ impl Code {
         }
     }
 
+    /// How many data fragments the code has. Their places come first in its order.
+    pub fn data_count(self) -> usize
+        ensures { result ≡ data_count self }
+    {
+        match self {
+            Code::Narrow => 6,
+            Code::Wide => 12,
+        }
+    }
+
+    /// The coefficients of the code's parities.
+    pub fn parities(self) -> ParityRows
+        ensures { result.px.now ∷ result.py.now ∷ result.p0.now ∷ result.p1.now ∷ [] ≡ parities_of self }
+    {
+        match self {
+            Code::Narrow => ParityRows {
+                px: &NARROW_PARITIES[0],
+                py: &NARROW_PARITIES[1],
+                p0: &NARROW_PARITIES[2],
+                p1: &NARROW_PARITIES[3],
+            },
+            Code::Wide => ParityRows {
+                px: &WIDE_PARITIES[0],
+                py: &WIDE_PARITIES[1],
+                p0: &WIDE_PARITIES[2],
+                p1: &WIDE_PARITIES[3],
+            },
+        }
+    }
+
+    /// The coefficients of the code's equations, by the places' indexes.
+    pub(crate) fn equations(self) -> &'static [[u8; 16]; 4]
+        ensures { result.now ≡ rows_by_index (tables_of self) }
+    {
+        match self {
+            Code::Narrow => &NARROW_EQUATIONS,
+            Code::Wide => &WIDE_EQUATIONS,
+        }
+    }
+
+    /// The equation of a group: 01 at its places in the code, 00 elsewhere, by the places' indexes.
+    pub fn group_row(self, group: Group) -> [Gf; 16]
+        ensures { result ≡ group_row (tables_of self) (Some group) }
+    {
+        let [of_x, of_y, _, _] = self.equations();
+        match group {
+            Group::X => elements_of(of_x),
+            Group::Y => elements_of(of_y),
+        }
+    }
+
     /// Whether the place is one of the code's.
     pub fn has(self, place: Place) -> bool
         ensures { result ≡ has_place (tables_of self) place }
@@ -78,4 +146,11 @@ impl Code {
         let place = Place::named(name)?;
         if self.has(place) { Some(place) } else { None }
     }
+}
+
+/// A row of coefficients as elements of the field.
+pub(crate) fn elements_of(row: &[u8; 16]) -> [Gf; 16]
+    ensures { result ≡ row.now }
+{
+    row.map(|c| Gf::new(c))
 }

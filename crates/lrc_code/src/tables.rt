@@ -25,7 +25,7 @@ pub(crate) static WIDE_PLACES: [Place; 16] = [
 ];
 
 /// The coefficients of the (6,2,2) code's data fragments, in its order, in each of the parities px, py, p0 and p1.
-pub const NARROW_PARITIES: [[u8; 6]; 4] = [
+pub(crate) const NARROW_PARITIES: [[u8; 6]; 4] = [
     [0x01, 0x01, 0x01, 0x00, 0x00, 0x00],
     [0x00, 0x00, 0x00, 0x01, 0x01, 0x01],
     [0x04, 0x08, 0x0c, 0x01, 0x02, 0x03],
@@ -33,7 +33,7 @@ pub const NARROW_PARITIES: [[u8; 6]; 4] = [
 ];
 
 /// The same of the (12,2,2) code. The coefficients of p1 are the squares of those of p0.
-pub const WIDE_PARITIES: [[u8; 12]; 4] = [
+pub(crate) const WIDE_PARITIES: [[u8; 12]; 4] = [
     [1, 1, 1, 1, 1, 1, 0, 0, 0, 0, 0, 0],
     [0, 0, 0, 0, 0, 0, 1, 1, 1, 1, 1, 1],
     [

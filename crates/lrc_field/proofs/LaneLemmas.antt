@@ -2,7 +2,8 @@
 use Rattle.std.proofs.Common.{◌≡◌, ℕ, ◌+◌, ◌*◌, ◌/◌, ◌<◌, ◌^◌, List, length, get_or, replicate, refl, ap, sym, ◌∙◌, subst, arith}
 use Rattle.std.proofs.Common.{w8, Fits}
 use Rattle.std.specs.Simd.Lanes.{zip2, Each1}
-use Rattle.std.proofs.lemmas.Simd.{Each1-get_or, Each1-from_get_or, length-zip2, get_or-zip2, length-replicate, get_or-replicate, swz_l, SwzOk, length-swz_l, get_or-swz_l_below, SwzOk-from_below}
+use Rattle.std.proofs.lemmas.Simd.{Each1-get_or, Each1-from_get_or, length-zip2, get_or-zip2, length-replicate, get_or-replicate, swz_l}
+use Rattle.std.proofs.lemmas.Simd.{SwzOk, length-swz_l, get_or-swz_l_below, SwzOk-from_below}
 use Rattle.std.specs.Simd.Lanes.{pick_l}
 use Rattle.std.proofs.Common.{◌%◌, [], ◌∷◌, ◌++◌, true, eqb}
 use Rattle.std.proofs.Math.ListN.{get_or-append}
@@ -22,12 +23,14 @@ zipped f a b la lb = record {
 pub zipped_all : (f : ℕ → ℕ → ℕ) (a : List ℕ) (n : ℕ) → length a ≡ 32 → HasLanes (zip2 f a (replicate 32 n)) (λ k. f (get_or a k 0) n)
 zipped_all f a n la = record {
   long = length-zip2 f a (replicate 32 n) (la ∙ sym (length-replicate 32 n)) ∙ la;
-  each = λ k lt. get_or-zip2 f a (replicate 32 n) k 0 0 0 (omega arith) (subst (λ m. k < m) (sym (length-replicate 32 n)) lt) ∙ ap (f (get_or a k 0)) (get_or-replicate 32 k n 0 lt);
+  each = λ k lt. get_or-zip2 f a (replicate 32 n) k 0 0 0 (omega arith) (subst (λ m. k < m) (sym (length-replicate 32 n)) lt)
+      ∙ ap (f (get_or a k 0)) (get_or-replicate 32 k n 0 lt);
 }
 
 -- places within blocks of 16 lanes
 pub picks_within : (halves : List ℕ) → length halves ≡ 32 → ((k : ℕ) → k < 32 → get_or halves k 0 < 16) → SwzOk w8 16 32 0 halves
-picks_within halves long small = SwzOk-from_below w8 16 2 32 0 halves refl (omega arith) (Each1-from_get_or (λ j. j < 16) halves 0 (λ k lt. small k (omega arith)))
+picks_within halves long small = SwzOk-from_below w8 16 2 32 0 halves refl (omega arith)
+    (Each1-from_get_or (λ j. j < 16) halves 0 (λ k lt. small k (omega arith)))
 
 -- what a shuffle within blocks of 16 lanes reads
 pub picked : (table halves : List ℕ) → length halves ≡ 32 → ((k : ℕ) → k < 32 → get_or halves k 0 < 16)
@@ -36,7 +39,8 @@ picked table halves long small = record {
   long = length-swz_l w8 16 table 0 halves ∙ long;
   each = λ k lt.
       let from_first : 0 + k ≡ k = omega arith in
-      get_or-swz_l_below w8 16 table 0 halves k (omega arith) (small k lt) ∙ ap (λ j. get_or table (16 * (j / 16) + get_or halves k 0) 0) from_first;
+      get_or-swz_l_below w8 16 table 0 halves k (omega arith) (small k lt)
+      ∙ ap (λ j. get_or table (16 * (j / 16) + get_or halves k 0) 0) from_first;
 }
 
 -- a lane's byte
@@ -45,7 +49,8 @@ lane_lt bytes long fit k lt = (Each1-get_or (Fits w8) bytes k 0 (omega arith) fi
 
 -- sixteen lanes, twice
 abbrev twice_of : List ℕ
-twice_of = 0 ∷ 1 ∷ 2 ∷ 3 ∷ 4 ∷ 5 ∷ 6 ∷ 7 ∷ 8 ∷ 9 ∷ 10 ∷ 11 ∷ 12 ∷ 13 ∷ 14 ∷ 15 ∷ 0 ∷ 1 ∷ 2 ∷ 3 ∷ 4 ∷ 5 ∷ 6 ∷ 7 ∷ 8 ∷ 9 ∷ 10 ∷ 11 ∷ 12 ∷ 13 ∷ 14 ∷ 15 ∷ []
+twice_of = 0 ∷ 1 ∷ 2 ∷ 3 ∷ 4 ∷ 5 ∷ 6 ∷ 7 ∷ 8 ∷ 9 ∷ 10 ∷ 11 ∷ 12 ∷ 13 ∷ 14 ∷ 15 ∷ 0 ∷ 1 ∷ 2 ∷ 3 ∷ 4 ∷ 5 ∷ 6 ∷ 7 ∷ 8 ∷ 9 ∷ 10 ∷ 11 ∷ 12 ∷ 13
+    ∷ 14 ∷ 15 ∷ []
 
 twice_at : all_below (λ k. eqb (get_or twice_of k 0) (k % 16)) 32 ≡ true
 twice_at = refl

@@ -12,9 +12,11 @@ scaled_at g p i = times (g p) (get_or p.bytes.now i 0)
 
 append : (g : Pair → ℕ) (xs ys : List Pair) (i : ℕ) → scaled_sum_at g (xs ++ ys) i ≡ bit_xor (scaled_sum_at g xs i) (scaled_sum_at g ys i)
 append g [] ys i = sym (xor_zero_l (scaled_sum_at g ys i))
-append g (x ∷ xs) ys i = ap (bit_xor (scaled_at g x i)) (append g xs ys i) ∙ sym (xor_assoc (scaled_at g x i) (scaled_sum_at g xs i) (scaled_sum_at g ys i))
+append g (x ∷ xs) ys i = ap (bit_xor (scaled_at g x i)) (append g xs ys i)
+    ∙ sym (xor_assoc (scaled_at g x i) (scaled_sum_at g xs i) (scaled_sum_at g ys i))
 
-pub pair_snoc : (g : Pair → ℕ) (xs : List Pair) (p : Pair) (i : ℕ) → scaled_sum_at g (xs ++ p ∷ []) i ≡ bit_xor (scaled_sum_at g xs i) (scaled_at g p i)
+pub pair_snoc : (g : Pair → ℕ) (xs : List Pair) (p : Pair) (i : ℕ)
+    → scaled_sum_at g (xs ++ p ∷ []) i ≡ bit_xor (scaled_sum_at g xs i) (scaled_at g p i)
 pair_snoc g xs p i = append g xs (p ∷ []) i ∙ ap (bit_xor (scaled_sum_at g xs i)) (xor_zero_r (scaled_at g p i))
 
 -- one pair more

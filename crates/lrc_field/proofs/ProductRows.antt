@@ -1,5 +1,6 @@
 -- The tables of products.
-use Rattle.std.proofs.Common.{◌≡◌, ℕ, suc, zero, ◌+◌, ◌*◌, ◌/◌, ◌%◌, ◌<◌, ◌^◌, Bool, List, [], ◌∷◌, length, get_or, true, refl, ap, ap₂, sym, ◌∙◌, arith, eqb}
+use Rattle.std.proofs.Common.{◌≡◌, ℕ, suc, zero, ◌+◌, ◌*◌, ◌/◌, ◌%◌, ◌<◌, ◌^◌, Bool, List, [], ◌∷◌, length, get_or, true, refl, ap, ap₂}
+use Rattle.std.proofs.Common.{sym, ◌∙◌, arith, eqb}
 use Rattle.std.specs.Prelude.{◌&&◌}
 use Rattle.std.proofs.lemmas.Bool.{eqb-true}
 use Rattle.lrc_field.specs.Field.{times}
@@ -30,7 +31,8 @@ product_at u c k xs all many hc hk byte =
     let place : 0 + (16 * c + k) ≡ 16 * c + k = omega arith in
     let first : (16 * c + k) / 16 ≡ c = omega arith in
     let second : (16 * c + k) % 16 ≡ k = omega arith in
-    product_in u 0 (16 * c + k) xs all (omega (arith, many)) ∙ ap (λ i. m (i / 16) (u * (i % 16))) place ∙ ap₂ (λ x y. m x (u * y)) first second
+    product_in u 0 (16 * c + k) xs all (omega (arith, many)) ∙ ap (λ i. m (i / 16) (u * (i % 16))) place
+    ∙ ap₂ (λ x y. m x (u * y)) first second
     ∙ sym (times_is_reduced c (u * k) (omega arith) byte)
 
 unfoldable low_table : List ℕ

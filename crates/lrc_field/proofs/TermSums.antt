@@ -1,21 +1,21 @@
 -- Sums of terms, one term after another, and the vectors that hold them.
-use Rattle.std.proofs.Common.{◌≡◌, ◌≢◌, ℕ, ◌+◌, ◌<◌, ◌≤◌, ◌^◌, List, [], ◌∷◌, ◌++◌, length, get_or, set, take, ap, ap₂, sym, subst, inl, inr, ◌∙◌, arith, length-set, get_or-set_same, get_or-set_other}
+use Rattle.std.proofs.Common.{◌≡◌, ℕ, ◌+◌, ◌<◌, ◌≤◌, ◌^◌, List, [], ◌∷◌, ◌++◌, length, get_or, take, ap, ap₂, sym, ◌∙◌, arith}
 use Rattle.std.specs.Int.Bits.{bit_xor, xor_assoc, xor_zero_l, xor_zero_r}
 use Rattle.std.proofs.lemmas.Grind.{take_at_read}
 use Rattle.std.proofs.lemmas.List.{take_all}
 use Rattle.lrc_field.specs.Field.{times}
-use Rattle.lrc_field.specs.declared.combining.Term.{Term}
+use Rattle.lrc_field.specs.declared.terms.Term.{Term}
 use Rattle.lrc_field.specs.declared.blocks.Quad.{Quad}
 use Rattle.lrc_field.specs.declared.blocks.Trio.{Trio}
 use Rattle.lrc_field.specs.declared.blocks.Six.{Six}
 use Rattle.lrc_field.specs.Blocks.{AreSet, HasLanes, HasQuad, HasSix, HasTrio}
-use Rattle.lrc_field.specs.Combined.{IsAddedBelow, product_at, sum_at, three_at}
-use Rattle.lrc_field.proofs.Shift.{last_or_below}
-use Rattle.lrc_field.proofs.FieldLaws.{times-one, times-zero}
+use Rattle.lrc_field.specs.Combined.{product_at, sum_at, three_at}
+use Rattle.lrc_field.proofs.FieldLaws.{times-one}
 
 sum_at-append : (xs ys : List Term) (i : ℕ) → sum_at (xs ++ ys) i ≡ bit_xor (sum_at xs i) (sum_at ys i)
 sum_at-append [] ys i = sym (xor_zero_l (sum_at ys i))
-sum_at-append (x ∷ xs) ys i = ap (bit_xor (product_at x i)) (sum_at-append xs ys i) ∙ sym (xor_assoc (product_at x i) (sum_at xs i) (sum_at ys i))
+sum_at-append (x ∷ xs) ys i = ap (bit_xor (product_at x i)) (sum_at-append xs ys i)
+    ∙ sym (xor_assoc (product_at x i) (sum_at xs i) (sum_at ys i))
 
 pub sum_at-snoc : (xs : List Term) (t : Term) (i : ℕ) → sum_at (xs ++ t ∷ []) i ≡ bit_xor (sum_at xs i) (product_at t i)
 sum_at-snoc xs t i = sum_at-append xs (t ∷ []) i ∙ ap (bit_xor (sum_at xs i)) (xor_zero_r (product_at t i))

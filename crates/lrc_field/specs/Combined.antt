@@ -2,7 +2,7 @@
 use Rattle.std.specs.Prelude.{◌≡◌, ℕ, ◌<◌, ◌≤◌, List, [], ◌∷◌, All, length, slice_index}
 use Rattle.std.specs.Int.Bits.{bit_xor}
 use Rattle.lrc_field.specs.Field.{times}
-use Rattle.lrc_field.specs.declared.combining.Term.{Term}
+use Rattle.lrc_field.specs.declared.terms.Term.{Term}
 
 -- a term's scalar times its byte at a place
 abbrev pub product_at : Term → ℕ → ℕ

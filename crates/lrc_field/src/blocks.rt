@@ -238,7 +238,8 @@ pub(crate) fn six_with_bytes(sums: Six, bytes: &[u8], i: usize) -> Six
 #[inline(always)]
 pub(crate) fn six_with_products(sums: Six, tables: Tables, bytes: &[u8], i: usize) -> Six
     requires { i + 192 ≤ length bytes.now }
-    ensures { (c : ℕ) (f : ℕ → ℕ) → AreTables c tables.low tables.high → HasSix sums f → HasSix result (λ k. bit_xor (f k) (times c (slice_index bytes.now (i + k)))) }
+    ensures { (c : ℕ) (f : ℕ → ℕ) → AreTables c tables.low tables.high → HasSix sums f
+        → HasSix result (λ k. bit_xor (f k) (times c (slice_index bytes.now (i + k)))) }
 {
     Six {
         front: added_trio(sums.front, tables.scaled_trio(load_trio(bytes, i))),

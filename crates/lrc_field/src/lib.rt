@@ -20,9 +20,15 @@ mod kernels;
 pub mod laws;
 mod low_products;
 mod pairs;
+mod sums_of_three;
 mod tables;
+mod term_sums;
+mod terms;
+mod zero_sums;
 
-pub use combining::{Term, combine_into, combined, sums_are_zero, sums_are_zero_between};
+pub use combining::{combine_into, combined};
 pub use element::Gf;
 pub use kernels::{add_into, scale_add_into};
 pub use pairs::{Pair, combine_pairs_into};
+pub use terms::{Term, no_terms};
+pub use zero_sums::{sums_are_zero, sums_are_zero_between};

@@ -23,8 +23,10 @@ fn put_sums(first: &mut [u8], second: &mut [u8], i: usize, from: usize, pairs: &
     requires room { AllReach (from + i + 96) pairs.now }
     ensures first_len { length first.new ≡ length first.old }
     ensures second_len { length second.new ≡ length second.old }
-    ensures first_set { AreSet (λ k. first_sum_at pairs.now (from + k)) first.old i → AreSet (λ k. first_sum_at pairs.now (from + k)) first.new (i + 96) }
-    ensures second_set { AreSet (λ k. second_sum_at pairs.now (from + k)) second.old i → AreSet (λ k. second_sum_at pairs.now (from + k)) second.new (i + 96) }
+    ensures first_set { AreSet (λ k. first_sum_at pairs.now (from + k)) first.old i
+        → AreSet (λ k. first_sum_at pairs.now (from + k)) first.new (i + 96) }
+    ensures second_set { AreSet (λ k. second_sum_at pairs.now (from + k)) second.old i
+        → AreSet (λ k. second_sum_at pairs.now (from + k)) second.new (i + 96) }
 {
     let at = from + i;
     let mut a = blocks::zero_trio();

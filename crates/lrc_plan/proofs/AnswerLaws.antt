@@ -37,6 +37,7 @@ pub one_answer : (r : Asked) → refusal r ≡ None → All (λ s. AreBytes s.by
 one_answer r accepted bytes survives same value checks plan false zero other =
     alone r Contradiction (contradiction r accepted bytes survives same checks plan.of_survivors.possible (other refl))
 one_answer r accepted bytes survives same (Some row) checks plan true zero other =
-    alone r (Rebuilt (row_sums r row)) (rebuilt r accepted bytes survives same checks plan.of_survivors.possible (zero refl) row (row_sums r row) plan.of_target.right (are_sums r row))
+    alone r (Rebuilt (row_sums r row)) (rebuilt r accepted bytes survives same checks plan.of_survivors.possible (zero refl) row
+    (row_sums r row) plan.of_target.right (are_sums r row))
 one_answer r accepted bytes survives same None checks plan true zero other =
     alone r Several (several r accepted bytes survives same checks plan.of_survivors.possible (zero refl) plan.of_target)

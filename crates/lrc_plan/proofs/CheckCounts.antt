@@ -1,5 +1,6 @@
 -- How many checks there are.
-use Rattle.std.proofs.Common.{◌≡◌, ◌≢◌, ◌<◌, ◌≤◌, ◌+◌, ℕ, zero, suc, Bool, true, false, cond, List, [], ◌∷◌, length, Option, Some, None, is_none, slice_index, slice_index_or, refl, sym, ◌∙◌, ap, ap₂, subst, arith, inl, inr, lit<}
+use Rattle.std.proofs.Common.{◌≡◌, ◌≢◌, ◌<◌, ◌≤◌, ◌+◌, ℕ, zero, suc, Bool, true, false, cond, List, [], ◌∷◌, length, Option, Some, None}
+use Rattle.std.proofs.Common.{is_none, slice_index, refl, sym, ◌∙◌, ap, ap₂, subst, arith, inl, inr, lit<}
 use Rattle.std.specs.Prelude.{not, ◌||◌, ◌==◌, if◌then◌else◌}
 use Rattle.std.specs.List.{list_any, fold}
 use Rattle.std.proofs.lemmas.Bool.{cases_Bool, eqb-true, eq-eqb}
@@ -13,7 +14,7 @@ use Rattle.lrc_code.specs.Reduction.{Reduction, IsReduction}
 use Rattle.lrc_code.proofs.CodeTables.{four_equations}
 use Rattle.lrc_code.proofs.PlaceSums.{same_place-eq}
 use Rattle.lrc_plan.specs.Planned.{HasCheckCount, rows_without_pivot}
-use Rattle.lrc_plan.specs.Rows.{AreReduced, coef_of, pivot_of}
+use Rattle.lrc_plan.specs.Rows.{AreReduced, pivot_of}
 use Rattle.lrc_plan.specs.RowPlans.{IsCheckRow, rows_with_terms}
 use Rattle.lrc_plan.specs.Sums.{terms}
 use Rattle.lrc_plan.proofs.Ranks.{same_rows_without_pivot}
@@ -81,10 +82,12 @@ module _ (code : Code) (survives : Place → Bool) (coef : ℕ → Place → ℕ
       (not_zero (slice_index row (index_of w.0)) (λ z. w.1 (sym (check.0 e w.0) ∙ z))) in
       not_zero (terms row all_places) (λ z. omega (arith, some, z)) ∙ sym (ap is_none e)
   has_terms r row lt check (Some v) e =
-      is_zero (terms row all_places) (none_counted (λ p. not (slice_index row (index_of p) == 0)) (λ p. is_zero _ (check.1 v e p)) 0 all_places)
+      is_zero (terms row all_places) (none_counted (λ p. not (slice_index row (index_of p) == 0))
+      (λ p. is_zero _ (check.1 v e p)) 0 all_places)
       ∙ sym (ap is_none e)
 
-  pub rows_counted : (a b c d : List ℕ) → IsCheckRow coef pivot 0 a → IsCheckRow coef pivot 1 b → IsCheckRow coef pivot 2 c → IsCheckRow coef pivot 3 d
+  pub rows_counted : (a b c d : List ℕ) → IsCheckRow coef pivot 0 a → IsCheckRow coef pivot 1 b → IsCheckRow coef pivot 2 c
+      → IsCheckRow coef pivot 3 d
       → rows_with_terms (a ∷ b ∷ c ∷ d ∷ []) ≡ rows_without_pivot pivot 4
   rows_counted a b c d ha hb hc hd =
       let one = has_terms 0 a (lit< tt) ha (pivot 0) refl in
@@ -94,10 +97,12 @@ module _ (code : Code) (survives : Place → Bool) (coef : ℕ → Place → ℕ
       ap₂ (λ m n. m + cond n 1 0) (ap₂ (λ m n. m + cond n 1 0) (ap₂ (λ m n. m + cond n 1 0) (ap (λ n. 0 + cond n 1 0) one) two) three) four
 
 -- as many as each reduction has rows without a pivot
-pub check_count : (code : CodeName) (survives : Place → Bool) (r : Reduction) (n : ℕ) → IsReduction (tables_of code) (λ p. not (survives p)) r
+pub check_count : (code : CodeName) (survives : Place → Bool) (r : Reduction) (n : ℕ)
+    → IsReduction (tables_of code) (λ p. not (survives p)) r
     → n ≡ rows_without_pivot (pivot_of r) 4 → HasCheckCount (tables_of code) survives n
 check_count code survives r n red is = record {
-  each = λ q other. is ∙ same_rows_without_pivot code survives r q red other ∙ ap (rows_without_pivot (pivot_of q)) (sym (four_equations code));
+  each = λ q other. is ∙ same_rows_without_pivot code survives r q red other
+      ∙ ap (rows_without_pivot (pivot_of q)) (sym (four_equations code));
   some = (r, red);
 }
 
@@ -113,4 +118,5 @@ below_four pivot (suc n) = let less = below_four pivot n in let one = at_most_on
 pub few_checks : (code : CodeName) (survives : Place → Bool) (n : ℕ) → HasCheckCount (tables_of code) survives n → n ≤ 4
 few_checks code survives n count =
     let is = count.each count.some.0 count.some.1 in
-    subst (λ m. n ≤ m) (four_equations code) (subst (λ m. m ≤ length (tables_of code).equations) (sym is) (below_four (pivot_of count.some.0) (length (tables_of code).equations)))
+    subst (λ m. n ≤ m) (four_equations code) (subst (λ m. m ≤ length (tables_of code).equations) (sym is)
+    (below_four (pivot_of count.some.0) (length (tables_of code).equations)))

@@ -1,5 +1,6 @@
 -- From plans to answers: stripes made of extensions at each position.
-use Rattle.std.proofs.Common.{◌≡◌, ℕ, suc, ◌<◌, ◌≤◌, List, [], ◌∷◌, length, map, get_or, Bool, true, cond, None, refl, ap, ap₂, sym, ◌∙◌, subst, arith, inl, inr, ◌⊎◌, All, lit<, zero-add}
+use Rattle.std.proofs.Common.{◌≡◌, ℕ, suc, ◌<◌, ◌≤◌, List, [], ◌∷◌, length, map, get_or, Bool, true, cond, None, refl, ap, ap₂, sym, ◌∙◌}
+use Rattle.std.proofs.Common.{subst, arith, inl, inr, ◌⊎◌, All, lit<, zero-add}
 use Rattle.std.specs.Prelude.{◌||◌}
 use Rattle.std.specs.List.{range_with_len, list_any}
 use Rattle.std.specs.Int.Bits.{bit_xor, xor_self, xor_zero_r}
@@ -19,7 +20,8 @@ use Rattle.lrc_code.specs.Answers.{Fits, IsAnswer}
 use Rattle.lrc_code.specs.Sums.{GivesBytes}
 use Rattle.lrc_code.proofs.PlaceSums.{same_place-eq}
 use Rattle.lrc_code.proofs.CodeLaws.{code-linear}
-use Rattle.lrc_code.proofs.RequestLaws.{accepted_target, accepted_places, accepted_length, accepted_lengths, accepted_bytes, survivors_hold_bytes, among_at}
+use Rattle.lrc_code.proofs.RequestLaws.{accepted_target, accepted_places, accepted_length, accepted_lengths, accepted_bytes}
+use Rattle.lrc_code.proofs.RequestLaws.{survivors_hold_bytes, among_at}
 use Rattle.lrc_plan.specs.Form.{Form}
 use Rattle.lrc_plan.specs.Planned.{Extends, LeavesSurvive, ExtensionsDiffer}
 use Rattle.lrc_plan.specs.Evaluation.{byte_at, CanEvaluate}

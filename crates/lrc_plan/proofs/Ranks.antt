@@ -1,7 +1,8 @@
 -- All reductions of the same lost places have equally many pivots. Were they fewer in one, some bytes at the other's pivots, not
 -- all 0, would have the sum 0 with each of its rows, and so would solve the equations; but a solution that is 0 at all places but
 -- the pivots is 0 there too.
-use Rattle.std.proofs.Common.{◌≡◌, ◌≢◌, ◌≤◌, ◌<◌, ℕ, zero, suc, ◌+◌, Bool, true, false, cond, not, ◌||◌, length, Option, Some, None, is_none, refl, sym, ◌∙◌, ap, arith, inl, inr}
+use Rattle.std.proofs.Common.{◌≡◌, ◌≢◌, ◌≤◌, ◌<◌, ℕ, zero, suc, ◌+◌, Bool, true, false, cond, not, ◌||◌, length, Option, Some, None}
+use Rattle.std.proofs.Common.{is_none, refl, sym, ◌∙◌, ap, arith, inl, inr}
 use Rattle.std.proofs.lemmas.Bool.{cases_Bool}
 use Rattle.lrc_field.specs.Field.{times}
 use Rattle.lrc_field.proofs.FieldLaws.{times-zero, times-zero_r, times-one}

@@ -1,5 +1,6 @@
 -- Rows of a reduction as plans.
-use Rattle.std.proofs.Common.{◌≡◌, ◌<◌, ℕ, suc, zero, Bool, true, false, cond, List, [], ◌∷◌, Option, Some, None, All, map, slice_index, refl, sym, ◌∙◌, ap, arith, lit<}
+use Rattle.std.proofs.Common.{◌≡◌, ◌<◌, ℕ, suc, zero, Bool, true, false, cond, List, [], ◌∷◌, Option, Some, None, All, map, slice_index}
+use Rattle.std.proofs.Common.{refl, sym, ◌∙◌, ap, arith, lit<}
 use Rattle.std.specs.Prelude.{MatchOption}
 use Rattle.std.proofs.lemmas.List.Elements.{All-from_recursion}
 use Rattle.lrc_field.specs.Field.{times}
@@ -69,7 +70,8 @@ rows_answer code survives other same t value checks plan = told_otherwise code s
 
 module _ (code : Code) (survives : Place → Bool) (coef : ℕ → Place → ℕ) (pivot : ℕ → Option Place)
     (red : AreReduced code survives coef pivot) where
-  check_reads : (r : ℕ) (row : List ℕ) → r < 4 → IsCheckRow coef pivot r row → (o : Option Place) → pivot r ≡ o → ReadsSurvivors survives row
+  check_reads : (r : ℕ) (row : List ℕ) → r < 4 → IsCheckRow coef pivot r row → (o : Option Place) → pivot r ≡ o
+      → ReadsSurvivors survives row
   check_reads r row lt h None e p l = h.0 e p ∙ red.free r p lt e l
   check_reads r row lt h (Some v) e p l = h.1 v e p
 
@@ -85,15 +87,32 @@ module _ (code : Code) (survives : Place → Bool) (coef : ℕ → Place → ℕ
       ∙ sum_over-same all_places _ (λ p. 0) (λ p. ap (λ y. times y (s p)) (h.1 v e p) ∙ times-zero (s p))
       ∙ zeros all_places
 
-  pub are_check_rows : (a b c d : List ℕ) → IsCheckRow coef pivot 0 a → IsCheckRow coef pivot 1 b → IsCheckRow coef pivot 2 c → IsCheckRow coef pivot 3 d
+  pub are_check_rows : (a b c d : List ℕ) → IsCheckRow coef pivot 0 a → IsCheckRow coef pivot 1 b → IsCheckRow coef pivot 2 c
+      → IsCheckRow coef pivot 3 d
       → AreCheckRows code survives (a ∷ b ∷ c ∷ d ∷ [])
   are_check_rows a b c d ha hb hc hd = record {
-    reads = All-from_recursion (ReadsSurvivors survives) (a ∷ b ∷ c ∷ d ∷ [])
-        (check_reads 0 a (lit< tt) ha (pivot 0) refl, (check_reads 1 b (lit< tt) hb (pivot 1) refl, (check_reads 2 c (lit< tt) hc (pivot 2) refl, (check_reads 3 d (lit< tt) hd (pivot 3) refl, tt))));
+    reads = All-from_recursion (ReadsSurvivors survives) (a ∷ b ∷ c ∷ d ∷ []) (
+      check_reads 0 a (lit< tt) ha (pivot 0) refl,
+      (
+        check_reads 1 b (lit< tt) hb
+            (pivot 1) refl,
+        (check_reads 2 c (lit< tt) hc (pivot 2) refl, (check_reads 3 d (lit< tt) hd (pivot 3) refl, tt)),
+      ),
+    );
     possible = λ s small.
         let has = has_extension code survives coef pivot red s small in (
-          λ x. All-from_recursion (λ row. combination row (map s all_places) ≡ 0) (a ∷ b ∷ c ∷ d ∷ [])
-              (check_zero 0 a ha s (pivot 0) refl (has.0 x 0 (lit< tt)), (check_zero 1 b hb s (pivot 1) refl (has.0 x 1 (lit< tt)), (check_zero 2 c hc s (pivot 2) refl (has.0 x 2 (lit< tt)), (check_zero 3 d hd s (pivot 3) refl (has.0 x 3 (lit< tt)), tt)))),
+          λ x. All-from_recursion (λ row. combination row (map s all_places) ≡ 0) (a ∷ b ∷ c ∷ d ∷ []) (
+            check_zero 0 a ha s (pivot 0) refl (has.0 x 0 (lit< tt)),
+            (
+              check_zero 1 b hb s (pivot 1) refl
+                  (has.0 x 1 (lit< tt)),
+              (
+                check_zero 2 c hc s (pivot 2) refl
+                    (has.0 x 2 (lit< tt)),
+                (check_zero 3 d hd s (pivot 3) refl (has.0 x 3 (lit< tt)), tt),
+              ),
+            ),
+          ),
           λ all. has.1 (back s all),
         );
   }

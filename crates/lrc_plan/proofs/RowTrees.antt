@@ -1,5 +1,7 @@
 -- Trees of the rows of a plan.
-use Rattle.std.proofs.Common.{◌≡◌, ◌≢◌, ◌<◌, ◌≤◌, ◌↔◌, ◌+◌, ℕ, suc, zero, Bool, true, false, cond, List, [], ◌∷◌, ◌++◌, Option, Some, None, IsNone, All, length, filter, get_or, replicate, take, ◌⊎◌, slice_index, refl, sym, ◌∙◌, ap, subst, arith, inl, inr, lit<, map, length-append}
+use Rattle.std.proofs.Common.{◌≡◌, ◌≢◌, ◌<◌, ◌≤◌, ◌↔◌, ◌+◌, ℕ, suc, zero, Bool, true, false, cond, List, [], ◌∷◌, ◌++◌, Option, Some, None}
+use Rattle.std.proofs.Common.{IsNone, All, length, filter, get_or, replicate, take, ◌⊎◌, slice_index, refl, sym, ◌∙◌, ap, subst, arith, inl}
+use Rattle.std.proofs.Common.{inr, lit<, map, length-append}
 use Rattle.std.specs.Prelude.{not, ◌&&◌, ◌==◌, IsSome, IsSomeAnd, count_by, if◌then◌else◌}
 use Rattle.std.specs.List.{fold}
 use Rattle.std.proofs.lemmas.Bool.{cases_lt, eqb-true, true_from_ne_false}
@@ -17,8 +19,9 @@ use Rattle.lrc_code.proofs.PlaceSums.{same_place-comm, combination-sum_over}
 use Rattle.lrc_code.proofs.CodeTables.{own_places}
 use Rattle.lrc_code.proofs.Words.{word, word_small, word_apart, word_solves}
 use Rattle.lrc_plan.specs.Form.{AreCoefficients, Form, Leaf, Scale, Sum, meaning, leaf_total}
-use Rattle.lrc_plan.specs.PlanParts.{group_coefficient, cut}
-use Rattle.lrc_plan.specs.Planned.{Extends, ExtensionsDiffer, IsLocalTree, IsPlan, IsShallow, IsTargetValue, LeavesSurvive, group_others, same_group}
+use Rattle.lrc_plan.specs.PlanParts.{cut}
+use Rattle.lrc_code.specs.Groups.{group_coefficient, same_group}
+use Rattle.lrc_plan.specs.Planned.{Extends, ExtensionsDiffer, IsLocalTree, IsPlan, IsShallow, IsTargetValue, LeavesSurvive, group_others}
 use Rattle.lrc_plan.specs.RowPlans.{AnswerBy, IsGroupRow, IsRowPlan, IsRowValue, ReadsSurvivors, TellExtensions, rows_with_terms}
 use Rattle.lrc_plan.specs.RowTrees.{AreRowTrees, AreValueCoefficients, IsRowTree, IsValueTree, ZeroTogether}
 use Rattle.lrc_plan.specs.Sums.{MeansRow, sum_meaning, some_leaf, some_leaf_total, terms}
@@ -45,10 +48,12 @@ none_value code survives t d = record { leaves = tt; right = tt; several = (λ n
 -- the tree of the target's row, or none
 pub tree_value : (code : CodeName) (survives : Place → Bool) (t : Place) (row : Option (List ℕ)) (value : Option Form)
     → IsRowValue (tables_of code) survives t row → IsValueTree row value → IsTargetValue (tables_of code) survives t value
-tree_value code survives t None value differ is = subst (IsTargetValue (tables_of code) survives t) (sym is) (none_value (tables_of code) survives t differ)
+tree_value code survives t None value differ is = subst (IsTargetValue (tables_of code) survives t) (sym is)
+    (none_value (tables_of code) survives t differ)
 tree_value code survives t (Some row) value right tree = given value tree.means tree.leaves
   where
-    means : (v : Option Form) → MeansRow row all_places v → (s e : Place → ℕ) → GivesBytes s → Extends (tables_of code) survives s e → sum_meaning s v ≡ e t
+    means : (v : Option Form) → MeansRow row all_places v → (s e : Place → ℕ) → GivesBytes s → Extends (tables_of code) survives s e
+        → sum_meaning s v ≡ e t
     means v k s e h x = k s h ∙ sym (combination-sum_over row s) ∙ right.right s e h x
 
     given : (v : Option Form) → MeansRow row all_places v → ((p : Place) → some_leaf v p ≡ true → slice_index row (index_of p) ≢ 0)
@@ -66,7 +71,8 @@ tree_value code survives t (Some row) value right tree = given value tree.means 
 
 -- as many coefficients beside the target's as the group has other members
 local_count : (code : CodeName) (t : Place) → IsSome (group_of t)
-    → count_by (λ p. not (cut (group_coefficient (tables_of code) (group_of t)) t p == 0)) all_places ≡ length (group_others (tables_of code) t)
+    → count_by (λ p. not (cut (group_coefficient (tables_of code) (group_of t)) t p == 0)) all_places
+    ≡ length (group_others (tables_of code) t)
 local_count Narrow X0 h = refl
 local_count Narrow X1 h = refl
 local_count Narrow X2 h = refl
@@ -136,7 +142,8 @@ local_some Wide Y4 h = lit< tt
 local_some Wide Y5 h = lit< tt
 
 -- along the members of a list that pass a test
-All-filter : (P Q : Place → Type 0) (q : Place → Bool) (ps : List Place) → All Q ps → ((p : Place) → Q p → q p ≡ true → P p) → All P (filter q ps)
+All-filter : (P Q : Place → Type 0) (q : Place → Bool) (ps : List Place) → All Q ps → ((p : Place) → Q p → q p ≡ true → P p)
+    → All P (filter q ps)
 All-filter P Q q [] h f = All-nil P
 All-filter P Q q (p ∷ ps) h f = at (All-filter P Q q ps (λ k d lt. h (suc k) d (omega arith)) f) (q p) refl
   where
@@ -155,7 +162,8 @@ both false b h = absurd (cc)
 count_from : (p q : Place → Bool) → ((x : Place) → p x ≡ q x) → (a : ℕ) (xs : List Place)
     → fold (λ a x. a + cond (p x) 1 0) a xs ≡ fold (λ a x. a + cond (q x) 1 0) a xs
 count_from p q h a [] = refl
-count_from p q h a (x ∷ xs) = ap (λ b. fold (λ a y. a + cond (p y) 1 0) (a + cond b 1 0) xs) (h x) ∙ count_from p q h (a + cond (q x) 1 0) xs
+count_from p q h a (x ∷ xs) = ap (λ b. fold (λ a y. a + cond (p y) 1 0) (a + cond b 1 0) xs) (h x)
+    ∙ count_from p q h (a + cond (q x) 1 0) xs
 
 local_tree : (code : CodeName) (t : Place) (row : List ℕ) (value : Option Form) → IsSome (group_of t)
     → IsGroupRow (tables_of code) t row → IsRowTree row value → IsSomeAnd value (IsLocalTree (tables_of code) t)
@@ -168,7 +176,8 @@ local_tree code t row value some is tree = at value moved
         absurd (omega (
           arith,
           sym (one_of (has_place (tables_of code) p) (same_group (group_of p) (group_of t)) own parts.0)
-              ∙ sym (ap (λ b. if b then 0 else group_coefficient (tables_of code) (group_of t) p) (same_place-comm t p ∙ not_true (same_place p t) parts.1))
+              ∙ sym (ap (λ b. if b then 0 else group_coefficient (tables_of code) (group_of t) p)
+              (same_place-comm t p ∙ not_true (same_place p t) parts.1))
               ∙ sym (is p) ∙ z,
         ))
       where
@@ -176,16 +185,19 @@ local_tree code t row value some is tree = at value moved
         not_true true h = absurd (cc)
         not_true false h = refl
 
-    moved : (some_leaf_total value ≡ length (group_others (tables_of code) t)) × All (λ p. some_leaf value p ≡ true) (group_others (tables_of code) t)
+    moved : (some_leaf_total value ≡ length (group_others (tables_of code) t))
+        × All (λ p. some_leaf value p ≡ true) (group_others (tables_of code) t)
     moved = (
-      tree.total ∙ count_from (λ p. not (slice_index row (index_of p) == 0)) (λ p. not (cut (group_coefficient (tables_of code) (group_of t)) t p == 0))
+      tree.total ∙ count_from (λ p. not (slice_index row (index_of p) == 0))
+          (λ p. not (cut (group_coefficient (tables_of code) (group_of t)) t p == 0))
           (λ p. ap (λ n. not (n == 0)) (is p)) 0 all_places ∙ local_count code t some,
       All-filter (λ p. some_leaf value p ≡ true) (λ p. has_place (tables_of code) p ≡ true)
           (λ p. same_group (group_of p) (group_of t) && not (same_place p t)) (tables_of code).places (own_places code)
           (λ p own e. tree.all p (nonzero p own e)),
     )
 
-    at : (v : Option Form) → (some_leaf_total v ≡ length (group_others (tables_of code) t)) × All (λ p. some_leaf v p ≡ true) (group_others (tables_of code) t)
+    at : (v : Option Form) → (some_leaf_total v ≡ length (group_others (tables_of code) t))
+        × All (λ p. some_leaf v p ≡ true) (group_others (tables_of code) t)
         → IsSomeAnd v (IsLocalTree (tables_of code) t)
     at None m = absurd (omega (arith, m.0, local_some code t some))
     at (Some f) m = m
@@ -223,7 +235,8 @@ more_trees rows trees row t all one = record {
       (λ p l. true_from_ne_false (survives p) (λ n. one.leaves p l (parts.1 p n))));
   shallow = All-push IsShallow trees t all.shallow one.shallow;
   count = length-append trees (t ∷ []) ∙ ap (λ n. n + 1) all.count
-      ∙ sym (count_snoc (λ r. not (terms r all_places == 0)) 0 rows row ∙ ap (λ b. rows_with_terms rows + cond (not b) 1 0) (some_terms (terms row all_places == 0) refl));
+      ∙ sym (count_snoc (λ r. not (terms r all_places == 0)) 0 rows row
+      ∙ ap (λ b. rows_with_terms rows + cond (not b) 1 0) (some_terms (terms row all_places == 0) refl));
 }
   where
     same : (s : Place → ℕ) → GivesBytes s → meaning s t ≡ combination row (map s all_places)
@@ -241,11 +254,13 @@ pub same_trees : (rows : List (List ℕ)) (trees : List Form) (row : List ℕ) �
 same_trees rows trees row all one = record {
   means = λ s h. (
     λ a. (all.means s h).0 (All-pop (λ r. combination r (map s all_places) ≡ 0) (rows ++ row ∷ []) rows (Some row) refl a).0,
-    λ a. All-push (λ r. combination r (map s all_places) ≡ 0) rows row ((all.means s h).1 a) (combination-sum_over row s ∙ sym (one.means s h)),
+    λ a. All-push (λ r. combination r (map s all_places) ≡ 0) rows row ((all.means s h).1 a)
+        (combination-sum_over row s ∙ sym (one.means s h)),
   );
   leaves = λ survives h. all.leaves survives (All-pop (ReadsSurvivors survives) (rows ++ row ∷ []) rows (Some row) refl h).0;
   shallow = all.shallow;
-  count = all.count ∙ sym (count_snoc (λ r. not (terms r all_places == 0)) 0 rows row ∙ ap (λ n. rows_with_terms rows + cond (not (n == 0)) 1 0) (sym one.total) ∙ more (rows_with_terms rows));
+  count = all.count ∙ sym (count_snoc (λ r. not (terms r all_places == 0)) 0 rows row
+      ∙ ap (λ n. rows_with_terms rows + cond (not (n == 0)) 1 0) (sym one.total) ∙ more (rows_with_terms rows));
 }
   where
     more : (n : ℕ) → n + 0 ≡ n
@@ -267,7 +282,8 @@ taken [] n k h j = absurd (omega (arith, h))
 taken (r ∷ rows) zero k h j = absurd (omega (arith, j))
 taken (r ∷ rows) (suc n) zero h j = omega arith
 taken (r ∷ rows) (suc n) (suc k) h j =
-    let less : k < length (take n rows) = taken rows n k (let a : k < length rows = omega (arith, h) in a) (let b : k < n = omega (arith, j) in b) in
+    let less : k < length (take n rows) = taken rows n k (let a : k < length rows = omega (arith, h) in a)
+    (let b : k < n = omega (arith, j) in b) in
     omega (arith, less)
 
 -- rows of 0 after them
@@ -282,11 +298,13 @@ zero_end rows trees n made rest s h = (
         → combination (get_or rows k d) (map s all_places) ≡ 0
     at all k d lt (inl less) = subst (λ r. combination r (map s all_places) ≡ 0) (get_or-take n rows k d less)
         (all k d (taken rows n k lt less))
-    at all k d lt (inr more) = ap (λ r. combination r (map s all_places)) (rest k d more lt) ∙ blank_sum (replicate 16 0) (map s all_places) refl
+    at all k d lt (inr more) = ap (λ r. combination r (map s all_places)) (rest k d more lt)
+        ∙ blank_sum (replicate 16 0) (map s all_places) refl
 
 -- ---- the whole plan
 
-pub tree_plan : (code : CodeName) (survives : Place → Bool) (t : Place) (row : Option (List ℕ)) (checks : List (List ℕ)) (value : Option Form) (trees : List Form)
+pub tree_plan : (code : CodeName) (survives : Place → Bool) (t : Place) (row : Option (List ℕ)) (checks : List (List ℕ))
+    (value : Option Form) (trees : List Form)
     → IsRowPlan (tables_of code) survives t row checks → IsValueTree row value → AreRowTrees checks trees
     → IsPlan (tables_of code) survives t value trees
 tree_plan code survives t row checks value trees plan v c = record {
@@ -306,7 +324,8 @@ pub answer_rows : (code : CodeName) (survives other : Place → Bool) → ((p : 
     → (row : Option (List ℕ)) (value : Option Form) (rows : List (List ℕ)) (trees : List Form)
     → IsPlan (tables_of code) survives t value trees → AreValueCoefficients row value → ZeroTogether rows trees
     → AnswerBy (tables_of code) other t row rows
-answer_rows code survives other same t row value rows trees plan is together = told_otherwise (tables_of code) survives other same t row rows (at row value is plan.of_target)
+answer_rows code survives other same t row value rows trees plan is together =
+    told_otherwise (tables_of code) survives other same t row rows (at row value is plan.of_target)
   where
     tells : TellExtensions (tables_of code) survives rows
     tells s h = (

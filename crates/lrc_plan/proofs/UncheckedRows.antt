@@ -1,12 +1,13 @@
 -- Where the equations can be solved for four lost places, no check is left.
-use Rattle.std.proofs.Common.{◌≡◌, ◌<◌, ℕ, zero, suc, Bool, true, List, Option, Some, None, refl, sym, ◌∙◌, ap, subst, arith, lit<, replicate, map, All}
+use Rattle.std.proofs.Common.{◌≡◌, ◌<◌, ℕ, zero, suc, Bool, true, List, Option, Some, None, refl, sym, ◌∙◌, ap, subst, arith, lit<}
+use Rattle.std.proofs.Common.{replicate}
 use Rattle.std.specs.Prelude.{not, ◌&&◌, IfSome, MatchOption, slice_index, slice_index_or}
 use Rattle.lrc_code.specs.declared.places.Group.{Group}
 use Rattle.lrc_code.specs.declared.places.Group.TheVariants as group
 use Rattle.lrc_code.specs.declared.places.Place.{Place}
 use Rattle.lrc_code.specs.declared.places.Place.TheVariants.{X0, X1, X2, X3, X4, X5, Y0, Y1, Y2, Y3, Y4, Y5, Px, Py, P0, P1}
 use Rattle.lrc_code.specs.declared.codes.Code.{Code as CodeName}
-use Rattle.lrc_code.specs.Places.{index_of, group_of, all_places}
+use Rattle.lrc_code.specs.Places.{index_of, group_of}
 use Rattle.lrc_code.specs.Sets.{is_in}
 use Rattle.lrc_code.specs.Code.{has_place}
 use Rattle.lrc_code.specs.Codes.{tables_of}
@@ -83,16 +84,19 @@ module _ (code : CodeName) (survives : Place → Bool) (lost : List Bool) (g : G
   no_checks n none =
       let red = reduced_rows code survives solved is_solved in
       let zeros : List ℕ = replicate 16 0 in
-      let row = λ (i : ℕ) (h : i < 4). zero_row (coef_of solved) (pivot_of solved) i (pivot_at g t i h).0 zeros (pivot_at g t i h).1 zeros_at in
+      let row = λ (i : ℕ) (h : i < 4). zero_row (coef_of solved) (pivot_of solved) i (pivot_at g t i h).0 zeros
+      (pivot_at g t i h).1 zeros_at in
       subst (λ m. AreCheckRows (tables_of code) survives (replicate 4 (replicate 16 m))) (sym none)
-      (are_check_rows (tables_of code) survives (coef_of solved) (pivot_of solved) red zeros zeros zeros zeros (row 0 (lit< tt)) (row 1 (lit< tt)) (row 2 (lit< tt)) (row 3 (lit< tt)))
+      (are_check_rows (tables_of code) survives (coef_of solved) (pivot_of solved) red zeros zeros zeros zeros (row 0 (lit< tt))
+      (row 1 (lit< tt)) (row 2 (lit< tt)) (row 3 (lit< tt)))
 
   pub no_check_count : HasCheckCount (tables_of code) survives (rows_with_terms (replicate 4 (replicate 16 0)))
   no_check_count = check_count code survives solved (rows_with_terms (replicate 4 (replicate 16 0))) is_solved (no_free_row g t)
 
   -- the plan of the group's row, if there is one
   pub repair_plan : (value : Option (List ℕ))
-      → MatchOption value (¬ IsLocal (tables_of code) survives t) (λ row. IsValueRow (tables_of code) survives t row × IsGroupRow (tables_of code) t row)
+      → MatchOption value (¬ IsLocal (tables_of code) survives t)
+      (λ row. IsValueRow (tables_of code) survives t row × IsGroupRow (tables_of code) t row)
       → IfSome value (λ row. IsRowPlan (tables_of code) survives t (Some row) (replicate 4 (replicate 16 0)))
   repair_plan None h = tt
   repair_plan (Some row) h = record { of_target = h.0; of_survivors = no_checks 0 refl; local = λ l. h.1; count = no_check_count }

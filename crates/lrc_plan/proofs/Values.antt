@@ -1,36 +1,30 @@
 -- The target's tree, from a row that determines it: that of the reduction, or the equation of its group.
-use Rattle.std.proofs.Common.{◌≡◌, ◌≢◌, ◌<◌, ◌≤◌, ◌⊎◌, ◌↔◌, ◌+◌, ℕ, Bool, true, false, cond, nat_lt, List, [], ◌∷◌, Option, Some, None, IfSome, IsNone, All, length, length-set, map, filter, get_or, slice_index, slice_set, refl, sym, ◌∙◌, ap, subst, arith, inl, inr, lit<}
-use Rattle.std.specs.Prelude.{not, ◌&&◌, ◌||◌, ◌==◌, IsSome, IsSomeAnd, count_by, if◌then◌else◌, suc}
-use Rattle.std.specs.List.{list_any, fold}
-use Rattle.std.specs.Option.{option_map}
+use Rattle.std.proofs.Common.{◌≡◌, ◌<◌, ◌≤◌, ◌⊎◌, ℕ, Bool, true, false, cond, nat_lt, List, [], ◌∷◌, Option, Some, All, length, length-set}
+use Rattle.std.proofs.Common.{map, filter, slice_index, slice_set, refl, sym, ◌∙◌, ap, subst, arith, inl, inr, lit<}
+use Rattle.std.specs.Prelude.{not, ◌&&◌, ◌||◌, if◌then◌else◌, suc}
+use Rattle.std.specs.List.{list_any}
 use borrow.Author.Tests.{ltb-true, ltb-false}
 use Rattle.std.proofs.lemmas.List.{get_or_past}
-use Rattle.std.proofs.lemmas.List.Elements.{All-cons, All-nil}
 use Rattle.std.proofs.lemmas.Bool.Decides.{eqb_tells}
 use Rattle.std.proofs.lemmas.Grind.{get_or-set_at}
 use Rattle.std.proofs.lemmas.List.{get_or-set_other}
-use Rattle.std.proofs.lemmas.Bool.{cases_Bool, true_from_ne_false}
+use Rattle.std.proofs.lemmas.Bool.{cases_Bool}
 use Rattle.lrc_field.specs.Field.{times}
 use Rattle.lrc_code.specs.declared.places.Place.{Place}
-use Rattle.lrc_code.specs.declared.places.Place.TheVariants.{X0, X1, X2, Y0, Y1, Y2, Px, Py, P0, P1, X3, X4, X5, Y3, Y4, Y5}
 use Rattle.lrc_code.specs.declared.places.Group.{Group}
 use Rattle.lrc_code.specs.declared.places.Group.TheVariants as group
 use Rattle.lrc_code.specs.declared.codes.Code.{Code as CodeName}
 use Rattle.lrc_code.specs.declared.codes.Code.TheVariants.{Narrow, Wide}
 use Rattle.lrc_code.specs.Places.{index_of, same_place, group_of, all_places}
-use Rattle.lrc_code.specs.Sums.{GivesBytes}
 use Rattle.lrc_code.specs.Code.{Code, narrow_equations, wide_equations, has_place, Solves}
 use Rattle.lrc_code.specs.Codes.{tables_of}
+use Rattle.lrc_code.specs.Groups.{group_coefficient, group_row, same_group}
 use Rattle.lrc_code.specs.Reduction.{coefficient_at, row_at}
-use Rattle.lrc_code.proofs.PlaceSums.{at_places, sum_over-same, same_place-eq, same_place-comm}
-use Rattle.lrc_code.proofs.CodeTables.{at_index, combination-at, own_places}
-use Rattle.lrc_code.proofs.Words.{word, word_small, word_apart, word_solves}
-use Rattle.lrc_plan.specs.Form.{Form, meaning, has_leaf}
+use Rattle.lrc_code.proofs.PlaceSums.{sum_over-same, same_place-eq, same_place-comm}
+use Rattle.lrc_code.proofs.CodeTables.{at_index, combination-at}
 use Rattle.lrc_plan.specs.Rows.{AreReduced, GiveTarget, HaveOtherLost, dot}
-use Rattle.lrc_plan.specs.PlanParts.{group_coefficient, group_row, IsTargetRow}
-use Rattle.lrc_plan.specs.Planned.{Extends, ExtensionsDiffer, IsTargetValue, IsLocal, IsLocalTree, group_others, same_group}
-use Rattle.lrc_plan.specs.Sums.{sum_meaning, some_leaf, some_leaf_total}
-use Rattle.lrc_plan.proofs.Extension.{determined}
+use Rattle.lrc_plan.specs.PlanParts.{IsTargetRow}
+use Rattle.lrc_plan.specs.Planned.{IsLocal}
 
 -- the row of the reduction whose pivot the target is
 pub pivot_row : (code : Code) (survives : Place → Bool) (coef : ℕ → Place → ℕ) (pivot : ℕ → Option Place)
@@ -58,7 +52,8 @@ equation_below Wide group.X = lit< tt
 equation_below Wide group.Y = lit< tt
 
 group_is : (code : CodeName) (g : Group)
-    → map (coefficient_at (tables_of code).places (row_at (tables_of code).equations (equation_of g))) all_places ≡ group_row (tables_of code) (Some g)
+    → map (coefficient_at (tables_of code).places (row_at (tables_of code).equations (equation_of g))) all_places
+    ≡ group_row (tables_of code) (Some g)
 unfolding equation_of narrow_equations wide_equations
 group_is Narrow group.X = refl
 group_is Narrow group.Y = refl
@@ -66,7 +61,8 @@ group_is Wide group.X = refl
 group_is Wide group.Y = refl
 
 group_at : (code : CodeName) (g : Group) (p : Place)
-    → coefficient_at (tables_of code).places (row_at (tables_of code).equations (equation_of g)) p ≡ group_coefficient (tables_of code) (Some g) p
+    → coefficient_at (tables_of code).places (row_at (tables_of code).equations (equation_of g)) p
+    ≡ group_coefficient (tables_of code) (Some g) p
 group_at code g p =
     sym (at_index (coefficient_at (tables_of code).places (row_at (tables_of code).equations (equation_of g))) p)
     ∙ ap (λ row. slice_index row (index_of p)) (group_is code g)
@@ -84,7 +80,8 @@ same_group-same : (g : Group) → same_group (Some g) (Some g) ≡ true
 same_group-same group.X = refl
 same_group-same group.Y = refl
 
-pub group_target_row : (code : CodeName) (survives : Place → Bool) (t : Place) (g : Group) (row : List ℕ) → has_place (tables_of code) t ≡ true
+pub group_target_row : (code : CodeName) (survives : Place → Bool) (t : Place) (g : Group) (row : List ℕ)
+    → has_place (tables_of code) t ≡ true
     → group_of t ≡ Some g → row ≡ group_row (tables_of code) (Some g) → GiveTarget survives (λ p. slice_index row (index_of p)) t
     → IsTargetRow (tables_of code) survives t (λ p. slice_index row (index_of p))
 group_target_row code survives t g row own in_group is z = record {
@@ -98,7 +95,8 @@ group_target_row code survives t g row own in_group is z = record {
     at p = ap (λ xs. slice_index xs (index_of p)) is ∙ at_index (group_coefficient (tables_of code) (Some g)) p
 
 -- at a member of the list that passes it
-filter-at : (P : Place → Type 0) (q : Place → Bool) (ps : List Place) → All P (filter q ps) → (p : Place) → list_any (same_place p) ps ≡ true → q p ≡ true → P p
+filter-at : (P : Place → Type 0) (q : Place → Bool) (ps : List Place) → All P (filter q ps) → (p : Place)
+    → list_any (same_place p) ps ≡ true → q p ≡ true → P p
 filter-at P q [] h p a e = absurd (cc)
 filter-at P q (r ∷ ps) h p a e = at (λ g. filter-at P q ps g p) (q r) refl h
   where
@@ -109,8 +107,10 @@ filter-at P q (r ∷ ps) h p a e = at (λ g. filter-at P q ps g p) (q r) refl h
     apart : false ≡ true → ⊥
     apart x = cc
 
-    at : (All P (filter q ps) → list_any (same_place p) ps ≡ true → q p ≡ true → P p) → (b : Bool) → q r ≡ b → All P (cond b (r ∷ filter q ps) (filter q ps)) → P p
-    at more true k g = later (same_place p r) refl (more (λ j d lt. g (suc j) d (omega arith))) (λ m. subst P (sym (same_place-eq p r m)) (g 0 r (omega arith)))
+    at : (All P (filter q ps) → list_any (same_place p) ps ≡ true → q p ≡ true → P p) → (b : Bool) → q r ≡ b
+        → All P (cond b (r ∷ filter q ps) (filter q ps)) → P p
+    at more true k g = later (same_place p r) refl (more (λ j d lt. g (suc j) d (omega arith)))
+        (λ m. subst P (sym (same_place-eq p r m)) (g 0 r (omega arith)))
     at more false k g = later (same_place p r) refl (more g) (λ m. absurd (apart (sym (ap q (same_place-eq p r m) ∙ k) ∙ e)))
 
 -- where another place of the group is lost the target isn't local
@@ -119,7 +119,8 @@ pub not_local : (code : CodeName) (survives : Place → Bool) (t : Place) (row :
 not_local code survives t row is (p, l, other, nz) local =
     let c = coefficient (has_place (tables_of code) p) (same_group (group_of p) (group_of t))
     (λ z. nz (ap (λ xs. slice_index xs (index_of p)) is ∙ at_index (group_coefficient (tables_of code) (group_of t)) p ∙ z)) in
-    apart (sym (filter-at (λ q. survives q ≡ true) (λ q. same_group (group_of q) (group_of t) && not (same_place q t)) (tables_of code).places local.1 p c.0
+    apart (sym (filter-at (λ q. survives q ≡ true) (λ q. same_group (group_of q) (group_of t) && not (same_place q t))
+    (tables_of code).places local.1 p c.0
     (joined (same_group (group_of p) (group_of t)) (same_place p t) c.1 (same_place-comm p t ∙ other))) ∙ l)
   where
     apart : true ≡ false → ⊥

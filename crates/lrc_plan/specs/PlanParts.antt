@@ -1,23 +1,13 @@
 -- What the parts of a plan say: rows that give the target, and the checks of the first rows.
-use Rattle.std.specs.Prelude.{ℕ, ◌&&◌, Option, List, map, if◌then◌else◌, ◌≡◌, ◌≢◌, Bool, true, count_by, not, ◌==◌, ◌<◌, ◌↔◌, None, length, All}
+use Rattle.std.specs.Prelude.{ℕ, if◌then◌else◌, ◌≡◌, Bool}
 use Rattle.lrc_code.specs.declared.places.Place.{Place}
 use Rattle.lrc_code.specs.declared.places.Place.TheVariants.{Px, Py}
 use Rattle.lrc_code.specs.declared.places.Group.{Group}
 use Rattle.lrc_code.specs.declared.places.Group.TheVariants as group
-use Rattle.lrc_code.specs.Places.{group_of, all_places, same_place}
-use Rattle.lrc_code.specs.Code.{Code, has_place, Solves}
-use Rattle.lrc_plan.specs.Planned.{same_group, LeavesSurvive, IsShallow, rows_without_pivot}
+use Rattle.lrc_code.specs.Places.{same_place}
+use Rattle.lrc_code.specs.Code.{Code, Solves}
 use Rattle.lrc_code.specs.Sums.{GivesBytes}
-use Rattle.lrc_plan.specs.Form.{Form, meaning}
-use Rattle.lrc_plan.specs.Sums.{some_leaf, some_leaf_total}
-use Rattle.lrc_plan.specs.Rows.{dot, GiveTarget, row_sum}
-
--- 1 at the code's places of the group, 0 at the others
-abbrev pub group_coefficient : Code → Option Group → Place → ℕ
-group_coefficient code g p = if has_place code p && same_group (group_of p) g then 1 else 0
-
-abbrev pub group_row : Code → Option Group → List ℕ
-group_row code g = map (group_coefficient code g) all_places
+use Rattle.lrc_plan.specs.Rows.{dot, GiveTarget}
 
 -- the local parity of the other group
 abbrev pub other_parity : Group → Place

@@ -1,10 +1,10 @@
 -- What a plan promises.
-use Rattle.std.specs.Prelude.{◌≡◌, ℕ, Bool, true, ◌≢◌, ◌≤◌, ◌+◌, ◌↔◌, false, Option, Some, IfSome, IsNone, IsSomeAnd, List, length, All, is_none, zero, suc, if◌then◌else◌, not, ◌&&◌, filter, IsSome, map}
+use Rattle.std.specs.Prelude.{◌≡◌, ℕ, Bool, true, ◌≢◌, ◌≤◌, ◌+◌, ◌↔◌, Option, IfSome, IsNone, IsSomeAnd, List, length, All, is_none, zero}
+use Rattle.std.specs.Prelude.{suc, if◌then◌else◌, not, ◌&&◌, filter, IsSome, map}
 use Rattle.lrc_code.specs.declared.places.Place.{Place}
 use Rattle.lrc_code.specs.Code.{Code, Solves}
 use Rattle.lrc_code.specs.Sums.{GivesBytes}
-use Rattle.lrc_code.specs.declared.places.Group.{Group}
-use Rattle.lrc_code.specs.declared.places.Group.TheVariants as group
+use Rattle.lrc_code.specs.Groups.{same_group}
 use Rattle.lrc_code.specs.Places.{same_place, group_of}
 use Rattle.lrc_plan.specs.Form.{Form, meaning, has_leaf, leaf_total, depth}
 use Rattle.lrc_code.specs.Reduction.{Reduction, IsReduction}
@@ -33,12 +33,6 @@ ExtensionsDiffer code survives target =
 abbrev pub rows_without_pivot : (ℕ → Option Place) → ℕ → ℕ
 rows_without_pivot pivot zero = 0
 rows_without_pivot pivot (suc n) = rows_without_pivot pivot n + (if is_none (pivot n) then 1 else 0)
-
--- the same group
-abbrev pub same_group : Option Group → Option Group → Bool
-same_group (Some group.X) (Some group.X) = true
-same_group (Some group.Y) (Some group.Y) = true
-same_group g h = false
 
 -- the other members of a place's group, in the order of the code's places
 abbrev pub group_others : Code → Place → List Place

@@ -5,7 +5,8 @@ use Rattle.lrc_code.specs.Places.{index_of, group_of, all_places}
 use Rattle.lrc_code.specs.Code.{Code, combination}
 use Rattle.lrc_code.specs.Sums.{GivesBytes}
 use Rattle.lrc_plan.specs.Planned.{Extends, ExtensionsDiffer, HasCheckCount, IsLocal}
-use Rattle.lrc_plan.specs.PlanParts.{cut, group_coefficient}
+use Rattle.lrc_plan.specs.PlanParts.{cut}
+use Rattle.lrc_code.specs.Groups.{group_coefficient}
 use Rattle.lrc_plan.specs.Sums.{terms}
 
 -- the row is 0 at places that don't survive

@@ -1,7 +1,7 @@
 -- Rows of coefficients as sums of scaled fragments.
 use Rattle.std.specs.Prelude.{◌≡◌, ◌<◌, ℕ, List, Option, MatchOption, length, map, slice_index, slice_index_or}
 use Rattle.lrc_field.specs.Field.{times}
-use Rattle.lrc_field.specs.declared.combining.Term.{Term}
+use Rattle.lrc_field.specs.declared.terms.Term.{Term}
 use Rattle.lrc_field.specs.Combined.{product_at, sum_at, HaveLength}
 use Rattle.lrc_code.specs.declared.places.Place.TheVariants.{X0}
 use Rattle.lrc_code.specs.Code.{combination}

@@ -20,6 +20,7 @@
 #![tactic(auto)]
 
 pub mod answer_laws;
+mod invariant;
 mod plans;
 mod solving;
 mod tree;
@@ -27,7 +28,9 @@ mod tree;
 pub use plans::Plan;
 pub use plans::planning::{plan, plan_in};
 pub use plans::remembered::RememberedPlans;
-pub use plans::row_plans::{RowPlan, check_rows, plan_rows};
+pub use plans::row_plans::{
+    RowPlan, check_rows, checks_from, plan_rows, reduce_by_lost, value_from,
+};
 pub use solving::solve;
 pub use tree::Tree;
 pub use tree::both_branches::evaluate_both;

@@ -11,6 +11,7 @@ ghost use Rattle.lrc_plan.specs.Terms.{IsZeroRow};
 
 pub(crate) mod terms;
 
+use crate::invariant::recall_invariant;
 use crate::plans::Plan;
 use crate::plans::planning::plan_in;
 use crate::plans::row_plans::RowPlan;
@@ -36,8 +37,7 @@ pub fn solve<A: Allocator + Clone>(
 ) -> Result<Outcome, AllocError>
     ensures { IfOk result (IsAnswer request.now) }
 {
-    // Calling `length` gives the proof the invariant of `Request`.
-    let _ = request.length();
+    recall_invariant(request);
     let plan = plan_in(
         plan_alloc,
         request.code(),
@@ -71,11 +71,11 @@ pub(crate) fn answer_by(
     plan: &RowPlan,
     request: &Request,
 ) -> Result<Outcome, AllocError>
-    requires { AnswerBy (tables_of request.now.code) (λ p. is_among p request.now.survivors) request.now.target plan.now.value plan.now.checks }
+    requires { AnswerBy (tables_of request.now.code) (λ p. is_among p request.now.survivors) request.now.target plan.now.value
+        plan.now.checks }
     ensures { IfOk result (IsAnswer request.now) }
 {
-    // Calling `length` gives the proof the invariant of `Request`.
-    let _ = request.length();
+    recall_invariant(request);
     let sources = request.sources();
     let possible = are_zero(&plan.checks, request, &sources);
     if !possible {

@@ -5,8 +5,8 @@ use Rattle.farm_lists.specs.Names.{list_name}
 use Rattle.farm_lists.specs.declared.lists.listing.ListFault.{ListFault}
 use Rattle.farm_lists.specs.declared.lists.listing.ListFault.TheVariants as list_fault
 use Rattle.farm_serving.specs.declared.faults.ServeFault.{ServeFault}
-use Rattle.farm_serving.specs.declared.faults.ServeFault.TheVariants.{List as OfList, BadFeeds, TooManyRacks, NoRacks}
-use Rattle.farm_serving.specs.declared.faults.ServeFault.TheVariants.{Device, NoThread, OutOfMemory}
+use Rattle.farm_serving.specs.declared.faults.ServeFault.TheVariants.{List as OfList, BadFeeds, TooManyRacks, NoRacks, Device, NoThread}
+use Rattle.farm_serving.specs.declared.faults.ServeFault.TheVariants.{OutOfMemory}
 use Rattle.farm_serving.specs.declared.serving.Served.{Served}
 
 -- the exit status of a list's fault

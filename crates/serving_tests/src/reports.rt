@@ -1,9 +1,9 @@
 //! Reports, by the calls that make them alone.
 use crate::shared::{EMPTY_REPORT, LIST, REPORT, REPORT_WITHOUT_PX};
+use farm_lists::requests_before_close;
 use farm_serving::{
     Listed, Record, ReportRow, ReportShape, merged_report_text, read_list, report_text,
 };
-use farm_lists::requests_before_close;
 use lrc_code::{Bytes, Code, Outcome, Place};
 use std::alloc::{AllocError, Global};
 

@@ -66,10 +66,11 @@ impl<'a> Board<'a> {
         let _lists = &self.lists;
     }
 
-    /// Takes in a reply, which names a slot, by a number that the feeds of the slot's rack may draw and that has none yet. A refusal hands the reply back and changes
-    /// nothing. Takes no memory.
+    /// Takes in a reply, which names a slot, by a number that the feeds of the slot's rack may draw and that has none yet. A refusal hands
+    /// the reply back and changes nothing. Takes no memory.
     pub(crate) fn accept(&mut self, reply: Reply<'a>) -> Result<(), CollectFault<'a>>
-        ensures accepted { OnOk result (IsHeldToo self.old (slot_rack reply.entry.rack) reply.entry.number (entry_of reply.entry) self.new) }
+        ensures accepted { OnOk result (IsHeldToo self.old (slot_rack reply.entry.rack) reply.entry.number
+            (entry_of reply.entry) self.new) }
         ensures refused { IfErr result (λ e. IsNotHeld self.old reply.entry e) }
         ensures unchanged { OnErr result (self.new ≡ self.old) }
     {
@@ -87,7 +88,8 @@ impl<'a> Board<'a> {
 
     /// The same, without the feeds' numbers.
     pub(crate) fn answers(self, alloc: Global) -> Result<Vec<Vec<Outcome>>, AllocError>
-        ensures { IfOk result (λ v. AllZip (λ row answers. AllZip (λ e o. IsOutcomeOf e (slot_feed e.rack, o)) (filled row) answers.items) self.entry.table v.items) }
+        ensures { IfOk result (λ v. AllZip (λ row answers. AllZip (λ e o. IsOutcomeOf e (slot_feed e.rack, o))
+            (filled row) answers.items) self.entry.table v.items) }
     {
         let Board { lists: _, rows } = self;
         all_filled(alloc, rows)
@@ -107,7 +109,8 @@ fn all_by_feed(alloc: Global, rows: Vec<Row>) -> Result<Vec<Vec<(usize, Outcome)
 
 // The answers, row by row.
 fn all_filled(alloc: Global, rows: Vec<Row>) -> Result<Vec<Vec<Outcome>>, AllocError>
-    ensures { IfOk result (λ v. AllZip (λ row answers. AllZip (λ e o. IsOutcomeOf e (slot_feed e.rack, o)) (filled row) answers.items) rows.entry.items v.items) }
+    ensures { IfOk result (λ v. AllZip (λ row answers. AllZip (λ e o. IsOutcomeOf e (slot_feed e.rack, o))
+        (filled row) answers.items) rows.entry.items v.items) }
 {
     let mut all = Vec::with_capacity(alloc, rows.len())?;
     for row in rows {
@@ -129,7 +132,8 @@ pub(crate) fn hand_in<'a>(
     fault: Option<CollectFault<'a>>,
     reply: Reply<'a>,
 ) -> Option<CollectFault<'a>>
-    ensures { (racks : List (List (List Order))) (xs : List Replied) → HasHeld racks board.old fault.entry xs → HasHeld racks board.new result (xs ++ reply.entry ∷ []) }
+    ensures { (racks : List (List (List Order))) (xs : List Replied) → HasHeld racks board.old fault.entry xs
+        → HasHeld racks board.new result (xs ++ reply.entry ∷ []) }
 {
     match fault {
         Some(first) => Some(first),

@@ -1,7 +1,8 @@
 //! Gathers the replies to the requests of some racks, in whatever order they come.
 ghost use Rattle.std.specs.Prelude.{◌≡◌, IfOk, IfErr, IfSome, IfNone, MatchResult, OnOk, OnErr, None, map};
 ghost use Rattle.std.specs.List.{AllZip};
-ghost use Rattle.farm_core.specs.Replies.{Answers, HasNoGaps, IsLeastGap, IsNothingYet, IsAdded, reply_at, IsComplete, IsInPlace, NoneStarved, entry_of};
+ghost use Rattle.farm_core.specs.Replies.{Answers, HasNoGaps, IsLeastGap, IsNothingYet, IsAdded, reply_at, IsComplete, IsInPlace};
+ghost use Rattle.farm_core.specs.Replies.{NoneStarved, entry_of};
 ghost use Rattle.farm_core.specs.declared.replies.FinishFault.TheVariants.{OutOfMemory};
 ghost use Rattle.farm_core.specs.Orders.{IsServed};
 ghost use Rattle.farm_core.specs.Expected.{AreExpected};
@@ -95,7 +96,8 @@ fn least_missing(rows: &[Row]) -> Option<(usize, u64)>
 // The answers, row by row.
 fn all_outcomes(alloc: Global, rows: Vec<Row>) -> Result<Vec<Vec<Outcome>>, FinishFault>
     requires { HasNoGaps rows.items }
-    ensures { MatchResult result (λ v. AllZip (λ row answers. AllZip Answers row answers.items) rows.entry.items v.items) (λ e. e ≡ OutOfMemory) }
+    ensures { MatchResult result (λ v. AllZip (λ row answers. AllZip Answers row answers.items) rows.entry.items v.items)
+        (λ e. e ≡ OutOfMemory) }
 {
     let mut all = Vec::with_capacity(alloc, rows.len())?;
     for row in rows {

@@ -1,5 +1,6 @@
 //! The replies to one rack's requests.
-ghost use Rattle.std.specs.Prelude.{◌≡◌, ◌<◌, replicate, IfOk, IfErr, OnOk, OnErr, MatchResult, IfSome, IfNone, List, None, Some, length, slice_index_or, slice_set, is_some};
+ghost use Rattle.std.specs.Prelude.{◌≡◌, ◌<◌, replicate, IfOk, IfErr, OnOk, OnErr, MatchResult, IfSome, IfNone, List, None, Some, length};
+ghost use Rattle.std.specs.Prelude.{slice_index_or, slice_set, is_some};
 ghost use Rattle.std.specs.List.{AllZip};
 ghost use Rattle.farm_core.specs.Replies.{Answers, IsFirstGap, HasNoGap, entry_of, HasCell, IsEntered, cell_at};
 ghost use Rattle.farm_core.specs.Boards.{filled, IsOutcomeOf};

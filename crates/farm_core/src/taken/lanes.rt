@@ -1,7 +1,8 @@
 //! The lanes of a run, and the ends that its threads are given.
 ghost use Rattle.std.specs.Prelude.{◌≡◌, ◌+◌, ◌≤◌, [], ◌∷◌, ◌++◌, IfOk, map, vec_len};
 ghost use Rattle.farm_lanes.specs.Lists.{Each};
-ghost use Rattle.farm_lanes.specs.LaneEnds.{LaneName, AreNewEnds, IsCapacity, IsPutterCount, IsTakerCount, IsUnusedPut, IsUnusedTake, new_take};
+ghost use Rattle.farm_lanes.specs.LaneEnds.{LaneName, AreNewEnds, IsCapacity, IsPutterCount, IsTakerCount, IsUnusedPut, IsUnusedTake};
+ghost use Rattle.farm_lanes.specs.LaneEnds.{new_take};
 ghost use Rattle.farm_core.specs.declared.jobs.Job.{Job};
 ghost use Rattle.farm_core.specs.Limits.{all_feeds_limit};
 
@@ -74,7 +75,8 @@ pub(crate) fn worker_ends<'a>(
     requires unused_takes { Each IsUnusedTake takes.items }
     requires unused_puts { Each IsUnusedPut puts.items }
     ensures replies { IfOk result (λ v. map (λ e. e.replies) v.items ≡ puts.entry.items) }
-    ensures jobs { IfOk result (λ v. (lane : LaneName Job) → Each (λ t. t ≡ new_take lane) takes.entry.items → Each (λ e. e.jobs ≡ new_take lane) v.items) }
+    ensures jobs { IfOk result (λ v. (lane : LaneName Job) → Each (λ t. t ≡ new_take lane) takes.entry.items
+        → Each (λ e. e.jobs ≡ new_take lane) v.items) }
 {
     let mut takes = takes;
     let mut ends = Vec::with_capacity(alloc, puts.len())?;

@@ -20,7 +20,8 @@ pub(crate) struct EndSpace<'a> {
     pub reply_ends: Vec<EndedPut<Reply<'a>>>,
     pub desk: Vec<TakeEnd<Reply<'a>>>,
     pub ghost puts: { (put_ends.items ≡ []) × (racks * feed_limit + 1 ≤ vec_capacity put_ends) },
-    pub ghost worked: { (job_ends.items ≡ []) × (workers ≤ vec_capacity job_ends) × (reply_ends.items ≡ []) × (workers ≤ vec_capacity reply_ends) },
+    pub ghost worked: { (job_ends.items ≡ []) × (workers ≤ vec_capacity job_ends) × (reply_ends.items ≡ [])
+        × (workers ≤ vec_capacity reply_ends) },
     pub ghost last: { (desk.items ≡ []) × (0 < vec_capacity desk) },
 }
 
@@ -30,7 +31,8 @@ pub(crate) struct Space<'a> {
     pub working: Vec<WorkerHandle<'a>>,
     pub feeding: Vec<RackFeeders<'a>>,
     pub ends: EndSpace<'a>,
-    pub ghost threads: { (working.items ≡ []) × (ends.workers ≤ vec_capacity working) × (feeding.items ≡ []) × (ends.racks ≤ vec_capacity feeding) },
+    pub ghost threads: { (working.items ≡ []) × (ends.workers ≤ vec_capacity working) × (feeding.items ≡ [])
+        × (ends.racks ≤ vec_capacity feeding) },
 }
 
 // Empty lists with room for the ends of so many racks and workers.

@@ -186,9 +186,12 @@ pub(crate) fn join_all<'a, R: Threads + Wait>(
     started: Started<'a>,
     space: EndSpace<'a>,
 ) -> Option<Joined<'a>>
-    requires few { (vec_len started.working ≤ worker_limit) × (vec_len started.working ≤ space.workers) × (vec_len started.feeding ≤ space.racks) }
+    requires few { (vec_len started.working ≤ worker_limit) × (vec_len started.working ≤ space.workers)
+        × (vec_len started.feeding ≤ space.racks) }
     requires unused { IsUnusedPut started.stops }
-    ensures joined { IfSome result (λ j. (room : Room) → IsReady room → AreStarted room started.entry → HasJoined j.all.board.racks j.put_ends.items j.job_ends.items j.reply_ends.items j.desk j.all.board j.all.fault × (j.all.board.racks ≡ room.desk.board.racks) × (0 < length j.job_ends.items)) }
+    ensures joined { IfSome result (λ j. (room : Room) → IsReady room → AreStarted room started.entry
+        → HasJoined j.all.board.racks j.put_ends.items j.job_ends.items j.reply_ends.items j.desk j.all.board j.all.fault
+        × (j.all.board.racks ≡ room.desk.board.racks) × (0 < length j.job_ends.items)) }
     ensures desk_room { IfSome result (λ j. (j.desk_room.items ≡ []) × (0 < vec_capacity j.desk_room)) }
 {
     let Started {

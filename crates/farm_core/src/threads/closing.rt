@@ -60,7 +60,8 @@ pub(crate) fn close_rack<'a>(
     ensures capacity { vec_capacity put_ends.new ≡ vec_capacity put_ends.old }
     ensures len { vec_len put_ends.new ≡ vec_len put_ends.old + vec_len feds.entry }
     ensures ends { put_ends.new.items ≡ put_ends.old.items ++ map (λ (f : TheFed). f.jobs) feds.entry.items }
-    ensures drawn { (rack : ℕ) (lists : List (List Order)) → AreFed gate.now rack lists feds.entry.items → HasDrawn rack lists (map (λ (f : TheFed). f.jobs) feds.entry.items) }
+    ensures drawn { (rack : ℕ) (lists : List (List Order)) → AreFed gate.now rack lists feds.entry.items
+        → HasDrawn rack lists (map (λ (f : TheFed). f.jobs) feds.entry.items) }
 {
     let mut feds = feds;
     let mut rights = rights;

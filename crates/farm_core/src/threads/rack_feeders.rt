@@ -17,7 +17,8 @@ pub(crate) struct RackFeeders<'a> {
     pub rights: Vec<Right>,
     pub ghost own: { AreOfGate gate.now handles.items },
     pub ghost some: { (0 < vec_len handles) × (vec_len handles ≤ feed_limit) },
-    pub ghost room: { (feds.items ≡ []) × (vec_len handles ≤ vec_capacity feds) × (rights.items ≡ []) × (vec_len handles ≤ vec_capacity rights) },
+    pub ghost room: { (feds.items ≡ []) × (vec_len handles ≤ vec_capacity feds) × (rights.items ≡ [])
+        × (vec_len handles ≤ vec_capacity rights) },
 }
 
 /// A rack's feeders before their threads start, with their gate, and room for what they give back.
@@ -30,5 +31,6 @@ pub(crate) struct RackRoom<'a> {
     pub rights: Vec<Right>,
     pub ghost own: { Each (λ f. f.gate.now ≡ gate.now) feeders.items },
     pub ghost some: { (0 < vec_len feeders) × (vec_len feeders ≤ feed_limit) },
-    pub ghost room: { (handles.items ≡ []) × (vec_len feeders ≤ vec_capacity handles) × (feds.items ≡ []) × (vec_len feeders ≤ vec_capacity feds) × (rights.items ≡ []) × (vec_len feeders ≤ vec_capacity rights) },
+    pub ghost room: { (handles.items ≡ []) × (vec_len feeders ≤ vec_capacity handles) × (feds.items ≡ [])
+        × (vec_len feeders ≤ vec_capacity feds) × (rights.items ≡ []) × (vec_len feeders ≤ vec_capacity rights) },
 }

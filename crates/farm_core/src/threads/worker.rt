@@ -1,4 +1,5 @@
-//! A worker: the jobs that it takes and the replies that it puts, how it is started and joined, and how its ends are ended where it isn't started.
+//! A worker: the jobs that it takes and the replies that it puts, how it is started and joined, and how its ends are ended where it isn't
+//! started.
 ghost use Rattle.std.specs.Prelude.{◌≡◌, IfOk, ◌≤◌, [], IfErr, IfNone, vec_len, vec_capacity};
 ghost use Rattle.lrc_code.specs.Answers.{IsAnswer};
 ghost use Rattle.farm_lanes.specs.LaneEnds.{IsUnusedPut, IsUnusedTake};

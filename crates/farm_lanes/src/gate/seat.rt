@@ -21,7 +21,8 @@ impl Model for Seat {
 
     ghost view = { λ s. record { gate = s.raw.table_id; has = s.raw.me.0 } };
 
-    ghost invariant = { λ s. (s.raw.me.1 ≡ []) × (s.budget + s.raw.me.0.draws ≡ s.raw.me.0.share) × (s.budget ≤ 4294967296) × (s.last ≡ greatest s.raw.me.0.numbers) };
+    ghost invariant = { λ s. (s.raw.me.1 ≡ []) × (s.budget + s.raw.me.0.draws ≡ s.raw.me.0.share) × (s.budget ≤ 4294967296)
+        × (s.last ≡ greatest s.raw.me.0.numbers) };
 }
 
 /// The right to one close. Contracts see its gate.

@@ -69,7 +69,8 @@ pub(crate) fn raw_cut<Z: StepValues>(
 
 /// Joins another seat to this one.
 pub(crate) fn raw_join(gate: &RawGate, seat: &mut RawSeat, other: RawSeat)
-    requires own { (seat.old.table_id ≡ gate.now.table_id) × (other.table_id ≡ gate.now.table_id) × (gate.now.table_id.words ≡ 1) × (other.me.1 ≡ []) }
+    requires own { (seat.old.table_id ≡ gate.now.table_id) × (other.table_id ≡ gate.now.table_id) × (gate.now.table_id.words ≡ 1)
+        × (other.me.1 ≡ []) }
     ensures own { (seat.new.table_id ≡ seat.old.table_id) × (seat.new.me ≡ (joined seat.old.me.0 other.me.0, seat.old.me.1)) }
 {
     gate.join_seat::<Together>(seat, other);

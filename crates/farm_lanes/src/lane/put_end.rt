@@ -38,7 +38,8 @@ impl<T: Drop, A: Allocator> Model for PutEnd<T, A> {
 
     ghost view = { λ e. record { lane = lane_of e.pass; sender = e.sender; put = put_of (known e.pass) } };
 
-    ghost invariant = { λ e. IsSeatAt (sends_on e.sends) e.pass × IsPutRecord e.sender e.count (known e.pass) × (e.count < 4294967296) × Each (λ x. is_end x ≡ false) (put_of (known e.pass)) };
+    ghost invariant = { λ e. IsSeatAt (sends_on e.sends) e.pass × IsPutRecord e.sender e.count (known e.pass) × (e.count < 4294967296)
+        × Each (λ x. is_end x ≡ false) (put_of (known e.pass)) };
 }
 
 /// A put end that put its end mark. Contracts see of it what they see of a put end.
@@ -65,7 +66,8 @@ impl<T: Drop, A: Allocator> Model for EndedPut<T, A> {
 
     ghost view = { λ e. record { lane = lane_of e.pass; sender = e.sender; put = put_of (known e.pass) } };
 
-    ghost invariant = { λ e. IsSeatAt (sends_on e.sends) e.pass × IsPutRecord e.sender e.count (known e.pass) × (e.count ≤ 4294967296) × EndsLast (put_of (known e.pass)) };
+    ghost invariant = { λ e. IsSeatAt (sends_on e.sends) e.pass × IsPutRecord e.sender e.count (known e.pass) × (e.count ≤ 4294967296)
+        × EndsLast (put_of (known e.pass)) };
 }
 
 impl<T: Drop, A: Allocator> PutEnd<T, A> {

@@ -36,7 +36,8 @@ pub(crate) fn send<T: Drop, A: Allocator, R: Wait>(
     requires next { number_of item ≡ length (put_of (view pass.old)) }
     requires part { 0 < (view pass.old).parts }
     ensures seated { IsSeatAt (sends_on sends.now) pass.new × (pass.new.id ≡ pass.old.id) }
-    ensures put { view pass.new ≡ end_record (view pass.old).ends (view pass.old).parts (put_last (view pass.old).puts item) (view pass.old).taken }
+    ensures put { view pass.new ≡ end_record (view pass.old).ends (view pass.old).parts (put_last (view pass.old).puts item)
+        (view pass.old).taken }
 {
     let mut item = item;
     for _ in rt.forever() {
@@ -57,7 +58,8 @@ pub(crate) fn receive<T: Drop, A: Allocator, R: Wait>(
     requires seated { IsSeatAt (receives_on takes.now) pass.old }
     requires part { 0 < (view pass.old).parts }
     ensures seated { IsSeatAt (receives_on takes.now) pass.new × (pass.new.id ≡ pass.old.id) }
-    ensures taken { view pass.new ≡ end_record (view pass.old).ends (view pass.old).parts (view pass.old).puts ((view pass.old).taken ++ result ∷ []) }
+    ensures taken { view pass.new ≡ end_record (view pass.old).ends (view pass.old).parts (view pass.old).puts
+        ((view pass.old).taken ++ result ∷ []) }
     ensures rises { Each (λ y. sender_of y ≡ sender_of result → number_of y < number_of result) (view pass.old).taken }
 {
     for _ in rt.forever() {
@@ -92,7 +94,8 @@ pub(crate) fn cut_put<T: Drop, A: Allocator>(
     requires seated { IsSeatAt (sends_on sends.now) pass.old }
     requires more { 1 < (view pass.old).parts }
     ensures seated { IsSeatAt (sends_on sends.now) pass.new × IsSeatAt (sends_on sends.now) result }
-    ensures rest { view pass.new ≡ end_record (view pass.old).ends ((view pass.old).parts - 1) (puts_rest (view pass.old).puts) (view pass.old).taken }
+    ensures rest { view pass.new ≡ end_record (view pass.old).ends ((view pass.old).parts - 1) (puts_rest (view pass.old).puts)
+        (view pass.old).taken }
     ensures cut { view result ≡ end_record (view pass.old).ends 1 (puts_first (view pass.old).puts) [] }
 {
     sends.another::<CutPut>(pass)

@@ -36,7 +36,8 @@ impl<T: Drop, A: Allocator> Model for TakeEnd<T, A> {
 
     ghost view = { λ e. record { lane = lane_of e.pass; taken = (known e.pass).taken } };
 
-    ghost invariant = { λ e. IsSeatAt (receives_on e.takes) e.pass × ((known e.pass).puts ≡ []) × (e.count ≡ counted (length (known e.pass).taken)) × ((known e.pass).parts ≡ 1) × Rises (known e.pass).taken };
+    ghost invariant = { λ e. IsSeatAt (receives_on e.takes) e.pass × ((known e.pass).puts ≡ [])
+        × (e.count ≡ counted (length (known e.pass).taken)) × ((known e.pass).parts ≡ 1) × Rises (known e.pass).taken };
 }
 
 impl<T: Drop, A: Allocator> TakeEnd<T, A> {

@@ -97,10 +97,7 @@ pub(crate) fn merged_report_on(
 fn is_wide_request(listed: &Listed) -> bool
     ensures { result ≡ is_wide listed.now }
 {
-    match listed.code() {
-        Code::Narrow => false,
-        Code::Wide => true,
-    }
+    listed.code() != Code::UNNAMED
 }
 
 /// Whether one of the requests is of the (12,2,2) code.

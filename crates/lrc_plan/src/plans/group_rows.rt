@@ -1,12 +1,12 @@
 //! The equation of a target's group as the row of its value.
-ghost use Rattle.std.specs.Prelude.{◌≡◌, false, true, MatchOption, Some, slice_index};
+ghost use Rattle.std.specs.Prelude.{◌≡◌, false, true, MatchOption, slice_index};
 ghost use Rattle.lrc_code.specs.declared.places.Place.{Place};
 ghost use Rattle.lrc_code.specs.Code.{has_place};
 ghost use Rattle.lrc_code.specs.Codes.{tables_of};
-ghost use Rattle.lrc_code.specs.Places.{group_of, index_of};
+ghost use Rattle.lrc_code.specs.Places.{index_of};
 ghost use Rattle.lrc_code.specs.Sets.{is_in};
 ghost use Rattle.lrc_plan.specs.Planned.{IsLocal};
-ghost use Rattle.lrc_plan.specs.PlanParts.{IsTargetRow, cut, group_row, other_parity as other_parity_of};
+ghost use Rattle.lrc_plan.specs.PlanParts.{IsTargetRow, cut, other_parity as other_parity_of};
 ghost use Rattle.lrc_plan.specs.RowPlans.{IsGroupRow, IsValueRow};
 
 use crate::plans::rows::determines;
@@ -23,20 +23,6 @@ pub(crate) fn other_parity(group: Group) -> Place
     }
 }
 
-// The equation of a group: 01 at its places in the code, 00 elsewhere.
-fn equation_of(code: Code, group: Group) -> [Gf; 16]
-    ensures { result ≡ group_row (tables_of code) (Some group) }
-{
-    let o = Gf::new(0);
-    let i = Gf::new(1);
-    match (code, group) {
-        (Code::Narrow, Group::X) => [i, i, i, o, o, o, i, o, o, o, o, o, o, o, o, o],
-        (Code::Narrow, Group::Y) => [o, o, o, i, i, i, o, i, o, o, o, o, o, o, o, o],
-        (Code::Wide, Group::X) => [i, i, i, o, o, o, i, o, o, o, i, i, i, o, o, o],
-        (Code::Wide, Group::Y) => [o, o, o, i, i, i, o, i, o, o, o, o, o, i, i, i],
-    }
-}
-
 /// The equation of the target's group without the target, where all others of the group survive.
 pub(crate) fn local_row(code: Code, survivors: PlaceSet, target: Place) -> Option<[Gf; 16]>
     requires lost { is_in survivors target ≡ false }
@@ -45,7 +31,7 @@ pub(crate) fn local_row(code: Code, survivors: PlaceSet, target: Place) -> Optio
         (¬ IsLocal (tables_of code) (is_in survivors) target)
         (λ row. IsValueRow (tables_of code) (is_in survivors) target row × IsGroupRow (tables_of code) target row) }
 {
-    let row = equation_of(code, target.group()?);
+    let row = code.group_row(target.group()?);
     if determines(&row, survivors, target, &Place::ALL) {
         return Some(cut_row(code, row, survivors, target));
     }

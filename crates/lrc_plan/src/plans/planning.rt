@@ -34,8 +34,8 @@ pub fn plan<A: Allocator + Clone>(
 }
 
 /// The plan for a lost target of a code, which is one of its places; survivors that are not play no part (Huang et al., section 2). Its
-/// trees are those of the rows of `plan_rows`. Where the others of the target's group survive, three or six, the value is their sum; else it
-/// comes from the row of the reduced equations that has its pivot at the target. All survivors count in the checks: there is one
+/// trees are those of the rows of `plan_rows`. Where the others of the target's group survive, three or six, the value is their sum; else
+/// it comes from the row of the reduced equations that has its pivot at the target. All survivors count in the checks: there is one
 /// for each reduced row without a pivot.
 pub fn plan_in<A: Allocator + Clone>(
     alloc: A,
@@ -89,7 +89,8 @@ fn push_tree<A: Allocator + Clone>(
     row: &[Gf; 16],
     checks: &mut Vec<Tree<A>, A>,
 ) -> Result<(), AllocError>
-    ensures { OnOk result ((rows : List (List ℕ)) → AreRowTrees rows (map form_of checks.old.items) → AreRowTrees (rows ++ row.now ∷ []) (map form_of checks.new.items)) }
+    ensures { OnOk result ((rows : List (List ℕ)) → AreRowTrees rows (map form_of checks.old.items)
+        → AreRowTrees (rows ++ row.now ∷ []) (map form_of checks.new.items)) }
 {
     if let Some(tree) = tree_of(alloc, row)? {
         checks.push(tree)?;

@@ -6,6 +6,7 @@ ghost use Rattle.lrc_code.specs.Codes.{tables_of};
 ghost use Rattle.lrc_code.specs.Sets.{is_in};
 ghost use Rattle.lrc_plan.specs.RowPlans.{IsRowPlan};
 
+use crate::invariant::recall_invariant;
 use crate::plans::row_plans::{RowPlan, plan_rows};
 use crate::solving::answer_by;
 use lrc_code::{Code, Outcome, Place, PlaceSet, Request};
@@ -32,7 +33,13 @@ impl Model for Known {
 
     ghost Value = { KnownPlan };
 
-    ghost view = { λ k. record { code = k.code; survivors = k.survivors; target = k.target; value = k.plan.value; checks = k.plan.checks } };
+    ghost view = { λ k. record {
+      code = k.code;
+      survivors = k.survivors;
+      target = k.target;
+      value = k.plan.value;
+      checks = k.plan.checks;
+    } };
 
     ghost invariant = { λ k. IsRowPlan (tables_of k.code) (is_in k.survivors) k.target k.plan.value k.plan.checks };
 }
@@ -114,8 +121,7 @@ impl RememberedPlans {
     pub fn solve(&mut self, alloc: Global, request: &Request) -> Result<Outcome, AllocError>
         ensures { IfOk result (IsAnswer request.now) }
     {
-        // Calling `length` gives the proof the invariant of `Request`.
-        let _ = request.length();
+        recall_invariant(request);
         let plan = self.plan(request.code(), request.survivors(), request.target());
         answer_by(alloc, &plan, request)
     }

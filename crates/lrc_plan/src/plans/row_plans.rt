@@ -5,7 +5,7 @@ ghost use Rattle.lrc_code.specs.Code.{has_place};
 ghost use Rattle.lrc_code.specs.Codes.{tables_of};
 ghost use Rattle.lrc_code.specs.Reduction.{IsReduction};
 ghost use Rattle.lrc_code.specs.Sets.{is_in};
-ghost use Rattle.lrc_plan.specs.Rows.{coef_of, pivot_of, AreReduced};
+ghost use Rattle.lrc_plan.specs.Rows.{coef_of, pivot_of};
 ghost use Rattle.lrc_plan.specs.Planned.{ExtensionsDiffer, HasCheckCount, IsLocal};
 ghost use Rattle.lrc_plan.specs.RowPlans.{AreCheckRows, IsCheckRow, IsGroupRow, IsRowPlan, IsValueRow, rows_with_terms};
 
@@ -14,8 +14,8 @@ use crate::plans::rows::{determines, row_of, row_with_pivot};
 use lrc_code::{Code, Place, PlaceSet, Reduced, reduce_in};
 use lrc_field::Gf;
 
-/// How a lost fragment is rebuilt from survivors: coefficients by the places' indexes, 00 at places that don't survive. Where the others of the
-/// target's group survive, the value reads these alone.
+/// How a lost fragment is rebuilt from survivors: coefficients by the places' indexes, 00 at places that don't survive. Where the others of
+/// the target's group survive, the value reads these alone.
 #[derive(Clone, Copy)]
 pub struct RowPlan {
     /// What the survivors' bytes are multiplied with to give the target's byte; none where two stripes with the same
@@ -44,9 +44,17 @@ fn plan_by_reduction(code: Code, survivors: PlaceSet, target: Place) -> RowPlan
     requires place { has_place (tables_of code) target ≡ true }
     ensures { IsRowPlan (tables_of code) (is_in survivors) target result.value result.checks }
 {
-    let lost = code.others(survivors);
-    let reduced = reduce_in(code, lost);
+    let reduced = reduce_by_lost(code, survivors);
     rows_from(code, &reduced, survivors, target)
+}
+
+/// The equations of a code, reduced by the places that don't survive: what `value_from` and `checks_from` take, so that a caller with
+/// several targets reduces once. Takes no memory.
+pub fn reduce_by_lost(code: Code, survivors: PlaceSet) -> Reduced
+    ensures { IsReduction (tables_of code) (λ p. not (is_in survivors p)) result }
+{
+    let lost = code.others(survivors);
+    reduce_in(code, lost)
 }
 
 // The plan of a repair inside the target's group that leaves no checks, where `row_in_group` gives its row.
@@ -82,8 +90,7 @@ fn row_in_group(code: Code, survivors: PlaceSet, target: Place) -> Option<[Gf; 1
 pub fn check_rows(code: Code, survivors: PlaceSet) -> [[Gf; 16]; 4]
     ensures { AreCheckRows (tables_of code) (is_in survivors) result }
 {
-    let lost = code.others(survivors);
-    let reduced = reduce_in(code, lost);
+    let reduced = reduce_by_lost(code, survivors);
     checks_from(code, &reduced, survivors)
 }
 
@@ -95,13 +102,13 @@ fn rows_from(code: Code, reduced: &Reduced, survivors: PlaceSet, target: Place) 
     ensures { IsRowPlan (tables_of code) (is_in survivors) target result.value result.checks }
 {
     RowPlan {
-        value: value_row(code, reduced, survivors, target),
+        value: value_from(code, reduced, survivors, target),
         checks: checks_from(code, reduced, survivors),
     }
 }
 
-// The checks from a reduction by the lost places.
-fn checks_from(code: Code, reduced: &Reduced, survivors: PlaceSet) -> [[Gf; 16]; 4]
+/// The rows of `check_rows` from a reduction by the lost places.
+pub fn checks_from(code: Code, reduced: &Reduced, survivors: PlaceSet) -> [[Gf; 16]; 4]
     requires { IsReduction (tables_of code) (λ p. not (is_in survivors p)) reduced.now }
     ensures checks { AreCheckRows (tables_of code) (is_in survivors) result }
     ensures count { HasCheckCount (tables_of code) (is_in survivors) (rows_with_terms result) }
@@ -125,12 +132,17 @@ fn check_row(reduced: &Reduced, row: usize) -> [Gf; 16]
     row_of(reduced, row)
 }
 
-// The coefficients that give the target: from the equation of its group where the others survive, else from its row of
-// the reduction.
-fn value_row(code: Code, reduced: &Reduced, survivors: PlaceSet, target: Place) -> Option<[Gf; 16]>
+/// The value of `plan_rows` from a reduction by the lost places: from the equation of the target's group where the others survive, else
+/// from the target's row of the reduction.
+pub fn value_from(
+    code: Code,
+    reduced: &Reduced,
+    survivors: PlaceSet,
+    target: Place,
+) -> Option<[Gf; 16]>
     requires place { has_place (tables_of code) target ≡ true }
     requires lost { is_in survivors target ≡ false }
-    requires reduced { AreReduced (tables_of code) (is_in survivors) (coef_of reduced.now) (pivot_of reduced.now) }
+    requires reduced { IsReduction (tables_of code) (λ p. not (is_in survivors p)) reduced.now }
     ensures value { MatchOption result
         (ExtensionsDiffer (tables_of code) (is_in survivors) target)
         (IsValueRow (tables_of code) (is_in survivors) target) }

@@ -1,14 +1,12 @@
 //! Rows of coefficients as sums of scaled fragments, which are made in one pass.
-ghost use Rattle.std.specs.Prelude.{◌≡◌, ◌==◌, ◌<◌, ◌≤◌, ℕ, true, false, length, take, IfOk, IfSome, slice_index_or};
+ghost use Rattle.std.specs.Prelude.{◌≡◌, ◌==◌, ◌<◌, ◌≤◌, true, false, length, take, IfOk};
 ghost use Rattle.std.specs.List.{list_all};
-ghost use Rattle.lrc_code.specs.declared.places.Place.TheVariants.{X0};
-ghost use Rattle.lrc_code.specs.Places.{all_places};
-ghost use Rattle.lrc_code.specs.Requests.{AreSources, is_among};
-ghost use Rattle.lrc_field.specs.Combined.{product_at};
-ghost use Rattle.lrc_plan.specs.Terms.{AreRowSums, AreTerms, IsTermAt, IsZeroRow, survivor_product};
+ghost use Rattle.lrc_code.specs.Requests.{AreSources};
+ghost use Rattle.lrc_plan.specs.Terms.{AreRowSums, AreTerms, IsTermAt, IsZeroRow};
 
+use crate::invariant::recall_invariant;
 use lrc_code::{Place, Request, Sources};
-use lrc_field::{Gf, Term, combined, sums_are_zero};
+use lrc_field::{Gf, Term, combined, no_terms, sums_are_zero};
 use std::alloc::{AllocError, Global};
 
 /// The row's sum at each position.
@@ -87,8 +85,7 @@ fn term_at<'a>(request: &Request, sources: &Sources<'a>, k: usize, scalar: Gf) -
     requires sources { AreSources request.now.survivors sources.now }
     ensures { IsTermAt request.now scalar k result }
 {
-    // The proof has what every request keeps from a call of it.
-    let _ = request.length();
+    recall_invariant(request);
     if scalar.byte() == 0 {
         return None;
     }
@@ -97,34 +94,4 @@ fn term_at<'a>(request: &Request, sources: &Sources<'a>, k: usize, scalar: Gf) -
         return None;
     }
     Some(Term { scalar, bytes })
-}
-
-// Places that nothing reads.
-fn no_terms<'a>() -> [Term<'a>; 16] {
-    [
-        no_term(),
-        no_term(),
-        no_term(),
-        no_term(),
-        no_term(),
-        no_term(),
-        no_term(),
-        no_term(),
-        no_term(),
-        no_term(),
-        no_term(),
-        no_term(),
-        no_term(),
-        no_term(),
-        no_term(),
-        no_term(),
-    ]
-}
-
-// A term that no source was put in.
-fn no_term<'a>() -> Term<'a> {
-    Term {
-        scalar: Gf::new(0),
-        bytes: &[],
-    }
 }

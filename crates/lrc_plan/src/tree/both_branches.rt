@@ -5,6 +5,7 @@ ghost use Rattle.lrc_plan.specs.Evaluation.{CanEvaluate, IsValue};
 ghost use Rattle.lrc_plan.specs.EvaluationParts.{IsScaledValue};
 ghost use Rattle.lrc_plan.specs.Tree.{form_of};
 
+use crate::invariant::recall_invariant;
 use crate::tree::Tree;
 use crate::tree::evaluation::evaluate_scaled;
 use lrc_code::Request;
@@ -24,11 +25,8 @@ pub fn evaluate_both<R: Threads + Sync, A: Allocator + Sync>(
     requires { CanEvaluate request.now (form_of tree.now) }
     ensures { IfOk result (λ v. IsValue request.now (form_of tree.now) v.items) }
 {
-    // The proof has what every request keeps from a call of it.
-    let _ = request.length();
-    // Named, since the proof speaks of it.
-    let bytes = evaluate_forked(rt, alloc, tree, Gf::new(1), request, forks.min(4))?;
-    Ok(bytes)
+    recall_invariant(request);
+    evaluate_forked(rt, alloc, tree, Gf::new(1), request, forks.min(4))
 }
 
 // A factor times the tree's value, each branch of a sum in a vector of its own while forks are left.
@@ -48,11 +46,14 @@ fn evaluate_forked<R: Threads + Sync, A: Allocator + Sync>(
     }
     match tree {
         Tree::Leaf(_) => evaluate_scaled(alloc, tree, factor, request),
-        Tree::Scale(scalar, below) => {
-            // Named, since the proof speaks of it.
-            let bytes = evaluate_forked(rt, alloc, below, factor.mul(*scalar), request, forks)?;
-            Ok(bytes)
-        }
+        Tree::Scale(scalar, below) => evaluate_forked(
+            rt,
+            alloc,
+            below,
+            factor.mul(*scalar),
+            request,
+            forks,
+        ),
         Tree::Sum(left, right) => {
             let fewer = forks - 1;
             let (first, second) = join(

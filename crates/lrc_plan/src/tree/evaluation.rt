@@ -5,6 +5,7 @@ ghost use Rattle.lrc_plan.specs.Tree.{form_of};
 ghost use Rattle.lrc_plan.specs.Evaluation.{byte_at, CanEvaluate, IsValue};
 ghost use Rattle.lrc_plan.specs.EvaluationParts.{AreWhole, AreZeros, IsProductAdded, IsScaledValue, IsValueAdded};
 
+use crate::invariant::recall_invariant;
 use crate::tree::Tree;
 use lrc_code::Request;
 use lrc_field::{Gf, add_into, scale_add_into};
@@ -20,11 +21,8 @@ pub fn evaluate<A: Allocator>(
     requires { CanEvaluate request.now (form_of tree.now) }
     ensures { IfOk result (λ v. IsValue request.now (form_of tree.now) v.items) }
 {
-    // The proof has what every request keeps from a call of it.
-    let _ = request.length();
-    // Named, since the proof speaks of it.
-    let bytes = evaluate_scaled(alloc, tree, Gf::new(1), request)?;
-    Ok(bytes)
+    recall_invariant(request);
+    evaluate_scaled(alloc, tree, Gf::new(1), request)
 }
 
 /// A factor times the tree's value at each position.

@@ -10,7 +10,10 @@ returns c = record {
       ∙ ap₂ with_rule (c.in_ok-arg-3.ensures.shape c.number.ensures.local
       ∙ ap₂ with_rule (c.in_ok-arg-2.ensures.shape c.folder-2.ensures.local
       ∙ ap₂ with_rule (c.in_ok-arg.ensures.shape c.folder.ensures.local
-      ∙ ap₂ with_rule (ap app_of_fields c.after_help.ensures ∙ (ap app_of_fields c.override_usage.ensures ∙ (ap app_of_fields c.about.ensures ∙ c.new.ensures.app))) c.folder.ensures.rule) c.folder-2.ensures.rule) c.number.ensures.rule) c.number-2.ensures.rule) c.arg-4.ensures;
+      ∙ ap₂ with_rule (ap app_of_fields c.after_help.ensures
+      ∙ (ap app_of_fields c.override_usage.ensures ∙ (ap app_of_fields c.about.ensures
+      ∙ c.new.ensures.app))) c.folder.ensures.rule) c.folder-2.ensures.rule) c.number.ensures.rule) c.number-2.ensures.rule)
+      c.arg-4.ensures;
   local = IfOk-weaker c.arg-4.result _ _ (λ r h. rw (
     h.globals,
     c.in_ok-arg-3.ensures.globals,

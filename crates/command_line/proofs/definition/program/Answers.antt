@@ -16,4 +16,5 @@ returns c =
     let top_is : app_of c.after_help.result ≡ record { top = program_shape (new_app (codes "rebuild")).top; subs = [] } =
     ap app_of_fields c.after_help.ensures ∙ (ap app_of_fields c.about.ensures ∙ (ap app_of_fields c.version.ensures
     ∙ ap versioned (ap app_of_fields c.no_binary_name.ensures ∙ ap unnamed c.new.ensures.app))) in
-    IfOk-weaker c.subcommand.result _ _ (λ r h. h.shape c.in_ok-farm.ensures.local ∙ ap₂ with_subcommand top_is (ap (λ (a : App). a.top) c.in_ok-farm.ensures.app)) c.subcommand.ensures
+    IfOk-weaker c.subcommand.result _ _ (λ r h. h.shape c.in_ok-farm.ensures.local
+    ∙ ap₂ with_subcommand top_is (ap (λ (a : App). a.top) c.in_ok-farm.ensures.app)) c.subcommand.ensures

@@ -12,4 +12,5 @@ returns c =
     let told = c.requires in let b = c.args.board in let v = c.in_ok-by_feed.field-0 in
     merged_answers c.args.feeds.now b.table (map (λ (a : Vec (ℕ × Outcome) Global). a.items) v.items)
     (subst (λ (l : List (List (List Order))). AreMergedRows l b.table) told.0 told.1)
-    (zip_map (λ (row : List (Option Entry)) (outs : List (ℕ × Outcome)). AllZip IsOutcomeOf (filled row) outs) (λ (a : Vec (ℕ × Outcome) Global). a.items) b.table v.items c.in_ok-by_feed.ensures)
+    (zip_map (λ (row : List (Option Entry)) (outs : List (ℕ × Outcome)). AllZip IsOutcomeOf (filled row) outs)
+    (λ (a : Vec (ℕ × Outcome) Global). a.items) b.table v.items c.in_ok-by_feed.ensures)

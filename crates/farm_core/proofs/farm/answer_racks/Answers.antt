@@ -13,4 +13,5 @@ returns c =
     let told = c.requires in let b = c.args.board in let v = c.in_ok-answers.field-0 in
     expected_answers c.args.racks.now b.table (map (λ (a : Vec Outcome Global). a.items) v.items)
     (subst (λ (l : List (List (List Order))). AreMergedRows l b.table) told.0 told.1)
-    (zip_map (λ (row : List (Option Entry)) (outs : List Outcome). AllZip (λ (e : Entry) (o : Outcome). IsOutcomeOf e (slot_feed e.rack, o)) (filled row) outs) (λ (a : Vec Outcome Global). a.items) b.table v.items c.in_ok-answers.ensures)
+    (zip_map (λ (row : List (Option Entry)) (outs : List Outcome). AllZip (λ (e : Entry) (o : Outcome). IsOutcomeOf e (slot_feed e.rack, o))
+    (filled row) outs) (λ (a : Vec Outcome Global). a.items) b.table v.items c.in_ok-answers.ensures)

@@ -10,7 +10,8 @@ loop-rack-preserved c = (
   (let was = c.loop-rack.invariant.1 in
       let lists = lists_of c.args.lists in
       let low = c.loop-rack-test.true in let n = c.racks-rack-end.ensures.count in
-      let rest : all_feeds_of (drop c.loop-rack.rack lists) ≡ length c.feeds.result.now + all_feeds_of (drop (c.loop-rack.rack + 1) lists) = feeds_rest lists c.loop-rack.rack c.feeds.result.now (omega arith) c.feeds.ensures.all in
+      let rest : all_feeds_of (drop c.loop-rack.rack lists) ≡ length c.feeds.result.now + all_feeds_of (drop (c.loop-rack.rack + 1) lists) =
+      feeds_rest lists c.loop-rack.rack c.feeds.result.now (omega arith) c.feeds.ensures.all in
       omega arith),
 )
 

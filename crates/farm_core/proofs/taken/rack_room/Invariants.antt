@@ -19,4 +19,5 @@ invariant-loop-feed l =
     × (vec_len l.rights + l.feed ≡ l.count)
     × Each (λ r. r ≡ l.gate.id) (vec_items l.rights)
     × Each (λ (f : Feeder). f.seat.has.share ≡ 4294967296 / l.count) (vec_items l.feeders)
-    × EachAt (λ k (f : Feeder). (f.rack ≡ l.rack) × (f.feed ≡ k) × (get_elem? l.lists k ≡ some f.list.now) × (f.gate.now ≡ l.gate)) (vec_items l.feeders)
+    × EachAt (λ k (f : Feeder). (f.rack ≡ l.rack) × (f.feed ≡ k) × (get_elem? l.lists k ≡ some f.list.now) × (f.gate.now ≡ l.gate))
+    (vec_items l.feeders)

@@ -18,5 +18,6 @@ invariant-loop-own l =
     × (into_iter_items l.initial.puts ≡ ends_given (rooms_of (vec_items l.racks)) ++ into_iter_items l.puts)
     × (into_iter_len l.puts ≡ all_feeds_of (drop (vec_len l.racks) (lists_of l.lists)))
     × (length (ends_given (rooms_of (vec_items l.racks))) + into_iter_len l.puts ≡ into_iter_len l.initial.puts)
-    × ((k : ℕ) (feeds : List (List Order)) (g : Given) → get_elem? (lists_of l.lists) k ≡ some feeds → get_elem? (rooms_of (vec_items l.racks)) k ≡ some g → AreRackFeeders g.0 k feeds g.1)
+    × ((k : ℕ) (feeds : List (List Order)) (g : Given) → get_elem? (lists_of l.lists) k ≡ some feeds
+    → get_elem? (rooms_of (vec_items l.racks)) k ≡ some g → AreRackFeeders g.0 k feeds g.1)
     × (length l.yielded ≡ vec_len l.racks)

@@ -13,7 +13,8 @@ use Rattle.farm_core.proofs.taken.room_for.Goals as goal
 pub racks_for-requires-clause-unused : goal.racks_for-requires-clause-unused
 racks_for-requires-clause-unused c =
     let lane = c.in_ok-job_puts in
-    front_unused c.all_feeds.result c.workers-workers.result (lane.job_puts.items ++ lane.stops ∷ []) lane.job_puts.items lane.job_takes.items lane.stops lane.ensures refl
+    front_unused c.all_feeds.result c.workers-workers.result
+    (lane.job_puts.items ++ lane.stops ∷ []) lane.job_puts.items lane.job_takes.items lane.stops lane.ensures refl
 
 pub racks_for-requires-clause-count : goal.racks_for-requires-clause-count
 racks_for-requires-clause-count c =
@@ -36,7 +37,8 @@ returns-clause-ready c =
     jobs.ensures lane.ensures refl refl
     c.in_ok-board.ensures
     c.all_feeds.ensures.few (omega (arith, c.racks.ensures.limit))
-    (omega (arith, c.workers-workers.ensures, c.args.settings.workers_fit)) (omega (arith, c.workers-workers.ensures, c.args.settings.workers_most))
+    (omega (arith, c.workers-workers.ensures, c.args.settings.workers_fit))
+    (omega (arith, c.workers-workers.ensures, c.args.settings.workers_most))
     c.in_ok-ends.ensures.replies c.in_ok-ends.ensures.jobs c.in_ok-racks.ensures.ends c.in_ok-racks.ensures.racks
     (c.in_ok-space.ensures.0 ∙ c.racks.ensures.count) c.in_ok-space.ensures.1
 

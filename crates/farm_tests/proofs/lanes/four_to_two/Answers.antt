@@ -34,6 +34,7 @@ returns-clause-takes c =
     let f = popped_put o.lane 1 c.pop-2.new.self.items c.pop-3.new.self.items c.in-Some-Some-2.b e.1 c.in-Some-Some-2.ensures.items in
     let h = popped_put o.lane 0 c.pop-3.new.self.items c.pop-4.new.self.items c.in-Some-Some-2.a f.1 c.in-Some-Some-2.ensures'.items in
     let l = sym (ap (λ (p : PutView _). p.lane) h.0) in
-    let t = popped_take o.lane 1 c.in_ok-puts.takes.items c.pop-5.new.self.items c.in-Some-Some-3.second o.take_ends c.in-Some-Some-3.ensures.items in
+    let t = popped_take o.lane 1 c.in_ok-puts.takes.items c.pop-5.new.self.items c.in-Some-Some-3.second o.take_ends
+    c.in-Some-Some-3.ensures.items in
     let u = popped_take o.lane 0 c.pop-5.new.self.items c.pop-6.new.self.items c.in-Some-Some-3.first t.1 c.in-Some-Some-3.ensures'.items in
     (u.0 ∙ ap new_take l, t.0 ∙ ap new_take l)

@@ -4,7 +4,8 @@ use Rattle.line_mode.proofs.hexadecimal.decode_few.Goals as goal
 
 pub pairs-preserved : goal.pairs-preserved
 pairs-preserved c =
-    rw c.in_ok-push.ensures.items (pair-decoded c.args.text.now c.pairs.bytes.items c.pairs.i c.table_value-high.result c.table_value-low.result (omega arith)
+    rw c.in_ok-push.ensures.items (pair-decoded c.args.text.now c.pairs.bytes.items c.pairs.i c.table_value-high.result
+    c.table_value-low.result (omega arith)
     c.table_value-high.ensures c.table_value-low.ensures c.pairs.invariant (omega arith) (omega arith))
 
 pub returns-then-high-ge16 : goal.returns-then-high-ge16

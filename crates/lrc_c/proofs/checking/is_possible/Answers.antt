@@ -9,7 +9,8 @@ are_zero-requires c = used c.args.code (is_in c.args.set) (lent c.args.at.now) c
 
 pub returns-clause-yes : goal.returns-clause-yes
 returns-clause-yes c = λ t. possible c.args.code (is_in c.args.set) (lent c.args.at.now) c.args.len c.requires
-    c.are_sixteen.ensures.bytes c.are_sixteen.ensures.count c.check_rows-checks.result c.check_rows-checks.ensures (c.are_zero.ensures.yes t)
+    c.are_sixteen.ensures.bytes c.are_sixteen.ensures.count c.check_rows-checks.result c.check_rows-checks.ensures
+    (c.are_zero.ensures.yes t)
 
 pub returns-clause-no : goal.returns-clause-no
 returns-clause-no c = λ f. contradiction c.args.code (is_in c.args.set) (lent c.args.at.now) c.args.len c.requires

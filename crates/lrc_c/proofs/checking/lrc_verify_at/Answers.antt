@@ -13,5 +13,6 @@ returns-else-is_possible-clause-answer c = λ d h.
       refl,
       said_of (λ x s q. IsContradiction (tables_of x) s (at_place (lent c.args.at.now)) c.args.len)
           c.args.survivors c.set_of-set.result c.in-Some.own d X0 X0 c.set_of-set.ensures
-          (same_code (code_numbered c.args.code) c.in-Some.own d (sym c.code_numbered.ensures ∙ c.in-Some.is) h.code_is) refl (c.if-is_possible.ensures.no refl),
+          (same_code (code_numbered c.args.code) c.in-Some.own d (sym c.code_numbered.ensures ∙ c.in-Some.is) h.code_is) refl
+          (c.if-is_possible.ensures.no refl),
     )

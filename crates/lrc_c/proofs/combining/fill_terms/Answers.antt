@@ -21,7 +21,7 @@ loop-k-preserved c =
     elim c.if-has_term.branch [
       | then-has_term w ↦
           let t = w.term_of.result in
-          let is_term = w.term_of.ensures in
+          let is_term = w.term_of.ensures c.args.len c.requires.used in
           rw (w.terms-is, w.count-is) (record {
             long = length-set ts n t ∙ so_far.long;
             few = omega arith;
@@ -43,5 +43,6 @@ returns-clause-terms c =
     let long = length-take-le c.loop-k.count ts (omega arith) in
     record {
       room = record { few = omega (arith, long); lengths = c.loop-k.invariant.lengths };
-      sums = λ i. c.loop-k.invariant.sums i ∙ combination-all c.args.coefficients.now (column (lent c.args.at.now) i) c.loop-k.k (omega arith);
+      sums = λ i. c.loop-k.invariant.sums i ∙ combination-all c.args.coefficients.now (column (lent c.args.at.now) i) c.loop-k.k
+          (omega arith);
     }

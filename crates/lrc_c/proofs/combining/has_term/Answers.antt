@@ -1,9 +1,9 @@
-use Rattle.std.proofs.Common.{◌∙◌, ap, sym, get_or, length, arith}
+use Rattle.std.proofs.Common.{◌∙◌, ap, get_or, arith}
 use Rattle.lrc_field.specs.Field.{times}
 use Rattle.lrc_field.proofs.FieldLaws.{times-zero, times-zero_r}
 use Rattle.lrc_c.specs.Lent.{lent}
 use Rattle.lrc_c.specs.Combined.{column}
-use Rattle.lrc_c.proofs.Combinations.{lent_at, length-lent, column_at, column_past, used_at}
+use Rattle.lrc_c.proofs.Combinations.{length-lent, column_past}
 use Rattle.lrc_c.proofs.combining.has_term.Goals as goal
 
 pub returns-then-c-eq0-clause-no : goal.returns-then-c-eq0-clause-no

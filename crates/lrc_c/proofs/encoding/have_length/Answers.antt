@@ -8,4 +8,5 @@ returns-then-one-len-clause-no c = λ e all.
     c.if-one-len.true (each_length (λ l. l.bytes.now) c.args.sources.now c.args.len all c.loop-one.one-index _ c.loop-one-test.true)
 
 pub returns-clause-yes : goal.returns-clause-yes
-returns-clause-yes c = λ e. All-map (λ xs. length xs ≡ c.args.len) (λ l. l.bytes.now) c.args.sources.now (λ k d lt. c.loop-one.invariant k d (omega arith))
+returns-clause-yes c = λ e. All-map (λ xs. length xs ≡ c.args.len) (λ l. l.bytes.now) c.args.sources.now
+    (λ k d lt. c.loop-one.invariant k d (omega arith))

@@ -25,15 +25,18 @@ loop-k-preserved c =
       | then-has_pair w ↦
           let p = w.pair_of.result in
           let e = length-lent c.args.at.now in
-          let yes = w.if-has_pair.ensures.yes refl in
+          let long = w.if-has_pair.ensures.long refl c.args.len c.requires.firsts c.requires.seconds in
           let m = w.pair_of.ensures in
-          let is_pair = pair_is cs ds xss c.args.len k p (omega (arith, e, yes.0)) yes.1 m.first m.second m.bytes in
+          let is_pair = pair_is cs ds xss c.args.len k p (omega
+          (arith, e, w.if-has_pair.ensures.inside refl)) long m.first m.second m.bytes in
           rw (w.pairs-is, w.count-is) (record {
             long = length-set ps n p ∙ so_far.long;
             few = omega arith;
             room = rooms-more c.args.len ps n p fits so_far.room is_pair.long;
-            first_sums = λ i. pairs-more (λ (q : Pair). q.first) ps n i p fits ∙ ap₂ bit_xor (so_far.first_sums i) (is_pair.first i) ∙ sym (first i);
-            second_sums = λ i. pairs-more (λ (q : Pair). q.second) ps n i p fits ∙ ap₂ bit_xor (so_far.second_sums i) (is_pair.second i) ∙ sym (second i);
+            first_sums = λ i. pairs-more (λ (q : Pair). q.first) ps n i p fits ∙ ap₂ bit_xor (so_far.first_sums i) (is_pair.first i)
+                ∙ sym (first i);
+            second_sums = λ i. pairs-more (λ (q : Pair). q.second) ps n i p fits ∙ ap₂ bit_xor (so_far.second_sums i) (is_pair.second i)
+                ∙ sym (second i);
           })
       | else-has_pair w ↦
           rw (w.pairs-is, w.count-is) (record {
@@ -48,6 +51,8 @@ loop-k-preserved c =
 pub returns-clause-pairs : goal.returns-clause-pairs
 returns-clause-pairs c = record {
   room = c.loop-k.invariant.room;
-  first_sums = λ i. c.loop-k.invariant.first_sums i ∙ combination-all c.args.firsts.now (column (lent c.args.at.now) i) c.loop-k.k (omega arith);
-  second_sums = λ i. c.loop-k.invariant.second_sums i ∙ combination-all c.args.seconds.now (column (lent c.args.at.now) i) c.loop-k.k (omega (arith, c.requires.same));
+  first_sums = λ i. c.loop-k.invariant.first_sums i ∙ combination-all c.args.firsts.now (column (lent c.args.at.now) i) c.loop-k.k
+      (omega arith);
+  second_sums = λ i. c.loop-k.invariant.second_sums i ∙ combination-all c.args.seconds.now (column (lent c.args.at.now) i) c.loop-k.k
+      (omega (arith, c.requires.same));
 }

@@ -14,15 +14,15 @@ returns-then-k-at-clause-no c = λ f i.
     let past = column_past (lent c.args.at.now) c.args.k i (omega (arith, e, c.if-k-at.true)) in
     (ap (times s) past ∙ times-zero_r s, ap (times t) past ∙ times-zero_r t)
 
-pub returns-then-first-ne0-clause-yes : goal.returns-then-first-ne0-clause-yes
-returns-then-first-ne0-clause-yes c = λ t.
+pub returns-then-first-ne0-clause-long : goal.returns-then-first-ne0-clause-long
+returns-then-first-ne0-clause-long c = λ t len firsts seconds.
     let e = length-lent c.args.at.now in
-    (omega arith, used_at c.args.firsts.now (lent c.args.at.now) c.args.len c.args.k c.requires.firsts (omega (arith, e)) c.if-first-ne0.true)
+    used_at c.args.firsts.now (lent c.args.at.now) len c.args.k firsts (omega (arith, e)) c.if-first-ne0.true
 
-pub returns-then-second-ne0-clause-yes : goal.returns-then-second-ne0-clause-yes
-returns-then-second-ne0-clause-yes c = λ t.
+pub returns-then-second-ne0-clause-long : goal.returns-then-second-ne0-clause-long
+returns-then-second-ne0-clause-long c = λ t len firsts seconds.
     let e = length-lent c.args.at.now in
-    (omega arith, used_at c.args.seconds.now (lent c.args.at.now) c.args.len c.args.k c.requires.seconds (omega (arith, e)) c.if-second-ne0.true)
+    used_at c.args.seconds.now (lent c.args.at.now) len c.args.k seconds (omega (arith, e)) c.if-second-ne0.true
 
 pub returns-clause-no : goal.returns-clause-no
 returns-clause-no c = λ f i.

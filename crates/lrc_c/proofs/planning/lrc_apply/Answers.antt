@@ -6,7 +6,8 @@ use Rattle.lrc_c.proofs.planning.lrc_apply.Goals as goal
 pub returns-then-not-are_used-clause-planned : goal.returns-then-not-are_used-clause-planned
 returns-then-not-are_used-clause-planned c = λ d survives p of_code value whole s f.
     absurd (c.if-not-are_used.ensures.no refl
-    (row_used d survives (lent c.args.at.now) (length c.args.out.now) whole c.are_sixteen.ensures.bytes c.are_sixteen.ensures.count c.args.row.now value.reads))
+    (row_used d survives (lent c.args.at.now) (length c.args.out.now) whole c.are_sixteen.ensures.bytes c.are_sixteen.ensures.count
+    c.args.row.now value.reads))
 
 pub returns-clause-planned : goal.returns-clause-planned
 returns-clause-planned c = λ d survives p of_code value whole s f.

@@ -14,7 +14,8 @@ returns-in-Some-value-clause-answer c = λ d p h.
           c.args.survivors c.set_of.result c.in-Some.lost.code d c.in-Some.lost.place p c.set_of.ensures same.0 same.1
           (subst (λ v. IsRowPlan (tables_of c.in-Some.lost.code) (is_in c.set_of.result) c.in-Some.lost.place v c.all_bytes_of-plan.result)
           (c.in-Some-value.is ∙ ap (λ v. Some v) (sym c.bytes_of-plan.ensures))
-          (subst (λ w. IsRowPlan (tables_of c.in-Some.lost.code) (is_in c.set_of.result) c.in-Some.lost.place c.plan_rows-rows.result.value w)
+          (subst (λ w. IsRowPlan (tables_of c.in-Some.lost.code)
+          (is_in c.set_of.result) c.in-Some.lost.place c.plan_rows-rows.result.value w)
           (sym c.all_bytes_of-plan.ensures) c.plan_rows-rows.ensures)),
     )
 
@@ -30,7 +31,8 @@ returns-in-None-clause-answer c = λ d p h.
           c.args.survivors c.set_of.result c.in-Some.lost.code d c.in-Some.lost.place p c.set_of.ensures same.0 same.1
           (subst (λ v. IsRowPlan (tables_of c.in-Some.lost.code) (is_in c.set_of.result) c.in-Some.lost.place v c.all_bytes_of-plan.result)
           c.in-None.is
-          (subst (λ w. IsRowPlan (tables_of c.in-Some.lost.code) (is_in c.set_of.result) c.in-Some.lost.place c.plan_rows-rows.result.value w)
+          (subst (λ w. IsRowPlan (tables_of c.in-Some.lost.code)
+          (is_in c.set_of.result) c.in-Some.lost.place c.plan_rows-rows.result.value w)
           (sym c.all_bytes_of-plan.ensures) c.plan_rows-rows.ensures)),
     )
 

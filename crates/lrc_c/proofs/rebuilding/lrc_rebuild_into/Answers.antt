@@ -10,13 +10,16 @@ returns-clause-answer c = λ d p h.
     let same = same_lost c.in-Some.ensures h.of_target in (
       c.rebuild-answer.result,
       c.status_of.ensures,
-      said_of (λ x s q. IsAnswerAt (tables_of x) s (at_place (lent c.args.at.now)) (length c.args.out.now) q c.rebuild-answer.result c.rebuild-answer.new.out)
-          c.args.survivors c.set_of-set.result c.in-Some.lost.code d c.in-Some.lost.place p c.set_of-set.ensures same.0 same.1 c.rebuild-answer.ensures,
+      said_of (λ x s q. IsAnswerAt (tables_of x) s (at_place (lent c.args.at.now))
+          (length c.args.out.now) q c.rebuild-answer.result c.rebuild-answer.new.out)
+          c.args.survivors c.set_of-set.result c.in-Some.lost.code d c.in-Some.lost.place p c.set_of-set.ensures same.0 same.1
+          c.rebuild-answer.ensures,
     )
 
 pub returns-clause-refused : goal.returns-clause-refused
 returns-clause-refused c = λ none. absurd (none c.in-Some.lost.code c.in-Some.lost.place (record {
   of_target = c.in-Some.ensures;
   some = omega (arith, c.if-len-eq0.false);
-  whole = whole_is c.args.survivors c.set_of-set.result c.in-Some.lost.code (lent c.args.at.now) (length c.args.out.now) c.set_of-set.ensures (c.if-not-are_whole.ensures.yes refl);
+  whole = whole_is c.args.survivors c.set_of-set.result c.in-Some.lost.code (lent c.args.at.now)
+      (length c.args.out.now) c.set_of-set.ensures (c.if-not-are_whole.ensures.yes refl);
 }))

@@ -10,11 +10,11 @@ fill_terms-count-requires-clause-used c =
     subst (λ row. AreUsed row (lent c.args.at.now) c.args.len) (sym c.bytes_of.ensures)
     (row_used c.args.code (is_in c.args.set) (lent c.args.at.now) c.args.len c.requires.whole
     c.are_sixteen.ensures.bytes c.are_sixteen.ensures.count c.in-Some.found
-    (value_some (tables_of c.args.code) (is_in c.args.set) c.in-Lost.place c.plan_rows-plan.result.value c.in-Some.found c.in-Some.is c.plan_rows-plan.ensures.of_target).reads)
+    c.in-Some.ensures.value.reads)
 
 pub returns-clause-used : goal.returns-clause-used
 returns-clause-used c =
     subst (λ row. AreUsed row (lent c.args.at.now) c.args.len) (sym c.bytes_of.ensures)
     (row_used c.args.code (is_in c.args.set) (lent c.args.at.now) c.args.len c.requires.whole
     c.are_sixteen.ensures.bytes c.are_sixteen.ensures.count c.in-Some.found
-    (value_some (tables_of c.args.code) (is_in c.args.set) c.in-Lost.place c.plan_rows-plan.result.value c.in-Some.found c.in-Some.is c.plan_rows-plan.ensures.of_target).reads)
+    c.in-Some.ensures.value.reads)

@@ -21,10 +21,14 @@ returns-clause-answer c = λ o h.
     said_of (λ x s q. AreAnswered x s at len targets (told.first ∷ told.second ∷ told.third ∷ told.fourth ∷ []) new.a new.b new.c new.d)
     c.args.survivors c.set_of-set.result own o X0 X0 c.set_of-set.ensures
     (same_code (code_numbered c.args.code) own o (sym c.code_numbered.ensures ∙ c.in-Some.is) h.code_is) refl (record {
-      first = answered own survives at len (get_or targets 0 0) told.first new.a (length c.args.a.now) c.in-Some-target_of.first c.in-Some-target_of.ensures ensures.first;
-      second = answered own survives at len (get_or targets 1 0) told.second new.b (length c.args.b.now) c.in-Some-target_of-2.second c.in-Some-target_of-2.ensures ensures.second;
-      third = answered own survives at len (get_or targets 2 0) told.third new.c (length c.args.c.now) c.in-Some-target_of-3.third c.in-Some-target_of-3.ensures ensures.third;
-      fourth = answered own survives at len (get_or targets 3 0) told.fourth new.d (length c.args.d.now) c.in-Some-target_of-4.fourth c.in-Some-target_of-4.ensures ensures.fourth;
+      first = answered own survives at len (get_or targets 0 0) told.first new.a
+          (length c.args.a.now) c.in-Some-target_of.first c.in-Some-target_of.ensures ensures.first;
+      second = answered own survives at len (get_or targets 1 0) told.second new.b
+          (length c.args.b.now) c.in-Some-target_of-2.second c.in-Some-target_of-2.ensures ensures.second;
+      third = answered own survives at len (get_or targets 2 0) told.third new.c
+          (length c.args.c.now) c.in-Some-target_of-3.third c.in-Some-target_of-3.ensures ensures.third;
+      fourth = answered own survives at len (get_or targets 3 0) told.fourth new.d
+          (length c.args.d.now) c.in-Some-target_of-4.fourth c.in-Some-target_of-4.ensures ensures.fourth;
     })
 
 pub returns-clause-refused : goal.returns-clause-refused
@@ -38,8 +42,12 @@ returns-clause-refused c = λ none.
       code_is = sym c.code_numbered.ensures ∙ c.in-Some.is;
       some = omega (arith, c.if-len-eq0.false);
       whole = whole_is mask set own (lent c.args.at.now) len c.set_of-set.ensures (c.if-not-are_whole.ensures.yes refl);
-      first = asked own mask set len (get_or targets 0 0) (length c.args.a.now) c.in-Some-target_of.first c.set_of-set.ensures c.in-Some-target_of.ensures;
-      second = asked own mask set len (get_or targets 1 0) (length c.args.b.now) c.in-Some-target_of-2.second c.set_of-set.ensures c.in-Some-target_of-2.ensures;
-      third = asked own mask set len (get_or targets 2 0) (length c.args.c.now) c.in-Some-target_of-3.third c.set_of-set.ensures c.in-Some-target_of-3.ensures;
-      fourth = asked own mask set len (get_or targets 3 0) (length c.args.d.now) c.in-Some-target_of-4.fourth c.set_of-set.ensures c.in-Some-target_of-4.ensures;
+      first = asked own mask set len (get_or targets 0 0)
+          (length c.args.a.now) c.in-Some-target_of.first c.set_of-set.ensures c.in-Some-target_of.ensures;
+      second = asked own mask set len (get_or targets 1 0)
+          (length c.args.b.now) c.in-Some-target_of-2.second c.set_of-set.ensures c.in-Some-target_of-2.ensures;
+      third = asked own mask set len (get_or targets 2 0)
+          (length c.args.c.now) c.in-Some-target_of-3.third c.set_of-set.ensures c.in-Some-target_of-3.ensures;
+      fourth = asked own mask set len (get_or targets 3 0)
+          (length c.args.d.now) c.in-Some-target_of-4.fourth c.set_of-set.ensures c.in-Some-target_of-4.ensures;
     }))

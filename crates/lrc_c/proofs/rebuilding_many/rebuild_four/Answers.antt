@@ -9,52 +9,90 @@ use Rattle.lrc_c.proofs.rebuilding_many.rebuild_four.Goals as goal
 
 pub write_coupled_if_zero-possible-requires-clause-used : goal.write_coupled_if_zero-possible-requires-clause-used
 write_coupled_if_zero-possible-requires-clause-used c = used c.args.code (is_in c.args.set) (lent c.args.at.now) c.args.len c.requires.whole
-    c.are_sixteen.ensures.bytes c.are_sixteen.ensures.count c.check_rows-checks.result c.check_rows-checks.ensures
+    c.are_sixteen.ensures.bytes c.are_sixteen.ensures.count c.checks_from-checks.result c.checks_from-checks.ensures.checks
 
 pub returns-clause-first : goal.returns-clause-first
 returns-clause-first c =
-    told c.args.code (is_in c.args.set) (lent c.args.at.now) c.args.len c.requires.whole c.are_sixteen.ensures.bytes c.are_sixteen.ensures.count
-    c.check_rows-checks.result c.check_rows-checks.ensures c.requires.some c.write_coupled_if_zero-possible.result c.args.targets.first _ _
+    told c.args.code (is_in c.args.set) (lent c.args.at.now) c.args.len c.requires.whole c.are_sixteen.ensures.bytes
+    c.are_sixteen.ensures.count
+    c.checks_from-checks.result c.checks_from-checks.ensures.checks c.requires.some c.write_coupled_if_zero-possible.result
+    c.args.targets.first _ _
     c.wanted_of.result c.write_coupled_if_zero-possible.new.a (length c.args.a.now) c.status_at.result
-    c.write_coupled_if_zero-possible.ensures.zero c.write_coupled_if_zero-possible.ensures.no c.requires.first c.aim_of-first_aim.ensures.aim
+    c.write_coupled_if_zero-possible.ensures.zero c.write_coupled_if_zero-possible.ensures.no c.requires.first
+    c.aim_of-first_aim.ensures.aim
     c.wanted_of.ensures (λ t. (c.write_coupled_if_zero-possible.ensures.written t).first) (omega arith) c.status_at.ensures
 
 pub returns-clause-second : goal.returns-clause-second
 returns-clause-second c =
-    told c.args.code (is_in c.args.set) (lent c.args.at.now) c.args.len c.requires.whole c.are_sixteen.ensures.bytes c.are_sixteen.ensures.count
-    c.check_rows-checks.result c.check_rows-checks.ensures c.requires.some c.write_coupled_if_zero-possible.result c.args.targets.second _ _
+    told c.args.code (is_in c.args.set) (lent c.args.at.now) c.args.len c.requires.whole c.are_sixteen.ensures.bytes
+    c.are_sixteen.ensures.count
+    c.checks_from-checks.result c.checks_from-checks.ensures.checks c.requires.some c.write_coupled_if_zero-possible.result
+    c.args.targets.second _ _
     c.wanted_of-2.result c.write_coupled_if_zero-possible.new.b (length c.args.b.now) c.status_at-2.result
-    c.write_coupled_if_zero-possible.ensures.zero c.write_coupled_if_zero-possible.ensures.no c.requires.second c.aim_of-second_aim.ensures.aim
+    c.write_coupled_if_zero-possible.ensures.zero c.write_coupled_if_zero-possible.ensures.no c.requires.second
+    c.aim_of-second_aim.ensures.aim
     c.wanted_of-2.ensures (λ t. (c.write_coupled_if_zero-possible.ensures.written t).second) (omega arith) c.status_at-2.ensures
 
 pub returns-clause-third : goal.returns-clause-third
 returns-clause-third c =
-    told c.args.code (is_in c.args.set) (lent c.args.at.now) c.args.len c.requires.whole c.are_sixteen.ensures.bytes c.are_sixteen.ensures.count
-    c.check_rows-checks.result c.check_rows-checks.ensures c.requires.some c.write_coupled_if_zero-possible.result c.args.targets.third _ _
+    told c.args.code (is_in c.args.set) (lent c.args.at.now) c.args.len c.requires.whole c.are_sixteen.ensures.bytes
+    c.are_sixteen.ensures.count
+    c.checks_from-checks.result c.checks_from-checks.ensures.checks c.requires.some c.write_coupled_if_zero-possible.result
+    c.args.targets.third _ _
     c.wanted_of-3.result c.write_coupled_if_zero-possible.new.c (length c.args.c.now) c.status_at-3.result
-    c.write_coupled_if_zero-possible.ensures.zero c.write_coupled_if_zero-possible.ensures.no c.requires.third c.aim_of-third_aim.ensures.aim
+    c.write_coupled_if_zero-possible.ensures.zero c.write_coupled_if_zero-possible.ensures.no c.requires.third
+    c.aim_of-third_aim.ensures.aim
     c.wanted_of-3.ensures (λ t. (c.write_coupled_if_zero-possible.ensures.written t).third) (omega arith) c.status_at-3.ensures
 
 pub returns-clause-fourth : goal.returns-clause-fourth
 returns-clause-fourth c =
-    told c.args.code (is_in c.args.set) (lent c.args.at.now) c.args.len c.requires.whole c.are_sixteen.ensures.bytes c.are_sixteen.ensures.count
-    c.check_rows-checks.result c.check_rows-checks.ensures c.requires.some c.write_coupled_if_zero-possible.result c.args.targets.fourth _ _
+    told c.args.code (is_in c.args.set) (lent c.args.at.now) c.args.len c.requires.whole c.are_sixteen.ensures.bytes
+    c.are_sixteen.ensures.count
+    c.checks_from-checks.result c.checks_from-checks.ensures.checks c.requires.some c.write_coupled_if_zero-possible.result
+    c.args.targets.fourth _ _
     c.wanted_of-4.result c.write_coupled_if_zero-possible.new.d (length c.args.d.now) c.status_at-4.result
-    c.write_coupled_if_zero-possible.ensures.zero c.write_coupled_if_zero-possible.ensures.no c.requires.fourth c.aim_of-fourth_aim.ensures.aim
+    c.write_coupled_if_zero-possible.ensures.zero c.write_coupled_if_zero-possible.ensures.no c.requires.fourth
+    c.aim_of-fourth_aim.ensures.aim
     c.wanted_of-4.ensures (λ t. (c.write_coupled_if_zero-possible.ensures.written t).fourth) (omega arith) c.status_at-4.ensures
 
 pub write_coupled_if_zero-possible-requires-clause-coupled : goal.write_coupled_if_zero-possible-requires-clause-coupled
 write_coupled_if_zero-possible-requires-clause-coupled c = record {
   front = λ some.
-      couple_of c.args.code (is_in c.args.set) (lent c.args.at.now) c.args.len (length c.args.a.now) (length c.args.b.now) c.args.targets.first c.args.targets.second
+      couple_of c.args.code (is_in c.args.set) (lent c.args.at.now) c.args.len (length c.args.a.now)
+      (length c.args.b.now) c.args.targets.first c.args.targets.second
       c.aim_of-first_aim.result.0 c.aim_of-second_aim.result.0 _ _ c.wanted_of.result c.wanted_of-2.result _ _ _
-      c.requires.first c.requires.second c.aim_of-first_aim.ensures.aim c.aim_of-second_aim.ensures.aim c.wanted_of.ensures c.wanted_of-2.ensures
+      c.requires.first c.requires.second c.aim_of-first_aim.ensures.aim c.aim_of-second_aim.ensures.aim c.wanted_of.ensures
+      c.wanted_of-2.ensures
       c.aim_of-first_aim.ensures.row c.aim_of-second_aim.ensures.row
-      (c.fill_couple-front_count.ensures.both (omega (arith, some, length-take-le c.fill_couple-front_count.result c.fill_couple-front_count.new.pairs (omega arith)))) (c.fill_couple-front_count.ensures.pairs (omega (arith, some, length-take-le c.fill_couple-front_count.result c.fill_couple-front_count.new.pairs (omega arith))));
+      (c.fill_couple-front_count.ensures.both (omega (
+        arith,
+        some,
+        length-take-le c.fill_couple-front_count.result
+            c.fill_couple-front_count.new.pairs (omega arith),
+      )))
+      (c.fill_couple-front_count.ensures.pairs (omega (
+        arith,
+        some,
+        length-take-le c.fill_couple-front_count.result
+            c.fill_couple-front_count.new.pairs (omega arith),
+      )));
   back = λ some.
-      couple_of c.args.code (is_in c.args.set) (lent c.args.at.now) c.args.len (length c.args.c.now) (length c.args.d.now) c.args.targets.third c.args.targets.fourth
+      couple_of c.args.code (is_in c.args.set) (lent c.args.at.now) c.args.len (length c.args.c.now)
+      (length c.args.d.now) c.args.targets.third c.args.targets.fourth
       c.aim_of-third_aim.result.0 c.aim_of-fourth_aim.result.0 _ _ c.wanted_of-3.result c.wanted_of-4.result _ _ _
-      c.requires.third c.requires.fourth c.aim_of-third_aim.ensures.aim c.aim_of-fourth_aim.ensures.aim c.wanted_of-3.ensures c.wanted_of-4.ensures
+      c.requires.third c.requires.fourth c.aim_of-third_aim.ensures.aim c.aim_of-fourth_aim.ensures.aim c.wanted_of-3.ensures
+      c.wanted_of-4.ensures
       c.aim_of-third_aim.ensures.row c.aim_of-fourth_aim.ensures.row
-      (c.fill_couple-back_count.ensures.both (omega (arith, some, length-take-le c.fill_couple-back_count.result c.fill_couple-back_count.new.pairs (omega arith)))) (c.fill_couple-back_count.ensures.pairs (omega (arith, some, length-take-le c.fill_couple-back_count.result c.fill_couple-back_count.new.pairs (omega arith))));
+      (c.fill_couple-back_count.ensures.both (omega (
+        arith,
+        some,
+        length-take-le c.fill_couple-back_count.result
+            c.fill_couple-back_count.new.pairs (omega arith),
+      )))
+      (c.fill_couple-back_count.ensures.pairs (omega (
+        arith,
+        some,
+        length-take-le c.fill_couple-back_count.result
+            c.fill_couple-back_count.new.pairs (omega arith),
+      )));
 }

@@ -21,12 +21,14 @@ loop-i-preserved c =
     elim c.if-index.branch [
       | then-index w ↦
           w.sum-is ∙ ap₂ bit_xor c.loop-i.invariant
-          (sym (ap term (eq-eqb (index_of here) (index_of c.args.place) (sym c.index.ensures.value ∙ w.if-index.true ∙ c.index-in-loop-i.ensures.value))))
+          (sym (ap term (eq-eqb (index_of here) (index_of c.args.place)
+          (sym c.index.ensures.value ∙ w.if-index.true ∙ c.index-in-loop-i.ensures.value))))
           ∙ sym next
       | else-index w ↦
           w.sum-is ∙ c.loop-i.invariant
           ∙ sym (next ∙ ap (λ b. bit_xor sum (term b))
-          (ne_eqb (index_of here) (index_of c.args.place) (λ e. w.if-index.false (c.index.ensures.value ∙ e ∙ sym c.index-in-loop-i.ensures.value)))
+          (ne_eqb (index_of here) (index_of c.args.place)
+          (λ e. w.if-index.false (c.index.ensures.value ∙ e ∙ sym c.index-in-loop-i.ensures.value)))
           ∙ xor_zero_r sum)
     ]
 

@@ -1,34 +1,27 @@
-use Rattle.std.proofs.Common.{ℕ, List, ap, sym, ◌∙◌, subst}
-use Rattle.lrc_code.specs.declared.codes.Code.TheVariants.{Narrow, Wide}
+use Rattle.std.proofs.Common.{ℕ, List, ap, ◌∙◌, lit<}
 use Rattle.lrc_code.specs.Codes.{tables_of}
 use Rattle.lrc_code.specs.Reduction.{coefficient_at, row_at}
-use Rattle.lrc_code.proofs.Encodings.{parity_rows}
-use Rattle.lrc_c.specs.Updated.{AreCoefficients}
-use Rattle.lrc_c.proofs.UpdateLaws.{coefficients}
+use Rattle.lrc_code.proofs.Encodings.{parities_by_row}
+use Rattle.lrc_c.proofs.UpdateLaws.{coefficients, row_fits}
 use Rattle.lrc_c.proofs.updating.coefficients_of.Goals as goal
 
-pub returns-in-Narrow : goal.returns-in-Narrow
-returns-in-Narrow c =
-    let places = c.places-places.ensures ∙ ap (λ x. (tables_of x).places) c.in-Narrow.is in
-    let along = λ (row : List ℕ). ap (λ ps. coefficient_at ps row c.args.place) places in
-    let row = row_at (parity_rows Narrow) in
-    let px = c.coefficient_of.result in
-    let py = c.coefficient_of-in-Narrow.result in
-    let p0 = c.coefficient_of-in-Narrow-2.result in
-    let p1 = c.coefficient_of-in-Narrow-3.result in
-    subst (λ x. AreCoefficients (tables_of x) c.args.place px py p0 p1) (sym c.in-Narrow.is) (coefficients Narrow c.args.place px py p0 p1
-    (c.coefficient_of.ensures ∙ along (row 0)) (c.coefficient_of-in-Narrow.ensures ∙ along (row 1))
-    (c.coefficient_of-in-Narrow-2.ensures ∙ along (row 2)) (c.coefficient_of-in-Narrow-3.ensures ∙ along (row 3)))
+pub coefficient_of-requires : goal.coefficient_of-requires
+coefficient_of-requires c = row_fits c.args.code _ _ c.parities-rows.ensures c.places-places.ensures 0 (lit< tt)
 
-pub returns-in-Wide : goal.returns-in-Wide
-returns-in-Wide c =
-    let places = c.places-places.ensures ∙ ap (λ x. (tables_of x).places) c.in-Wide.is in
-    let along = λ (row : List ℕ). ap (λ ps. coefficient_at ps row c.args.place) places in
-    let row = row_at (parity_rows Wide) in
-    let px = c.coefficient_of-in-Wide.result in
-    let py = c.coefficient_of-in-Wide-2.result in
-    let p0 = c.coefficient_of-in-Wide-3.result in
-    let p1 = c.coefficient_of-in-Wide-4.result in
-    subst (λ x. AreCoefficients (tables_of x) c.args.place px py p0 p1) (sym c.in-Wide.is) (coefficients Wide c.args.place px py p0 p1
-    (c.coefficient_of-in-Wide.ensures ∙ along (row 0)) (c.coefficient_of-in-Wide-2.ensures ∙ along (row 1))
-    (c.coefficient_of-in-Wide-3.ensures ∙ along (row 2)) (c.coefficient_of-in-Wide-4.ensures ∙ along (row 3)))
+pub coefficient_of-requires-2 : goal.coefficient_of-requires-2
+coefficient_of-requires-2 c = row_fits c.args.code _ _ c.parities-rows.ensures c.places-places.ensures 1 (lit< tt)
+
+pub coefficient_of-requires-3 : goal.coefficient_of-requires-3
+coefficient_of-requires-3 c = row_fits c.args.code _ _ c.parities-rows.ensures c.places-places.ensures 2 (lit< tt)
+
+pub coefficient_of-requires-4 : goal.coefficient_of-requires-4
+coefficient_of-requires-4 c = row_fits c.args.code _ _ c.parities-rows.ensures c.places-places.ensures 3 (lit< tt)
+
+pub returns : goal.returns
+returns c =
+    let along = λ (row : List ℕ). ap (λ ps. coefficient_at ps row c.args.place) c.places-places.ensures in
+    let row = λ (i : ℕ). ap (λ rows. coefficient_at (tables_of c.args.code).places (row_at rows i) c.args.place)
+    (c.parities-rows.ensures ∙ parities_by_row c.args.code) in
+    coefficients c.args.code c.args.place _ _ _ _
+    (c.coefficient_of.ensures ∙ along _ ∙ row 0) (c.coefficient_of-2.ensures ∙ along _ ∙ row 1)
+    (c.coefficient_of-3.ensures ∙ along _ ∙ row 2) (c.coefficient_of-4.ensures ∙ along _ ∙ row 3)

@@ -19,10 +19,14 @@ returns-clause-done c = λ d p h.
     let code = tables_of own in
     let same_place = index_of-eq p changed (h.place_is ∙ sym of_place.0) in
     let same = same_code (code_numbered c.args.code) own d (sym c.code_numbered.ensures ∙ c.in-Some.is) h.code_is in
-    subst (λ x. (◌≡◌ {A = ℕ} 0 0) × IsUpdated (tables_of x) p difference Px c.args.px.now c.update.new.parity × IsUpdated (tables_of x) p difference Py c.args.py.now c.update-2.new.parity
-    × IsUpdated (tables_of x) p difference P0 c.args.p0.now c.update-3.new.parity × IsUpdated (tables_of x) p difference P1 c.args.p1.now c.update-4.new.parity) (sym same)
-    (subst (λ q. (◌≡◌ {A = ℕ} 0 0) × IsUpdated code q difference Px c.args.px.now c.update.new.parity × IsUpdated code q difference Py c.args.py.now c.update-2.new.parity
-    × IsUpdated code q difference P0 c.args.p0.now c.update-3.new.parity × IsUpdated code q difference P1 c.args.p1.now c.update-4.new.parity) (sym same_place) (
+    subst (λ x. (◌≡◌ {A = ℕ} 0 0) × IsUpdated (tables_of x) p difference Px c.args.px.now c.update.new.parity
+    × IsUpdated (tables_of x) p difference Py c.args.py.now c.update-2.new.parity
+    × IsUpdated (tables_of x) p difference P0 c.args.p0.now c.update-3.new.parity
+    × IsUpdated (tables_of x) p difference P1 c.args.p1.now c.update-4.new.parity) (sym same)
+    (subst (λ q. (◌≡◌ {A = ℕ} 0 0) × IsUpdated code q difference Px c.args.px.now c.update.new.parity
+    × IsUpdated code q difference Py c.args.py.now c.update-2.new.parity
+    × IsUpdated code q difference P0 c.args.p0.now c.update-3.new.parity
+    × IsUpdated code q difference P1 c.args.p1.now c.update-4.new.parity) (sym same_place) (
       refl,
       is_updated code changed Px _ difference _ _ of_place.1 of_code.0 by.of_px c.update.ensures.given c.update.ensures.absent,
       is_updated code changed Py _ difference _ _ of_place.1 of_code.1 by.of_py c.update-2.ensures.given c.update-2.ensures.absent,

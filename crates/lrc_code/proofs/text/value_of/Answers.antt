@@ -14,6 +14,8 @@ overflow_add-value c =
 
 pub loop-digit-preserved : goal.loop-digit-preserved
 loop-digit-preserved c = record {
-  value = next_value c.args.digits.now c.loop-digit.digit-index c.loop-digit.value c.loop-digit-test.true c.requires.digits c.loop-digit.invariant.value;
-  small = next_small c.loop-digit.digit-index c.loop-digit.value _ c.loop-digit.invariant.small (digit_at c.args.digits.now c.loop-digit.digit-index c.loop-digit-test.true c.requires.digits);
+  value = next_value c.args.digits.now c.loop-digit.digit-index c.loop-digit.value c.loop-digit-test.true c.requires.digits
+      c.loop-digit.invariant.value;
+  small = next_small c.loop-digit.digit-index c.loop-digit.value _ c.loop-digit.invariant.small
+      (digit_at c.args.digits.now c.loop-digit.digit-index c.loop-digit-test.true c.requires.digits);
 }

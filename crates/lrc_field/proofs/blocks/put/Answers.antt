@@ -7,5 +7,6 @@ returns-clause-set c = λ f set lanes k lt. elim (cases_lt k c.args.i) as (λ _.
   | inl below ↦ c.store.ensures.below k below ∙ set k below
   | inr from ↦
       (let back : c.args.i + (k - c.args.i) ≡ k = omega arith in
-      ap (λ n. get_or c.store.new.bytes n 0) (sym back) ∙ c.store.ensures.inside (k - c.args.i) (omega arith) ∙ lanes.each (k - c.args.i) (omega arith) ∙ ap f back)
+      ap (λ n. get_or c.store.new.bytes n 0) (sym back) ∙ c.store.ensures.inside (k - c.args.i) (omega arith)
+      ∙ lanes.each (k - c.args.i) (omega arith) ∙ ap f back)
 ]

@@ -8,7 +8,10 @@ pub returns : goal.returns
 returns c = λ s f t h.
     let x = λ (n : ℕ). times s (slice_index c.args.bytes.now n) in
     record {
-      in_front = c.added_trio.ensures f (λ k. x (c.args.i + k)) h.in_front (c.scaled_trio.ensures s (λ k. slice_index c.args.bytes.now (c.args.i + k)) t c.load_trio.ensures);
-      in_back = trio_same c.added_trio-2.result (λ k. bit_xor (f (96 + k)) (x (c.args.i + 96 + k))) (λ k. bit_xor (f (96 + k)) (x (c.args.i + (96 + k)))) (λ k lt. ap (λ n. bit_xor (f (96 + k)) (x n)) (omega arith))
-          (c.added_trio-2.ensures (λ k. f (96 + k)) (λ k. x (c.args.i + 96 + k)) h.in_back (c.scaled_trio-2.ensures s (λ k. slice_index c.args.bytes.now (c.args.i + 96 + k)) t c.load_trio-2.ensures));
+      in_front = c.added_trio.ensures f (λ k. x (c.args.i + k)) h.in_front
+          (c.scaled_trio.ensures s (λ k. slice_index c.args.bytes.now (c.args.i + k)) t c.load_trio.ensures);
+      in_back = trio_same c.added_trio-2.result (λ k. bit_xor (f (96 + k)) (x (c.args.i + 96 + k)))
+          (λ k. bit_xor (f (96 + k)) (x (c.args.i + (96 + k)))) (λ k lt. ap (λ n. bit_xor (f (96 + k)) (x n)) (omega arith))
+          (c.added_trio-2.ensures (λ k. f (96 + k)) (λ k. x (c.args.i + 96 + k)) h.in_back
+          (c.scaled_trio-2.ensures s (λ k. slice_index c.args.bytes.now (c.args.i + 96 + k)) t c.load_trio-2.ensures));
     }

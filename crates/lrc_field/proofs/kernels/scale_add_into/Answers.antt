@@ -9,10 +9,12 @@ use Rattle.lrc_field.proofs.kernels.scale_add_into.Goals as goal
 pub lanes-preserved : goal.lanes-preserved
 lanes-preserved c = record {
   within = omega arith;
-  summed = summed_block (λ k. times c.args.c (slice_index c.args.src.now k)) c.args.dst.now (map (times c.args.c) c.args.src.now) c.lanes.dst c.scale_add_block.new.dst c.lanes.at
+  summed = summed_block (λ k. times c.args.c (slice_index c.args.src.now k)) c.args.dst.now
+      (map (times c.args.c) c.args.src.now) c.lanes.dst c.scale_add_block.new.dst c.lanes.at
       (λ k lt. sym (scaled_at c.args.c c.args.src.now k (omega (arith, c.requires, c.lanes.invariant.summed.len))))
       c.lanes.invariant.summed (c.scale_add_block.ensures c.args.c c.new-tables.ensures);
 }
 
 pub returns : goal.returns
-returns c = summed_all _ _ _ c.loop-i.i (c.requires ∙ sym (length-map c.args.src.now (times c.args.c))) (omega (arith, c.loop-i.invariant.len)) c.loop-i.invariant
+returns c = summed_all _ _ _ c.loop-i.i (c.requires ∙ sym (length-map c.args.src.now (times c.args.c)))
+    (omega (arith, c.loop-i.invariant.len)) c.loop-i.invariant

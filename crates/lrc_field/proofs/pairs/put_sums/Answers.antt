@@ -12,12 +12,15 @@ loop-pair-preserved c =
     let p = c.pair-item.result in
     let at = c.args.from + c.args.i in
     record {
-      first = trio_same c.trio_with_products-a.result (λ k. bit_xor (first_sum_at (take j ps) (at + k)) (scaled_at (λ (q : Pair). q.first) p (at + k))) (λ k. first_sum_at (take (j + 1) ps) (at + k))
+      first = trio_same c.trio_with_products-a.result (λ k. bit_xor (first_sum_at (take j ps) (at + k))
+          (scaled_at (λ (q : Pair). q.first) p (at + k))) (λ k. first_sum_at (take (j + 1) ps) (at + k))
           (λ k lt. pair_with (λ (q : Pair). q.first) ps j (at + k) p c.loop-pair-test.true c.pair-item.is)
           (c.trio_with_products-a.ensures (λ k. first_sum_at (take j ps) (at + k)) _ c.loop-pair.invariant.first c.load_trio-bytes.ensures);
-      second = trio_same c.trio_with_products-b.result (λ k. bit_xor (second_sum_at (take j ps) (at + k)) (scaled_at (λ (q : Pair). q.second) p (at + k))) (λ k. second_sum_at (take (j + 1) ps) (at + k))
+      second = trio_same c.trio_with_products-b.result (λ k. bit_xor (second_sum_at (take j ps) (at + k))
+          (scaled_at (λ (q : Pair). q.second) p (at + k))) (λ k. second_sum_at (take (j + 1) ps) (at + k))
           (λ k lt. pair_with (λ (q : Pair). q.second) ps j (at + k) p c.loop-pair-test.true c.pair-item.is)
-          (c.trio_with_products-b.ensures (λ k. second_sum_at (take j ps) (at + k)) _ c.loop-pair.invariant.second c.load_trio-bytes.ensures);
+          (c.trio_with_products-b.ensures (λ k. second_sum_at (take j ps)
+          (at + k)) _ c.loop-pair.invariant.second c.load_trio-bytes.ensures);
     }
 
 pub returns-clause-first_set : goal.returns-clause-first_set
@@ -27,7 +30,8 @@ returns-clause-first_set c = λ set.
     let i = c.args.i in
     c.put_trio.ensures.set (λ k. first_sum_at ps (from + k)) set
     (trio_same c.loop-pair.a _ (λ k. first_sum_at ps (from + (i + k)))
-    (λ k lt. pair_all (λ (q : Pair). q.first) ps c.loop-pair.pair-index (from + i + k) (omega arith) ∙ ap (first_sum_at ps) (omega arith)) c.loop-pair.invariant.first)
+    (λ k lt. pair_all (λ (q : Pair). q.first) ps c.loop-pair.pair-index (from + i + k) (omega arith)
+    ∙ ap (first_sum_at ps) (omega arith)) c.loop-pair.invariant.first)
 
 pub returns-clause-second_set : goal.returns-clause-second_set
 returns-clause-second_set c = λ set.
@@ -36,4 +40,5 @@ returns-clause-second_set c = λ set.
     let i = c.args.i in
     c.put_trio-2.ensures.set (λ k. second_sum_at ps (from + k)) set
     (trio_same c.loop-pair.b _ (λ k. second_sum_at ps (from + (i + k)))
-    (λ k lt. pair_all (λ (q : Pair). q.second) ps c.loop-pair.pair-index (from + i + k) (omega arith) ∙ ap (second_sum_at ps) (omega arith)) c.loop-pair.invariant.second)
+    (λ k lt. pair_all (λ (q : Pair). q.second) ps c.loop-pair.pair-index (from + i + k) (omega arith)
+    ∙ ap (second_sum_at ps) (omega arith)) c.loop-pair.invariant.second)

@@ -1,4 +1,4 @@
-use Rattle.std.proofs.Common.{◌≡◌, ℕ, Bool, List, Option, Some, None, refl, sym, subst}
+use Rattle.std.proofs.Common.{ℕ, Bool, List, Option, Some, None, refl, sym, subst}
 use Rattle.lrc_code.specs.declared.places.Place.{Place}
 use Rattle.lrc_code.specs.declared.outcomes.Outcome.TheVariants.{Rebuilt}
 use Rattle.lrc_code.specs.Answers.{IsAnswer}
@@ -17,7 +17,7 @@ tells code survives t (Some row) checks h = h.1
 pub returns-then-not-possible : goal.returns-then-not-possible
 returns-then-not-possible c =
     let r = c.args.request.now in
-    contradiction r c.length.ensures.accepted c.length.ensures.bytes
+    contradiction r c.recall_invariant.ensures.accepted c.recall_invariant.ensures.bytes
     (λ p. is_among p r.survivors) (λ p. refl) c.args.plan.now.checks
     (tells (tables_of r.code) (λ p. is_among p r.survivors) r.target c.args.plan.now.value c.args.plan.now.checks c.requires)
     (c.are_zero-possible.ensures.no c.if-not-possible.true)
@@ -25,16 +25,18 @@ returns-then-not-possible c =
 pub returns-in_ok-bytes-in-Some : goal.returns-in_ok-bytes-in-Some
 returns-in_ok-bytes-in-Some c =
     let r = c.args.request.now in
-    let by = subst (λ v. AnswerBy (tables_of r.code) (λ p. is_among p r.survivors) r.target v c.args.plan.now.checks) c.in-Some.is c.requires in
+    let by = subst (λ v. AnswerBy (tables_of r.code) (λ p. is_among p r.survivors) r.target v c.args.plan.now.checks) c.in-Some.is
+    c.requires in
     subst (λ f. IsAnswer r (Rebuilt f)) (sym c.new.ensures)
-    (rebuilt r c.length.ensures.accepted c.length.ensures.bytes
+    (rebuilt r c.recall_invariant.ensures.accepted c.recall_invariant.ensures.bytes
     (λ p. is_among p r.survivors) (λ p. refl) c.args.plan.now.checks by.1
     (c.are_zero-possible.ensures.yes c.if-not-possible.false) _ _ by.0 c.in_ok-bytes-in-Some.ensures)
 
 pub returns-in-None : goal.returns-in-None
 returns-in-None c =
     let r = c.args.request.now in
-    let by = subst (λ v. AnswerBy (tables_of r.code) (λ p. is_among p r.survivors) r.target v c.args.plan.now.checks) c.in-None.is c.requires in
-    several r c.length.ensures.accepted c.length.ensures.bytes
+    let by = subst (λ v. AnswerBy (tables_of r.code) (λ p. is_among p r.survivors) r.target v c.args.plan.now.checks) c.in-None.is
+    c.requires in
+    several r c.recall_invariant.ensures.accepted c.recall_invariant.ensures.bytes
     (λ p. is_among p r.survivors) (λ p. refl) c.args.plan.now.checks by.1
     (c.are_zero-possible.ensures.yes c.if-not-possible.false) by.0

@@ -1,4 +1,4 @@
-use Rattle.std.proofs.Common.{◌≡◌, ◌<◌, ◌+◌, ◌++◌, ◌∷◌, [], ◌∙◌, ap, arith, get_or, length, length-set, map, set, subst, sym, take, vec_len}
+use Rattle.std.proofs.Common.{◌≡◌, ◌<◌, ◌+◌, ◌++◌, ◌∷◌, [], ◌∙◌, ap, arith, get_or, length-set, map, subst, sym, take}
 use Rattle.std.proofs.lemmas.List.{get_or-set_other, map-append, take_all, take_more, take_more_set}
 use Rattle.lrc_plan.specs.Form.{AreCoefficients}
 use Rattle.lrc_plan.specs.RowTrees.{ZeroTogether}

@@ -7,4 +7,5 @@ pub returns-in-Some-clause-none : goal.returns-in-Some-clause-none
 returns-in-Some-clause-none c =
     let met : subcommand_rows_of c.args.matches.now ≡ Some (codes "farm", rows_of (found_of c.in-Some.farm.now)) =
     joined _ _ _ _ _ (ap Some (search rules) ∙ c.in-Some.ensures.name) c.in-Some.ensures.rows in
-    none_weaker c.of_farm.result (no_farm (subcommand_rows_of c.args.matches.now) (rows_of (found_of c.in-Some.farm.now)) met) c.of_farm.ensures.none
+    none_weaker c.of_farm.result (no_farm (subcommand_rows_of c.args.matches.now)
+    (rows_of (found_of c.in-Some.farm.now)) met) c.of_farm.ensures.none

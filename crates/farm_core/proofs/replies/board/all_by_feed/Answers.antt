@@ -14,8 +14,10 @@ unfolding AnswersRow
 loop-row-preserved c =
     let was = c.loop-row.invariant in let done = c.loop-row.yielded in let step = c.in-Some.ensures.steps.0 in (
       rw append_assoc (was.0 ∙ ap (λ (t : List (List (Option Entry))). done ++ t) step),
-      subst (λ (vs : List (Vec (ℕ × Outcome) Global)). AllZip AnswersRow (done ++ c.in-Some.row ∷ []) vs) (sym c.push_reserved.ensures.items)
-          (all_zip_push AnswersRow done (vec_items c.loop-row.all) c.in-Some.row c.in_ok-filled_by_feed.field-0 was.1 c.in_ok-filled_by_feed.ensures),
+      subst (λ (vs : List (Vec (ℕ × Outcome) Global)). AllZip AnswersRow (done ++ c.in-Some.row ∷ []) vs)
+          (sym c.push_reserved.ensures.items)
+          (all_zip_push AnswersRow done (vec_items c.loop-row.all) c.in-Some.row c.in_ok-filled_by_feed.field-0 was.1
+          c.in_ok-filled_by_feed.ensures),
       search rules,
       search rules,
     )

@@ -10,6 +10,7 @@ use Rattle.farm_core.proofs.replies.board.all_filled.Given as goal
 abbrev pub invariant-loop-row : goal.invariant-loop-row
 invariant-loop-row l =
     (into_iter_items l.initial.row-iterator ≡ l.yielded ++ into_iter_items l.row-iterator)
-    × AllZip (λ row answers. AllZip (λ (e : Entry) (o : Outcome). IsOutcomeOf e (slot_feed e.rack, o)) (filled row) (vec_items answers)) l.yielded (vec_items l.all)
+    × AllZip (λ row answers. AllZip (λ (e : Entry) (o : Outcome). IsOutcomeOf e (slot_feed e.rack, o)) (filled row)
+    (vec_items answers)) l.yielded (vec_items l.all)
     × (vec_len l.all + into_iter_len l.row-iterator ≡ into_iter_len l.initial.row-iterator)
     × (into_iter_len l.initial.row-iterator ≤ vec_capacity l.all)

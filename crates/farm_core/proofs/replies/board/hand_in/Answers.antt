@@ -6,11 +6,13 @@ use Rattle.farm_core.proofs.replies.board.hand_in.Goals as goal
 
 pub returns-in-Some : goal.returns-in-Some
 returns-in-Some c = λ racks xs was.
-    refused_stays racks c.args.board.now c.in-Some.first xs c.args.reply (subst (λ (f : Option CollectFault). HasHeld racks c.args.board.now f xs) c.in-Some.is was)
+    refused_stays racks c.args.board.now c.in-Some.first xs c.args.reply
+    (subst (λ (f : Option CollectFault). HasHeld racks c.args.board.now f xs) c.in-Some.is was)
 
 pub returns-in-Ok : goal.returns-in-Ok
 returns-in-Ok c = λ racks xs was.
-    holds_more racks c.args.board.now c.accept.new.self xs c.args.reply (subst (λ (f : Option CollectFault). HasHeld racks c.args.board.now f xs) c.in-None.is was) c.in-Ok.ensures.accepted
+    holds_more racks c.args.board.now c.accept.new.self xs c.args.reply
+    (subst (λ (f : Option CollectFault). HasHeld racks c.args.board.now f xs) c.in-None.is was) c.in-Ok.ensures.accepted
 
 pub returns : goal.returns
 returns c = λ racks xs was.

@@ -22,13 +22,16 @@ loop-rack-preserved c =
       search rules,
       search rules,
       λ k feeds gate own at_l at_g at_o.
-          let at_g' : get_elem? (gates ++ g.gate ∷ []) k ≡ some gate = subst (λ (l : List GateName). get_elem? l k ≡ some gate) c.push_reserved.ensures.items at_g in
-          let at_o' : get_elem? (all ++ g.own ∷ []) k ≡ some own = subst (λ (l : List RackSeats). get_elem? l k ≡ some own) c.push_reserved-in-loop-rack.ensures.items at_o in
+          let at_g' : get_elem? (gates ++ g.gate ∷ []) k ≡ some gate =
+          subst (λ (l : List GateName). get_elem? l k ≡ some gate) c.push_reserved.ensures.items at_g in
+          let at_o' : get_elem? (all ++ g.own ∷ []) k ≡ some own =
+          subst (λ (l : List RackSeats). get_elem? l k ≡ some own) c.push_reserved-in-loop-rack.ensures.items at_o in
           ⊎_elim
           (λ old. let low = at_below gates k gate old in was.4 k feeds gate own at_l old (snoc_old all g.own own k (omega arith) at_o'))
           (λ (new : (k ≡ length gates) × (g.gate ≡ gate)).
           let here : k ≡ c.loop-rack.rack = new.0 ∙ gates_len in
-          let same : c.feeds-feeds.result.now ≡ feeds = c.feeds-feeds.ensures.all ∙ (ap (λ i. get_or (lists_of c.args.lists) i []) (sym here) ∙ place_is (lists_of c.args.lists) k feeds [] at_l) in
+          let same : c.feeds-feeds.result.now ≡ feeds = c.feeds-feeds.ensures.all
+          ∙ (ap (λ i. get_or (lists_of c.args.lists) i []) (sym here) ∙ place_is (lists_of c.args.lists) k feeds [] at_l) in
           let P : List (List Order) × GateName × RackSeats → Type 0 = λ p. IsNewGate (length p.0) p.1 p.2 in
           subst P (λ i. (same i, new.1 i, snoc_new all g.own own k (here ∙ sym all_len) at_o' i)) g.ensures)
           (at_snoc_or gates g.gate gate k at_g'),

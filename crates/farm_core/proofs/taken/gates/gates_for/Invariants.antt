@@ -15,4 +15,5 @@ invariant-loop-rack l =
     × (l.racks ≤ vec_capacity l.gates)
     × (vec_len l.all ≡ l.rack)
     × (l.racks ≤ vec_capacity l.all)
-    × ((k : ℕ) (feeds : List (List Order)) (gate : GateName) (own : RackSeats) → get_elem? (lists_of l.lists) k ≡ some feeds → get_elem? (vec_items l.gates) k ≡ some gate → get_elem? (vec_items l.all) k ≡ some own → IsNewGate (length feeds) gate own)
+    × ((k : ℕ) (feeds : List (List Order)) (gate : GateName) (own : RackSeats) → get_elem? (lists_of l.lists) k ≡ some feeds
+    → get_elem? (vec_items l.gates) k ≡ some gate → get_elem? (vec_items l.all) k ≡ some own → IsNewGate (length feeds) gate own)

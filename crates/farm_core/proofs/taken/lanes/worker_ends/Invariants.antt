@@ -12,5 +12,6 @@ invariant-loop-replies l =
     × (map (λ (e : WorkerEnds). e.replies) (vec_items l.ends) ≡ l.yielded)
     × (vec_len l.takes ≡ into_iter_len l.replies-iterator)
     × Each IsUnusedTake (vec_items l.takes)
-    × ((lane : LaneName Job) → Each (λ t. t ≡ new_take lane) (vec_items l.initial.takes) → Each (λ t. t ≡ new_take lane) (vec_items l.takes) × Each (λ (e : WorkerEnds). e.jobs ≡ new_take lane) (vec_items l.ends))
+    × ((lane : LaneName Job) → Each (λ t. t ≡ new_take lane) (vec_items l.initial.takes) → Each (λ t. t ≡ new_take lane) (vec_items l.takes)
+    × Each (λ (e : WorkerEnds). e.jobs ≡ new_take lane) (vec_items l.ends))
     × (vec_len l.ends + into_iter_len l.replies-iterator ≤ vec_capacity l.ends)

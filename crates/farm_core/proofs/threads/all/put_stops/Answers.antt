@@ -19,8 +19,10 @@ loop-preserved g c =
 
 pub returns-clause-stops : goal.returns-clause-stops
 returns-clause-stops g c =
-    stops_more c.args.stops c.loop.stops c.end.result (End c.loop.stops.sender (length c.loop.stops.put)) c.loop.invariant.0 tt c.end.ensures
+    stops_more c.args.stops c.loop.stops c.end.result (End c.loop.stops.sender
+    (length c.loop.stops.put)) c.loop.invariant.0 tt c.end.ensures
 
 pub returns-clause-count : goal.returns-clause-count
 returns-clause-count g c =
-    let longer = ap (λ (u : PutView Job). length u.put) c.end.ensures ∙ length_push c.loop.stops.put (End c.loop.stops.sender (length c.loop.stops.put)) in let was = c.loop.invariant.1 in omega arith
+    let longer = ap (λ (u : PutView Job). length u.put) c.end.ensures
+    ∙ length_push c.loop.stops.put (End c.loop.stops.sender (length c.loop.stops.put)) in let was = c.loop.invariant.1 in omega arith

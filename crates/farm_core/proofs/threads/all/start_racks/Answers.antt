@@ -15,9 +15,11 @@ pub invariant_of-push_reserved : goal.invariant_of-push_reserved
 invariant_of-push_reserved g c =
     let rack = c.in-Some.rack in let hs = c.start_feeders.new.handles.items in
     let given : feeders_of hs ≡ rack.feeders.items = c.start_feeders.ensures.all c.if-start_feeders.true in
-    let long : length hs ≡ length rack.feeders.items = sym (map_length (λ (h : PromisedHandle (Option Fed) FeedOf). h.promise.0.value) hs) ∙ ap (λ (l : List Feeder). length l) given in
+    let long : length hs ≡ length rack.feeders.items = sym (map_length (λ (h : PromisedHandle (Option Fed) FeedOf). h.promise.0.value) hs)
+    ∙ ap (λ (l : List Feeder). length l) given in
     let a = c.start_feeders.new.handles.ok in let b = rack.feeders.ok in record {
-      own = λ k h at. rack.own k h.promise.0.value (subst (λ (l : List Feeder). get_elem? l k ≡ some h.promise.0.value) given (at_map (λ (h : PromisedHandle (Option Fed) FeedOf). h.promise.0.value) hs k h at));
+      own = λ k h at. rack.own k h.promise.0.value (subst (λ (l : List Feeder). get_elem? l k ≡ some h.promise.0.value) given
+          (at_map (λ (h : PromisedHandle (Option Fed) FeedOf). h.promise.0.value) hs k h at));
       some = (let e = rack.some.0 in omega arith, let e = rack.some.1 in omega arith);
       room = (rack.room.2, let e = rack.room.3 in omega arith, rack.room.4, let e = rack.room.5 in omega arith);
     }

@@ -17,17 +17,20 @@ abbrev seats : Fed → SeatRecord
 seats f = f.seat.has
 
 pub look-joined-requires-clause-own : goal.look-joined-requires-clause-own
-look-joined-requires-clause-own c = (each_middle (IsOfGate c.args.gate.now.id) c.args.feds.items c.pop.new.self.items [] c.in-Some.last c.in-Some.ensures.items c.requires.own).0
+look-joined-requires-clause-own c = (each_middle (IsOfGate c.args.gate.now.id) c.args.feds.items c.pop.new.self.items [] c.in-Some.last
+    c.in-Some.ensures.items c.requires.own).0
 
 pub join-joined-requires : goal.join-joined-requires
 join-joined-requires c =
     let was = c.loop-fed.invariant in let done = c.loop-fed.yielded in
-    let rest : c.pop.new.self.items ≡ done ++ c.in-Some-fed.fed ∷ _ = sym c.into_iter-fed-iterator.ensures.into_iter_gives.0 ∙ (was.0 ∙ ap (λ (t : List Fed). done ++ t) c.in-Some-fed.ensures.steps.0) in
+    let rest : c.pop.new.self.items ≡ done ++ c.in-Some-fed.fed ∷ _ =
+    sym c.into_iter-fed-iterator.ensures.into_iter_gives.0 ∙ (was.0 ∙ ap (λ (t : List Fed). done ++ t) c.in-Some-fed.ensures.steps.0) in
     record {
       own = (
         was.1,
         (each_middle (IsOfGate c.args.gate.now.id) c.args.feds.items done _ c.in-Some-fed.fed
-            (c.in-Some.ensures.items ∙ (ap (λ (t : List Fed). t ++ c.in-Some.last ∷ []) rest ∙ append_assoc done (c.in-Some-fed.fed ∷ _) (c.in-Some.last ∷ []))) c.requires.own).0,
+            (c.in-Some.ensures.items ∙ (ap (λ (t : List Fed). t ++ c.in-Some.last ∷ []) rest
+            ∙ append_assoc done (c.in-Some-fed.fed ∷ _) (c.in-Some.last ∷ []))) c.requires.own).0,
       );
     }
 
@@ -39,9 +42,13 @@ loop-fed-preserved c =
       ap (λ (q : SeatView). q.gate) c.join-joined.ensures.joined ∙ was.1,
       (λ parts h.
           subst (λ (q : SeatView). IsJoint q.has (parts ++ map seats (done ++ fed ∷ []))) (sym c.join-joined.ensures.joined)
-          (subst (λ (l : List SeatRecord). IsJoint (joined s t) l) (append_assoc parts (map seats done) (t ∷ []) ∙ ap (λ (l : List SeatRecord). parts ++ l) (sym (map_snoc seats done fed))) (joint_more s t (parts ++ map seats done) (was.2 parts h)))),
+          (subst (λ (l : List SeatRecord). IsJoint (joined s t) l)
+          (append_assoc parts (map seats done) (t ∷ []) ∙ ap (λ (l : List SeatRecord). parts ++ l) (sym (map_snoc seats done fed)))
+          (joint_more s t (parts ++ map seats done) (was.2 parts h)))),
       c.join-joined.ensures.sound,
-      c.push_reserved.ensures.items ∙ (ap (λ (l : List (PutView Job)). l ++ fed.jobs ∷ []) was.4 ∙ (append_assoc (vec_items c.args.put_ends.now) (map (λ (f : Fed). f.jobs) done) (fed.jobs ∷ []) ∙ ap (λ (l : List (PutView Job)). vec_items c.args.put_ends.now ++ l) (sym (map_snoc (λ (f : Fed). f.jobs) done fed)))),
+      c.push_reserved.ensures.items ∙ (ap (λ (l : List (PutView Job)). l ++ fed.jobs ∷ []) was.4
+          ∙ (append_assoc (vec_items c.args.put_ends.now) (map (λ (f : Fed). f.jobs) done) (fed.jobs ∷ [])
+          ∙ ap (λ (l : List (PutView Job)). vec_items c.args.put_ends.now ++ l) (sym (map_snoc (λ (f : Fed). f.jobs) done fed)))),
       c.keep.ensures.rights ∙ (ap (λ (l : List TableId). l ++ right_back fed.right) was.5 ∙ sym (rights_snoc done fed)),
       search rules,
       search rules,
@@ -52,21 +59,31 @@ loop-fed-preserved c =
 pub spend_all-requires-clause-own : goal.spend_all-requires-clause-own
 spend_all-requires-clause-own c =
     let was = c.loop-fed.invariant in let done = c.loop-fed.yielded in let last = c.in-Some.last in
-    let whole : done ≡ c.pop.new.self.items = whole_front c.pop.new.self.items done _ (sym c.into_iter-fed-iterator.ensures.into_iter_gives.0 ∙ was.0)
-    (let a = was.9 in let b = c.in-None.ensures.steps.0 in let d = c.into_iter-fed-iterator.ensures.into_iter_gives.1 in let e = c.pop.new.self.ok in omega arith) in
+    let whole : done ≡ c.pop.new.self.items = whole_front c.pop.new.self.items done _
+    (sym c.into_iter-fed-iterator.ensures.into_iter_gives.0 ∙ was.0)
+    (let a = was.9 in let b = c.in-None.ensures.steps.0 in let d = c.into_iter-fed-iterator.ensures.into_iter_gives.1 in
+    let e = c.pop.new.self.ok in omega arith) in
     let all_is : done ++ last ∷ [] ≡ c.args.feds.items = ap (λ (l : List Fed). l ++ last ∷ []) whole ∙ sym c.in-Some.ensures.items in
-    let rights_are = c.keep-2.ensures.rights ∙ (ap (λ (l : List TableId). l ++ right_back last.right) was.5 ∙ (sym (rights_snoc done last) ∙ ap rights_of all_is)) in
-    (was.1, subst (λ (l : List TableId). Each (λ r. r ≡ c.args.gate.now.id) l) (sym rights_are) (rights_own c.args.gate.now.id c.args.feds.items c.requires.own))
+    let rights_are = c.keep-2.ensures.rights ∙ (ap (λ (l : List TableId). l ++ right_back last.right) was.5
+    ∙ (sym (rights_snoc done last) ∙ ap rights_of all_is)) in (
+      was.1,
+      subst (λ (l : List TableId). Each (λ r. r ≡ c.args.gate.now.id) l) (sym rights_are)
+          (rights_own c.args.gate.now.id c.args.feds.items c.requires.own),
+    )
 
 pub returns-clause-drawn : goal.returns-clause-drawn
 returns-clause-drawn c = λ rack lists fed.
     let was = c.loop-fed.invariant in let done = c.loop-fed.yielded in let last = c.in-Some.last in let s = c.loop-fed.joined.has in
-    let whole : done ≡ c.pop.new.self.items = whole_front c.pop.new.self.items done _ (sym c.into_iter-fed-iterator.ensures.into_iter_gives.0 ∙ was.0)
-    (let a = was.9 in let b = c.in-None.ensures.steps.0 in let d = c.into_iter-fed-iterator.ensures.into_iter_gives.1 in let e = c.pop.new.self.ok in omega arith) in
+    let whole : done ≡ c.pop.new.self.items = whole_front c.pop.new.self.items done _
+    (sym c.into_iter-fed-iterator.ensures.into_iter_gives.0 ∙ was.0)
+    (let a = was.9 in let b = c.in-None.ensures.steps.0 in let d = c.into_iter-fed-iterator.ensures.into_iter_gives.1 in
+    let e = c.pop.new.self.ok in omega arith) in
     let all_is : done ++ last ∷ [] ≡ c.args.feds.items = ap (λ (l : List Fed). l ++ last ∷ []) whole ∙ sym c.in-Some.ensures.items in
-    let rights_are = c.keep-2.ensures.rights ∙ (ap (λ (l : List TableId). l ++ right_back last.right) was.5 ∙ (sym (rights_snoc done last) ∙ ap rights_of all_is)) in
+    let rights_are = c.keep-2.ensures.rights ∙ (ap (λ (l : List TableId). l ++ right_back last.right) was.5
+    ∙ (sym (rights_snoc done last) ∙ ap rights_of all_is)) in
     rack_drawn c.args.gate.now rack lists c.args.feds.items fed s (length c.keep-2.new.rights.items)
-    (subst (λ (l : List SeatRecord). IsJoint s l) (sym (map_snoc seats done last) ∙ ap (map seats) all_is) (joint_turn s last.seat.has (map seats done) (was.2 (last.seat.has ∷ []) c.look-joined.ensures.same)))
+    (subst (λ (l : List SeatRecord). IsJoint s l) (sym (map_snoc seats done last) ∙ ap (map seats) all_is)
+    (joint_turn s last.seat.has (map seats done) (was.2 (last.seat.has ∷ []) c.look-joined.ensures.same)))
     was.3
     (λ back. ap (λ (l : List TableId). length l) rights_are ∙ all_back c.args.feds.items back)
     c.spend_all.ensures

@@ -12,11 +12,13 @@ abbrev pub invariant-loop-fed : goal.invariant-loop-fed
 invariant-loop-fed l =
     (into_iter_items l.initial.fed-iterator ≡ l.yielded ++ into_iter_items l.fed-iterator)
     × (l.joined.gate ≡ l.gate.id)
-    × ((parts : List SeatRecord) → IsJoint l.initial.joined.has parts → IsJoint l.joined.has (parts ++ map (λ (f : Fed). f.seat.has) l.yielded))
+    × ((parts : List SeatRecord) → IsJoint l.initial.joined.has parts
+    → IsJoint l.joined.has (parts ++ map (λ (f : Fed). f.seat.has) l.yielded))
     × IsSound l.gate.size l.joined.has
     × (vec_items l.put_ends ≡ vec_items l.initial.put_ends ++ map (λ (f : Fed). f.jobs) l.yielded)
     × (vec_items l.rights ≡ rights_of l.yielded)
     × (vec_len l.rights + into_iter_len l.fed-iterator + 1 ≤ vec_capacity l.rights)
     × (vec_len l.put_ends + into_iter_len l.fed-iterator + 1 ≤ vec_capacity l.put_ends)
-    × ((vec_capacity l.put_ends ≡ vec_capacity l.initial.put_ends) × (vec_len l.put_ends + into_iter_len l.fed-iterator ≡ vec_len l.initial.put_ends + into_iter_len l.initial.fed-iterator))
+    × ((vec_capacity l.put_ends ≡ vec_capacity l.initial.put_ends)
+    × (vec_len l.put_ends + into_iter_len l.fed-iterator ≡ vec_len l.initial.put_ends + into_iter_len l.initial.fed-iterator))
     × (length l.yielded + into_iter_len l.fed-iterator ≡ into_iter_len l.initial.fed-iterator)

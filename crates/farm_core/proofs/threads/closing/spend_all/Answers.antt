@@ -14,7 +14,8 @@ close-closed-requires c =
       own = (
         was.1,
         each_middle (λ r. r ≡ c.args.gate.now.id) c.args.rights.items done _ c.in-Some.right
-            (sym c.into_iter-right-iterator.ensures.into_iter_gives.0 ∙ (was.0 ∙ ap (λ (t : List TableId). done ++ t) c.in-Some.ensures.steps.0)) c.requires.own.1,
+            (sym c.into_iter-right-iterator.ensures.into_iter_gives.0
+            ∙ (was.0 ∙ ap (λ (t : List TableId). done ++ t) c.in-Some.ensures.steps.0)) c.requires.own.1,
       );
     }
 
@@ -25,12 +26,15 @@ loop-right-preserved c =
       c.close-closed.ensures.gate ∙ was.1,
       c.close-closed.ensures.sound,
       λ is. subst (IsSpending c.args.gate.now.size c.args.seat.has c.close-closed.new.seat.has) (sym (length_push done c.in-Some.right))
-          (spend_next c.args.gate.now.size c.args.seat.has c.loop-right.seat.has c.close-closed.new.seat.has (length done) c.close-closed.result (was.3 is) c.close-closed.ensures.closed),
+          (spend_next c.args.gate.now.size c.args.seat.has c.loop-right.seat.has c.close-closed.new.seat.has
+          (length done) c.close-closed.result (was.3 is) c.close-closed.ensures.closed),
       (let a = length_push done c.in-Some.right in let b = was.4 in let d = c.in-Some.ensures.steps.1 in omega arith),
     )
 
 pub returns : goal.returns
 returns c =
     let was = c.loop-right.invariant in
-    λ used made all. spend_ends c.args.gate.now.size c.args.seat.has c.loop-right.seat.has (length c.loop-right.yielded) was.2 was.3 used made
-    (let a = was.4 in let b = c.in-None.ensures.steps.0 in let d = c.into_iter-right-iterator.ensures.into_iter_gives.1 in let e = c.args.rights.ok in omega (arith, all))
+    λ used made all. spend_ends c.args.gate.now.size c.args.seat.has c.loop-right.seat.has
+    (length c.loop-right.yielded) was.2 was.3 used made
+    (let a = was.4 in let b = c.in-None.ensures.steps.0 in let d = c.into_iter-right-iterator.ensures.into_iter_gives.1 in
+    let e = c.args.rights.ok in omega (arith, all))

@@ -15,7 +15,9 @@ loop-handle-preserved g c =
       rw append_assoc (was.0 ∙ ap (λ (t : List (PromisedHandle Worked WorkOf)). done ++ t) c.in-Some.ensures.steps.0),
       (let P : List (TakeView Job) × List (PutView Replied) → Type 0 = λ p. WorkersJoined (done ++ c.in-Some.handle ∷ []) p.0 p.1 in
           subst P (λ i. (sym c.push_reserved.ensures.items i, sym c.push_reserved-in-loop-handle.ensures.items i))
-          (joined_next done (vec_items c.loop-handle.job_ends) (vec_items c.loop-handle.reply_ends) c.in-Some.handle c.join-jobs.result.jobs c.join-jobs.result.replies was.1 c.join-jobs.ensures)),
+          (joined_next done (vec_items c.loop-handle.job_ends)
+          (vec_items c.loop-handle.reply_ends) c.in-Some.handle c.join-jobs.result.jobs c.join-jobs.result.replies was.1
+          c.join-jobs.ensures)),
       search rules,
       search rules,
     )

@@ -6,7 +6,8 @@ use Rattle.farm_lanes.specs.LaneEnds.{TakeView, PutView, with_taken}
 use Rattle.farm_core.specs.declared.jobs.Job.TheVariants.{Solve, Stop}
 use Rattle.farm_core.proofs.Works.{work_begins, work_replies, work_passes, work_ends, goes_on, none_stops}
 use Rattle.farm_core.proofs.threads.worker.work.Goals as goal
-use Rattle.farm_core.proofs.threads.worker.work.Goals.{in-None, in-Some+then-puts-ge4294967295, in-Some+else-puts-ge4294967295+in-Value-default-default-Stop}
+use Rattle.farm_core.proofs.threads.worker.work.Goals.{in-None, in-Some+then-puts-ge4294967295}
+use Rattle.farm_core.proofs.threads.worker.work.Goals.{in-Some+else-puts-ge4294967295+in-Value-default-default-Stop}
 use Rattle.farm_core.specs.Replies.{Replied}
 use Rattle.farm_core.specs.Jobs.{HasWorked, HasStopped}
 use Rattle.farm_core.specs.declared.jobs.Job.{Job}
@@ -25,8 +26,10 @@ loop-preserved-in-Value-default-default-Solve g c =
     let h = c.in-Value-default-default-Solve in let was = c.loop.invariant in
     let x : Item Job = Value h.sender h.number' (Solve h.rack h.number h.request) in
     let took = c.take.ensures.taken ∙ ap (with_taken c.loop.jobs) (h.is ∙ ap (λ v. Value h.sender h.number' v) h.value-is) in
-    let longer = ap (λ (u : PutView Replied). length u.put) c.put.ensures ∙ length_push c.loop.replies.put (Value c.loop.replies.sender (length c.loop.replies.put) c.reply_to.result) in (
-      work_replies c.args.jobs c.args.replies c.loop.jobs c.take.new.self c.loop.replies c.put.new.self x (Value c.loop.replies.sender (length c.loop.replies.put) c.reply_to.result)
+    let longer = ap (λ (u : PutView Replied). length u.put) c.put.ensures
+    ∙ length_push c.loop.replies.put (Value c.loop.replies.sender (length c.loop.replies.put) c.reply_to.result) in (
+      work_replies c.args.jobs c.args.replies c.loop.jobs c.take.new.self c.loop.replies c.put.new.self x
+          (Value c.loop.replies.sender (length c.loop.replies.put) c.reply_to.result)
           was.0 (c.reply_to.ensures, tt) refl took c.put.ensures,
       goes_on c.loop.jobs c.take.new.self x was.1 (λ stop. stop) took,
       search rules,
@@ -47,12 +50,15 @@ returns-clause-worked g c =
     let P = λ (j : TakeView Job). HasWorked c.args.jobs c.args.replies j c.end.result in
     elim c.match-next.branch [
       | in-None w ↦ subst P (sym w.jobs-is) (ends c.loop.jobs c.loop.replies c.end.result c.loop.invariant.0 c.end.ensures)
-      | in-Some+then-puts-ge4294967295 w ↦ subst P (sym w.jobs-is) (ends c.loop.jobs c.loop.replies c.end.result c.loop.invariant.0 c.end.ensures)
+      | in-Some+then-puts-ge4294967295 w ↦ subst P (sym w.jobs-is)
+          (ends c.loop.jobs c.loop.replies c.end.result c.loop.invariant.0 c.end.ensures)
       | in-Some+else-puts-ge4294967295+in-Value-default-default-Stop w ↦
           (let h = w.in-Value-default-default-Stop in
           subst P (sym w.jobs-is)
           (ends w.take.new.self c.loop.replies c.end.result
-          (work_passes c.args.jobs c.args.replies c.loop.jobs w.take.new.self c.loop.replies (Value h.sender h.number Stop) c.loop.invariant.0 refl (w.take.ensures.taken ∙ ap (with_taken c.loop.jobs) (h.is ∙ ap (λ v. Value h.sender h.number v) h.value-is)))
+          (work_passes c.args.jobs c.args.replies c.loop.jobs w.take.new.self c.loop.replies
+          (Value h.sender h.number Stop) c.loop.invariant.0 refl
+          (w.take.ensures.taken ∙ ap (with_taken c.loop.jobs) (h.is ∙ ap (λ v. Value h.sender h.number v) h.value-is)))
           c.end.ensures))
     ]
 
@@ -60,12 +66,21 @@ pub returns-clause-stopped : goal.returns-clause-stopped
 returns-clause-stopped g c =
     let was = c.loop.invariant in
     let P = λ (j : TakeView Job). HasStopped j.taken c.end.result.put in
-    let longer = ap (λ (u : PutView Replied). length u.put) c.end.ensures ∙ length_push c.loop.replies.put (End c.loop.replies.sender (length c.loop.replies.put)) in
+    let longer = ap (λ (u : PutView Replied). length u.put) c.end.ensures
+    ∙ length_push c.loop.replies.put (End c.loop.replies.sender (length c.loop.replies.put)) in
     elim c.match-next.branch [
       | in-None w ↦ absurd (true≢false (sym w.in-None.ensures.steps))
-      | in-Some+then-puts-ge4294967295 w ↦ subst P (sym w.jobs-is) (inr ((let limit = was.2 in let enough = w.if-puts-ge4294967295.true in let puts = w.puts.ensures in omega arith), was.1))
+      | in-Some+then-puts-ge4294967295 w ↦ subst P (sym w.jobs-is)
+          (inr ((let limit = was.2 in let enough = w.if-puts-ge4294967295.true in let puts = w.puts.ensures in omega arith), was.1))
       | in-Some+else-puts-ge4294967295+in-Value-default-default-Stop w ↦
           (let h = w.in-Value-default-default-Stop in let x : Item Job = Value h.sender h.number Stop in
           subst P (sym w.jobs-is)
-          (inl (c.loop.jobs.taken, x, ap (λ (u : TakeView Job). u.taken) (w.take.ensures.taken ∙ ap (with_taken c.loop.jobs) (h.is ∙ ap (λ v. Value h.sender h.number v) h.value-is)), tt, was.1)))
+          (inl (
+            c.loop.jobs.taken,
+            x,
+            ap (λ (u : TakeView Job). u.taken)
+                (w.take.ensures.taken ∙ ap (with_taken c.loop.jobs) (h.is ∙ ap (λ v. Value h.sender h.number v) h.value-is)),
+            tt,
+            was.1,
+          )))
     ]

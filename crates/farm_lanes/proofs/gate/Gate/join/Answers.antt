@@ -25,5 +25,8 @@ invariant_of-result g c =
       ap (λ m. m.1) both ∙ v.0,
       omega (arith, draws, share, v.1, w.1),
       omega (arith, draws, share, v.1, w.1, within, c.self.invariant.1),
-      c.greater.ensures ∙ (ap (λ a. greater_of a c.second.inside.last) v.3 ∙ (ap (λ b. greater_of (greatest c.first.inside.raw.me.0.numbers) b) w.3 ∙ (sym (greatest-append c.first.inside.raw.me.0.numbers c.second.inside.raw.me.0.numbers) ∙ sym (ap (λ s. greatest s.numbers) m)))),
+      c.greater.ensures ∙ (ap (λ a. greater_of a c.second.inside.last) v.3
+          ∙ (ap (λ b. greater_of (greatest c.first.inside.raw.me.0.numbers) b) w.3
+          ∙ (sym (greatest-append c.first.inside.raw.me.0.numbers c.second.inside.raw.me.0.numbers)
+          ∙ sym (ap (λ s. greatest s.numbers) m)))),
     )

@@ -8,5 +8,6 @@ split_seat-requires g c =
     let held = c.requires.values.1 in (
       c.requires.own.0,
       omega (arith, c.requires.own.1),
-      cuts c.args.gate.now.key c.args.seat.now.id c.args.seat.now.me.0 g.Z.StepValues.share g.Z.StepValues.held (omega (arith, share, c.requires.part.0)) (omega (arith, held, c.requires.part.1)),
+      cuts c.args.gate.now.key c.args.seat.now.id c.args.seat.now.me.0 g.Z.StepValues.share g.Z.StepValues.held
+          (omega (arith, share, c.requires.part.0)) (omega (arith, held, c.requires.part.1)),
     )

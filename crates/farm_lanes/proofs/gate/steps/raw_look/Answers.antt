@@ -9,5 +9,6 @@ load-requires g c =
     let size = c.requires.size in (
       c.requires.own.0,
       omega (arith, c.requires.own.1),
-      rw size (looks g.Z.StepValues.size c.args.gate.now.table_id.slots c.args.seat.now.id c.args.seat.now.me (step c.args.gate.now.table_id.slots 0 0 0 none)),
+      rw size (looks g.Z.StepValues.size c.args.gate.now.table_id.slots c.args.seat.now.id c.args.seat.now.me
+          (step c.args.gate.now.table_id.slots 0 0 0 none)),
     )

@@ -10,7 +10,8 @@ use Rattle.farm_lanes.proofs.lane.opening.deal_puts.Given as goal
 abbrev pub invariant-loop-sender : goal.invariant-loop-sender
 invariant-loop-sender g l = record {
   seated : IsSeatAt (sends_on l.sends) l.pass;
-  rest : view l.pass ≡ end_record (l.putters + l.takers) ((l.putters - l.sender) + l.takers) (empty_lists l.sender (l.putters - l.sender)) [];
+  rest : view l.pass ≡ end_record (l.putters + l.takers) ((l.putters - l.sender) + l.takers)
+      (empty_lists l.sender (l.putters - l.sender)) [];
   copies_left : length l.copies.items + l.sender ≡ l.putters;
   copies_same : All (λ s. sends_on s ≡ sends_on l.sends) l.copies.items;
   room : l.putters ≤ vec_capacity l.puts;

@@ -15,10 +15,18 @@ loop-taker-preserved g c =
     let seat = c.cut_take-mine.ensures.seated.1 in
     let cut = cut_take_is (view c.loop-taker.pass) (view c.cut_take-mine.result) E left was.rest c.cut_take-mine.ensures.cut in record {
       seated = c.cut_take-mine.ensures.seated.0;
-      rest = left_take_is (view c.loop-taker.pass) (view c.cut_take-mine.new.pass) E left (c.args.takers - (c.loop-taker.taker + 1)) was.rest (omega (arith, c.loop-taker-test.true)) c.cut_take-mine.ensures.rest;
-      copies_left = omega (arith, was.copies_left, more_items c.pop.new.self.items c.loop-taker.copies.items c.in-Some.copy c.in-Some.ensures.items);
-      copies_same = all_front (λ s. receives_on s ≡ sends_on c.args.sends.now) c.loop-taker.copies.items c.pop.new.self.items c.in-Some.copy c.in-Some.ensures.items was.copies_same;
+      rest = left_take_is (view c.loop-taker.pass) (view c.cut_take-mine.new.pass) E left
+          (c.args.takers - (c.loop-taker.taker + 1)) was.rest (omega (arith, c.loop-taker-test.true)) c.cut_take-mine.ensures.rest;
+      copies_left = omega (
+        arith,
+        was.copies_left,
+        more_items c.pop.new.self.items c.loop-taker.copies.items c.in-Some.copy
+            c.in-Some.ensures.items,
+      );
+      copies_same = all_front (λ s. receives_on s ≡ sends_on c.args.sends.now) c.loop-taker.copies.items c.pop.new.self.items c.in-Some.copy
+          c.in-Some.ensures.items was.copies_same;
       room = grind (arith, common_steps);
-      made = take_ends_more _ c.loop-taker.taker c.loop-taker.takes.items c.push_reserved.new.self.items c.new.result was.made c.push_reserved.ensures.items
+      made = take_ends_more _ c.loop-taker.taker c.loop-taker.takes.items c.push_reserved.new.self.items c.new.result was.made
+          c.push_reserved.ensures.items
           (c.new.ensures ∙ (λ i. new_take record { queue = (seat.0 i, seat.1 i); ends = (cut i).ends }));
     }

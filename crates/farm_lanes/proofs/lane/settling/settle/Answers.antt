@@ -17,8 +17,15 @@ loop-end-init g c =
     let same = same_lanes c.args.ended.items c.args.takers.items c.requires c.pop.new.self.items e is in
     let seat = inv.0 in record {
       seated = inv.0;
-      lanes = subst (LanesAre c.args.ended.items c.args.takers.items) (λ i. record { queue = (seat.0 i, seat.1 i); ends = (view p).ends }) same.0;
-      gathering = starts c.args.ended.items c.args.takers.items c.pop.new.self.items e (view p) c.first.inside.count is record { puts = inv.1.puts; taken = inv.1.taken; parts = inv.1.parts; last = inv.3 } record { count_is = inv.1.counted; small = inv.2 } same.1 inv.1.few;
+      lanes = subst (LanesAre c.args.ended.items c.args.takers.items)
+          (λ i. record { queue = (seat.0 i, seat.1 i); ends = (view p).ends }) same.0;
+      gathering = starts c.args.ended.items c.args.takers.items c.pop.new.self.items e
+          (view p) c.first.inside.count is record {
+            puts = inv.1.puts;
+            taken = inv.1.taken;
+            parts = inv.1.parts;
+            last = inv.3;
+          } record { count_is = inv.1.counted; small = inv.2 } same.1 inv.1.few;
     }
 
 pub take_in-requires-clause-seated : goal.take_in-requires-clause-seated
@@ -27,7 +34,8 @@ take_in-requires-clause-seated g c =
     let p = c.end.inside.pass in
     let e : PutView g.row.T.Denot = record { lane = lane_of p; sender = c.end.inside.sender; put = put_of (view p) } in
     let is = c.in-Some-pop.ensures.items ∙ ap (λ x. c.pop-in-loop-end.new.self.items ++ x ∷ []) (sym c.end.view_is) in
-    let at = popped c.args.ended.items c.loop-end.ended.items c.pop-in-loop-end.new.self.items was.gathering.done_puts e was.gathering.puts_are is in
+    let at = popped c.args.ended.items c.loop-end.ended.items c.pop-in-loop-end.new.self.items was.gathering.done_puts e
+    was.gathering.puts_are is in
     let same = was.lanes.puts at.0 e at.1 in
     (was.seated, (ap (λ (l : LaneName _). l.queue.0) same, ap (λ (l : LaneName _). l.queue.1) same, c.end.invariant.0.2, was.seated.3))
 
@@ -43,19 +51,27 @@ loop-end-preserved g c =
     let is = c.in-Some-pop.ensures.items ∙ ap (λ x. c.pop-in-loop-end.new.self.items ++ x ∷ []) (sym c.end.view_is) in
     let both = c.take_in.ensures.both in record {
       seated = c.take_in.ensures.seated;
-      lanes = subst (λ n. LanesAre c.args.ended.items c.args.takers.items (lane_on (sends_on c.first.inside.sends) n)) (sym (ap (λ v. v.ends) both)) was.lanes;
-      gathering = subst (λ v. Gathering c.args.ended.items c.args.takers.items c.pop-in-loop-end.new.self.items c.args.takers.items v c.saturating_add-put.result 0) (sym both)
-          (puts_more c.args.ended.items c.args.takers.items c.loop-end.ended.items c.pop-in-loop-end.new.self.items c.args.takers.items e (view p) (view c.loop-end.pass) c.loop-end.put 0 c.end.inside.count c.saturating_add-put.result was.gathering is
-          record { puts = inv.1.puts; taken = inv.1.taken; parts = inv.1.parts; last = inv.3 } record { count_is = inv.1.counted; small = inv.2 } c.saturating_add-put.ensures);
+      lanes = subst (λ n. LanesAre c.args.ended.items c.args.takers.items (lane_on (sends_on c.first.inside.sends) n))
+          (sym (ap (λ v. v.ends) both)) was.lanes;
+      gathering = subst (λ v. Gathering c.args.ended.items c.args.takers.items c.pop-in-loop-end.new.self.items c.args.takers.items v
+          c.saturating_add-put.result 0) (sym both)
+          (puts_more c.args.ended.items c.args.takers.items c.loop-end.ended.items c.pop-in-loop-end.new.self.items c.args.takers.items e
+          (view p) (view c.loop-end.pass) c.loop-end.put 0 c.end.inside.count c.saturating_add-put.result was.gathering is
+          record { puts = inv.1.puts; taken = inv.1.taken; parts = inv.1.parts; last = inv.3 } record {
+            count_is = inv.1.counted;
+            small = inv.2;
+          } c.saturating_add-put.ensures);
     }
 
 pub loop-end-2-init : goal.loop-end-2-init
 loop-end-2-init g c =
     let was = c.loop-end.invariant in
-    let empty : c.loop-end.ended.items ≡ [] = nil_of c.loop-end.ended.items (omega (arith, c.loop-end.ended.ok.0, c.in_default-pop.ensures.cases.0)) in record {
+    let empty : c.loop-end.ended.items ≡ [] = nil_of c.loop-end.ended.items
+    (omega (arith, c.loop-end.ended.ok.0, c.in_default-pop.ensures.cases.0)) in record {
       seated = was.seated;
       lanes = was.lanes;
-      gathering = subst (λ l. Gathering c.args.ended.items c.args.takers.items l c.args.takers.items (view c.loop-end.pass) c.loop-end.put 0) empty was.gathering;
+      gathering = subst (λ l. Gathering c.args.ended.items c.args.takers.items l c.args.takers.items
+          (view c.loop-end.pass) c.loop-end.put 0) empty was.gathering;
     }
 
 pub take_in-requires-in-Some-pop-2-clause-seated :
@@ -65,9 +81,18 @@ take_in-requires-in-Some-pop-2-clause-seated g c =
     let p = c.end-in-Some-pop-2.inside.pass in
     let e : TakeView g.row.T.Denot = record { lane = lane_of p; taken = (view p).taken } in
     let is = c.in-Some-pop-2.ensures.items ∙ ap (λ x. c.pop-in-loop-end-2.new.self.items ++ x ∷ []) (sym c.end-in-Some-pop-2.view_is) in
-    let at = popped c.args.takers.items c.loop-end-2.takers.items c.pop-in-loop-end-2.new.self.items was.gathering.done_takes e was.gathering.takes_are is in
-    let same = was.lanes.takes at.0 e at.1 in
-    (was.seated, (ap (λ (l : LaneName _). l.queue.0) same, ap (λ (l : LaneName _). l.queue.1) same, c.end-in-Some-pop-2.invariant.0.2, was.seated.3))
+    let at = popped c.args.takers.items c.loop-end-2.takers.items c.pop-in-loop-end-2.new.self.items was.gathering.done_takes e
+    was.gathering.takes_are is in
+    let same = was.lanes.takes at.0 e at.1 in (
+      was.seated,
+      (
+        ap (λ (l : LaneName _). l.queue.0) same,
+        ap
+            (λ (l : LaneName _). l.queue.1) same,
+        c.end-in-Some-pop-2.invariant.0.2,
+        was.seated.3,
+      ),
+    )
 
 pub take_in-requires-in-Some-pop-2-clause-part : goal.take_in-requires-in-Some-pop-2-clause-part
 take_in-requires-in-Some-pop-2-clause-part g c = some_parts _ _ _ _ _ _ _ c.loop-end-2.invariant.gathering
@@ -81,9 +106,13 @@ loop-end-2-preserved g c =
     let is = c.in-Some-pop-2.ensures.items ∙ ap (λ x. c.pop-in-loop-end-2.new.self.items ++ x ∷ []) (sym c.end-in-Some-pop-2.view_is) in
     let both = c.take_in-in-Some-pop-2.ensures.both in record {
       seated = c.take_in-in-Some-pop-2.ensures.seated;
-      lanes = subst (λ n. LanesAre c.args.ended.items c.args.takers.items (lane_on (sends_on c.first.inside.sends) n)) (sym (ap (λ v. v.ends) both)) was.lanes;
-      gathering = subst (λ v. Gathering c.args.ended.items c.args.takers.items [] c.pop-in-loop-end-2.new.self.items v c.loop-end.put c.saturating_add-taken.result) (sym both)
-          (takes_more c.args.ended.items c.args.takers.items c.loop-end-2.takers.items c.pop-in-loop-end-2.new.self.items [] e (view p) (view c.loop-end-2.pass) c.loop-end.put c.loop-end-2.taken c.end-in-Some-pop-2.inside.count c.saturating_add-taken.result was.gathering is
+      lanes = subst (λ n. LanesAre c.args.ended.items c.args.takers.items (lane_on (sends_on c.first.inside.sends) n))
+          (sym (ap (λ v. v.ends) both)) was.lanes;
+      gathering = subst (λ v. Gathering c.args.ended.items c.args.takers.items [] c.pop-in-loop-end-2.new.self.items v c.loop-end.put
+          c.saturating_add-taken.result) (sym both)
+          (takes_more c.args.ended.items c.args.takers.items c.loop-end-2.takers.items c.pop-in-loop-end-2.new.self.items [] e (view p)
+          (view c.loop-end-2.pass) c.loop-end.put c.loop-end-2.taken c.end-in-Some-pop-2.inside.count c.saturating_add-taken.result
+          was.gathering is
           record { puts = inv.1; taken = refl; parts = inv.3; rises = inv.4 } inv.2 c.saturating_add-taken.ensures);
     }
 
@@ -92,11 +121,17 @@ learn-requires-clause-seated g c = c.loop-end-2.invariant.seated
 
 pub learn-requires-clause-all : goal.learn-requires-clause-all
 learn-requires-clause-all g c =
-    let empty : c.loop-end-2.takers.items ≡ [] = nil_of c.loop-end-2.takers.items (omega (arith, c.loop-end-2.takers.ok.0, c.in_default-pop-2.ensures.cases.0)) in
-    all_parts c.args.ended.items c.args.takers.items (view c.loop-end-2.pass) c.loop-end.put c.loop-end-2.taken (subst (λ l. Gathering c.args.ended.items c.args.takers.items [] l (view c.loop-end-2.pass) c.loop-end.put c.loop-end-2.taken) empty c.loop-end-2.invariant.gathering)
+    let empty : c.loop-end-2.takers.items ≡ [] = nil_of c.loop-end-2.takers.items
+    (omega (arith, c.loop-end-2.takers.ok.0, c.in_default-pop-2.ensures.cases.0)) in
+    all_parts c.args.ended.items c.args.takers.items (view c.loop-end-2.pass) c.loop-end.put c.loop-end-2.taken
+    (subst (λ l. Gathering c.args.ended.items c.args.takers.items [] l
+    (view c.loop-end-2.pass) c.loop-end.put c.loop-end-2.taken) empty c.loop-end-2.invariant.gathering)
 
 pub returns-clause-settled : goal.returns-clause-settled
 returns-clause-settled g c =
-    let empty : c.loop-end-2.takers.items ≡ [] = nil_of c.loop-end-2.takers.items (omega (arith, c.loop-end-2.takers.ok.0, c.in_default-pop-2.ensures.cases.0)) in
+    let empty : c.loop-end-2.takers.items ≡ [] = nil_of c.loop-end-2.takers.items
+    (omega (arith, c.loop-end-2.takers.ok.0, c.in_default-pop-2.ensures.cases.0)) in
     let told = c.learn.ensures.told in
-    finishes c.args.ended.items c.args.takers.items (view c.loop-end-2.pass) told.0 c.loop-end.put c.loop-end-2.taken c.requires (subst (λ l. Gathering c.args.ended.items c.args.takers.items [] l (view c.loop-end-2.pass) c.loop-end.put c.loop-end-2.taken) empty c.loop-end-2.invariant.gathering) told.1
+    finishes c.args.ended.items c.args.takers.items (view c.loop-end-2.pass) told.0 c.loop-end.put c.loop-end-2.taken c.requires
+    (subst (λ l. Gathering c.args.ended.items c.args.takers.items [] l
+    (view c.loop-end-2.pass) c.loop-end.put c.loop-end-2.taken) empty c.loop-end-2.invariant.gathering) told.1

@@ -6,4 +6,7 @@ pub learn_as-requires-clause-rule : goal.learn_as-requires-clause-rule
 learn_as-requires-clause-rule g c = lanes.tells c.args.pass.now.id (view c.args.pass.now)
 
 pub returns : goal.returns
-returns g c = let r = c.learn_as.ensures.rule in record { seated = c.learn_as.ensures.channel.0; told = (r.0, r.1 c.requires.all.0 c.requires.all.1) }
+returns g c = let r = c.learn_as.ensures.rule in record {
+  seated = c.learn_as.ensures.channel.0;
+  told = (r.0, r.1 c.requires.all.0 c.requires.all.1);
+}

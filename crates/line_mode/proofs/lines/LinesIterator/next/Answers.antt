@@ -4,7 +4,8 @@ use Rattle.line_mode.proofs.Cuts.{lines_at, lines_last}
 use Rattle.line_mode.proofs.lines.LinesIterator.next.Goals as goal
 
 pub returns-in-Some-clause-steps : goal.returns-in-Some-clause-steps
-returns-in-Some-clause-steps c = rw c.without_return.ensures (lines_at c.args.self.now.rest.now c.in-Some.end (sym c.find_byte.ensures ∙ c.in-Some.is))
+returns-in-Some-clause-steps c = rw c.without_return.ensures
+    (lines_at c.args.self.now.rest.now c.in-Some.end (sym c.find_byte.ensures ∙ c.in-Some.is))
 
 pub returns-in-None-2-clause-steps : goal.returns-in-None-2-clause-steps
 returns-in-None-2-clause-steps c =

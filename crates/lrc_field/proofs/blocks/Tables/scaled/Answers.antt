@@ -12,5 +12,6 @@ returns c = λ s t. record {
       ∙ ap₂ bit_xor
       (c.looked_up-low.ensures.each k l ∙ ap (λ p. get_or c.args.self.low (16 * (k / 16) + p) 0) (c.low_halves.ensures.each k l))
       (c.looked_up-high.ensures.each k l ∙ ap (λ p. get_or c.args.self.high (16 * (k / 16) + p) 0) (c.high_halves.ensures.each k l))
-      ∙ by_tables s c.args.self.low c.args.self.high k (slice_index c.args.bytes k) l (lane_lt c.args.bytes c.fits-bytes.0 c.fits-bytes.1 k l) t;
+      ∙ by_tables s c.args.self.low c.args.self.high k (slice_index c.args.bytes k) l
+      (lane_lt c.args.bytes c.fits-bytes.0 c.fits-bytes.1 k l) t;
 }

@@ -5,5 +5,6 @@ use Rattle.lrc_plan.specs.RowPlans.{IsRowPlan}
 use Rattle.lrc_plan.proofs.plans.row_plans.plan_in_group.Goals as goal
 
 pub returns : goal.returns
-returns c = subst (λ (n : ℕ). IsRowPlan (tables_of c.args.code) (is_in c.args.survivors) c.args.target (Some c.in_ok-row.row) (replicate 4 (replicate 16 n)))
+returns c = subst (λ (n : ℕ). IsRowPlan (tables_of c.args.code) (is_in c.args.survivors) c.args.target (Some c.in_ok-row.row)
+    (replicate 4 (replicate 16 n)))
     (sym c.new.ensures) c.in_ok-row.ensures

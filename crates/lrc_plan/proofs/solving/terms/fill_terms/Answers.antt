@@ -24,19 +24,22 @@ loop-k-preserved c =
     elim c.match-term_at.branch [
       | in-Some w ↦
           let t = w.in-Some.term in
-          let is_term : (length t.bytes.now ≡ r.len) × ((i : ℕ) → product_at t i ≡ survivor_product r (get_or cs k c.index-row-k.result) k i) = rw w.in-Some.is at c.term_at.ensures in
+          let is_term : (length t.bytes.now ≡ r.len) × ((i : ℕ)
+          → product_at t i ≡ survivor_product r (get_or cs k c.index-row-k.result) k i) = rw w.in-Some.is at c.term_at.ensures in
           rw (w.terms-is, w.count-is) (record {
             long = length-set ts n t ∙ so_far.long;
             few = omega arith;
             lengths = lengths-more r.len ts n t fits so_far.lengths is_term.0;
-            sums = λ i. sums-more ts n i t fits ∙ ap₂ bit_xor (so_far.sums i) (is_term.1 i ∙ sym (ap (λ s. survivor_product r s k i) scalar)) ∙ sym (more i);
+            sums = λ i. sums-more ts n i t fits ∙ ap₂ bit_xor (so_far.sums i)
+                (is_term.1 i ∙ sym (ap (λ s. survivor_product r s k i) scalar)) ∙ sym (more i);
           })
       | in_default w ↦
           rw (w.terms-is, w.count-is) (record {
             long = so_far.long;
             few = omega arith;
             lengths = so_far.lengths;
-            sums = λ i. so_far.sums i ∙ sym (more i ∙ ap (bit_xor _) (ap (λ s. survivor_product r s k i) scalar ∙ w.in_default.ensures i) ∙ xor_zero_r _);
+            sums = λ i. so_far.sums i ∙ sym (more i ∙ ap (bit_xor _) (ap (λ s. survivor_product r s k i) scalar ∙ w.in_default.ensures i)
+                ∙ xor_zero_r _);
           })
     ]
 

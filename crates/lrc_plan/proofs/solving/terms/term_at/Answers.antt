@@ -32,6 +32,6 @@ returns c =
     let at = source_is r c.args.sources.now c.args.k _ c.requires.index within c.requires.sources in
     let longer = eqb-false _ _ (sym c.is_empty.ensures ∙ c.if-is_empty.false) in
     let some = λ (z : length (bytes_of r.survivors p) ≡ 0). longer (ap length at ∙ z) in (
-      ap length at ∙ source_length r c.length.ensures.accepted c.length.ensures.bytes p some,
+      ap length at ∙ source_length r c.recall_invariant.ensures.accepted c.recall_invariant.ensures.bytes p some,
       λ i. ap (λ bs. times c.args.scalar (get_or bs i 0)) at,
     )

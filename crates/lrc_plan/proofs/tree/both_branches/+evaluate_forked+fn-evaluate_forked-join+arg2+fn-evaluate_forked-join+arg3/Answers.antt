@@ -1,3 +1,4 @@
+use Rattle.std.proofs.lemmas.Result.{IfOk-weaker}
 use Rattle.std.proofs.Common.{◌≡◌, length, drop, ap₂, ◌∙◌, arith}
 use Rattle.lrc_field.specs.Sums.{sums}
 use Rattle.lrc_plan.specs.Tree.{form_of}
@@ -6,9 +7,10 @@ use Rattle.lrc_plan.proofs.EvaluationSteps.{written}
 use Rattle.lrc_plan.proofs.ScaledValues.{scaled_further, scaled_sum}
 use Rattle.lrc_plan.proofs.tree.both_branches.+evaluate_forked+fn-evaluate_forked-join+arg2+fn-evaluate_forked-join+arg3.Goals as goal
 
-pub returns-in_ok-bytes-in-Scale : goal.returns-in_ok-bytes-in-Scale
-returns-in_ok-bytes-in-Scale g t c = rw c.in-Scale.is
-    (scaled_further _ _ _ _ _ _ c.mul.ensures.value (rw c.deref.ensures at c.in_ok-bytes-in-Scale.ensures))
+pub returns-in-Scale : goal.returns-in-Scale
+returns-in-Scale g t c = rw c.in-Scale.is
+    (IfOk-weaker c.evaluate_forked.result _ _ (λ v. scaled_further _ _ _ _ _ _ c.mul.ensures.value)
+    (rw c.deref.ensures at c.evaluate_forked.ensures))
 
 pub returns-in_ok-second-in-Sum : goal.returns-in_ok-second-in-Sum
 returns-in_ok-second-in-Sum g t c =

@@ -11,7 +11,14 @@ invariant_of-self g c =
     let t = was.taken in (
       was.seated.0,
       ap (λ v. v.puts) t ∙ inv.1,
-      omega (arith, c.saturating_add-self-inside.ensures, inv.2, ap (λ v. length v.taken) t, length-append (view c.self.inside.pass).taken (c.receive-item.result ∷ [])),
+      omega (
+        arith,
+        c.saturating_add-self-inside.ensures,
+        inv.2,
+        ap (λ v. length v.taken) t,
+        length-append (view c.self.inside.pass).taken
+            (c.receive-item.result ∷ []),
+      ),
       ap (λ v. v.parts) t ∙ inv.3,
       subst Rises (sym (ap (λ v. v.taken) t)) (rises_snoc _ _ inv.4 was.rises),
     )

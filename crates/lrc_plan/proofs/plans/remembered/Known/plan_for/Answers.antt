@@ -1,4 +1,4 @@
-use Rattle.std.proofs.Common.{◌≡◌, Bool, true, false, List, [], ◌∷◌, Option, ℕ, nat_eq, refl, sym, ◌∙◌, ap, ap₂, subst}
+use Rattle.std.proofs.Common.{◌≡◌, Bool, true, false, List, [], ◌∷◌, Option, ℕ, nat_eq, refl, sym, ◌∙◌, ap₂, subst}
 use Rattle.std.specs.Prelude.{◌&&◌}
 use Rattle.std.proofs.Math.Bool.{beq}
 use lib.Pointwise.{pointwise}
@@ -69,6 +69,7 @@ same_target p q h = same_place-eq p q (sym (ap₂ nat_eq (index_is p) (index_is 
 
 pub returns-then-eq-3 : goal.returns-then-eq-3
 returns-then-eq-3 c =
-    moved c.self.inside.plan.value c.self.inside.plan.checks c.self.inside.code c.args.code c.self.inside.survivors c.args.survivors c.self.inside.target c.args.target
+    moved c.self.inside.plan.value c.self.inside.plan.checks c.self.inside.code c.args.code c.self.inside.survivors c.args.survivors
+    c.self.inside.target c.args.target
     (same_code c.self.inside.code c.args.code c.if-eq.ensures) (same_list c.self.inside.survivors c.args.survivors (sym c.if-eq-3.ensures))
     (same_target c.self.inside.target c.args.target c.if-eq-2.ensures) c.self.invariant

@@ -1,5 +1,0 @@
-use Rattle.lrc_field.specs.Blocks.{AreSet}
-use Rattle.lrc_field.proofs.combining.clear.Given as goal
-
-abbrev pub invariant-loop-k : goal.invariant-loop-k
-invariant-loop-k l = AreSet (λ k. 0) l.bytes l.k

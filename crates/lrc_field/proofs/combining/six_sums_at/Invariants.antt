@@ -1,7 +1,0 @@
-use Rattle.std.proofs.Common.{◌+◌, take}
-use Rattle.lrc_field.specs.Blocks.{HasSix}
-use Rattle.lrc_field.specs.Combined.{sum_at}
-use Rattle.lrc_field.proofs.combining.six_sums_at.Given as goal
-
-abbrev pub invariant-loop-term : goal.invariant-loop-term
-invariant-loop-term l = HasSix l.sums (λ k. sum_at (take l.term-index l.terms) (l.i + k))

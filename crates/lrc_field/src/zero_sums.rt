@@ -1,0 +1,78 @@
+//! Whether sums of scaled slices are 00.
+ghost use Rattle.std.specs.Prelude.{◌≡◌, ◌<◌, ◌≤◌, ◌+◌, ◌^◌, ℕ, true, false, length};
+ghost use Rattle.lrc_field.specs.Blocks.{AreSet};
+ghost use Rattle.lrc_field.specs.Combined.{AreZeroBelow, AreZeroBetween, HaveLength, Reach, sum_at};
+
+use crate::term_sums::{write_few, write_sums};
+use crate::terms::Term;
+
+/// Whether the sum of the terms is 00 at each of `len` places.
+pub fn sums_are_zero(len: usize, terms: &[Term]) -> bool
+    requires few { length terms.now ≤ 16 }
+    requires lengths { HaveLength len terms.now }
+    ensures yes { result ≡ true → AreZeroBelow len terms.now }
+    ensures no { result ≡ false → ¬ AreZeroBelow len terms.now }
+{
+    if terms.is_empty() {
+        return true;
+    }
+    if len < 32 {
+        let mut sums = [0u8; 32];
+        return few_are_zero(&mut sums[..len], terms);
+    }
+    sums_are_zero_between(0, len, terms)
+}
+
+/// Whether the sum of the terms is 00 at each place from `from` on and below `to`.
+pub fn sums_are_zero_between(from: usize, to: usize, terms: &[Term]) -> bool
+    requires few { length terms.now ≤ 16 }
+    requires room { Reach to terms.now }
+    ensures yes { result ≡ true → AreZeroBetween from to terms.now }
+    ensures no { result ≡ false → ¬ AreZeroBetween from to terms.now }
+{
+    if from >= to {
+        return true;
+    }
+    let mut part = [0u8; 1152];
+    let mut at = from;
+    'parts: while at < to {
+        let size = (to - at).min(1152);
+        if !part_is_zero(&mut part[..size], at, terms) {
+            return false;
+        }
+        at += size;
+    }
+    true
+}
+
+// The same of few places, as many as `sums` has. They are written there.
+fn few_are_zero(sums: &mut [u8], terms: &[Term]) -> bool
+    requires { HaveLength (length sums.old) terms.now }
+    ensures yes { result ≡ true → AreZeroBelow (length sums.old) terms.now }
+    ensures no { result ≡ false → ¬ AreZeroBelow (length sums.old) terms.now }
+{
+    write_few(sums, 0, terms);
+    are_zeros(sums)
+}
+
+// Whether the sums at as many places as `part` has are 00, from place `from` on. They are written there.
+fn part_is_zero(part: &mut [u8], from: usize, terms: &[Term]) -> bool
+    requires fits { from + length part.old < 2 ^ 64 }
+    requires room { Reach (from + length part.old) terms.now }
+    ensures yes { result ≡ true → (k : ℕ) → k < length part.old → sum_at terms.now (from + k) ≡ 0 }
+    ensures no { result ≡ false → ¬ ((k : ℕ) → k < length part.old → sum_at terms.now (from + k) ≡ 0) }
+{
+    write_sums(part, from, terms);
+    are_zeros(part)
+}
+
+fn are_zeros(bytes: &[u8]) -> bool
+    ensures yes { result ≡ true → AreSet (λ k. 0) bytes.now (length bytes.now) }
+    ensures no { result ≡ false → ¬ AreSet (λ k. 0) bytes.now (length bytes.now) }
+{
+    let mut bits = 0u8;
+    for byte in bytes {
+        bits |= *byte;
+    }
+    bits == 0
+}

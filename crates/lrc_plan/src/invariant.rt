@@ -1,0 +1,15 @@
+//! The invariant of requests, for proofs.
+ghost use Rattle.std.specs.Prelude.{◌≡◌, None, All};
+ghost use Rattle.lrc_code.specs.Code.{AreBytes};
+ghost use Rattle.lrc_code.specs.Requests.{refusal as refusal_of};
+
+use lrc_code::Request;
+
+/// Gives the proof of its caller what every request keeps: there is no reason to refuse it, and its survivors are bytes. The contract of
+/// `length` says so.
+pub(crate) fn recall_invariant(request: &Request)
+    ensures accepted { refusal_of request.now ≡ None }
+    ensures bytes { All (λ s. AreBytes s.bytes) request.now.survivors }
+{
+    let _ = request.length();
+}
