@@ -33,7 +33,7 @@ abbrev pub farm : App
 farm = with_rule (with_rule (with_rule (with_rule (new_app (codes "farm")) (folder_rule (codes "in"))) (folder_rule (codes "out")))
     (number_rule (codes "workers") (codes "4"))) (number_rule (codes "queue") (codes "16"))
 
--- a command's shape, where the words don't hold the program's name and there is a version to tell
+-- a command's shape, where the program's name is not among the arguments and there is a version to show
 abbrev pub program_shape : Shape → Shape
 program_shape s = record s { no_binary_name = true; has_version = true }
 
@@ -41,7 +41,7 @@ program_shape s = record s { no_binary_name = true; has_version = true }
 abbrev pub program : App
 program = with_subcommand (record { top = program_shape (new_app (codes "rebuild")).top; subs = [] }) farm.top
 
--- ---- what words ask for
+-- ---- what arguments ask for
 
 -- the value with this id is the number n: decimal digits, which a plus sign may precede
 pub record HasNumber (id : Text) (rows : List Row) (n : ℕ) : Type 0 where
@@ -70,34 +70,34 @@ pub record IsFarm (met : Option (Text × List Row)) (input output : Text) (worke
 abbrev pub IsNoFarm : Option (Text × List Row) → Type 0
 IsNoFarm met = (input output : Text) (workers queue : ℕ) → IsFarm met input output workers queue → ⊥
 
--- the words have no mistake and ask to serve this folder into that one, with these settings
+-- the arguments have no mistake and ask to serve this folder into that one, with these settings
 pub record AsksFarm (words : List Text) (input output : Text) (workers queue : ℕ) : Type 0 where
   pub faultless : fault_of program words ≡ []
   pub farm_is : IsFarm (subcommand_of program words) input output workers queue
 
--- the words ask for help or for the version
+-- the arguments ask for help or for the version
 abbrev pub AsksText : List Text → Type 0
 AsksText words = IsAmong kind.DisplayHelp (fault_of program words) ⊎ IsAmong kind.DisplayVersion (fault_of program words)
 
--- what the words ask for
+-- what the arguments ask for
 abbrev pub Asks : Words → List Text → Type 0
 Asks Lines words = words ≡ []
 Asks (Farm input output workers queue) words = AsksFarm words (string_bytes input) (string_bytes output) workers queue
 Asks (Help text) words = AsksText words
 
--- the words have a mistake
+-- the arguments have a mistake
 pub record HasMistake (words : List Text) : Type 0 where
   pub mistake : ErrorKind
   pub among : IsAmong mistake (fault_of program words)
   pub not_help : mistake ≢ kind.DisplayHelp
   pub not_version : mistake ≢ kind.DisplayVersion
 
--- the words have no mistake, and ask for nothing
+-- the arguments have no mistake, and ask for nothing
 pub record AskNothing (words : List Text) : Type 0 where
   pub faultless : fault_of program words ≡ []
   pub no_farm : IsNoFarm (subcommand_of program words)
 
--- why the words are refused
+-- why the arguments are refused
 abbrev pub Refuses : WordsFault → List Text → Type 0
 Refuses (Usage text) words = HasMistake words ⊎ AskNothing words
 Refuses OutOfMemory words = Unit {0}
@@ -105,7 +105,7 @@ Refuses OutOfMemory words = Unit {0}
 abbrev pub AreLines : Result Words WordsFault → Type 0
 AreLines result = result ≡ Ok Lines
 
--- ---- the same, of the matches that a parse gave
+-- ---- what the matches of a parse ask for
 
 abbrev pub MatchesWords : Option (Text × List Row) → Words → Type 0
 MatchesWords met Lines = ⊥
@@ -116,7 +116,7 @@ abbrev pub MatchesFault : Option (Text × List Row) → WordsFault → Type 0
 MatchesFault met (Usage text) = IsNoFarm met
 MatchesFault met OutOfMemory = Unit {0}
 
--- the same, of the kind of what a parse tells in place of matches
+-- what a parse that gives no matches asks for, by its kind
 abbrev pub Shows : ErrorKind → Words → Type 0
 Shows k Lines = ⊥
 Shows k (Farm input output workers queue) = ⊥

@@ -53,7 +53,7 @@ const WORKERS_HELP: &str = "Threads that rebuild, 1 to 16";
 
 const QUEUE_HELP: &str = "Room of each queue, 1 to 1024";
 
-/// The command line, whose words don't hold the program's name.
+/// The command line; the program's name is not among its arguments.
 pub(crate) fn program<'a>(alloc: Global) -> Result<Command<'a>, AllocError>
     ensures { IfOk result (λ c. app_of c ≡ program) }
 {

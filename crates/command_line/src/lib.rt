@@ -1,5 +1,5 @@
-//! The words of the program's command line: what they ask for, and the text of help or of a mistake. It uses clap alone, so it is
-//! proved beside the codes and the farm.
+//! The program's arguments: what they ask for, and the text of help or of a mistake. This crate uses only clap, so it is proved beside
+//! the codes and the farm.
 //!
 //! ```rust
 //! match read_words(alloc, words)? {

@@ -1,4 +1,4 @@
-//! The values of the command `farm` among the matches of the words.
+//! The values of the command `farm` among the matches of the arguments.
 ghost use Rattle.std.specs.Prelude.{◌≡◌, ℕ, IfNone, IfSome, option_map};
 ghost use Rattle.clap.specs.Words.{first_of, found_of, rows_of, subcommand_rows_of};
 ghost use Rattle.command_line.specs.Command.{HasNumber, HasValues, IsFarm, IsNoFarm, LacksValues};

@@ -1,4 +1,4 @@
-//! The words of the command line, and what they ask for.
+//! The program's arguments, and what they ask for.
 ghost use Rattle.std.specs.Prelude.{◌≡◌, [], IfOk, IfErr, map, string_bytes};
 ghost use Rattle.clap.specs.Words.{kind_of, subcommand_rows_of};
 ghost use Rattle.command_line.specs.Command.{AreLines, Asks, MatchesFault, MatchesWords, Refuses, Shows, ShowsFault};
@@ -14,10 +14,10 @@ use thiserror::Error;
 const NO_COMMAND: &str =
     "error: rebuild takes the command farm, or no words at all\n\nFor more information, try '--help'.\n";
 
-/// What the words of the command line ask for.
+/// What the program's arguments ask for.
 #[derive(Debug, Drop)]
 pub enum Words {
-    /// There are no words: line mode.
+    /// There are no arguments: line mode.
     Lines,
     /// To serve the folder `input` into the folder `output`, with this many workers and queues of this capacity. Both
     /// numbers are at most 65,535, and not yet tested against the limits of a farm.
@@ -31,10 +31,10 @@ pub enum Words {
     Help(String),
 }
 
-/// Why words are refused.
+/// Why arguments are refused.
 #[derive(Debug, Drop, Error)]
 pub enum WordsFault {
-    /// The words have a mistake, or no command. The text says which, and where help is.
+    /// The arguments have a mistake, or no command. The text says which, and where help is.
     #[error("{0}")]
     Usage(String),
     /// E16: memory was refused.
@@ -50,7 +50,7 @@ impl From<AllocError> for WordsFault {
     }
 }
 
-/// What words ask for, which don't hold the program's name. No words take no memory.
+/// What arguments ask for; the program's name is not among them. Takes no memory where there are none.
 ///
 /// An option's number may have a plus sign. An option is before or after the folders, and its value after a
 /// space or an equals sign.
@@ -64,13 +64,13 @@ pub fn read_words(alloc: Global, words: &[String]) -> Result<Words, WordsFault>
     }
     let program = program(alloc)?;
     match program.try_get_matches_from(words) {
-        Ok(matches) => farm_words(alloc, &matches),
-        Err(error) => shown_words(alloc, &error),
+        Ok(matches) => asked_of_farm(alloc, &matches),
+        Err(error) => shown(alloc, &error),
     }
 }
 
 // What matches ask for.
-fn farm_words(alloc: Global, matches: &ArgMatches<'_>) -> Result<Words, WordsFault>
+fn asked_of_farm(alloc: Global, matches: &ArgMatches<'_>) -> Result<Words, WordsFault>
     ensures asked { IfOk result (MatchesWords (subcommand_rows_of matches.now)) }
     ensures refused { IfErr result (MatchesFault (subcommand_rows_of matches.now)) }
 {
@@ -86,7 +86,7 @@ fn farm_words(alloc: Global, matches: &ArgMatches<'_>) -> Result<Words, WordsFau
 }
 
 // The text of help, of the version or of a mistake.
-fn shown_words(alloc: Global, error: &ParseError) -> Result<Words, WordsFault>
+fn shown(alloc: Global, error: &ParseError) -> Result<Words, WordsFault>
     ensures asked { IfOk result (Shows (kind_of error.now)) }
     ensures refused { IfErr result (ShowsFault (kind_of error.now)) }
 {

@@ -49,13 +49,13 @@ pub record Replied (input_before input_after output_before output_after : Option
   pub answered : count.answered ≡ count_by is_ok replies
   pub refused : count.refused ≡ count_by is_err replies
 
--- what a fault of reading tells of the reader
+-- what a fault of reading says of the reader
 abbrev pub StopsReading : Option (List ℕ) → Option (List ℕ) → LineFault → Type 0
 StopsReading before after InputTooLong = ReadsPastLimit before after
 StopsReading before after Device = Unit {0}
 StopsReading before after OutOfMemory = Unit {0}
 
--- what a fault tells of the reader and the writer: nothing is written before all input was read
+-- what a fault says of the reader and the writer: nothing is written before all input was read
 abbrev pub Explains : Option (List ℕ) → Option (List ℕ) → Option (List ℕ) → Option (List ℕ) → LineFault → Type 0
 Explains input_before input_after output_before output_after InputTooLong =
     ReadsPastLimit input_before input_after × Keeps output_before output_after

@@ -115,8 +115,8 @@ fn push_reply(alloc: Global, text: &mut Vec<u8>, reply: &LineReply) -> Result<()
         Ok(Outcome::Contradiction) => text.extend_from_slice(b"contradiction"),
         Ok(Outcome::Several) => text.extend_from_slice(b"several"),
         Err(refusal) => {
-            let told = format!(in alloc; "refused E{}", refusal.code())?;
-            text.extend_from_slice(told.as_bytes())
+            let line = format!(in alloc; "refused E{}", refusal.code())?;
+            text.extend_from_slice(line.as_bytes())
         }
     }
 }

@@ -12,7 +12,7 @@ pub(crate) fn find_byte(bytes: &[u8], byte: u8) -> Option<usize>
     memchr(byte, bytes)
 }
 
-/// The same, of a byte that is near the front: one byte is looked at after the other.
+/// The first place of a byte that is near the front: one byte is looked at after the other.
 pub(crate) fn find_near_byte(bytes: &[u8], byte: u8) -> Option<usize>
     ensures { result ≡ position (λ b. b == byte) bytes.now }
 {

@@ -6,7 +6,7 @@ pub const DONE: u8 = 0;
 /// A line, a list or a folder was refused.
 pub const REFUSED: u8 = 1;
 
-/// The program doesn't take its words or settings.
+/// The arguments or the settings are refused.
 pub const USAGE: u8 = 2;
 
 /// A device failed.

@@ -100,7 +100,8 @@ fn options_stand_anywhere(rt: HostRuntime) {
 const MISTAKES: &[(&[&str], &str)] = &[
     (
         &["farm", "a"],
-        "error: the following required arguments were not provided:\n  <OUT>\n\nUsage: rebuild farm [OPTIONS] <IN> <OUT>\n\nFor more information, try '--help'.\n",
+        "error: the following required arguments were not provided:\n  <OUT>\n\n\
+Usage: rebuild farm [OPTIONS] <IN> <OUT>\n\nFor more information, try '--help'.\n",
     ),
     (
         &["farm", "a", "b", "--queue", "65536"],
@@ -108,7 +109,8 @@ const MISTAKES: &[(&[&str], &str)] = &[
     ),
     (
         &["shelf"],
-        "error: unrecognized subcommand 'shelf'\n\n  tip: a similar subcommand exists: 'help'\n\nUsage: rebuild [COMMAND]\n\nFor more information, try '--help'.\n",
+        "error: unrecognized subcommand 'shelf'\n\n  tip: a similar subcommand exists: 'help'\n\n\
+Usage: rebuild [COMMAND]\n\nFor more information, try '--help'.\n",
     ),
     (
         &["--"],

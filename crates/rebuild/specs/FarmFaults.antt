@@ -33,7 +33,7 @@ status_of (Err NoThread) = 4
 abbrev pub record_text : ℕ → List ℕ
 record_text number = codes "record " ++ decimal number
 
--- a list's fault, told without the list's name
+-- a list's fault, without the list's name
 abbrev pub reason_text : ListFault → List ℕ
 reason_text list_fault.OutOfMemory = codes "E16"
 reason_text list_fault.BadHeader = codes "E19"
@@ -46,7 +46,7 @@ reason_text list_fault.TooManyOrders = codes "E26"
 abbrev pub listed_reason : ℕ → ℕ → ListFault → List ℕ
 listed_reason rack feed reason = list_name rack feed ++ codes ": " ++ reason_text reason
 
--- the line of a list's fault: the file of the rack's feed, and what is wrong with it; want of memory is told as everywhere
+-- the line of a list's fault: the file of the rack's feed, and what is wrong with it; out of memory is reported as everywhere
 abbrev pub list_fault_text : ℕ → ℕ → ListFault → List ℕ
 list_fault_text rack feed list_fault.OutOfMemory = codes "E16"
 list_fault_text rack feed list_fault.BadHeader = listed_reason rack feed list_fault.BadHeader

@@ -1,4 +1,4 @@
-//! How the command `farm` ends: its exit statuses, and the lines that tell its faults.
+//! How the command `farm` ends: its exit statuses, and the lines that report its faults.
 ghost use Rattle.std.specs.Prelude.{◌≡◌, ◌++◌, IfOk, OnOk, string_bytes};
 ghost use Rattle.rebuild.specs.FarmFaults.{fault_text, list_fault_text, list_status, listed_reason, reason_text, status_of};
 
@@ -30,7 +30,7 @@ fn list_status(fault: ListFault) -> u8
     }
 }
 
-/// The line that tells a fault, without a line end: the list's file, the record and the numbers of the refusals.
+/// The line that reports a fault, without a line end: the list's file, the record and the numbers of the refusals.
 pub fn fault_line(alloc: Global, fault: &ServeFault) -> Result<String, AllocError>
     ensures { IfOk result (λ line. string_bytes line ≡ fault_text fault.now) }
 {
@@ -45,7 +45,7 @@ pub fn fault_line(alloc: Global, fault: &ServeFault) -> Result<String, AllocErro
     }
 }
 
-// The line that tells the fault of the list of a rack's feed. A refusal of memory is no fault of the list.
+// The line that reports the fault of the list of a rack's feed. A refusal of memory is no fault of the list.
 fn list_fault_line(
     alloc: Global,
     rack: usize,

@@ -9,7 +9,7 @@
 //! ExitCode::from(line_status(&answered))
 //! ```
 //!
-//! What standard error doesn't take is lost: the status tells how it ended all the same.
+//! What can't be written to standard error is lost; the status says how it ended all the same.
 #![tactic(auto)]
 
 pub mod farm_faults;
@@ -29,7 +29,7 @@ use std::thread::Threads;
 use std::{env, io};
 
 fn main(rt: HostRuntime) -> ExitCode {
-    let status = match given_words(&rt) {
+    let status = match asked(&rt) {
         Ok(Words::Lines) => answer_lines(&rt, &rt),
         Ok(
             Words::Farm {
@@ -40,30 +40,30 @@ fn main(rt: HostRuntime) -> ExitCode {
             },
         ) => match Settings::new(workers, queue) {
             Ok(settings) => answer_farm(&rt, &rt, input.as_str(), output.as_str(), settings),
-            Err(SettingsFault::BadWorkers) => refuse_words(&rt, "refused E11\n"),
-            Err(SettingsFault::BadQueue) => refuse_words(&rt, "refused E12\n"),
+            Err(SettingsFault::BadWorkers) => refuse_arguments(&rt, "refused E11\n"),
+            Err(SettingsFault::BadQueue) => refuse_arguments(&rt, "refused E12\n"),
         },
         Ok(Words::Help(text)) => show(&rt, text.as_str()),
-        Err(WordsFault::Usage(text)) => refuse_words(&rt, text.as_str()),
-        Err(WordsFault::OutOfMemory) => tell_out_of_memory(&rt),
+        Err(WordsFault::Usage(text)) => refuse_arguments(&rt, text.as_str()),
+        Err(WordsFault::OutOfMemory) => report_out_of_memory(&rt),
     };
     ExitCode::from(status)
 }
 
-// What the words after the program's name ask for.
-fn given_words(rt: &HostRuntime) -> Result<Words, WordsFault> {
-    let words = match command_words(rt) {
-        Ok(words) => words,
+// What the arguments after the program's name ask for.
+fn asked(rt: &HostRuntime) -> Result<Words, WordsFault> {
+    let arguments = match arguments(rt) {
+        Ok(arguments) => arguments,
         Err(e) if e.kind() == ErrorKind::OutOfMemory => return Err(WordsFault::OutOfMemory),
         Err(_) => {
             let text = String::from_str(rt.alloc(), "error: a word is not text\n")?;
             return Err(WordsFault::Usage(text));
         }
     };
-    read_words(rt.alloc(), words.as_slice())
+    read_words(rt.alloc(), arguments.as_slice())
 }
 
-fn command_words(rt: &HostRuntime) -> io::Result<Vec<String>> {
+fn arguments(rt: &HostRuntime) -> io::Result<Vec<String>> {
     Ok(env::args(rt)?.skip(1).collect(rt.alloc())?)
 }
 
@@ -81,7 +81,7 @@ fn answer_lines<T: Threads + Sync>(rt: &T, system: &HostRuntime) -> u8 {
     line_status(&answered)
 }
 
-// Serves one folder into another, tells how that ended, and gives the exit status.
+// Serves one folder into another, says how that ended, and gives the exit status.
 fn answer_farm<R>(rt: &R, system: &HostRuntime, input: &str, output: &str, settings: Settings) -> u8
 where
     R: Threads + Wait + Sync + Print + Eprint + AllocGlobal,
@@ -111,13 +111,13 @@ fn show(rt: &HostRuntime, text: &str) -> u8 {
     }
 }
 
-// Tells why words are refused.
-fn refuse_words(rt: &HostRuntime, text: &str) -> u8 {
+// Says why arguments are refused.
+fn refuse_arguments(rt: &HostRuntime, text: &str) -> u8 {
     let _ = eprint!(rt; "{text}");
     USAGE
 }
 
-fn tell_out_of_memory(rt: &HostRuntime) -> u8 {
+fn report_out_of_memory(rt: &HostRuntime) -> u8 {
     let _ = eprintln!(rt; "E16");
     NO_RESOURCES
 }

@@ -2,14 +2,20 @@
 use crate::farm_faults::{farm_status, fault_line};
 use farm_serving::{ListFault, ServeFault, Served};
 use lrc_code::RequestFault;
-use std::alloc::Global;
+use std::alloc::AllocError;
+use std::process::Abort;
 
-// Whether a fault ends with this status and line.
-fn ends_with(alloc: Global, fault: ServeFault, status: u8, line: &str) -> bool {
-    match fault_line(alloc, &fault) {
-        Ok(told) => told.as_str() == line && farm_status(&Err(fault)) == status,
-        Err(_) => false,
-    }
+// Asserts the status and the line with which a fault ends the program.
+fn assert_end(
+    rt: &(impl Abort + AllocGlobal),
+    fault: ServeFault,
+    status: u8,
+    line: &str,
+) -> Result<(), AllocError> {
+    let shown = fault_line(rt.alloc(), &fault)?;
+    assert_eq!(rt; shown.as_str(), line);
+    assert_eq!(rt; farm_status(&Err(fault)), status, "{line}");
+    Ok(())
 }
 
 #[test]
@@ -18,7 +24,7 @@ fn served_folders_end_with_status_0(rt: HostRuntime) {
         racks: 2,
         answers: 7,
     };
-    assert!(rt; farm_status(&Ok(served)) == 0);
+    assert_eq!(rt; farm_status(&Ok(served)), 0);
 }
 
 const OF_THE_WHOLE: &[(ServeFault, u8, &str)] = &[
@@ -40,10 +46,11 @@ const OF_THE_WHOLE: &[(ServeFault, u8, &str)] = &[
 ];
 
 #[test]
-fn faults_of_the_whole_end_with_their_number(rt: HostRuntime) {
+fn faults_of_the_whole_end_with_their_number(rt: HostRuntime) -> Result<(), AllocError> {
     for (fault, status, line) in OF_THE_WHOLE {
-        assert!(&rt; ends_with(rt.alloc(), *fault, *status, line), "{line}");
+        assert_end(&rt, *fault, *status, line)?;
     }
+    Ok(())
 }
 
 const OF_A_LIST: &[(usize, usize, ListFault, &str)] = &[
@@ -101,15 +108,16 @@ const OF_A_LIST: &[(usize, usize, ListFault, &str)] = &[
     ),
 ];
 
-// The file of the list is named, and a refused request told by both numbers.
+// The line names the list's file, and gives both numbers of a refused request.
 #[test]
-fn faults_of_a_list_name_its_file(rt: HostRuntime) {
+fn faults_of_a_list_name_its_file(rt: HostRuntime) -> Result<(), AllocError> {
     for (rack, feed, fault, line) in OF_A_LIST {
         let fault = ServeFault::List {
             rack: *rack,
             feed: *feed,
             fault: *fault,
         };
-        assert!(&rt; ends_with(rt.alloc(), fault, 1, line), "{line}");
+        assert_end(&rt, fault, 1, line)?;
     }
+    Ok(())
 }

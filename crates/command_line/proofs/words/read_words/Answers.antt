@@ -22,7 +22,7 @@ returns-in-Ok-clause-asked c =
     (c.in-Ok.ensures.matches (ap is_simple is ∙ simple)).1 ∙ ap (λ (a : App). subcommand_of a words) is in
     let faultless : fault_of program words ≡ [] =
     sym (ap (λ (a : App). fault_of a words) is) ∙ c.in-Ok.ensures.kinds (ap is_simple_and_free is ∙ free) in
-    IfOk-weaker c.farm_words.result _ _ (λ w h. asked_by_matches words _ met faultless w h) c.farm_words.ensures.asked
+    IfOk-weaker c.asked_of_farm.result _ _ (λ w h. asked_by_matches words _ met faultless w h) c.asked_of_farm.ensures.asked
 
 pub returns-in-Ok-clause-refused : goal.returns-in-Ok-clause-refused
 returns-in-Ok-clause-refused c =
@@ -32,7 +32,7 @@ returns-in-Ok-clause-refused c =
     (c.in-Ok.ensures.matches (ap is_simple is ∙ simple)).1 ∙ ap (λ (a : App). subcommand_of a words) is in
     let faultless : fault_of program words ≡ [] =
     sym (ap (λ (a : App). fault_of a words) is) ∙ c.in-Ok.ensures.kinds (ap is_simple_and_free is ∙ free) in
-    IfErr-weaker c.farm_words.result _ _ (λ f h. refused_by_matches words _ met faultless f h) c.farm_words.ensures.refused
+    IfErr-weaker c.asked_of_farm.result _ _ (λ f h. refused_by_matches words _ met faultless f h) c.asked_of_farm.ensures.refused
 
 pub returns-in-Err-clause-asked : goal.returns-in-Err-clause-asked
 returns-in-Err-clause-asked c =
@@ -40,7 +40,7 @@ returns-in-Err-clause-asked c =
     let is = c.in_ok-program.ensures in
     let kinds : HasKind (fault_of program words) c.in-Err.error =
     subst (λ (a : App). HasKind (fault_of a words) c.in-Err.error) is (c.in-Err.ensures.kinds (ap is_simple_and_free is ∙ free)) in
-    IfOk-weaker c.shown_words.result _ _ (λ w h. asked_by_kind words (kind_of c.in-Err.error) kinds w h) c.shown_words.ensures.asked
+    IfOk-weaker c.shown.result _ _ (λ w h. asked_by_kind words (kind_of c.in-Err.error) kinds w h) c.shown.ensures.asked
 
 pub returns-in-Err-clause-refused : goal.returns-in-Err-clause-refused
 returns-in-Err-clause-refused c =
@@ -48,4 +48,4 @@ returns-in-Err-clause-refused c =
     let is = c.in_ok-program.ensures in
     let kinds : HasKind (fault_of program words) c.in-Err.error =
     subst (λ (a : App). HasKind (fault_of a words) c.in-Err.error) is (c.in-Err.ensures.kinds (ap is_simple_and_free is ∙ free)) in
-    IfErr-weaker c.shown_words.result _ _ (λ f h. refused_by_kind words (kind_of c.in-Err.error) kinds f h) c.shown_words.ensures.refused
+    IfErr-weaker c.shown.result _ _ (λ f h. refused_by_kind words (kind_of c.in-Err.error) kinds f h) c.shown.ensures.refused
