@@ -1,5 +1,6 @@
 //! What C passes: numbers for codes and places, and bits for sets.
-ghost use Rattle.std.specs.Prelude.{◌≡◌, ◌<◌, ◌==◌, true, false, MatchOption};
+ghost use Rattle.std.specs.Prelude.{◌↔◌, ◌≡◌, ◌<◌, ◌==◌, true, false, MatchOption};
+ghost use Rattle.std.specs.Bool.{IsTrue};
 ghost use Rattle.std.specs.Int.{bit_at};
 ghost use Rattle.lrc_code.specs.declared.places.Place.{Place};
 ghost use Rattle.lrc_code.specs.declared.codes.Code.{Code};
@@ -60,8 +61,7 @@ fn is_whole_at(code: Code, set: PlaceSet, at: &[Lent; 16], len: usize, place: Pl
 
 /// Whether each place in the set is one of the code's and has so many bytes.
 pub(crate) fn are_whole(code: Code, set: PlaceSet, at: &[Lent; 16], len: usize) -> bool
-    ensures yes { result ≡ true → AreWhole code (is_in set) (lent at.now) len }
-    ensures no { result ≡ false → ¬ AreWhole code (is_in set) (lent at.now) len }
+    ensures { IsTrue result ↔ AreWhole code (is_in set) (lent at.now) len }
 {
     for i in 0..16usize {
         if !is_whole_at(code, set, at, len, place_at(i)) {

@@ -1,5 +1,6 @@
 //! Combinations of lent bytes with coefficients, as terms.
-ghost use Rattle.std.specs.Prelude.{◌≡◌, ◌≢◌, ◌<◌, ◌≤◌, ℕ, true, false, length, slice_index, take};
+ghost use Rattle.std.specs.Prelude.{◌↔◌, ◌≡◌, ◌≢◌, ◌<◌, ◌≤◌, ℕ, true, false, length, slice_index, take};
+ghost use Rattle.std.specs.Bool.{IsTrue};
 ghost use Rattle.lrc_field.specs.Combined.{AreZeroBetween};
 ghost use Rattle.lrc_code.specs.Encoding.{IsParity};
 ghost use Rattle.lrc_c.specs.Lent.{lent, AreUsed, IsUsedAt};
@@ -23,8 +24,7 @@ pub(crate) fn combine(coefficients: &[u8], at: &[Lent], out: &mut [u8])
 
 /// Whether lent bytes have the length where their coefficient isn't 00.
 pub(crate) fn are_used(coefficients: &[u8], at: &[Lent], len: usize) -> bool
-    ensures yes { result ≡ true → AreUsed coefficients.now (lent at.now) len }
-    ensures no { result ≡ false → ¬ AreUsed coefficients.now (lent at.now) len }
+    ensures { IsTrue result ↔ AreUsed coefficients.now (lent at.now) len }
 {
     for k in 0..coefficients.len() {
         if !is_used_at(coefficients, at, k, len) {
@@ -37,8 +37,7 @@ pub(crate) fn are_used(coefficients: &[u8], at: &[Lent], len: usize) -> bool
 // Whether the bytes at an index have the length where their coefficient isn't 00.
 fn is_used_at(coefficients: &[u8], at: &[Lent], k: usize, len: usize) -> bool
     requires { k < length coefficients.now }
-    ensures yes { result ≡ true → IsUsedAt coefficients.now (lent at.now) len k }
-    ensures no { result ≡ false → ¬ IsUsedAt coefficients.now (lent at.now) len k }
+    ensures { IsTrue result ↔ IsUsedAt coefficients.now (lent at.now) len k }
 {
     if coefficients[k] == 0 {
         return true;
@@ -64,8 +63,7 @@ pub(crate) fn write_window(terms: &[Term], out: &mut [u8], from: usize, to: usiz
 pub(crate) fn is_zero(terms: &[Term], len: usize, from: usize, to: usize) -> bool
     requires ready { HaveRoom len terms.now }
     requires inside { to ≤ len }
-    ensures yes { result ≡ true → AreZeroBetween from to terms.now }
-    ensures no { result ≡ false → ¬ AreZeroBetween from to terms.now }
+    ensures { IsTrue result ↔ AreZeroBetween from to terms.now }
 {
     if terms.is_empty() {
         return true;

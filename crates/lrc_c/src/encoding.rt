@@ -1,5 +1,6 @@
 //! Encoding for C.
-ghost use Rattle.std.specs.Prelude.{◌≡◌, ◌∷◌, [], ◌++◌, length, true, false};
+ghost use Rattle.std.specs.Prelude.{◌↔◌, ◌≡◌, ◌∷◌, [], ◌++◌, length, true, false};
+ghost use Rattle.std.specs.Bool.{IsTrue};
 ghost use Rattle.lrc_code.specs.declared.codes.Code.{Code};
 ghost use Rattle.lrc_code.specs.Codes.{data_count, tables_of};
 ghost use Rattle.lrc_code.specs.Encoding.{HaveLength, IsEncoding, IsParity};
@@ -18,8 +19,7 @@ use lrc_field::no_terms;
 
 // Whether each slice has so many bytes.
 fn have_length(sources: &[Lent], len: usize) -> bool
-    ensures yes { result ≡ true → HaveLength len (lent sources.now) }
-    ensures no { result ≡ false → ¬ HaveLength len (lent sources.now) }
+    ensures { IsTrue result ↔ HaveLength len (lent sources.now) }
 {
     for one in sources {
         if one.bytes.len() != len {

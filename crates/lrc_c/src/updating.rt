@@ -1,5 +1,6 @@
 //! Parities after a data fragment changed.
-ghost use Rattle.std.specs.Prelude.{◌≡◌, ◌≢◌, ◌≤◌, true, false, length, map, MatchOption};
+ghost use Rattle.std.specs.Prelude.{◌↔◌, ◌≡◌, ◌≢◌, ◌≤◌, true, false, length, map, MatchOption};
+ghost use Rattle.std.specs.Bool.{IsTrue};
 ghost use Rattle.lrc_field.specs.Field.{times};
 ghost use Rattle.lrc_field.specs.Sums.{sums};
 ghost use Rattle.lrc_code.specs.declared.places.Place.{Place};
@@ -43,8 +44,7 @@ fn data_place(code: Code, index: u8) -> Option<Place>
 
 // Whether a parity's room has the length, or none.
 fn is_room(room: usize, len: usize) -> bool
-    ensures yes { result ≡ true → IsRoom len room }
-    ensures no { result ≡ false → ¬ IsRoom len room }
+    ensures { IsTrue result ↔ IsRoom len room }
 {
     room == len || room == 0
 }

@@ -9,3 +9,4 @@ pub mod ProductRows
 pub mod Scaled
 pub mod TermSums
 pub mod PairSums
+pub mod Tests

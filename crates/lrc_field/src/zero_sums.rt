@@ -1,5 +1,6 @@
 //! Whether sums of scaled slices are 00.
-ghost use Rattle.std.specs.Prelude.{◌≡◌, ◌<◌, ◌≤◌, ◌+◌, ◌^◌, ℕ, true, false, length};
+ghost use Rattle.std.specs.Prelude.{◌≡◌, ◌<◌, ◌≤◌, ◌+◌, ◌^◌, ◌↔◌, ℕ, length};
+ghost use Rattle.std.specs.Bool.{IsTrue};
 ghost use Rattle.lrc_field.specs.Blocks.{AreSet};
 ghost use Rattle.lrc_field.specs.Combined.{AreZeroBelow, AreZeroBetween, HaveLength, Reach, sum_at};
 
@@ -10,8 +11,7 @@ use crate::terms::Term;
 pub fn sums_are_zero(len: usize, terms: &[Term]) -> bool
     requires few { length terms.now ≤ 16 }
     requires lengths { HaveLength len terms.now }
-    ensures yes { result ≡ true → AreZeroBelow len terms.now }
-    ensures no { result ≡ false → ¬ AreZeroBelow len terms.now }
+    ensures { IsTrue result ↔ AreZeroBelow len terms.now }
 {
     if terms.is_empty() {
         return true;
@@ -27,8 +27,7 @@ pub fn sums_are_zero(len: usize, terms: &[Term]) -> bool
 pub fn sums_are_zero_between(from: usize, to: usize, terms: &[Term]) -> bool
     requires few { length terms.now ≤ 16 }
     requires room { Reach to terms.now }
-    ensures yes { result ≡ true → AreZeroBetween from to terms.now }
-    ensures no { result ≡ false → ¬ AreZeroBetween from to terms.now }
+    ensures { IsTrue result ↔ AreZeroBetween from to terms.now }
 {
     if from >= to {
         return true;
@@ -48,8 +47,7 @@ pub fn sums_are_zero_between(from: usize, to: usize, terms: &[Term]) -> bool
 // The same of few places, as many as `sums` has. They are written there.
 fn few_are_zero(sums: &mut [u8], terms: &[Term]) -> bool
     requires { HaveLength (length sums.old) terms.now }
-    ensures yes { result ≡ true → AreZeroBelow (length sums.old) terms.now }
-    ensures no { result ≡ false → ¬ AreZeroBelow (length sums.old) terms.now }
+    ensures { IsTrue result ↔ AreZeroBelow (length sums.old) terms.now }
 {
     write_few(sums, 0, terms);
     are_zeros(sums)
@@ -59,16 +57,14 @@ fn few_are_zero(sums: &mut [u8], terms: &[Term]) -> bool
 fn part_is_zero(part: &mut [u8], from: usize, terms: &[Term]) -> bool
     requires fits { from + length part.old < 2 ^ 64 }
     requires room { Reach (from + length part.old) terms.now }
-    ensures yes { result ≡ true → (k : ℕ) → k < length part.old → sum_at terms.now (from + k) ≡ 0 }
-    ensures no { result ≡ false → ¬ ((k : ℕ) → k < length part.old → sum_at terms.now (from + k) ≡ 0) }
+    ensures { IsTrue result ↔ ((k : ℕ) → k < length part.old → sum_at terms.now (from + k) ≡ 0) }
 {
     write_sums(part, from, terms);
     are_zeros(part)
 }
 
 fn are_zeros(bytes: &[u8]) -> bool
-    ensures yes { result ≡ true → AreSet (λ k. 0) bytes.now (length bytes.now) }
-    ensures no { result ≡ false → ¬ AreSet (λ k. 0) bytes.now (length bytes.now) }
+    ensures { IsTrue result ↔ AreSet (λ k. 0) bytes.now (length bytes.now) }
 {
     let mut bits = 0u8;
     for byte in bytes {

@@ -1,6 +1,6 @@
 //! Answers to requests.
-ghost use Rattle.std.specs.Prelude.{◌≡◌, ◌≤◌, true, false, All, IfOk, vec_len};
-ghost use Rattle.lrc_code.specs.declared.places.Place.{Place};
+ghost use Rattle.std.specs.Prelude.{◌↔◌, ◌≤◌, true, false, All, IfOk, vec_len};
+ghost use Rattle.std.specs.Bool.{IsTrue};
 ghost use Rattle.lrc_code.specs.Codes.{tables_of};
 ghost use Rattle.lrc_code.specs.Answers.{IsAnswer};
 ghost use Rattle.lrc_code.specs.Requests.{AreSources, is_among};
@@ -93,8 +93,7 @@ pub(crate) fn answer_by(
 /// Whether all rows' sums are 00 at every position.
 pub(crate) fn are_zero(rows: &[[Gf; 16]], request: &Request, sources: &Sources<'_>) -> bool
     requires { AreSources request.now.survivors sources.now }
-    ensures yes { result ≡ true → All (IsZeroRow request.now) rows.now }
-    ensures no { result ≡ false → ¬ All (IsZeroRow request.now) rows.now }
+    ensures { IsTrue result ↔ All (IsZeroRow request.now) rows.now }
 {
     for row in rows {
         if !is_zero(row, request, sources) {

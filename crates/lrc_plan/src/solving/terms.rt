@@ -1,5 +1,6 @@
 //! Rows of coefficients as sums of scaled fragments, which are made in one pass.
-ghost use Rattle.std.specs.Prelude.{◌≡◌, ◌==◌, ◌<◌, ◌≤◌, true, false, length, take, IfOk};
+ghost use Rattle.std.specs.Prelude.{◌↔◌, ◌≡◌, ◌==◌, ◌<◌, ◌≤◌, true, length, take, IfOk};
+ghost use Rattle.std.specs.Bool.{IsTrue};
 ghost use Rattle.std.specs.List.{list_all};
 ghost use Rattle.lrc_code.specs.Requests.{AreSources};
 ghost use Rattle.lrc_plan.specs.Terms.{AreRowSums, AreTerms, IsTermAt, IsZeroRow};
@@ -28,8 +29,7 @@ pub(crate) fn row_sums(
 /// Whether the row's sum is 00 at every position.
 pub(crate) fn is_zero(row: &[Gf; 16], request: &Request, sources: &Sources<'_>) -> bool
     requires { AreSources request.now.survivors sources.now }
-    ensures yes { result ≡ true → IsZeroRow request.now row.now }
-    ensures no { result ≡ false → ¬ IsZeroRow request.now row.now }
+    ensures { IsTrue result ↔ IsZeroRow request.now row.now }
 {
     if is_blank(row) {
         return true;
@@ -40,8 +40,7 @@ pub(crate) fn is_zero(row: &[Gf; 16], request: &Request, sources: &Sources<'_>) 
 // The same of a row that isn't blank. A call of its own, since its list of terms costs more than the look at a blank row.
 fn is_zero_sum(row: &[Gf; 16], request: &Request, sources: &Sources<'_>) -> bool
     requires { AreSources request.now.survivors sources.now }
-    ensures yes { result ≡ true → IsZeroRow request.now row.now }
-    ensures no { result ≡ false → ¬ IsZeroRow request.now row.now }
+    ensures { IsTrue result ↔ IsZeroRow request.now row.now }
 {
     let length = request.length() as usize;
     let mut terms = no_terms();

@@ -1,3 +1,4 @@
+use Rattle.lrc_field.proofs.Tests.{fails}
 use Rattle.std.proofs.Common.{length, refl}
 use Rattle.lrc_c.specs.Lent.{lent}
 use Rattle.lrc_c.proofs.Stripes.{applied, row_used}
@@ -5,7 +6,7 @@ use Rattle.lrc_c.proofs.planning.lrc_apply.Goals as goal
 
 pub returns-then-not-are_used-clause-planned : goal.returns-then-not-are_used-clause-planned
 returns-then-not-are_used-clause-planned c = λ d survives p of_code value whole s f.
-    absurd (c.if-not-are_used.ensures.no refl
+    absurd (fails c.if-not-are_used.ensures refl
     (row_used d survives (lent c.args.at.now) (length c.args.out.now) whole c.are_sixteen.ensures.bytes c.are_sixteen.ensures.count
     c.args.row.now value.reads))
 

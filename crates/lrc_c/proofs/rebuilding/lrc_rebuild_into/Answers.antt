@@ -21,5 +21,5 @@ returns-clause-refused c = λ none. absurd (none c.in-Some.lost.code c.in-Some.l
   of_target = c.in-Some.ensures;
   some = omega (arith, c.if-len-eq0.false);
   whole = whole_is c.args.survivors c.set_of-set.result c.in-Some.lost.code (lent c.args.at.now)
-      (length c.args.out.now) c.set_of-set.ensures (c.if-not-are_whole.ensures.yes refl);
+      (length c.args.out.now) c.set_of-set.ensures (c.if-not-are_whole.ensures.0 refl);
 }))

@@ -1,8 +1,7 @@
 use Rattle.std.proofs.Common.{sym, subst}
-use Rattle.lrc_code.specs.Codes.{tables_of}
 use Rattle.lrc_code.specs.Sets.{is_in}
 use Rattle.lrc_c.specs.Lent.{lent, AreUsed}
-use Rattle.lrc_c.proofs.Stripes.{row_used, value_some}
+use Rattle.lrc_c.proofs.Stripes.{row_used}
 use Rattle.lrc_c.proofs.rebuilding_many.aim_of.Goals as goal
 
 pub fill_terms-count-requires-clause-used : goal.fill_terms-count-requires-clause-used

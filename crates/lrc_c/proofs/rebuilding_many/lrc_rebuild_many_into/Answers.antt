@@ -41,7 +41,7 @@ returns-clause-refused c = λ none.
     absurd (none own (record {
       code_is = sym c.code_numbered.ensures ∙ c.in-Some.is;
       some = omega (arith, c.if-len-eq0.false);
-      whole = whole_is mask set own (lent c.args.at.now) len c.set_of-set.ensures (c.if-not-are_whole.ensures.yes refl);
+      whole = whole_is mask set own (lent c.args.at.now) len c.set_of-set.ensures (c.if-not-are_whole.ensures.0 refl);
       first = asked own mask set len (get_or targets 0 0)
           (length c.args.a.now) c.in-Some-target_of.first c.set_of-set.ensures c.in-Some-target_of.ensures;
       second = asked own mask set len (get_or targets 1 0)

@@ -40,8 +40,8 @@ returns-clause-refused c = λ none. absurd (none c.in-Some.own c.in-Some-data_pl
   place_is = c.in-Some-data_place.ensures.0;
   of_code = c.in-Some-data_place.ensures.1;
   is_data = c.in-Some-data_place.ensures.2;
-  px = c.if-not-is_room.ensures.yes refl;
-  py = c.if-not-is_room-2.ensures.yes refl;
-  p0 = c.if-not-is_room-3.ensures.yes refl;
-  p1 = c.if-not-is_room-4.ensures.yes refl;
+  px = c.if-not-is_room.ensures.0 refl;
+  py = c.if-not-is_room-2.ensures.0 refl;
+  p0 = c.if-not-is_room-3.ensures.0 refl;
+  p1 = c.if-not-is_room-4.ensures.0 refl;
 }))

@@ -17,6 +17,6 @@ parts-preserved c =
       zero = λ i ge lt. elim (cases_lt i at) as (λ _. sum_at c.args.terms.now i ≡ 0) [
         | inl below ↦ c.parts.invariant.zero i ge below
         | inr above ↦ (let back : at + (i - at) ≡ i = omega arith in ap sum (sym back)
-            ∙ c.part_is_zero.ensures.yes c.if-not-part_is_zero.false (i - at) (omega arith))
+            ∙ c.part_is_zero.ensures.0 c.if-not-part_is_zero.false (i - at) (omega arith))
       ];
     }

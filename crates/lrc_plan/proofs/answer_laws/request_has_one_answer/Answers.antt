@@ -1,3 +1,4 @@
+use Rattle.lrc_field.proofs.Tests.{fails}
 use Rattle.std.proofs.Common.{sym}
 use Rattle.lrc_code.specs.Codes.{tables_of}
 use Rattle.lrc_code.specs.Sets.{is_in}
@@ -18,4 +19,4 @@ returns c =
     rw (sym c.code.ensures, sym c.target-target.ensures) c.plan_rows-plan.ensures in
     one_answer r c.recall_invariant.ensures.accepted c.recall_invariant.ensures.bytes
     (is_in c.survivors-survivors.result) c.survivors-survivors.ensures plan.value plan.checks is
-    c.are_zero-possible.result c.are_zero-possible.ensures.yes c.are_zero-possible.ensures.no
+    c.are_zero-possible.result c.are_zero-possible.ensures.0 (fails c.are_zero-possible.ensures)

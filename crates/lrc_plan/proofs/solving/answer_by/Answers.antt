@@ -1,3 +1,4 @@
+use Rattle.lrc_field.proofs.Tests.{fails}
 use Rattle.std.proofs.Common.{ℕ, Bool, List, Option, Some, None, refl, sym, subst}
 use Rattle.lrc_code.specs.declared.places.Place.{Place}
 use Rattle.lrc_code.specs.declared.outcomes.Outcome.TheVariants.{Rebuilt}
@@ -20,7 +21,7 @@ returns-then-not-possible c =
     contradiction r c.recall_invariant.ensures.accepted c.recall_invariant.ensures.bytes
     (λ p. is_among p r.survivors) (λ p. refl) c.args.plan.now.checks
     (tells (tables_of r.code) (λ p. is_among p r.survivors) r.target c.args.plan.now.value c.args.plan.now.checks c.requires)
-    (c.are_zero-possible.ensures.no c.if-not-possible.true)
+    (fails c.are_zero-possible.ensures c.if-not-possible.true)
 
 pub returns-in_ok-bytes-in-Some : goal.returns-in_ok-bytes-in-Some
 returns-in_ok-bytes-in-Some c =
@@ -30,7 +31,7 @@ returns-in_ok-bytes-in-Some c =
     subst (λ f. IsAnswer r (Rebuilt f)) (sym c.new.ensures)
     (rebuilt r c.recall_invariant.ensures.accepted c.recall_invariant.ensures.bytes
     (λ p. is_among p r.survivors) (λ p. refl) c.args.plan.now.checks by.1
-    (c.are_zero-possible.ensures.yes c.if-not-possible.false) _ _ by.0 c.in_ok-bytes-in-Some.ensures)
+    (c.are_zero-possible.ensures.0 c.if-not-possible.false) _ _ by.0 c.in_ok-bytes-in-Some.ensures)
 
 pub returns-in-None : goal.returns-in-None
 returns-in-None c =
@@ -39,4 +40,4 @@ returns-in-None c =
     c.requires in
     several r c.recall_invariant.ensures.accepted c.recall_invariant.ensures.bytes
     (λ p. is_among p r.survivors) (λ p. refl) c.args.plan.now.checks by.1
-    (c.are_zero-possible.ensures.yes c.if-not-possible.false) by.0
+    (c.are_zero-possible.ensures.0 c.if-not-possible.false) by.0
