@@ -2,11 +2,10 @@
 use Rattle.std.proofs.Common.{◌≡◌, ◌<◌, ◌≤◌, ◌+◌, ◌++◌, ◌∙◌, Vec, Global, ℕ, zero, suc, List, [], ◌∷◌, Option, length, map, take, get_or, refl, sym, ap, arith, append_assoc}
 use Rattle.std.specs.List.{AllZip}
 use Rattle.std.proofs.lemmas.List.{append-nil, take_all, length-map, length-take, map_more}
-use Rattle.lrc_code.specs.declared.places.Place.{Place}
 use Rattle.lrc_code.specs.declared.outcomes.Outcome.{Outcome}
 use Rattle.std.proofs.lemmas.Simd.{map-map}
-use Rattle.farm_lists.specs.Report.{listed_before_close, fragment_digest}
-use Rattle.farm_lists.specs.declared.lists.listing.Record.{Record}
+use Rattle.farm_lists.specs.Report.{RequestRead, fragment_digest, read_of}
+use Rattle.farm_lists.specs.declared.lists.requests.ReadRequest.{ReadRequest}
 use Rattle.farm_lists.specs.Written.{answered_files, files_from}
 
 pub all_zip-length : {A B : Type 0} (R : A → B → Type 0) (xs : List A) (ys : List B) → AllZip R xs ys → length ys ≡ length xs
@@ -23,26 +22,6 @@ all_zip-at R (x ∷ xs) (y ∷ ys) (suc i) d e within all = all_zip-at R xs ys i
 
 -- ---- what a rack's calls hand on
 
-sizes_left : {S A B : Type 0} (items : S → List A) (view : A → B) (xs : List S) → map (λ v. length (items v)) xs ≡ map length (map (λ v. map view (items v)) xs)
-sizes_left items view [] = refl
-sizes_left items view (x ∷ xs) = ap (λ n. n ∷ map (λ v. length (items v)) xs) (sym (length-map (items x) view)) ∙ ap (λ t. length (map view (items x)) ∷ t) (sizes_left items view xs)
-
-pub same_sizes : {S T A B : Type 0} (items : S → List A) (view : A → B) (lists : T → List B) (xs : List S) (ys : List T) → map (λ v. map view (items v)) xs ≡ map lists ys
-    → map (λ v. length (items v)) xs ≡ map (λ w. length (lists w)) ys
-same_sizes items view lists xs ys same = sizes_left items view xs ∙ ap (map length) same ∙ map-map length lists ys
-
-pub sized_alike : {R S T : Type 0} (count : R → ℕ) (size : S → ℕ) (other : T → ℕ) (us : List R) (vs : List S) (ws : List T) → map size vs ≡ map other ws → AllZip (λ w u. count u ≡ other w) ws us
-    → AllZip (λ v u. count u ≡ size v) vs us
-sized_alike count size other [] [] [] same all = tt
-sized_alike count size other (u ∷ us) [] [] same all = absurd all
-sized_alike count size other us [] (w ∷ ws) same all = absurd (cc)
-sized_alike count size other us (v ∷ vs) [] same all = absurd (cc)
-sized_alike count size other [] (v ∷ vs) (w ∷ ws) same all = absurd all
-sized_alike count size other (u ∷ us) (v ∷ vs) (w ∷ ws) same all =
-    let first : other w ≡ size v = cc in
-    let rest : map size vs ≡ map other ws = cc in
-    (all.0 ∙ first, sized_alike count size other us vs ws rest all.1)
-
 pub digests_alike : {A : Type 0} (outcome : A → Outcome) (rows : List A) (answers : List (ℕ × Outcome)) (digests : List (Option (List ℕ))) → map outcome rows ≡ map (λ a. a.1) answers
     → digests ≡ map (λ a. fragment_digest a.1) answers → digests ≡ map (λ r. fragment_digest (outcome r)) rows
 digests_alike outcome rows answers digests same is =
@@ -50,64 +29,54 @@ digests_alike outcome rows answers digests same is =
 
 -- ---- all racks
 
-files_push : (k : ℕ) (ls : List (List (List Record))) (os : List (List (ℕ × Outcome))) (us : List (List (List (List Place)))) (l : List (List Record)) (o : List (ℕ × Outcome)) (u : List (List (List Place)))
-    → length os ≡ length ls → length us ≡ length ls
-    → files_from k (ls ++ l ∷ []) (os ++ o ∷ []) (us ++ u ∷ []) ≡ files_from k ls os us ++ answered_files (k + length ls) (map listed_before_close l) o u
-files_push k [] [] [] l o u a b = let same : k + 0 ≡ k = omega arith in rw same (append-nil (answered_files k (map listed_before_close l) o u))
-files_push k [] (x ∷ os) us l o u a b = absurd (omega arith)
-files_push k [] [] (x ∷ us) l o u a b = absurd (omega arith)
-files_push k (x ∷ ls) [] us l o u a b = absurd (omega arith)
-files_push k (x ∷ ls) (y ∷ os) [] l o u a b = absurd (omega arith)
-files_push k (x ∷ ls) (y ∷ os) (z ∷ us) l o u a b =
-    let same : (k + 1) + length ls ≡ k + length (x ∷ ls) = omega arith in
-    ap (λ t. answered_files k (map listed_before_close x) y z ++ t) (files_push (k + 1) ls os us l o u (omega arith) (omega arith))
-    ∙ sym (append_assoc (answered_files k (map listed_before_close x) y z) (files_from (k + 1) ls os us) (answered_files ((k + 1) + length ls) (map listed_before_close l) o u))
-    ∙ ap (λ n. files_from k (x ∷ ls) (y ∷ os) (z ∷ us) ++ answered_files n (map listed_before_close l) o u) same
+files_push : (k : ℕ) (racks : List (List (List RequestRead))) (os : List (List (ℕ × Outcome))) (r : List (List RequestRead)) (o : List (ℕ × Outcome)) → length os ≡ length racks
+    → files_from k (racks ++ r ∷ []) (os ++ o ∷ []) ≡ files_from k racks os ++ answered_files (k + length racks) r o
+files_push k [] [] r o a = let same : k + 0 ≡ k = omega arith in rw same (append-nil (answered_files k r o))
+files_push k [] (x ∷ os) r o a = absurd (omega arith)
+files_push k (x ∷ racks) [] r o a = absurd (omega arith)
+files_push k (x ∷ racks) (y ∷ os) r o a =
+    let same : (k + 1) + length racks ≡ k + length (x ∷ racks) = omega arith in
+    ap (λ t. answered_files k x y ++ t) (files_push (k + 1) racks os r o (omega arith))
+    ∙ sym (append_assoc (answered_files k x y) (files_from (k + 1) racks os) (answered_files ((k + 1) + length racks) r o))
+    ∙ ap (λ n. files_from k (x ∷ racks) (y ∷ os) ++ answered_files n r o) same
 
-records : Vec (Vec Record Global) Global → List (List Record)
-records l = map (λ (f : Vec Record Global). f.items) l.items
+abbrev Feeds : Type 0
+Feeds = Vec (Vec ReadRequest Global) Global
 
-outcomes : Vec (ℕ × Outcome) Global → List (ℕ × Outcome)
+abbrev Answers : Type 0
+Answers = Vec (ℕ × Outcome) Global
+
+requests : Feeds → List (List RequestRead)
+requests feeds = map (λ (rs : Vec ReadRequest Global). map read_of rs.items) feeds.items
+
+outcomes : Answers → List (ℕ × Outcome)
 outcomes o = o.items
 
-places : Vec (Vec (Vec Place Global) Global) Global → List (List (List Place))
-places us = map (λ (u : Vec (Vec Place Global) Global). map (λ (ps : Vec Place Global). ps.items) u.items) us.items
-
-pub files_step : (lists : List (Vec (Vec Record Global) Global)) (answers : List (Vec (ℕ × Outcome) Global)) (unread : List (Vec (Vec (Vec Place Global) Global) Global)) (i : ℕ)
-    (l : Vec (Vec Record Global) Global) (o : Vec (ℕ × Outcome) Global) (u : Vec (Vec (Vec Place Global) Global) Global) (before after : List (List ℕ × List ℕ))
-    → i < length lists → length answers ≡ length lists → length unread ≡ length lists
-    → l ≡ get_or lists i l → o ≡ get_or answers i o → u ≡ get_or unread i u
-    → before ≡ files_from 0 (map (λ v. map (λ f. f.items) v.items) (take i lists)) (map (λ v. v.items) (take i answers)) (map (λ us. map (λ u. map (λ ps. ps.items) u.items) us.items) (take i unread))
-    → after ≡ before ++ answered_files i (map (λ f. listed_before_close f.items) l.items) o.items (map (λ u. map (λ ps. ps.items) u.items) u.items)
-    → after ≡ files_from 0 (map (λ v. map (λ f. f.items) v.items) (take (i + 1) lists)) (map (λ v. v.items) (take (i + 1) answers)) (map (λ us. map (λ u. map (λ ps. ps.items) u.items) us.items) (take (i + 1) unread))
-unfolding records outcomes places
-files_step lists answers unread i l o u before after within sa su el eo eu so grew =
-    let ls = map records (take i lists) in
+pub files_step : (racks : List Feeds) (answers : List Answers) (i : ℕ) (feeds : Feeds) (o : Answers) (before after : List (List ℕ × List ℕ))
+    → i < length racks → length answers ≡ length racks → feeds ≡ get_or racks i feeds → o ≡ get_or answers i o
+    → before ≡ files_from 0 (map (λ fs. map (λ rs. map read_of rs.items) fs.items) (take i racks)) (map (λ v. v.items) (take i answers))
+    → after ≡ before ++ answered_files i (map (λ rs. map read_of rs.items) feeds.items) o.items
+    → after ≡ files_from 0 (map (λ fs. map (λ rs. map read_of rs.items) fs.items) (take (i + 1) racks)) (map (λ v. v.items) (take (i + 1) answers))
+unfolding requests outcomes
+files_step racks answers i feeds o before after within sa ef eo so grew =
+    let fs = map requests (take i racks) in
     let os = map outcomes (take i answers) in
-    let us = map places (take i unread) in
-    let size_l : length (map records (take i lists)) ≡ i = omega (arith, length-map (take i lists) records, length-take i lists) in
+    let size_f : length (map requests (take i racks)) ≡ i = omega (arith, length-map (take i racks) requests, length-take i racks) in
     let size_o : length (map outcomes (take i answers)) ≡ i = omega (arith, length-map (take i answers) outcomes, length-take i answers) in
-    let size_u : length (map places (take i unread)) ≡ i = omega (arith, length-map (take i unread) places, length-take i unread) in
-    let more_l : map records (take (i + 1) lists) ≡ ls ++ records l ∷ [] = map_more records lists i l within ∙ ap (λ x. ls ++ records x ∷ []) (sym el) in
+    let more_f : map requests (take (i + 1) racks) ≡ fs ++ requests feeds ∷ [] = map_more requests racks i feeds within ∙ ap (λ x. fs ++ requests x ∷ []) (sym ef) in
     let more_o : map outcomes (take (i + 1) answers) ≡ os ++ o.items ∷ [] = map_more outcomes answers i o (omega (arith, sa)) ∙ ap (λ x. os ++ outcomes x ∷ []) (sym eo) in
-    let more_u : map places (take (i + 1) unread) ≡ us ++ places u ∷ [] = map_more places unread i u (omega (arith, su)) ∙ ap (λ x. us ++ places x ∷ []) (sym eu) in
-    let front : 0 + length (map records (take i lists)) ≡ i = omega (arith, size_l) in
-    let closed : map (λ (f : Vec Record Global). listed_before_close f.items) l.items ≡ map listed_before_close (records l) = sym (map-map listed_before_close (λ (f : Vec Record Global). f.items) l.items) in
-    grew ∙ ap (λ t. t ++ answered_files i (map (λ (f : Vec Record Global). listed_before_close f.items) l.items) o.items (places u)) so
-    ∙ ap (λ rs. files_from 0 ls os us ++ answered_files i rs o.items (places u)) closed
+    let front : 0 + length (map requests (take i racks)) ≡ i = omega (arith, size_f) in
+    grew ∙ ap (λ t. t ++ answered_files i (requests feeds) o.items) so
     ∙ sym
-    (ap (λ x. files_from 0 x (map outcomes (take (i + 1) answers)) (map places (take (i + 1) unread))) more_l
-    ∙ ap (λ x. files_from 0 (ls ++ records l ∷ []) x (map places (take (i + 1) unread))) more_o
-    ∙ ap (λ x. files_from 0 (ls ++ records l ∷ []) (os ++ o.items ∷ []) x) more_u
-    ∙ files_push 0 ls os us (records l) o.items (places u) (size_o ∙ sym size_l) (size_u ∙ sym size_l)
-    ∙ ap (λ n. files_from 0 ls os us ++ answered_files n (map listed_before_close (records l)) o.items (places u)) front)
+    (ap (λ x. files_from 0 x (map outcomes (take (i + 1) answers))) more_f
+    ∙ ap (λ x. files_from 0 (fs ++ requests feeds ∷ []) x) more_o
+    ∙ files_push 0 fs os (requests feeds) o.items (size_o ∙ sym size_f)
+    ∙ ap (λ n. files_from 0 fs os ++ answered_files n (requests feeds) o.items) front)
 
-pub files_done : (lists : List (Vec (Vec Record Global) Global)) (answers : List (Vec (ℕ × Outcome) Global)) (unread : List (Vec (Vec (Vec Place Global) Global) Global)) (n : ℕ) (all : List (List ℕ × List ℕ))
-    → length lists ≤ n → length answers ≡ length lists → length unread ≡ length lists
-    → all ≡ files_from 0 (map (λ v. map (λ f. f.items) v.items) (take n lists)) (map (λ v. v.items) (take n answers)) (map (λ us. map (λ u. map (λ ps. ps.items) u.items) us.items) (take n unread))
-    → all ≡ files_from 0 (map (λ v. map (λ f. f.items) v.items) lists) (map (λ v. v.items) answers) (map (λ us. map (λ u. map (λ ps. ps.items) u.items) us.items) unread)
-unfolding records outcomes places
-files_done lists answers unread n all past sa su so =
-    so ∙ ap (λ (x : List (Vec (Vec Record Global) Global)). files_from 0 (map records x) (map outcomes (take n answers)) (map places (take n unread))) (take_all n lists past)
-    ∙ ap (λ (x : List (Vec (ℕ × Outcome) Global)). files_from 0 (map records lists) (map outcomes x) (map places (take n unread))) (take_all n answers (omega (arith, sa)))
-    ∙ ap (λ (x : List (Vec (Vec (Vec Place Global) Global) Global)). files_from 0 (map records lists) (map outcomes answers) (map places x)) (take_all n unread (omega (arith, su)))
+pub files_done : (racks : List Feeds) (answers : List Answers) (n : ℕ) (all : List (List ℕ × List ℕ)) → length racks ≤ n → length answers ≡ length racks
+    → all ≡ files_from 0 (map (λ fs. map (λ rs. map read_of rs.items) fs.items) (take n racks)) (map (λ v. v.items) (take n answers))
+    → all ≡ files_from 0 (map (λ fs. map (λ rs. map read_of rs.items) fs.items) racks) (map (λ v. v.items) answers)
+unfolding requests outcomes
+files_done racks answers n all past sa so =
+    so ∙ ap (λ (x : List Feeds). files_from 0 (map requests x) (map outcomes (take n answers))) (take_all n racks past)
+    ∙ ap (λ (x : List Answers). files_from 0 (map requests racks) (map outcomes x)) (take_all n answers (omega (arith, sa)))

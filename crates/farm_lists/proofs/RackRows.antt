@@ -1,20 +1,18 @@
 -- The rows of a rack, number by number.
 use Rattle.std.proofs.Common.{◌≡◌, ◌<◌, ◌≤◌, ◌+◌, ◌++◌, ◌∙◌, ◌⊎◌, inl, inr, ℕ, zero, suc, Bool, cond, List, [], ◌∷◌, Option, Some, length, take, map, set, get_or, refl, sym, ap, arith}
 use Rattle.std.specs.Prelude.{count_by, option_map, option_and_then, ◌==◌}
-use Rattle.std.specs.List.{AllZip, filter_map, range_with_len, slice_get}
+use Rattle.std.specs.List.{filter_map, range_with_len, slice_get}
 use Rattle.std.proofs.lemmas.Bool.{cases_eq, eq-eqb, ne_eqb}
 use Rattle.std.proofs.lemmas.List.{get_or-map, get_or-set_same, get_or-set_other, get_or_default, get_or_read, length-map, length-take, map-append, map-id, take_all, take_more}
 use Rattle.std.proofs.lemmas.List.Elements.{All-get_or, filter_map-append}
 use Rattle.std.proofs.lemmas.List.Sums.{count_by-le-length, count_by_more_no, count_by_more_yes, sum_by-cons, sum_by-take-le}
 use Rattle.std.proofs.lemmas.Option.{slice_get-get_or}
-use Rattle.lrc_code.specs.declared.places.Place.{Place}
 use Rattle.lrc_code.specs.declared.outcomes.Outcome.{Outcome}
-use Rattle.farm_lists.specs.Listed.{ListedRequest}
 use Rattle.lrc_code.specs.declared.codes.Code.TheVariants.{Narrow}
 use Rattle.lrc_code.specs.declared.places.Place.TheVariants.{X0}
 use Rattle.lrc_code.specs.declared.outcomes.Outcome.TheVariants.{Several}
-use Rattle.farm_lists.specs.Report.{Row}
-use Rattle.farm_lists.specs.ReportLaws.{RowsTellTheAnswers}
+use Rattle.farm_lists.specs.Report.{RequestRead, Row}
+use Rattle.farm_lists.specs.ReportLaws.{RowsTellTheAnswers, request_of}
 use Rattle.farm_lists.specs.Rows.{FitsFeeds, member, position, row_at, row_of_number}
 
 -- an answer: its feed's number and the outcome
@@ -72,20 +70,6 @@ sizes_at items [] i = refl
 sizes_at items (v ∷ vs) zero = refl
 sizes_at items (v ∷ vs) (suc i) = sizes_at items vs i
 
-pub as_many : {V W A B : Type 0} (items : V → List A) (others : W → List B) (vs : List V) (ws : List W) → AllZip (λ v w. length (others w) ≡ length (items v)) vs ws → length ws ≡ length vs
-as_many items others [] [] all = refl
-as_many items others [] (w ∷ ws) all = absurd all
-as_many items others (v ∷ vs) [] all = absurd all
-as_many items others (v ∷ vs) (w ∷ ws) all = let rest = as_many items others vs ws all.1 in omega (arith, rest)
-
-pub as_many_at : {V W A B : Type 0} (items : V → List A) (others : W → List B) (vs : List V) (ws : List W) (i : ℕ) → AllZip (λ v w. length (others w) ≡ length (items v)) vs ws
-    → length (get_or (map others ws) i []) ≡ length (get_or (map items vs) i [])
-as_many_at items others [] [] i all = refl
-as_many_at items others [] (w ∷ ws) i all = absurd all
-as_many_at items others (v ∷ vs) [] i all = absurd all
-as_many_at items others (v ∷ vs) (w ∷ ws) zero all = all.0
-as_many_at items others (v ∷ vs) (w ∷ ws) (suc i) all = as_many_at items others vs ws i all.1
-
 -- ---- rows
 
 range_push : (a n : ℕ) → range_with_len a (n + 1) ≡ range_with_len a n ++ (a + n) ∷ []
@@ -101,11 +85,11 @@ numbers_push h n row is =
     ap (filter_map h) (range_push 0 n) ∙ filter_map-append h (range_with_len 0 n) ((0 + n) ∷ []) ∙ ap (λ k. filter_map h (range_with_len 0 n) ++ filter_map h (k ∷ [])) same
     ∙ rw is refl
 
-pub number_is : (requests : List (List ListedRequest)) (unread : List (List (List Place))) (answers : List Answer) (n p : ℕ) (a : Answer) (row : Row)
-    → n < length answers → a ≡ get_or answers n a → p ≡ position answers a.0 n → row_at requests unread a p ≡ Some row → row_of_number requests unread answers n ≡ Some row
-number_is requests unread answers n p a row within is at made =
+pub number_is : (requests : List (List RequestRead)) (answers : List Answer) (n p : ℕ) (a : Answer) (row : Row)
+    → n < length answers → a ≡ get_or answers n a → p ≡ position answers a.0 n → row_at requests a p ≡ Some row → row_of_number requests answers n ≡ Some row
+number_is requests answers n p a row within is at made =
     let found : slice_get answers n ≡ Some a = slice_get-get_or answers n a within ∙ ap (λ (x : Answer). Some x) (sym is) in
-    ap (λ o. option_and_then (λ x. row_at requests unread x (position answers x.0 n)) o) found ∙ ap (λ k. row_at requests unread a k) (sym at) ∙ made
+    ap (λ o. option_and_then (λ x. row_at requests x (position answers x.0 n)) o) found ∙ ap (λ k. row_at requests a k) (sym at) ∙ made
 
 pub told_step : {A : Type 0} (outcome : A → Outcome) (answers : List Answer) (n : ℕ) (a : Answer) (row : A) (before after : List A) → n < length answers → a ≡ get_or answers n a → outcome row ≡ a.1
     → map outcome before ≡ map (λ x. x.1) (take n answers) → after ≡ before ++ row ∷ [] → map outcome after ≡ map (λ x. x.1) (take (n + 1) answers)
@@ -126,7 +110,7 @@ pub known_in : {V : Type 0} (size : V → ℕ) (vs : List V) (answers : List Ans
     → a.0 < length vs
 known_in size vs answers n a fits within is = omega (arith, feed_known (map size vs) answers n a fits within is, length-map vs size)
 
--- the position is within the feed's requests, and within what was left out of these
+-- the position is within the feed's requests
 pub position_in : {V A : Type 0} (items : V → List A) (vs : List V) (answers : List Answer) (n p : ℕ) (a : Answer) → FitsFeeds (map (λ v. length (items v)) vs) (map (λ x. x.0) answers)
     → n < length answers → a ≡ get_or answers n a → p ≡ position answers a.0 n → p < length (get_or (map items vs) a.0 [])
 position_in items vs answers n p a fits within is at =
@@ -139,49 +123,41 @@ position_in items vs answers n p a fits within is at =
 member_is : {A : Type 0} (lists : List (List A)) (i j : ℕ) (d : A) → i < length lists → j < length (get_or lists i []) → member lists i j ≡ Some (get_or (get_or lists i []) j d)
 member_is lists i j d outer inner = ap (λ o. option_and_then (λ list. slice_get list j) o) (slice_get-get_or lists i [] outer) ∙ slice_get-get_or (get_or lists i []) j d inner
 
--- a request, for places beyond a list
-pub some_request : ListedRequest
-some_request = record { code = Narrow; stripe = []; target = X0; len = 0; survivors = [] }
+-- a request, for positions beyond a list
+pub some_request : RequestRead
+some_request = record { listed = record { code = Narrow; stripe = []; target = X0; len = 0; survivors = [] }; unread = [] }
 
 -- the row of a number
-pub row_for : (requests : List (List ListedRequest)) (unread : List (List (List Place))) (answers : List Answer) (n : ℕ) (a : Answer) → FitsFeeds (map length requests) (map (λ x. x.0) answers)
-    → AllZip (λ rs us. length us ≡ length rs) requests unread → n < length answers → a ≡ get_or answers n a
-    → (row : Row) × (row_of_number requests unread answers n ≡ Some row) × (row.feed ≡ a.0) × (row.outcome ≡ a.1)
-    × (row.listed ≡ get_or (get_or requests a.0 []) (position answers a.0 n) some_request) × (position answers a.0 n < length (get_or requests a.0 []))
-row_for requests unread answers n a fits sized within is =
+pub row_for : (requests : List (List RequestRead)) (answers : List Answer) (n : ℕ) (a : Answer) → FitsFeeds (map length requests) (map (λ x. x.0) answers) → n < length answers → a ≡ get_or answers n a
+    → (row : Row) × (row_of_number requests answers n ≡ Some row) × (row.feed ≡ a.0) × (row.outcome ≡ a.1)
+    × (request_of row ≡ get_or (get_or requests a.0 []) (position answers a.0 n) some_request) × (position answers a.0 n < length (get_or requests a.0 []))
+row_for requests answers n a fits within is =
     let p = position answers a.0 n in
     let known = known_in length requests answers n a fits within is in
-    let below = position_in (λ (rs : List ListedRequest). rs) requests answers n (position answers a.0 n) a fits within is refl in
+    let below = position_in (λ (rs : List RequestRead). rs) requests answers n (position answers a.0 n) a fits within is refl in
     let same = map-id requests in
-    let others = as_many (λ (rs : List ListedRequest). rs) (λ (us : List (List Place)). us) requests unread sized in
-    let alike = as_many_at (λ (rs : List ListedRequest). rs) (λ (us : List (List Place)). us) requests unread a.0 sized in
-    let left = map-id unread in
-    let inner : position answers a.0 n < length (get_or requests a.0 []) = omega (arith, below, ap (λ (rs : List (List ListedRequest)). length (get_or rs a.0 [])) same) in
-    let inner_left : position answers a.0 n < length (get_or unread a.0 []) = omega (arith, below, alike, ap (λ (us : List (List (List Place))). length (get_or us a.0 [])) left) in
+    let inner : position answers a.0 n < length (get_or requests a.0 []) = omega (arith, below, ap (λ (rs : List (List RequestRead)). length (get_or rs a.0 [])) same) in
     let r = get_or (get_or requests a.0 []) p some_request in
-    let u = get_or (get_or unread a.0 []) p [] in
     let found = member_is requests a.0 (position answers a.0 n) some_request known inner in
-    let found_left = member_is unread a.0 (position answers a.0 n) [] (omega (arith, known, others)) inner_left in
-    let made : row_at requests unread a (position answers a.0 n) ≡ Some (record { feed = a.0; listed = r; outcome = a.1; unread = u }) =
-    ap (λ o. option_and_then (λ x. option_map (λ y. record { feed = a.0; listed = x; outcome = a.1; unread = y }) (member unread a.0 (position answers a.0 n))) o) found
-    ∙ ap (λ o. option_map (λ y. record { feed = a.0; listed = r; outcome = a.1; unread = y }) o) found_left in
-    (record { feed = a.0; listed = r; outcome = a.1; unread = u }, number_is requests unread answers n (position answers a.0 n) a _ within is refl made, refl, refl, refl, inner)
+    let made : row_at requests a (position answers a.0 n) ≡ Some (record { feed = a.0; listed = r.listed; outcome = a.1; unread = r.unread }) =
+    ap (λ o. option_map (λ x. record { feed = a.0; listed = x.listed; outcome = a.1; unread = x.unread }) o) found in
+    (record { feed = a.0; listed = r.listed; outcome = a.1; unread = r.unread }, number_is requests answers n (position answers a.0 n) a _ within is refl made, refl, refl, refl, inner)
 
 tell : Row → Answer
 tell row = (row.feed, row.outcome)
 
-rows_tell_front : (requests : List (List ListedRequest)) (unread : List (List (List Place))) (answers : List Answer) → FitsFeeds (map length requests) (map (λ x. x.0) answers)
-    → AllZip (λ rs us. length us ≡ length rs) requests unread → (n : ℕ) → n ≤ length answers → map tell (filter_map (row_of_number requests unread answers) (range_with_len 0 n)) ≡ take n answers
+rows_tell_front : (requests : List (List RequestRead)) (answers : List Answer) → FitsFeeds (map length requests) (map (λ x. x.0) answers) → (n : ℕ) → n ≤ length answers
+    → map tell (filter_map (row_of_number requests answers) (range_with_len 0 n)) ≡ take n answers
 unfolding tell
-rows_tell_front requests unread answers fits sized zero below = refl
-rows_tell_front requests unread answers fits sized (suc n) below =
-    let h = row_of_number requests unread answers in
+rows_tell_front requests answers fits zero below = refl
+rows_tell_front requests answers fits (suc n) below =
+    let h = row_of_number requests answers in
     let d : Answer = (0, Several) in
     let within : n < length answers = omega arith in
     let a = get_or answers n d in
     let is : get_or answers n d ≡ get_or answers n (get_or answers n d) = get_or_default answers n d (get_or answers n d) within in
-    let found = row_for requests unread answers n (get_or answers n d) fits sized within is in
-    let rest = rows_tell_front requests unread answers fits sized n (omega arith) in
+    let found = row_for requests answers n (get_or answers n d) fits within is in
+    let rest = rows_tell_front requests answers fits n (omega arith) in
     let more : suc n ≡ n + 1 = omega arith in
     let told : tell found.0 ≡ a = ap (λ f. (f, found.0.outcome)) found.2 ∙ ap (λ o. ((get_or answers n d).0, o)) found.3 in
     ap (λ m. map tell (filter_map h (range_with_len 0 m))) more ∙ ap (map tell) (numbers_push h n found.0 found.1)
@@ -190,5 +166,4 @@ rows_tell_front requests unread answers fits sized (suc n) below =
 
 pub rows_tell : RowsTellTheAnswers
 unfolding tell
-rows_tell requests unread answers fits sized =
-    rows_tell_front requests unread answers fits sized (length answers) (omega arith) ∙ take_all (length answers) answers (omega arith)
+rows_tell requests answers fits = rows_tell_front requests answers fits (length answers) (omega arith) ∙ take_all (length answers) answers (omega arith)

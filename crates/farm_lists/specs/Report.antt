@@ -15,6 +15,7 @@ use Rattle.farm_lists.specs.Listed.{ListedRequest}
 use Rattle.farm_lists.specs.declared.reports.report.ReportShape.{ReportShape}
 use Rattle.farm_lists.specs.declared.reports.report.ReportRow.{ReportRow}
 use Rattle.farm_lists.specs.declared.lists.listing.Record.{Record}
+use Rattle.farm_lists.specs.declared.lists.requests.ReadRequest.{ReadRequest}
 use Rattle.farm_lists.specs.declared.lists.listing.Record.TheVariants as rec
 
 -- the request that a record lists
@@ -47,6 +48,15 @@ rebuilt_fragment outcome.Several = []
 abbrev pub digest_text : Option (List ℕ) → List ℕ
 digest_text (Some d) = encode_lower d
 digest_text None = []
+
+-- a request as listed whose survivors were read, and those of them that were left out
+pub record RequestRead : Type 0 where
+  pub listed : ListedRequest
+  pub unread : List Place
+
+-- such a request without where its parts lie in memory
+abbrev pub read_of : ReadRequest → RequestRead
+read_of r = record { listed = r.listed.now; unread = r.unread.items }
 
 -- a row of a report: the feed of the request, the request as listed, its outcome, and the listed survivors that were left out
 pub record Row : Type 0 where
@@ -106,6 +116,10 @@ rows_of_list [] os us = []
 rows_of_list (r ∷ rs) [] us = []
 rows_of_list (r ∷ rs) (o ∷ os) [] = []
 rows_of_list (r ∷ rs) (o ∷ os) (u ∷ us) = record { feed = 0; listed = r; outcome = o; unread = u } ∷ rows_of_list rs os us
+
+-- whether a request that was read is
+abbrev pub is_wide_read : RequestRead → Bool
+is_wide_read r = is_wide r.listed
 
 -- the shape of the report on one list: it tells the codes where a request is of the (12,2,2) code
 abbrev pub shape_of_list : List ListedRequest → ReportShape

@@ -6,10 +6,9 @@ use Rattle.lrc_code.specs.declared.outcomes.Outcome.{Outcome}
 use Rattle.lrc_code.specs.Places.{name_of}
 use Rattle.farm_lists.specs.Listed.{ListedRequest}
 use Rattle.farm_lists.specs.Names.{report_name}
-use Rattle.farm_lists.specs.Report.{listed_before_close, digest_text, fragment_digest, is_wide, outcome_name, report, report_line}
+use Rattle.farm_lists.specs.Report.{RequestRead, Row, digest_text, fragment_digest, is_wide, outcome_name, report, report_line}
 use Rattle.farm_lists.specs.Rows.{FitsFeeds, rack_rows}
 use Rattle.farm_lists.specs.Written.{files_from, rebuilt_file}
-use Rattle.farm_lists.specs.declared.lists.listing.Record.{Record}
 
 -- ---- a report with seven fields
 
@@ -44,29 +43,30 @@ rebuilt_of_list k n (r ∷ rs) (o ∷ os) = rebuilt_file k n r o ++ rebuilt_of_l
 abbrev pub list_files : ℕ → List ListedRequest → List Outcome → List (List Place) → List (List ℕ × List ℕ)
 list_files k rs os us = rebuilt_of_list k 0 rs os ++ (report_name k, report rs os us) ∷ []
 
--- the files of the racks from the k-th on
-abbrev pub lists_files : ℕ → List (List Record) → List (List Outcome) → List (List (List Place)) → List (List ℕ × List ℕ)
-lists_files k [] answers us = []
-lists_files k (l ∷ ls) [] us = []
-lists_files k (l ∷ ls) (a ∷ answers) [] = []
-lists_files k (l ∷ ls) (a ∷ answers) (u ∷ us) = list_files k (listed_before_close l) a u ++ lists_files (k + 1) ls answers us
+-- the files of the racks from the k-th on, each with one list
+abbrev pub lists_files : ℕ → List (List RequestRead) → List (List Outcome) → List (List ℕ × List ℕ)
+lists_files k [] answers = []
+lists_files k (rs ∷ lists) [] = []
+lists_files k (rs ∷ lists) (a ∷ answers) = list_files k (map (λ r. r.listed) rs) a (map (λ r. r.unread) rs) ++ lists_files (k + 1) lists answers
 
 -- racks with one feed each have the files of their lists
 abbrev pub FilesOfOneFeedAreOfItsList : Type 0
-FilesOfOneFeedAreOfItsList = (lists : List (List Record)) (answers : List (List Outcome)) (us : List (List (List Place)))
-    → AllZip (λ l os. length os ≡ length (listed_before_close l)) lists answers → AllZip (λ l u. length u ≡ length (listed_before_close l)) lists us
-    → files_from 0 (map (λ l. l ∷ []) lists) (map (λ os. map (λ o. (0, o)) os) answers) (map (λ u. u ∷ []) us) ≡ lists_files 0 lists answers us
+FilesOfOneFeedAreOfItsList = (lists : List (List RequestRead)) (answers : List (List Outcome)) → AllZip (λ rs os. length os ≡ length rs) lists answers
+    → files_from 0 (map (λ rs. rs ∷ []) lists) (map (λ os. map (λ o. (0, o)) os) answers) ≡ lists_files 0 lists answers
 
 -- ---- the rows of a rack
 
 -- where the answers fit the feeds there is a row for each answer, in order, which says its feed and its outcome
 abbrev pub RowsTellTheAnswers : Type 0
-RowsTellTheAnswers = (requests : List (List ListedRequest)) (unread : List (List (List Place))) (answers : List (ℕ × Outcome))
-    → FitsFeeds (map length requests) (map (λ a. a.0) answers) → AllZip (λ rs us. length us ≡ length rs) requests unread
-    → map (λ row. (row.feed, row.outcome)) (rack_rows requests unread answers) ≡ answers
+RowsTellTheAnswers = (requests : List (List RequestRead)) (answers : List (ℕ × Outcome)) → FitsFeeds (map length requests) (map (λ a. a.0) answers)
+    → map (λ row. (row.feed, row.outcome)) (rack_rows requests answers) ≡ answers
+
+-- the request that a row is about
+abbrev pub request_of : Row → RequestRead
+request_of row = record { listed = row.listed; unread = row.unread }
 
 -- and the rows of one feed are about the feed's first requests, in order
 abbrev pub RowsOfAFeedAreItsFirst : Type 0
-RowsOfAFeedAreItsFirst = (requests : List (List ListedRequest)) (unread : List (List (List Place))) (answers : List (ℕ × Outcome)) (feed : ℕ)
-    → FitsFeeds (map length requests) (map (λ a. a.0) answers) → AllZip (λ rs us. length us ≡ length rs) requests unread
-    → map (λ row. row.listed) (filter (λ row. row.feed == feed) (rack_rows requests unread answers)) ≡ take (count_by (λ a. a.0 == feed) answers) (slice_index_or requests feed [])
+RowsOfAFeedAreItsFirst = (requests : List (List RequestRead)) (answers : List (ℕ × Outcome)) (feed : ℕ) → FitsFeeds (map length requests) (map (λ a. a.0) answers)
+    → map request_of (filter (λ row. row.feed == feed) (rack_rows requests answers))
+    ≡ take (count_by (λ a. a.0 == feed) answers) (slice_index_or requests feed [])

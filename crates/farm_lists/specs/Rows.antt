@@ -1,10 +1,8 @@
 -- The rows of a rack's report, from the answers to a merge of its feeds.
 use Rattle.std.specs.Prelude.{◌<◌, ◌≤◌, ◌==◌, ℕ, nat_lt, List, Option, length, take, count_by, option_map, option_and_then, slice_index}
 use Rattle.std.specs.List.{All, filter_map, list_any, range_with_len, slice_get}
-use Rattle.lrc_code.specs.declared.places.Place.{Place}
 use Rattle.lrc_code.specs.declared.outcomes.Outcome.{Outcome}
-use Rattle.farm_lists.specs.Listed.{ListedRequest}
-use Rattle.farm_lists.specs.Report.{Row, is_wide}
+use Rattle.farm_lists.specs.Report.{RequestRead, Row, is_wide_read}
 use Rattle.farm_lists.specs.declared.reports.report.ReportShape.{ReportShape}
 
 -- member j of list i
@@ -16,21 +14,21 @@ abbrev pub position : List (ℕ × Outcome) → ℕ → ℕ → ℕ
 position answers feed n = count_by (λ a. a.0 == feed) (take n answers)
 
 -- the row of an answer to the request at a position of its feed
-abbrev pub row_at : List (List ListedRequest) → List (List (List Place)) → ℕ × Outcome → ℕ → Option Row
-row_at requests unread answer p =
-    option_and_then (λ r. option_map (λ u. record { feed = answer.0; listed = r; outcome = answer.1; unread = u }) (member unread answer.0 p)) (member requests answer.0 p)
+abbrev pub row_at : List (List RequestRead) → ℕ × Outcome → ℕ → Option Row
+row_at requests answer p = option_map (λ r. record { feed = answer.0; listed = r.listed; outcome = answer.1; unread = r.unread }) (member requests answer.0 p)
 
--- row n of a rack with these requests and left out survivors, feed by feed, and these answers, each with its feed's number
-abbrev pub row_of_number : List (List ListedRequest) → List (List (List Place)) → List (ℕ × Outcome) → ℕ → Option Row
-row_of_number requests unread answers n = option_and_then (λ a. row_at requests unread a (position answers a.0 n)) (slice_get answers n)
+-- row n of a rack with these requests, feed by feed, and these answers, each with its feed's number
+abbrev pub row_of_number : List (List RequestRead) → List (ℕ × Outcome) → ℕ → Option Row
+row_of_number requests answers n = option_and_then (λ a. row_at requests a (position answers a.0 n)) (slice_get answers n)
 
 -- the rows in the order of their numbers
-abbrev pub rack_rows : List (List ListedRequest) → List (List (List Place)) → List (ℕ × Outcome) → List Row
-rack_rows requests unread answers = filter_map (row_of_number requests unread answers) (range_with_len 0 (length answers))
+abbrev pub rack_rows : List (List RequestRead) → List (ℕ × Outcome) → List Row
+rack_rows requests answers = filter_map (row_of_number requests answers) (range_with_len 0 (length answers))
 
--- the shape of a rack's report: it tells the feeds where there are several, and the codes where a request of some feed is of the (12,2,2) code
-abbrev pub rack_shape : List (List ListedRequest) → ReportShape
-rack_shape requests = record { feeds = nat_lt 1 (length requests); codes = list_any (λ rs. list_any is_wide rs) requests }
+-- The shape of a rack's report: it says the feeds where there are several, and the codes where a request of some feed is of the (12,2,2)
+-- code.
+abbrev pub rack_shape : List (List RequestRead) → ReportShape
+rack_shape requests = record { feeds = nat_lt 1 (length requests); codes = list_any (λ rs. list_any is_wide_read rs) requests }
 
 -- answers of these feeds fit feeds with so many requests: each is of a feed that is there, and no feed has more answers than requests
 pub record FitsFeeds (counts : List ℕ) (feeds : List ℕ) : Type 0 where

@@ -1,13 +1,11 @@
 -- The files that are written, in their order: a name and its bytes.
-use Rattle.std.specs.Prelude.{◌+◌, ◌++◌, ℕ, List, [], ◌∷◌, map}
-use Rattle.lrc_code.specs.declared.places.Place.{Place}
+use Rattle.std.specs.Prelude.{◌+◌, ◌++◌, ℕ, List, [], ◌∷◌}
 use Rattle.lrc_code.specs.declared.outcomes.Outcome.{Outcome}
 use Rattle.lrc_code.specs.declared.outcomes.Outcome.TheVariants as outcome
 use Rattle.farm_lists.specs.Listed.{ListedRequest}
 use Rattle.farm_lists.specs.Names.{rebuilt_name, report_name}
-use Rattle.farm_lists.specs.Report.{Row, listed_before_close, merged_report}
+use Rattle.farm_lists.specs.Report.{RequestRead, Row, merged_report}
 use Rattle.farm_lists.specs.Rows.{rack_rows, rack_shape}
-use Rattle.farm_lists.specs.declared.lists.listing.Record.{Record}
 use Rattle.farm_lists.specs.declared.reports.report.ReportShape.{ReportShape}
 
 -- the fragment of request n of a rack, where it was rebuilt
@@ -25,13 +23,12 @@ rebuilt_files k n (row ∷ rows) = rebuilt_file k n row.listed row.outcome ++ re
 abbrev pub rack_files : ℕ → ReportShape → List Row → List (List ℕ × List ℕ)
 rack_files k shape rows = rebuilt_files k 0 rows ++ (report_name k, merged_report shape rows) ∷ []
 
--- the files of a rack with these requests and left out survivors, feed by feed, and these answers, each with its feed's number
-abbrev pub answered_files : ℕ → List (List ListedRequest) → List (ℕ × Outcome) → List (List (List Place)) → List (List ℕ × List ℕ)
-answered_files k requests answers unread = rack_files k (rack_shape requests) (rack_rows requests unread answers)
+-- the files of a rack with these requests, feed by feed, and these answers, each with its feed's number
+abbrev pub answered_files : ℕ → List (List RequestRead) → List (ℕ × Outcome) → List (List ℕ × List ℕ)
+answered_files k requests answers = rack_files k (rack_shape requests) (rack_rows requests answers)
 
 -- the files of the racks from the k-th on
-abbrev pub files_from : ℕ → List (List (List Record)) → List (List (ℕ × Outcome)) → List (List (List (List Place))) → List (List ℕ × List ℕ)
-files_from k [] answers us = []
-files_from k (l ∷ ls) [] us = []
-files_from k (l ∷ ls) (a ∷ answers) [] = []
-files_from k (l ∷ ls) (a ∷ answers) (u ∷ us) = answered_files k (map listed_before_close l) a u ++ files_from (k + 1) ls answers us
+abbrev pub files_from : ℕ → List (List (List RequestRead)) → List (List (ℕ × Outcome)) → List (List ℕ × List ℕ)
+files_from k [] answers = []
+files_from k (requests ∷ racks) [] = []
+files_from k (requests ∷ racks) (a ∷ answers) = answered_files k requests a ++ files_from (k + 1) racks answers

@@ -1,18 +1,17 @@
 //! The files of racks: the rebuilt fragments, each under its name, and the reports.
 ghost use Rattle.std.specs.Prelude.{◌≡◌, ◌++◌, ◌<◌, IfOk, OnOk, length, map};
 ghost use Rattle.std.specs.List.{AllZip};
-ghost use Rattle.farm_lists.specs.Report.{listed_before_close, fragment_digest, row_of};
+ghost use Rattle.farm_lists.specs.Report.{fragment_digest, read_of, row_of};
 ghost use Rattle.farm_lists.specs.Rows.{FitsFeeds};
 ghost use Rattle.farm_lists.specs.Named.{named};
 ghost use Rattle.farm_lists.specs.Written.{answered_files, files_from, rack_files, rebuilt_file};
 
-use crate::lists::listing::Record;
-use crate::lists::requests::requests_of_feeds;
+use crate::lists::requests::ReadRequest;
 use crate::names;
 use crate::reports::digests::digests_of_racks;
 use crate::reports::report::{ReportRow, ReportShape, merged_report_on};
 use crate::reports::rows::{rack_rows, rack_shape};
-use lrc_code::{Outcome, Place};
+use lrc_code::Outcome;
 use sha256_lanes::Digest;
 use std::alloc::{AllocError, Global};
 use std::borrow::CowSlice;
@@ -70,47 +69,44 @@ fn push_rows<'a>(
     Ok(())
 }
 
-// Adds the files of a rack with these lists, one for each feed.
+// Adds the files of a rack with these requests, feed by feed.
 fn push_rack<'a>(
     alloc: Global,
     files: &mut Vec<NamedFile<'a>>,
     rack: usize,
-    feeds: &'a [Vec<Record>],
+    requests: &'a [Vec<ReadRequest>],
     answers: &'a [(usize, Outcome)],
     digests: &[Option<Digest>],
-    unread: &'a [Vec<Vec<Place>>],
 ) -> Result<(), AllocError>
-    requires answers { FitsFeeds (map (λ f. length (listed_before_close f.items)) feeds.now) (map (λ a. a.0) answers.now) }
+    requires answers { FitsFeeds (map (λ rs. length rs.items) requests.now) (map (λ a. a.0) answers.now) }
     requires digests { digests.now ≡ map (λ a. fragment_digest a.1) answers.now }
-    requires unread { AllZip (λ f us. length us.items ≡ length (listed_before_close f.items)) feeds.now unread.now }
-    ensures { OnOk result (map named files.new.items ≡ map named files.old.items ++ answered_files rack (map (λ f. listed_before_close f.items) feeds.now) answers.now (map (λ us. map (λ u. u.items) us.items) unread.now)) }
+    ensures { OnOk result (map named files.new.items
+        ≡ map named files.old.items ++ answered_files rack (map (λ rs. map read_of rs.items) requests.now) answers.now) }
 {
-    let requests = requests_of_feeds(alloc, feeds)?;
-    let shape = rack_shape(requests.as_slice());
-    let rows = rack_rows(alloc, requests.as_slice(), answers, unread)?;
+    let shape = rack_shape(requests);
+    let rows = rack_rows(alloc, requests, answers)?;
     push_rows(alloc, files, rack, shape, rows.as_slice(), digests)
 }
 
 /// The files of all racks, in the order in which they are written: for each rack the rebuilt fragments in the order of its
-/// numbers, then its report. The lists and what was left out of their requests are feed by feed. The digests are made in
-/// at most this many threads.
+/// numbers, then its report. The requests before each list's close are feed by feed. The digests are made in at most this many
+/// threads.
 pub fn make_files<'a, R: Threads + Sync>(
     rt: &R,
     alloc: Global,
     threads: usize,
-    lists: &'a [Vec<Vec<Record>>],
+    racks: &'a [Vec<Vec<ReadRequest>>],
     answers: &'a [Vec<(usize, Outcome)>],
-    unread: &'a [Vec<Vec<Vec<Place>>>],
 ) -> Result<Vec<NamedFile<'a>>, AllocError>
     requires threads { 0 < threads }
-    requires answers { AllZip (λ l os. FitsFeeds (map (λ f. length (listed_before_close f.items)) l.items) (map (λ a. a.0) os.items)) lists.now answers.now }
-    requires unread { AllZip (λ l us. AllZip (λ f u. length u.items ≡ length (listed_before_close f.items)) l.items us.items) lists.now unread.now }
-    ensures { IfOk result (λ v. map named v.items ≡ files_from 0 (map (λ l. map (λ f. f.items) l.items) lists.now) (map (λ os. os.items) answers.now) (map (λ us. map (λ u. map (λ ps. ps.items) u.items) us.items) unread.now)) }
+    requires answers { AllZip (λ feeds os. FitsFeeds (map (λ rs. length rs.items) feeds.items) (map (λ a. a.0) os.items)) racks.now answers.now }
+    ensures { IfOk result (λ v. map named v.items
+        ≡ files_from 0 (map (λ feeds. map (λ rs. map read_of rs.items) feeds.items) racks.now) (map (λ os. os.items) answers.now)) }
 {
     let digests = digests_of_racks(rt, alloc, answers, threads)?;
     let mut digests_left = digests.as_slice();
     let mut files = Vec::new(alloc);
-    for rack in 0..lists.len() {
+    for rack in 0..racks.len() {
         let outcomes = answers[rack].as_slice();
         let (rack_digests, behind) = digests_left.split_at(outcomes.len());
         digests_left = behind;
@@ -118,10 +114,9 @@ pub fn make_files<'a, R: Threads + Sync>(
             alloc,
             &mut files,
             rack,
-            lists[rack].as_slice(),
+            racks[rack].as_slice(),
             outcomes,
             rack_digests,
-            unread[rack].as_slice(),
         )?;
     }
     Ok(files)

@@ -4,18 +4,18 @@ use Rattle.std.specs.List.{AllZip, slice_range}
 use Rattle.std.proofs.Math.Seq.{take-add}
 use Rattle.std.proofs.lemmas.List.{length-drop, length-map, length-take-le, map-append}
 use Rattle.std.proofs.lemmas.Simd.{map-map}
-use Rattle.lrc_code.specs.declared.places.Place.{Place}
 use Rattle.lrc_code.specs.declared.outcomes.Outcome.{Outcome}
 use Rattle.farm_core.specs.Merge.{AreMergedAnswers}
 use Rattle.farm_core.specs.Orders.{before_close}
 use Rattle.farm_core.specs.declared.orders.Order.{Order}
 use Rattle.farm_core.proofs.Works.{zip_append}
-use Rattle.farm_serving.specs.AnsweredRacks.{AreAnswered, all_places, all_records, listed_counts}
+use Rattle.farm_serving.specs.AnsweredRacks.{AreAnswered, all_records, all_requests, listed_counts}
 use Rattle.farm_shelves.specs.Files.{Told}
 use Rattle.farm_serving.specs.Pairs.{zip_with}
-use Rattle.farm_lists.specs.Report.{listed_before_close}
-use Rattle.farm_serving.specs.Serving.{AreRackReads, Reads, orders_rack, unread_rack}
+use Rattle.farm_lists.specs.Report.{RequestRead, listed_before_close, read_of}
+use Rattle.farm_serving.specs.Serving.{AreRackReads, Reads, orders_rack, rack_read}
 use Rattle.farm_lists.specs.declared.lists.listing.Record.{Record}
+use Rattle.farm_lists.specs.declared.lists.requests.ReadRequest.{ReadRequest}
 
 -- the front of a list, and a range after it
 pub take_range : {A : Type 0} (xs : List A) (a b : ℕ) → a ≤ b → take b xs ≡ take a xs ++ slice_range xs a b
@@ -33,17 +33,17 @@ counts_same (feeds ∷ racks) =
     ap (λ (t : List ℕ). t ∷ listed_counts (all_records racks)) (map-map (λ (list : List Record). length (listed_before_close list)) (λ (list : Vec Record Global). list.items) feeds.items)
     ∙ ap (λ (t : List (List ℕ)). map (λ (list : Vec Record Global). length (listed_before_close list.items)) feeds.items ∷ t) (counts_same racks)
 
-pub lengths_same : (feeds : List (Vec (Vec Place Global) Global)) → map (λ requests. length requests) (map (λ (us : Vec (Vec Place Global) Global). map (λ (u : Vec Place Global). u.items) us.items) feeds) ≡ map (λ us. length us.items) feeds
+pub lengths_same : (feeds : List (Vec ReadRequest Global)) → map (λ requests. length requests) (map (λ (us : Vec ReadRequest Global). map read_of us.items) feeds) ≡ map (λ us. length us.items) feeds
 lengths_same [] = refl
 lengths_same (us ∷ feeds) =
-    ap (λ n. n ∷ map (λ (requests : List (List Place)). length requests) (map (λ (us : Vec (Vec Place Global) Global). map (λ (u : Vec Place Global). u.items) us.items) feeds)) (length-map us.items (λ (u : Vec Place Global). u.items))
+    ap (λ n. n ∷ map (λ (rs : List RequestRead). length rs) (map (λ (us : Vec ReadRequest Global). map read_of us.items) feeds)) (length-map us.items read_of)
     ∙ ap (λ (t : List ℕ). length us.items ∷ t) (lengths_same feeds)
 
-pub places_same : (racks : List (Vec (Vec (Vec Place Global) Global) Global)) → map (λ feeds. map (λ requests. length requests) feeds) (all_places racks) ≡ map (λ feeds. map (λ us. length us.items) feeds.items) racks
-places_same [] = refl
-places_same (feeds ∷ racks) =
-    ap (λ (t : List ℕ). t ∷ map (λ (feeds : List (List (List Place))). map (λ (requests : List (List Place)). length requests) feeds) (all_places racks)) (lengths_same feeds.items)
-    ∙ ap (λ (t : List (List ℕ)). map (λ (us : Vec (Vec Place Global) Global). length us.items) feeds.items ∷ t) (places_same racks)
+pub requests_counted : (racks : List (Vec (Vec ReadRequest Global) Global)) → map (λ feeds. map (λ requests. length requests) feeds) (all_requests racks) ≡ map (λ feeds. map (λ us. length us.items) feeds.items) racks
+requests_counted [] = refl
+requests_counted (feeds ∷ racks) =
+    ap (λ (t : List ℕ). t ∷ map (λ (feeds : List (List RequestRead)). map (λ (rs : List RequestRead). length rs) feeds) (all_requests racks)) (lengths_same feeds.items)
+    ∙ ap (λ (t : List (List ℕ)). map (λ (us : Vec ReadRequest Global). length us.items) feeds.items ∷ t) (requests_counted racks)
 
 -- ---- batches
 
@@ -66,21 +66,21 @@ both_values {C = C} f R xs xs' ys ys' zs zs' all first last =
 
 -- nothing is answered of no rack
 pub answered_none : (told : Told) → AreAnswered told [] [] [] []
-answered_none told = record { read = tt; orders = []; ordered = refl; merged = tt; places = refl; given = λ there e. (refl, refl) }
+answered_none told = record { read = tt; orders = []; ordered = refl; merged = tt; counted = refl; given = λ there e. (refl, refl) }
 
 -- what is expected of racks, and of those after them, is expected of all
-pub answered_append : (told : Told) (lists lists' : List (List (List Record))) (reads reads' : List (List (List Reads))) (answers answers' : List (List (ℕ × Outcome))) (unread unread' : List (List (List (List Place))))
-    → AreAnswered told lists reads answers unread → AreAnswered told lists' reads' answers' unread' → AreAnswered told (lists ++ lists') (reads ++ reads') (answers ++ answers') (unread ++ unread')
-answered_append told lists lists' reads reads' answers answers' unread unread' first last = record {
+pub answered_append : (told : Told) (lists lists' : List (List (List Record))) (reads reads' : List (List (List Reads))) (answers answers' : List (List (ℕ × Outcome))) (requests requests' : List (List (List RequestRead)))
+    → AreAnswered told lists reads answers requests → AreAnswered told lists' reads' answers' requests' → AreAnswered told (lists ++ lists') (reads ++ reads') (answers ++ answers') (requests ++ requests')
+answered_append told lists lists' reads reads' answers answers' requests requests' first last = record {
   read = zip_append AreRackReads lists lists' reads reads' first.read last.read;
   orders = first.orders ++ last.orders;
   ordered = both_images (λ (feeds : List (List Order)). map (λ (list : List Order). length (before_close list)) feeds) (λ (feeds : List (List Record)). map (λ (list : List Record). length (listed_before_close list)) feeds)
       first.orders last.orders lists lists' first.ordered last.ordered;
   merged = zip_append AreMergedAnswers first.orders last.orders answers answers' first.merged last.merged;
-  places = both_images (λ (feeds : List (List (List Place))). map (λ (requests : List (List Place)). length requests) feeds) (λ (feeds : List (List Record)). map (λ (list : List Record). length (listed_before_close list)) feeds)
-      unread unread' lists lists' first.places last.places;
+  counted = both_images (λ (feeds : List (List RequestRead)). map (λ (rs : List RequestRead). length rs) feeds) (λ (feeds : List (List Record)). map (λ (list : List Record). length (listed_before_close list)) feeds)
+      requests requests' lists lists' first.counted last.counted;
   given = λ there e. (
     both_values (orders_rack there) AreRackReads lists lists' reads reads' first.orders last.orders first.read (first.given there e).0 (last.given there e).0,
-    both_values (unread_rack there) AreRackReads lists lists' reads reads' unread unread' first.read (first.given there e).1 (last.given there e).1,
+    both_values (rack_read there) AreRackReads lists lists' reads reads' requests requests' first.read (first.given there e).1 (last.given there e).1,
   );
 }

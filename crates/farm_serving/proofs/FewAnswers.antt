@@ -76,16 +76,17 @@ listed_counts lists = map (λ (l : Vec Record Global). length (listed_before_clo
 abbrev pub FitLists : Lists → Answers → Type 0
 FitLists lists answers = FitsFeeds (listed_counts lists) (map (λ (a : ℕ × Outcome). a.0) answers.items)
 
-pub fit_lists : (lists : List Lists) (racks : List (List (List Order))) (answers : List Answers) → map request_counts racks ≡ map listed_counts lists
-    → AllZip (λ feeds os. FitsFeeds (request_counts feeds) (map (λ a. a.0) os)) racks (map (λ a. a.items) answers) → AllZip FitLists lists answers
-fit_lists [] [] [] same fit = tt
-fit_lists [] [] (a ∷ answers) same fit = absurd fit
-fit_lists [] (r ∷ racks) answers same fit = absurd (let sizes = ap (λ (ns : List (List ℕ)). length ns) same in omega (arith, sizes))
-fit_lists (l ∷ lists) [] answers same fit = absurd (let sizes = ap (λ (ns : List (List ℕ)). length ns) same in omega (arith, sizes))
-fit_lists (l ∷ lists) (r ∷ racks) [] same fit = absurd fit
-fit_lists (l ∷ lists) (r ∷ racks) (a ∷ answers) same fit = (
-  subst (λ ns. FitsFeeds ns (map (λ (x : ℕ × Outcome). x.0) a.items)) (ap (λ (ns : List (List ℕ)). get_or ns 0 []) same) fit.0,
-  fit_lists lists racks answers (ap (λ (ns : List (List ℕ)). drop 1 ns) same) fit.1,
+-- answers that fit the orders fit what has as many requests, feed by feed
+pub fit_counts : {A : Type 0} (counts : A → List ℕ) (xs : List A) (racks : List (List (List Order))) (answers : List Answers) → map request_counts racks ≡ map counts xs
+    → AllZip (λ feeds os. FitsFeeds (request_counts feeds) (map (λ a. a.0) os)) racks (map (λ a. a.items) answers) → AllZip (λ x a. FitsFeeds (counts x) (map (λ o. o.0) a.items)) xs answers
+fit_counts counts [] [] [] same fit = tt
+fit_counts counts [] [] (a ∷ answers) same fit = absurd fit
+fit_counts counts [] (r ∷ racks) answers same fit = absurd (let sizes = ap (λ (ns : List (List ℕ)). length ns) same in omega (arith, sizes))
+fit_counts counts (x ∷ xs) [] answers same fit = absurd (let sizes = ap (λ (ns : List (List ℕ)). length ns) same in omega (arith, sizes))
+fit_counts counts (x ∷ xs) (r ∷ racks) [] same fit = absurd fit
+fit_counts counts (x ∷ xs) (r ∷ racks) (a ∷ answers) same fit = (
+  subst (λ ns. FitsFeeds ns (map (λ (o : ℕ × Outcome). o.0) a.items)) (ap (λ (ns : List (List ℕ)). get_or ns 0 []) same) fit.0,
+  fit_counts counts xs racks answers (ap (λ (ns : List (List ℕ)). drop 1 ns) same) fit.1,
 )
 
 counts_few : (ls : List (Vec Record Global)) → AllByRecursion (λ (v : Vec Record Global). length v.items ≤ 4096) ls → AllByRecursion (λ n. n ≤ 4096) (map (λ v. length (listed_before_close v.items)) ls)

@@ -1,5 +1,5 @@
 -- Racks that are fed by one list each, and what is served for them.
-use Rattle.std.proofs.Common.{◌≡◌, ◌<◌, ◌++◌, ◌∙◌, ℕ, suc, List, [], ◌∷◌, All, length, map, refl, ap, subst, arith}
+use Rattle.std.proofs.Common.{◌≡◌, ◌<◌, ◌++◌, ◌∙◌, ℕ, suc, List, [], ◌∷◌, All, length, map, refl, sym, ap, subst, arith}
 use Rattle.std.specs.Prelude.{nat_lt}
 use Rattle.std.specs.List.{AllZip}
 use Rattle.lrc_code.specs.declared.outcomes.Outcome.{Outcome}
@@ -12,8 +12,8 @@ use Rattle.farm_core.specs.declared.orders.Order.TheVariants.{Rebuild}
 use Rattle.farm_core.proofs.Merges.{answers_of_one}
 use Rattle.farm_shelves.specs.Files.{Files}
 use Rattle.farm_serving.specs.Pairs.{zip_with}
-use Rattle.farm_lists.specs.Report.{listed_before_close}
-use Rattle.farm_serving.specs.Serving.{AreAllReads, AreReads, Reads, asked, asked_feed, orders_all, orders_feed, unread, unread_all, unread_feed, unread_rack}
+use Rattle.farm_lists.specs.Report.{RequestRead, listed_before_close}
+use Rattle.farm_serving.specs.Serving.{AreAllReads, AreReads, Reads, all_read, asked, asked_feed, feed_read, orders_all, orders_feed, rack_read, request_read}
 use Rattle.farm_serving.specs.ServingLaws.{RacksOfOneFeedAreServedAsLists, asked_lists}
 use Rattle.farm_lists.specs.Written.{files_from}
 use Rattle.farm_lists.specs.declared.lists.listing.Record.{Record}
@@ -77,29 +77,24 @@ zip_with-length f R (x ∷ xs) [] all = absurd all
 zip_with-length f R (x ∷ xs) (y ∷ ys) all = ap suc (zip_with-length f R xs ys all.1)
 
 answers_sized : (there : Files) (lists : List (List Record)) (read : List (List Reads)) (outcomes : List (List Outcome)) → AllZip AreOf lists read → AreAllAnswers (asked_lists there lists read) outcomes
-    → AllZip (λ l os. length os ≡ length (listed_before_close l)) lists outcomes
+    → AllZip (λ rs os. length os ≡ length rs) (rack_read there lists read) outcomes
 answers_sized there [] [] [] are right = tt
 answers_sized there [] [] (o ∷ outcomes) are right = absurd right
 answers_sized there [] (q ∷ read) outcomes are right = absurd are
 answers_sized there (l ∷ lists) [] outcomes are right = absurd are
 answers_sized there (l ∷ lists) (q ∷ read) [] are right = absurd right
 answers_sized there (l ∷ lists) (q ∷ read) (o ∷ outcomes) are right = (
-  all_zip-length _ (asked_feed there (listed_before_close l) q) o right.0 ∙ zip_with-length (asked there) AreReads (listed_before_close l) q are.0,
+  all_zip-length _ (asked_feed there (listed_before_close l) q) o right.0 ∙ zip_with-length (asked there) AreReads (listed_before_close l) q are.0
+      ∙ sym (zip_with-length (request_read there) AreReads (listed_before_close l) q are.0),
   answers_sized there lists read outcomes are.1 right.1,
 )
 
-unread_sized : (there : Files) (lists : List (List Record)) (read : List (List Reads)) → AllZip AreOf lists read → AllZip (λ l u. length u ≡ length (listed_before_close l)) lists (unread_rack there lists read)
-unread_sized there [] [] are = tt
-unread_sized there [] (q ∷ read) are = absurd are
-unread_sized there (l ∷ lists) [] are = absurd are
-unread_sized there (l ∷ lists) (q ∷ read) are = (zip_with-length (unread there) AreReads (listed_before_close l) q are.0, unread_sized there lists read are.1)
-
-unread_of_one : (there : Files) (lists : List (List Record)) (read : List (List Reads)) → AllZip AreOf lists read
-    → unread_all there (map (λ l. l ∷ []) lists) (map (λ q. q ∷ []) read) ≡ map (λ u. u ∷ []) (unread_rack there lists read)
-unread_of_one there [] [] are = refl
-unread_of_one there [] (q ∷ read) are = absurd are
-unread_of_one there (l ∷ lists) [] are = absurd are
-unread_of_one there (l ∷ lists) (q ∷ read) are = ap (λ t. (unread_feed there (listed_before_close l) q ∷ []) ∷ t) (unread_of_one there lists read are.1)
+requests_of_one : (there : Files) (lists : List (List Record)) (read : List (List Reads)) → AllZip AreOf lists read
+    → all_read there (map (λ l. l ∷ []) lists) (map (λ q. q ∷ []) read) ≡ map (λ rs. rs ∷ []) (rack_read there lists read)
+requests_of_one there [] [] are = refl
+requests_of_one there [] (q ∷ read) are = absurd are
+requests_of_one there (l ∷ lists) [] are = absurd are
+requests_of_one there (l ∷ lists) (q ∷ read) are = ap (λ t. (feed_read there (listed_before_close l) q ∷ []) ∷ t) (requests_of_one there lists read are.1)
 
 pub served_as_lists : RacksOfOneFeedAreServedAsLists
 served_as_lists there lists reads answers serves =
@@ -112,8 +107,8 @@ served_as_lists there lists reads answers serves =
       r.1,
       a.1,
       a.2,
-      ap (λ (qs : List (List (List Reads))). files_from 0 feeds answers (unread_all there feeds qs)) r.1
-          ∙ ap (λ (os : List (List (ℕ × Outcome))). files_from 0 feeds os (unread_all there feeds (map (λ q. q ∷ []) r.0))) a.1
-          ∙ ap (files_from 0 feeds (map of_first a.0)) (unread_of_one there lists r.0 r.2)
-          ∙ files_of_one_feed lists a.0 (unread_rack there lists r.0) (answers_sized there lists r.0 a.0 r.2 a.2) (unread_sized there lists r.0 r.2),
+      ap (λ (qs : List (List (List Reads))). files_from 0 (all_read there feeds qs) answers) r.1
+          ∙ ap (λ (os : List (List (ℕ × Outcome))). files_from 0 (all_read there feeds (map (λ q. q ∷ []) r.0)) os) a.1
+          ∙ ap (λ (racks : List (List (List RequestRead))). files_from 0 racks (map of_first a.0)) (requests_of_one there lists r.0 r.2)
+          ∙ files_of_one_feed (rack_read there lists r.0) a.0 (answers_sized there lists r.0 a.0 r.2 a.2),
     )

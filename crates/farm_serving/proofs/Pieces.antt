@@ -6,7 +6,6 @@ use Rattle.std.proofs.lemmas.List.{take_all}
 use Rattle.std.proofs.lemmas.List.Sums.{sum_by-cons}
 use mathlib.Core.Option.{some, some-ne-none, some-injective}
 use lib.ListN.{get_elem?}
-use Rattle.lrc_code.specs.declared.places.Place.{Place}
 use Rattle.lrc_code.specs.Requests.{Asked}
 use Rattle.farm_core.specs.Merge.{AreOpen, HaveClose}
 use Rattle.farm_core.specs.Orders.{HasClose, before_close}
@@ -14,11 +13,11 @@ use Rattle.farm_core.specs.declared.orders.Order.{Order}
 use Rattle.farm_core.specs.declared.orders.Order.TheVariants.{Rebuild, Close}
 use Rattle.farm_shelves.specs.Files.{Files}
 use Rattle.farm_lists.specs.Listed.{ListedRequest}
-use Rattle.farm_lists.specs.Report.{listed_before_close}
+use Rattle.farm_lists.specs.Report.{RequestRead, listed_before_close}
 use Rattle.farm_lists.specs.declared.lists.listing.Record.{Record}
 use Rattle.farm_lists.specs.declared.lists.listing.Record.TheVariants as rec
 use Rattle.farm_serving.specs.Pieces.{AreOrdersOf, record_count, through_close}
-use Rattle.farm_serving.specs.Serving.{AreRackReads, AreReads, Reads, close_of, orders_feed, orders_rack, unread_feed, unread_rack}
+use Rattle.farm_serving.specs.Serving.{AreRackReads, AreReads, Reads, close_of, feed_read, orders_feed, orders_rack, rack_read}
 use Rattle.farm_serving.proofs.ReadRequests.{all_served, close_told}
 
 -- ---- a list up to its first close
@@ -97,12 +96,12 @@ orders_same there (l ∷ lists) (q ∷ reads) =
     one : (list : List Record) (feed : List Reads) → orders_feed there (through_close list) feed ≡ orders_feed there list feed
     one list feed = rw (same_requests list, same_close list) refl
 
-pub unread_same : (there : Files) (lists : List (Vec Record Global)) (reads : List (List Reads)) → unread_rack there (map served lists) reads ≡ unread_rack there (map all lists) reads
-unread_same there [] reads = refl
-unread_same there (l ∷ lists) [] = refl
-unread_same there (l ∷ lists) (q ∷ reads) =
-    ap (λ (rs : List ListedRequest). unread_feed there rs q ∷ unread_rack there (map served lists) reads) (same_requests l.items)
-    ∙ ap (λ (t : List (List (List Place))). unread_feed there (listed_before_close l.items) q ∷ t) (unread_same there lists reads)
+pub requests_same : (there : Files) (lists : List (Vec Record Global)) (reads : List (List Reads)) → rack_read there (map served lists) reads ≡ rack_read there (map all lists) reads
+requests_same there [] reads = refl
+requests_same there (l ∷ lists) [] = refl
+requests_same there (l ∷ lists) (q ∷ reads) =
+    ap (λ (rs : List ListedRequest). feed_read there rs q ∷ rack_read there (map served lists) reads) (same_requests l.items)
+    ∙ ap (λ (t : List (List RequestRead)). feed_read there (listed_before_close l.items) q ∷ t) (requests_same there lists reads)
 
 pub counts_through : (lists : List (Vec Record Global)) → map (λ (list : List Record). length (listed_before_close list)) (map served lists) ≡ map (λ (list : Vec Record Global). length (listed_before_close list.items)) lists
 counts_through [] = refl

@@ -6,7 +6,6 @@ use Rattle.std.proofs.lemmas.List.Elements.{All-nil}
 use mathlib.Core.Option.{some, some-ne-none, some-injective}
 use lib.ListN.{get_elem?}
 use Rattle.std.proofs.lemmas.List.Sums.{sum_by-append, sum_by-cons}
-use Rattle.lrc_code.specs.declared.places.Place.{Place}
 use Rattle.lrc_code.specs.declared.outcomes.Outcome.{Outcome}
 use Rattle.lrc_code.specs.Requests.{Asked}
 use Rattle.farm_core.specs.Merge.{AreMergedAnswers, AreOpen, HaveClose, IsFedAnswer, joined}
@@ -15,27 +14,28 @@ use Rattle.farm_core.specs.declared.orders.Order.{Order}
 use Rattle.farm_core.specs.declared.orders.Order.TheVariants.{Rebuild, Close}
 use Rattle.farm_core.proofs.Pieces.{are_open, close_ends_all, have_comes, have_stays, pieces_join}
 use Rattle.farm_core.proofs.Works.{zip_append}
-use Rattle.farm_serving.specs.AnsweredRacks.{AreAnswered, IsAnsweredOnce, rack_places}
+use Rattle.farm_serving.specs.AnsweredRacks.{AreAnswered, IsAnsweredOnce, rack_requests}
 use Rattle.farm_shelves.specs.Files.{Files, Told}
-use Rattle.farm_lists.specs.Report.{listed_before_close}
+use Rattle.farm_lists.specs.Report.{RequestRead, listed_before_close, read_of}
 use Rattle.farm_lists.specs.Listed.{ListedRequest}
 use Rattle.farm_lists.specs.declared.lists.listing.Record.{Record}
+use Rattle.farm_lists.specs.declared.lists.requests.ReadRequest.{ReadRequest}
 use Rattle.farm_lists.specs.declared.lists.listing.Record.TheVariants as rec
 use Rattle.farm_serving.specs.Pairs.{zip_with}
 use Rattle.farm_serving.specs.Pieces.{AreOrdersOf, piece, record_count, through_close}
-use Rattle.farm_serving.specs.Serving.{AreRackReads, AreReads, Reads, asked, close_of, feed_failures, failures, orders_feed, orders_rack, rack_failures, unread, unread_feed, unread_rack}
-use Rattle.farm_serving.proofs.Pieces.{orders_counted, orders_same, reads_same, same_requests, through_few, unread_same}
+use Rattle.farm_serving.specs.Serving.{AreRackReads, AreReads, Reads, asked, close_of, failures, feed_failures, feed_read, orders_feed, orders_rack, rack_failures, rack_read, request_read}
+use Rattle.farm_serving.proofs.Pieces.{orders_counted, orders_same, reads_same, same_requests, through_few, requests_same}
 
--- of these lists of a rack's feeds the reads, the orders, the answers and the places that were left out, and whether a close ended the rack
-pub record AreSoFar (told : Told) (lists : List (List Record)) (reads : List (List Reads)) (answers : List (ℕ × Outcome)) (places : List (List (List Place))) (ended : Bool) : Type 0 where
+-- of these lists of a rack's feeds the reads, the orders, the answers and the requests with what was left out, and whether a close ended the rack
+pub record AreSoFar (told : Told) (lists : List (List Record)) (reads : List (List Reads)) (answers : List (ℕ × Outcome)) (requests : List (List RequestRead)) (ended : Bool) : Type 0 where
   pub read : AreRackReads lists reads
   pub orders : List (List Order)
   pub ordered : AllZip AreOrdersOf lists orders
   pub merged : AreMergedAnswers orders answers
   pub opened : ended ≡ false → AreOpen orders
   pub closed : ended ≡ true → HaveClose orders
-  pub left : map (λ requests. length requests) places ≡ map (λ list. length (listed_before_close list)) lists
-  pub given : (there : Files) → told ≡ Some there → (orders ≡ orders_rack there lists reads) × (places ≡ unread_rack there lists reads)
+  pub counted : map (λ rs. length rs) requests ≡ map (λ list. length (listed_before_close list)) lists
+  pub given : (there : Files) → told ≡ Some there → (orders ≡ orders_rack there lists reads) × (requests ≡ rack_read there lists reads)
 
 -- ---- two parts of a list, of which the first has no close, or the second has nothing
 
@@ -119,11 +119,11 @@ feed_orders there a b p q s h k =
     ∙ orders_of_parts a b (zip_with (asked there) (listed_before_close a) p) (zip_with (asked there) (listed_before_close b) q) s
     (zip_length (asked there) AreReads (listed_before_close b) q k)
 
-feed_unread : (there : Files) (a b : List Record) (p q : List Reads) → Splits a b → AllZip AreReads (listed_before_close a) p
-    → unread_feed there (listed_before_close (a ++ b)) (p ++ q) ≡ unread_feed there (listed_before_close a) p ++ unread_feed there (listed_before_close b) q
-feed_unread there a b p q s h =
-    ap (λ (rs : List ListedRequest). zip_with (unread there) rs (p ++ q)) (listed_more a b s)
-    ∙ zip_more (unread there) AreReads (listed_before_close a) (listed_before_close b) p q h
+feed_requests : (there : Files) (a b : List Record) (p q : List Reads) → Splits a b → AllZip AreReads (listed_before_close a) p
+    → feed_read there (listed_before_close (a ++ b)) (p ++ q) ≡ feed_read there (listed_before_close a) p ++ feed_read there (listed_before_close b) q
+feed_requests there a b p q s h =
+    ap (λ (rs : List ListedRequest). zip_with (request_read there) rs (p ++ q)) (listed_more a b s)
+    ∙ zip_more (request_read there) AreReads (listed_before_close a) (listed_before_close b) p q h
 
 orders_of_both : (a b : List Record) (x y : List Order) → Splits a b → AreOrdersOf a x → AreOrdersOf b y → AreOrdersOf (a ++ b) (x ++ y)
 orders_of_both a b x y s h k = (
@@ -169,17 +169,17 @@ rack_orders there (a ∷ fs) (b ∷ bs) (p ∷ ps) [] s h k = absurd k
 rack_orders there (a ∷ fs) (b ∷ bs) (p ∷ ps) (q ∷ qs) s h k =
     ap₂ (λ (o : List Order) (os : List (List Order)). o ∷ os) (feed_orders there a b p q s.0 h.0 k.0) (rack_orders there fs bs ps qs s.1 h.1 k.1)
 
-rack_unread : (there : Files) (fs bs : List (List Record)) (ps qs : List (List Reads)) → AllZip Splits fs bs → AreRackReads fs ps → AreRackReads bs qs
-    → unread_rack there (joined fs bs) (joined ps qs) ≡ joined (unread_rack there fs ps) (unread_rack there bs qs)
-rack_unread there [] [] [] [] s h k = refl
-rack_unread there [] [] [] (q ∷ qs) s h k = absurd k
-rack_unread there [] [] (p ∷ ps) qs s h k = absurd h
-rack_unread there [] (b ∷ bs) ps qs s h k = absurd s
-rack_unread there (a ∷ fs) [] ps qs s h k = absurd s
-rack_unread there (a ∷ fs) (b ∷ bs) [] qs s h k = absurd h
-rack_unread there (a ∷ fs) (b ∷ bs) (p ∷ ps) [] s h k = absurd k
-rack_unread there (a ∷ fs) (b ∷ bs) (p ∷ ps) (q ∷ qs) s h k =
-    ap₂ (λ (o : List (List Place)) (os : List (List (List Place))). o ∷ os) (feed_unread there a b p q s.0 h.0) (rack_unread there fs bs ps qs s.1 h.1 k.1)
+rack_requests_more : (there : Files) (fs bs : List (List Record)) (ps qs : List (List Reads)) → AllZip Splits fs bs → AreRackReads fs ps → AreRackReads bs qs
+    → rack_read there (joined fs bs) (joined ps qs) ≡ joined (rack_read there fs ps) (rack_read there bs qs)
+rack_requests_more there [] [] [] [] s h k = refl
+rack_requests_more there [] [] [] (q ∷ qs) s h k = absurd k
+rack_requests_more there [] [] (p ∷ ps) qs s h k = absurd h
+rack_requests_more there [] (b ∷ bs) ps qs s h k = absurd s
+rack_requests_more there (a ∷ fs) [] ps qs s h k = absurd s
+rack_requests_more there (a ∷ fs) (b ∷ bs) [] qs s h k = absurd h
+rack_requests_more there (a ∷ fs) (b ∷ bs) (p ∷ ps) [] s h k = absurd k
+rack_requests_more there (a ∷ fs) (b ∷ bs) (p ∷ ps) (q ∷ qs) s h k =
+    ap₂ (λ (o : List RequestRead) (os : List (List RequestRead)). o ∷ os) (feed_requests there a b p q s.0 h.0) (rack_requests_more there fs bs ps qs s.1 h.1 k.1)
 
 pub failures_more : (fs bs : List (List Record)) (ps qs : List (List Reads)) → AllZip Splits fs bs → AreRackReads fs ps → AreRackReads bs qs
     → rack_failures (joined ps qs) ≡ rack_failures ps + rack_failures qs
@@ -195,23 +195,23 @@ failures_more (a ∷ fs) (b ∷ bs) (p ∷ ps) (q ∷ qs) s h k =
     let rest = failures_more fs bs ps qs s.1 h.1 k.1 in
     omega (arith, here, rest, sum_by-cons feed_failures (p ++ q) (joined ps qs), sum_by-cons feed_failures p ps, sum_by-cons feed_failures q qs)
 
-left_more : (fs bs : List (List Record)) (us vs : List (List (List Place))) → AllZip Splits fs bs
-    → map (λ (requests : List (List Place)). length requests) us ≡ map (λ (list : List Record). length (listed_before_close list)) fs
-    → map (λ (requests : List (List Place)). length requests) vs ≡ map (λ (list : List Record). length (listed_before_close list)) bs
-    → map (λ (requests : List (List Place)). length requests) (joined us vs) ≡ map (λ (list : List Record). length (listed_before_close list)) (joined fs bs)
-left_more [] [] [] [] s h k = refl
-left_more [] [] [] (v ∷ vs) s h k = absurd (let sizes = ap (λ (ns : List ℕ). length ns) k in omega (arith, sizes))
-left_more [] [] (u ∷ us) vs s h k = absurd (let sizes = ap (λ (ns : List ℕ). length ns) h in omega (arith, sizes))
-left_more [] (b ∷ bs) us vs s h k = absurd s
-left_more (a ∷ fs) [] us vs s h k = absurd s
-left_more (a ∷ fs) (b ∷ bs) [] vs s h k = absurd (let sizes = ap (λ (ns : List ℕ). length ns) h in omega (arith, sizes))
-left_more (a ∷ fs) (b ∷ bs) (u ∷ us) [] s h k = absurd (let sizes = ap (λ (ns : List ℕ). length ns) k in omega (arith, sizes))
-left_more (a ∷ fs) (b ∷ bs) (u ∷ us) (v ∷ vs) s h k =
+counted_more : (fs bs : List (List Record)) (us vs : List (List RequestRead)) → AllZip Splits fs bs
+    → map (λ (requests : List RequestRead). length requests) us ≡ map (λ (list : List Record). length (listed_before_close list)) fs
+    → map (λ (requests : List RequestRead). length requests) vs ≡ map (λ (list : List Record). length (listed_before_close list)) bs
+    → map (λ (requests : List RequestRead). length requests) (joined us vs) ≡ map (λ (list : List Record). length (listed_before_close list)) (joined fs bs)
+counted_more [] [] [] [] s h k = refl
+counted_more [] [] [] (v ∷ vs) s h k = absurd (let sizes = ap (λ (ns : List ℕ). length ns) k in omega (arith, sizes))
+counted_more [] [] (u ∷ us) vs s h k = absurd (let sizes = ap (λ (ns : List ℕ). length ns) h in omega (arith, sizes))
+counted_more [] (b ∷ bs) us vs s h k = absurd s
+counted_more (a ∷ fs) [] us vs s h k = absurd s
+counted_more (a ∷ fs) (b ∷ bs) [] vs s h k = absurd (let sizes = ap (λ (ns : List ℕ). length ns) h in omega (arith, sizes))
+counted_more (a ∷ fs) (b ∷ bs) (u ∷ us) [] s h k = absurd (let sizes = ap (λ (ns : List ℕ). length ns) k in omega (arith, sizes))
+counted_more (a ∷ fs) (b ∷ bs) (u ∷ us) (v ∷ vs) s h k =
     let one : length u ≡ length (listed_before_close a) = ap (λ (ns : List ℕ). get_or ns 0 0) h in
     let two : length v ≡ length (listed_before_close b) = ap (λ (ns : List ℕ). get_or ns 0 0) k in
     ap₂ (λ (n : ℕ) (ns : List ℕ). n ∷ ns)
     (length-append u v ∙ ap₂ (λ m n. m + n) one two ∙ sym (length-append (listed_before_close a) (listed_before_close b)) ∙ ap (λ (rs : List ListedRequest). length rs) (sym (listed_more a b s.0)))
-    (left_more fs bs us vs s.1 (ap (λ (ns : List ℕ). drop 1 ns) h) (ap (λ (ns : List ℕ). drop 1 ns) k))
+    (counted_more fs bs us vs s.1 (ap (λ (ns : List ℕ). drop 1 ns) h) (ap (λ (ns : List ℕ). drop 1 ns) k))
 
 zip_size : {A B : Type 0} (R : A → B → Type 0) (xs : List A) (ys : List B) → AllZip R xs ys → length xs ≡ length ys
 zip_size R [] [] all = refl
@@ -237,12 +237,12 @@ merged_more orders behind answers after false now same first opened closed once 
     )
 
 -- what is answered of the positions so far and of the next piece
-pub so_far_more : (told : Told) (fs bs : List (List Record)) (ps qs : List (List Reads)) (answers after : List (ℕ × Outcome)) (us vs : List (List (List Place))) (ended now : Bool) (behind : List (List Order))
+pub so_far_more : (told : Told) (fs bs : List (List Record)) (ps qs : List (List Reads)) (answers after : List (ℕ × Outcome)) (us vs : List (List RequestRead)) (ended now : Bool) (behind : List (List Order))
     → AllZip Splits fs bs → AreSoFar told fs ps answers us ended → AreRackReads bs qs → AllZip AreOrdersOf bs behind
     → map (λ requests. length requests) vs ≡ map (λ list. length (listed_before_close list)) bs
-    → ((there : Files) → told ≡ Some there → (behind ≡ orders_rack there bs qs) × (vs ≡ unread_rack there bs qs))
+    → ((there : Files) → told ≡ Some there → (behind ≡ orders_rack there bs qs) × (vs ≡ rack_read there bs qs))
     → IsAnsweredOnce behind ended answers after now → AreSoFar told (joined fs bs) (joined ps qs) after (joined us vs) now
-so_far_more told fs bs ps qs answers after us vs ended now behind s so read ordered left given once =
+so_far_more told fs bs ps qs answers after us vs ended now behind s so read ordered counted given once =
     let same : length so.orders ≡ length behind = sym (zip_size AreOrdersOf fs so.orders so.ordered) ∙ zip_size Splits fs bs s ∙ zip_size AreOrdersOf bs behind ordered in
     let merged = merged_more so.orders behind answers after ended now same so.merged so.opened so.closed once in
     record {
@@ -252,10 +252,10 @@ so_far_more told fs bs ps qs answers after us vs ended now behind s so read orde
       merged = merged.0;
       opened = merged.1;
       closed = merged.2;
-      left = left_more fs bs us vs s so.left left;
+      counted = counted_more fs bs us vs s so.counted counted;
       given = λ there is. (
         ap₂ (λ (x y : List (List Order)). joined x y) (so.given there is).0 (given there is).0 ∙ sym (rack_orders there fs bs ps qs s so.read read),
-        ap₂ (λ (x y : List (List (List Place))). joined x y) (so.given there is).1 (given there is).1 ∙ sym (rack_unread there fs bs ps qs s so.read read),
+        ap₂ (λ (x y : List (List RequestRead)). joined x y) (so.given there is).1 (given there is).1 ∙ sym (rack_requests_more there fs bs ps qs s so.read read),
       );
     }
 
@@ -314,7 +314,7 @@ count_further (l ∷ lists) n m h =
     )
 
 -- before the first position
-pub so_far_none : (told : Told) (lists : List (Vec Record Global)) (us : List (List (List Place))) → us ≡ map (λ _. []) lists
+pub so_far_none : (told : Told) (lists : List (Vec Record Global)) (us : List (List RequestRead)) → us ≡ map (λ _. []) lists
     → AreSoFar told (fronts lists 0) (map (λ _. []) lists) [] us false
 so_far_none told lists us is = record {
   read = reads lists;
@@ -323,8 +323,8 @@ so_far_none told lists us is = record {
   merged = ([], record { known = All-nil _; prefixes = λ k l at. refl; ended = inl (λ k l at. (opened lists k l at, whole lists k l at)) }, tt);
   opened = λ _. opened lists;
   closed = λ e. absurd (cc);
-  left = ap (map (λ (requests : List (List Place)). length requests)) is ∙ left lists;
-  given = λ there at. (orders there lists, is ∙ places there lists);
+  counted = ap (map (λ (requests : List RequestRead). length requests)) is ∙ counts lists;
+  given = λ there at. (orders there lists, is ∙ requests there lists);
 }
   where
     reads : (lists : List (Vec Record Global)) → AreRackReads (fronts lists 0) (map (λ _. []) lists)
@@ -335,17 +335,17 @@ so_far_none told lists us is = record {
     ordered [] = tt
     ordered (l ∷ lists) = (([], refl, refl), ordered lists)
 
-    left : (lists : List (Vec Record Global)) → map (λ (requests : List (List Place)). length requests) (map (λ (_ : Vec Record Global). []) lists) ≡ map (λ (list : List Record). length (listed_before_close list)) (fronts lists 0)
-    left [] = refl
-    left (l ∷ lists) = ap (λ (ns : List ℕ). 0 ∷ ns) (left lists)
+    counts : (lists : List (Vec Record Global)) → map (λ (requests : List RequestRead). length requests) (map (λ (_ : Vec Record Global). []) lists) ≡ map (λ (list : List Record). length (listed_before_close list)) (fronts lists 0)
+    counts [] = refl
+    counts (l ∷ lists) = ap (λ (ns : List ℕ). 0 ∷ ns) (counts lists)
 
     orders : (there : Files) (lists : List (Vec Record Global)) → map (λ _. []) lists ≡ orders_rack there (fronts lists 0) (map (λ _. []) lists)
     orders there [] = refl
     orders there (l ∷ lists) = ap (λ (os : List (List Order)). [] ∷ os) (orders there lists)
 
-    places : (there : Files) (lists : List (Vec Record Global)) → map (λ _. []) lists ≡ unread_rack there (fronts lists 0) (map (λ _. []) lists)
-    places there [] = refl
-    places there (l ∷ lists) = ap (λ (os : List (List (List Place))). [] ∷ os) (places there lists)
+    requests : (there : Files) (lists : List (Vec Record Global)) → map (λ _. []) lists ≡ rack_read there (fronts lists 0) (map (λ _. []) lists)
+    requests there [] = refl
+    requests there (l ∷ lists) = ap (λ (os : List (List RequestRead)). [] ∷ os) (requests there lists)
 
     opened : (lists : List (Vec Record Global)) (k : ℕ) (l : List Order) → get_elem? (map (λ (_ : Vec Record Global). []) lists) k ≡ some l → HasClose l → ⊥
     opened [] k l at has = absurd (some-ne-none l (sym at))
@@ -366,7 +366,7 @@ counts_all [] = refl
 counts_all (l ∷ lists) = ap₂ (λ (n : ℕ) (ns : List ℕ). n ∷ ns) (ap (λ (rs : List ListedRequest). length rs) (same_requests l.items)) (counts_all lists)
 
 -- when all positions were answered, the rack is
-pub so_far_all : (told : Told) (lists : List (Vec Record Global)) (reads : List (List Reads)) (answers : List (ℕ × Outcome)) (us : List (List (List Place))) (ended : Bool) (n : ℕ)
+pub so_far_all : (told : Told) (lists : List (Vec Record Global)) (reads : List (List Reads)) (answers : List (ℕ × Outcome)) (us : List (List RequestRead)) (ended : Bool) (n : ℕ)
     → All (λ l. length l.items ≤ n) lists → AreSoFar told (fronts lists n) reads answers us ended
     → AreAnswered told (map (λ (list : Vec Record Global). list.items) lists ∷ []) (reads ∷ []) (answers ∷ []) (us ∷ [])
 so_far_all told lists reads answers us ended n few so_far =
@@ -376,10 +376,10 @@ so_far_all told lists reads answers us ended n few so_far =
       orders = so.orders ∷ [];
       ordered = ap (λ (ns : List ℕ). ns ∷ []) (orders_counted (map served lists) so.orders so.ordered ∙ counts_all lists);
       merged = (so.merged, tt);
-      places = ap (λ (ns : List ℕ). ns ∷ []) (so.left ∙ counts_all lists);
+      counted = ap (λ (ns : List ℕ). ns ∷ []) (so.counted ∙ counts_all lists);
       given = λ there e. (
         ap (λ (os : List (List Order)). os ∷ []) ((so.given there e).0 ∙ orders_same there lists reads),
-        ap (λ (ps : List (List (List Place))). ps ∷ []) ((so.given there e).1 ∙ unread_same there lists reads),
+        ap (λ (ps : List (List RequestRead)). ps ∷ []) ((so.given there e).1 ∙ requests_same there lists reads),
       );
     }
 
@@ -403,11 +403,11 @@ none_fail [] = refl
 none_fail (l ∷ lists) = let rest = none_fail lists in omega (arith, rest, sum_by-cons feed_failures [] (map (λ (_ : Vec Record Global). []) lists))
 
 -- no requests of each of as many lists
-pub none_same : {A B : Type 0} (f : A → List Record) (g : B → List Record) (xs : List A) (ys : List B) → map f xs ≡ map g ys → map (λ (_ : A). []) xs ≡ map {B = List (List Place)} (λ (_ : B). []) ys
+pub none_same : {A B : Type 0} (f : A → List Record) (g : B → List Record) (xs : List A) (ys : List B) → map f xs ≡ map g ys → map (λ (_ : A). []) xs ≡ map {B = List RequestRead} (λ (_ : B). []) ys
 none_same f g [] [] same = refl
 none_same f g [] (y ∷ ys) same = absurd (let sizes = ap (λ (ls : List (List Record)). length ls) same in omega (arith, sizes))
 none_same f g (x ∷ xs) [] same = absurd (let sizes = ap (λ (ls : List (List Record)). length ls) same in omega (arith, sizes))
-none_same f g (x ∷ xs) (y ∷ ys) same = ap (λ (t : List (List (List Place))). [] ∷ t) (none_same f g xs ys (ap (λ (ls : List (List Record)). drop 1 ls) same))
+none_same f g (x ∷ xs) (y ∷ ys) same = ap (λ (t : List (List RequestRead)). [] ∷ t) (none_same f g xs ys (ap (λ (ls : List (List Record)). drop 1 ls) same))
 
 -- the records of a piece are no more than those of the list
 slice_few : (xs : List Record) (a b : ℕ) → length (slice_range xs a b) ≤ length xs
@@ -459,22 +459,22 @@ pub orders_size : (lists : List (Vec Record Global)) (lent : List (Bor (List Rec
 orders_size lists lent first end orders is are =
     sym (zip_size AreOrdersOf (map (λ (l : Bor (List Record)). l.now) lent) orders are) ∙ length-map lent (λ (l : Bor (List Record)). l.now) ∙ piece_size lists lent first end is
 
-pub places_size : (told : Told) (lists : List (Vec Record Global)) (lent : List (Bor (List Record))) (first end : ℕ) (reads : List (List Reads)) (answers : List (ℕ × Outcome)) (ended : Bool)
-    (us vs : List (Vec (Vec Place Global) Global)) → AreSoFar told (fronts lists first) reads answers (rack_places us) ended → map (λ l. l.now) lent ≡ pieces lists first end
+pub requests_size : (told : Told) (lists : List (Vec Record Global)) (lent : List (Bor (List Record))) (first end : ℕ) (reads : List (List Reads)) (answers : List (ℕ × Outcome)) (ended : Bool)
+    (us vs : List (Vec ReadRequest Global)) → AreSoFar told (fronts lists first) reads answers (rack_requests us) ended → map (λ l. l.now) lent ≡ pieces lists first end
     → map (λ v. length v.items) vs ≡ map (λ l. length (listed_before_close l.now)) lent → length us ≡ length vs
-places_size told lists lent first end reads answers ended us vs so is left =
-    let before = ap (λ (ns : List ℕ). length ns) so.left in
-    let after = ap (λ (ns : List ℕ). length ns) left in
+requests_size told lists lent first end reads answers ended us vs so is counted =
+    let before = ap (λ (ns : List ℕ). length ns) so.counted in
+    let after = ap (λ (ns : List ℕ). length ns) counted in
     omega (
       arith,
       before,
       after,
       piece_size lists lent first end is,
-      length-map (rack_places us) (λ (requests : List (List Place)). length requests),
-      length-map us (λ (requests : Vec (Vec Place Global) Global). map (λ (places : Vec Place Global). places.items) requests.items),
+      length-map (rack_requests us) (λ (requests : List RequestRead). length requests),
+      length-map us (λ (requests : Vec ReadRequest Global). map read_of requests.items),
       length-map (fronts lists first) (λ (list : List Record). length (listed_before_close list)),
       length-map (map served lists) (λ (list : List Record). take first list),
       length-map lists served,
-      length-map vs (λ (v : Vec (Vec Place Global) Global). length v.items),
+      length-map vs (λ (v : Vec ReadRequest Global). length v.items),
       length-map lent (λ (l : Bor (List Record)). length (listed_before_close l.now)),
     )

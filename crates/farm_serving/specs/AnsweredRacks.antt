@@ -1,15 +1,15 @@
 -- What is answered of the lists of some racks, batch by batch.
 use Rattle.std.specs.Prelude.{◌≡◌, ◌++◌, ℕ, Bool, true, false, List, length, map, Some, Vec}
 use Rattle.std.specs.declared.alloc.Global.{Global}
-use Rattle.lrc_code.specs.declared.places.Place.{Place}
 use Rattle.lrc_code.specs.declared.outcomes.Outcome.{Outcome}
 use Rattle.farm_core.specs.Merge.{AreAllMergedAnswers, AreMergedAnswers, AreOpen, HaveClose}
 use Rattle.farm_core.specs.Orders.{before_close}
 use Rattle.farm_core.specs.declared.orders.Order.{Order}
 use Rattle.farm_shelves.specs.Files.{Files, Told}
-use Rattle.farm_lists.specs.Report.{listed_before_close}
-use Rattle.farm_serving.specs.Serving.{AreAllReads, Reads, orders_all, unread_all}
+use Rattle.farm_lists.specs.Report.{RequestRead, listed_before_close, read_of}
+use Rattle.farm_serving.specs.Serving.{AreAllReads, Reads, all_read, orders_all}
 use Rattle.farm_lists.specs.declared.lists.listing.Record.{Record}
+use Rattle.farm_lists.specs.declared.lists.requests.ReadRequest.{ReadRequest}
 
 -- the lists of racks, feed by feed
 abbrev pub all_records : List (Vec (Vec Record Global) Global) → List (List (List Record))
@@ -19,27 +19,29 @@ all_records racks = map (λ feeds. map (λ list. list.items) feeds.items) racks
 abbrev pub all_answers : List (Vec (ℕ × Outcome) Global) → List (List (ℕ × Outcome))
 all_answers racks = map (λ answers. answers.items) racks
 
--- the places of each request of a rack's feeds
-abbrev pub rack_places : List (Vec (Vec Place Global) Global) → List (List (List Place))
-rack_places feeds = map (λ requests. map (λ places. places.items) requests.items) feeds
+-- the requests of a rack's feeds
+abbrev pub rack_requests : List (Vec ReadRequest Global) → List (List RequestRead)
+rack_requests feeds = map (λ requests. map read_of requests.items) feeds
 
--- the places of each request of racks, feed by feed
-abbrev pub all_places : List (Vec (Vec (Vec Place Global) Global) Global) → List (List (List (List Place)))
-all_places racks = map (λ feeds. map (λ requests. map (λ places. places.items) requests.items) feeds.items) racks
+-- the requests of racks, feed by feed
+abbrev pub all_requests : List (Vec (Vec ReadRequest Global) Global) → List (List (List RequestRead))
+all_requests racks = map (λ feeds. map (λ requests. map read_of requests.items) feeds.items) racks
 
 -- how many requests are before the close of each list
 abbrev pub listed_counts : List (List (List Record)) → List (List ℕ)
 listed_counts racks = map (λ feeds. map (λ list. length (listed_before_close list)) feeds) racks
 
 -- Of racks with these lists: the reads of their survivors, and of each rack the answers to a lawful merge of its feeds' orders. Where the
--- input tells its files, these orders are those that the lists and the reads give, and so are the places that were left out.
-pub record AreAnswered (told : Told) (lists : List (List (List Record))) (reads : List (List (List Reads))) (answers : List (List (ℕ × Outcome))) (unread : List (List (List (List Place)))) : Type 0 where
+-- input tells its files, these orders are those that the lists and the reads give, and so are the requests, with the places that were left
+-- out.
+pub record AreAnswered (told : Told) (lists : List (List (List Record))) (reads : List (List (List Reads))) (answers : List (List (ℕ × Outcome)))
+    (requests : List (List (List RequestRead))) : Type 0 where
   pub read : AreAllReads lists reads
   pub orders : List (List (List Order))
   pub ordered : map (λ feeds. map (λ list. length (before_close list)) feeds) orders ≡ listed_counts lists
   pub merged : AreAllMergedAnswers orders answers
-  pub places : map (λ feeds. map (λ requests. length requests) feeds) unread ≡ listed_counts lists
-  pub given : (there : Files) → told ≡ Some there → (orders ≡ orders_all there lists reads) × (unread ≡ unread_all there lists reads)
+  pub counted : map (λ feeds. map (λ rs. length rs) feeds) requests ≡ listed_counts lists
+  pub given : (there : Files) → told ≡ Some there → (orders ≡ orders_all there lists reads) × (requests ≡ all_read there lists reads)
 
 -- The answers to a piece's orders have come after those before, and whether the rack has ended now is whether the piece has a close; or the
 -- rack had ended before, and no answer has come.

@@ -12,7 +12,7 @@ use Rattle.farm_core.specs.Merge.{AreAllMergedAnswers}
 use Rattle.farm_serving.specs.Pairs.{zip_with}
 use Rattle.farm_lists.specs.Listed.{ListedRequest}
 use Rattle.farm_lists.specs.Listing.{list_of}
-use Rattle.farm_lists.specs.Report.{listed_before_close}
+use Rattle.farm_lists.specs.Report.{RequestRead, listed_before_close}
 use Rattle.farm_lists.specs.declared.lists.listing.Record.{Record}
 use Rattle.farm_lists.specs.declared.lists.listing.Record.TheVariants as rec
 use Rattle.farm_shelves.specs.Files.{Files}
@@ -62,6 +62,10 @@ asked there r reads = record { code = r.code; stripe = r.stripe; target = r.targ
 abbrev pub unread : Files → ListedRequest → Reads → List Place
 unread there r reads = map (λ q. q.0) (filter (λ q. is_none (fragment there r q)) reads)
 
+-- the request as listed, and those places
+abbrev pub request_read : Files → ListedRequest → Reads → RequestRead
+request_read there r reads = record { listed = r; unread = unread there r reads }
+
 -- how often the device failed
 abbrev pub failures : Reads → ℕ
 failures reads = count_by (λ q. q.1) reads
@@ -75,8 +79,8 @@ AreReads r reads = map (λ q. q.0) reads ≡ r.survivors
 abbrev pub asked_feed : Files → List ListedRequest → List Reads → List Asked
 asked_feed there rs reads = zip_with (asked there) rs reads
 
-abbrev pub unread_feed : Files → List ListedRequest → List Reads → List (List Place)
-unread_feed there rs reads = zip_with (unread there) rs reads
+abbrev pub feed_read : Files → List ListedRequest → List Reads → List RequestRead
+feed_read there rs reads = zip_with (request_read there) rs reads
 
 abbrev pub feed_failures : List Reads → ℕ
 feed_failures reads = sum_by failures reads
@@ -99,8 +103,8 @@ AreRackReads feeds reads = AllZip (λ list feed. AllZip AreReads (listed_before_
 abbrev pub orders_rack : Files → List (List Record) → List (List Reads) → List (List Order)
 orders_rack there feeds reads = zip_with (orders_feed there) feeds reads
 
-abbrev pub unread_rack : Files → List (List Record) → List (List Reads) → List (List (List Place))
-unread_rack there feeds reads = zip_with (λ list feed. unread_feed there (listed_before_close list) feed) feeds reads
+abbrev pub rack_read : Files → List (List Record) → List (List Reads) → List (List RequestRead)
+rack_read there feeds reads = zip_with (λ list feed. feed_read there (listed_before_close list) feed) feeds reads
 
 abbrev pub rack_failures : List (List Reads) → ℕ
 rack_failures reads = sum_by feed_failures reads
@@ -113,8 +117,8 @@ AreAllReads racks reads = AllZip AreRackReads racks reads
 abbrev pub orders_all : Files → List (List (List Record)) → List (List (List Reads)) → List (List (List Order))
 orders_all there racks reads = zip_with (orders_rack there) racks reads
 
-abbrev pub unread_all : Files → List (List (List Record)) → List (List (List Reads)) → List (List (List (List Place)))
-unread_all there racks reads = zip_with (unread_rack there) racks reads
+abbrev pub all_read : Files → List (List (List Record)) → List (List (List Reads)) → List (List (List RequestRead))
+all_read there racks reads = zip_with (rack_read there) racks reads
 
 abbrev pub all_failures : List (List (List Reads)) → ℕ
 all_failures reads = sum_by rack_failures reads
@@ -130,4 +134,4 @@ pub record Serves (there : Files) (lists : List (List (List Record))) (reads : L
 
 -- all files that are written, in their order: a name and its bytes
 abbrev pub written_files : Files → List (List (List Record)) → List (List (List Reads)) → List (List (ℕ × Outcome)) → List (List ℕ × List ℕ)
-written_files there lists reads answers = files_from 0 lists answers (unread_all there lists reads)
+written_files there lists reads answers = files_from 0 (all_read there lists reads) answers

@@ -7,7 +7,7 @@ use Rattle.farm_shelves.specs.Files.{Files}
 use Rattle.farm_serving.specs.Pairs.{zip_with}
 use Rattle.farm_lists.specs.Report.{listed_before_close}
 use Rattle.farm_lists.specs.ReportLaws.{lists_files}
-use Rattle.farm_serving.specs.Serving.{Reads, Serves, asked_feed, unread_rack, written_files}
+use Rattle.farm_serving.specs.Serving.{Reads, Serves, asked_feed, rack_read, written_files}
 use Rattle.farm_lists.specs.declared.lists.listing.Record.{Record}
 
 -- of each list the requests before its close, with the survivors that were read
@@ -21,4 +21,4 @@ RacksOfOneFeedAreServedAsLists = (there : Files) (lists : List (List Record)) (r
     → Serves there (map (λ l. l ∷ []) lists) reads answers
     → (read : List (List Reads)) × (outcomes : List (List Outcome)) × (reads ≡ map (λ q. q ∷ []) read) × (answers ≡ map (λ os. map (λ o. (0, o)) os) outcomes)
     × AreAllAnswers (asked_lists there lists read) outcomes
-    × (written_files there (map (λ l. l ∷ []) lists) reads answers ≡ lists_files 0 lists outcomes (unread_rack there lists read))
+    × (written_files there (map (λ l. l ∷ []) lists) reads answers ≡ lists_files 0 (rack_read there lists read) outcomes)

@@ -4,16 +4,16 @@ ghost use Rattle.std.specs.List.{All};
 ghost use Rattle.farm_core.specs.Limits.{feed_limit, order_limit, rack_limit};
 ghost use Rattle.farm_serving.specs.Limits.{all_survivors, rack_survivors};
 ghost use Rattle.farm_core.specs.Merge.{AreMergedAnswers, AreOpen, HaveClose, joined};
-ghost use Rattle.farm_serving.specs.AnsweredRacks.{AreAnswered, IsAnsweredOnce, all_answers, all_places, all_records, rack_places};
+ghost use Rattle.farm_serving.specs.AnsweredRacks.{AreAnswered, IsAnsweredOnce, all_answers, all_records, all_requests, rack_requests};
 ghost use Rattle.farm_serving.specs.Serving.{Reads, all_failures, rack_failures};
 
 use crate::cutting::{end_of_positions, end_of_racks, lists_through_close, piece_of};
 use crate::reading::fragments::{read_feeds, read_piece};
 use farm_core::limits::MOST_ORDERS;
 use farm_core::{FarmError, Feeds, Pause, RackList, Settings, run_feeds};
-use farm_lists::Record;
+use farm_lists::{ReadRequest, Record};
 use farm_shelves::Shelf;
-use lrc_code::{Outcome, Place};
+use lrc_code::Outcome;
 use std::alloc::{AllocError, Global};
 use std::sync::Wait;
 use std::thread::Threads;
@@ -21,11 +21,12 @@ use std::thread::Threads;
 /// The most bytes of survivors that the lists of a batch name together, unless it is a single request of each feed of one rack.
 pub const MOST_BATCH_BYTES: u64 = 16_777_216;
 
-/// Of each rack the answers, each with its feed's number, and of each request, feed by feed, the places of the survivors that weren't read.
+/// Of each rack the answers, each with its feed's number, and feed by feed the requests before the close, each with the places of the
+/// survivors that weren't read.
 #[derive(Drop)]
-pub struct Answered {
+pub struct Answered<'a> {
     pub answers: Vec<Vec<(usize, Outcome)>>,
-    pub unread: Vec<Vec<Vec<Vec<Place>>>>,
+    pub requests: Vec<Vec<Vec<ReadRequest<'a>>>>,
 }
 
 // Tells a pause the numbers that the racks and requests of a batch have among those of all lists: a request's number is drawn within its
@@ -70,30 +71,30 @@ impl<'p, P: Pause> Pause for BatchPause<'p, P> {
     }
 }
 
-/// The answers to the lists of all racks, and what was left out of their requests. A batch is racks that list at most so many
+/// The answers to the lists of all racks, and their requests with what was left out of each. A batch is racks that list at most so many
 /// bytes together; a rack that lists more is cut into pieces, each the requests of all its feeds from one position to another.
 /// A `Pause` is told the numbers of all lists; one that holds a request until one of a later batch begins waits in vain.
-pub fn answer_lists<R: Threads + Wait + Sync, I: Shelf, P: Pause>(
+pub fn answer_lists<'a, R: Threads + Wait + Sync, I: Shelf, P: Pause>(
     rt: &R,
     alloc: Global,
     input: &mut I,
-    lists: &[Vec<Vec<Record>>],
+    lists: &'a [Vec<Vec<Record>>],
     settings: Settings,
     pause: &P,
     most: u64,
-) -> Result<Answered, FarmError>
+) -> Result<Answered<'a>, FarmError>
     requires room { I.failed input.old < 2 ^ 62 }
     requires racks { length lists.now ≤ rack_limit }
     requires feeds { All (λ feeds. (0 < length feeds.items) × (length feeds.items ≤ feed_limit)) lists.now }
     requires orders { All (λ feeds. All (λ l. length l.items ≤ order_limit) feeds.items) lists.now }
     ensures same { I.files input.new ≡ I.files input.old }
-    ensures answered { IfOk result (λ v. (reads : List (List (List Reads))) × AreAnswered (I.files input.old) (all_records lists.now) reads (all_answers v.answers.items) (all_places v.unread.items)
+    ensures answered { IfOk result (λ v. (reads : List (List (List Reads))) × AreAnswered (I.files input.old) (all_records lists.now) reads (all_answers v.answers.items) (all_requests v.requests.items)
         × (I.failed input.new ≡ I.failed input.old + all_failures reads)) }
     ensures more { I.failed input.old ≤ I.failed input.new }
     ensures few { I.failed input.new ≤ I.failed input.old + all_survivors }
 {
     let mut answers = Vec::new(alloc);
-    let mut unread = Vec::new(alloc);
+    let mut requests = Vec::new(alloc);
     let mut first = 0;
     while first < lists.len() {
         let end = end_of_racks(lists, first, most);
@@ -105,28 +106,28 @@ pub fn answer_lists<R: Threads + Wait + Sync, I: Shelf, P: Pause>(
         };
         let mut part = answer_racks(rt, alloc, input, &lists[first..end], settings, &batch, most)?;
         answers.append(&mut part.answers)?;
-        unread.append(&mut part.unread)?;
+        requests.append(&mut part.requests)?;
         first = end;
     }
-    Ok(Answered { answers, unread })
+    Ok(Answered { answers, requests })
 }
 
 // The same of the racks of one batch, or of one rack, which is cut.
-fn answer_racks<R: Threads + Wait + Sync, I: Shelf, P: Pause>(
+fn answer_racks<'a, R: Threads + Wait + Sync, I: Shelf, P: Pause>(
     rt: &R,
     alloc: Global,
     input: &mut I,
-    racks: &[Vec<Vec<Record>>],
+    racks: &'a [Vec<Vec<Record>>],
     settings: Settings,
     pause: &P,
     most: u64,
-) -> Result<Answered, FarmError>
+) -> Result<Answered<'a>, FarmError>
     requires room { I.failed input.old + rack_survivors * length racks.now < 2 ^ 63 }
     requires racks { length racks.now ≤ rack_limit }
     requires feeds { All (λ feeds. (0 < length feeds.items) × (length feeds.items ≤ feed_limit)) racks.now }
     requires orders { All (λ feeds. All (λ l. length l.items ≤ order_limit) feeds.items) racks.now }
     ensures same { I.files input.new ≡ I.files input.old }
-    ensures answered { IfOk result (λ v. (reads : List (List (List Reads))) × AreAnswered (I.files input.old) (all_records racks.now) reads (all_answers v.answers.items) (all_places v.unread.items)
+    ensures answered { IfOk result (λ v. (reads : List (List (List Reads))) × AreAnswered (I.files input.old) (all_records racks.now) reads (all_answers v.answers.items) (all_requests v.requests.items)
         × (I.failed input.new ≡ I.failed input.old + all_failures reads)) }
     ensures more { I.failed input.old ≤ I.failed input.new }
     ensures few { I.failed input.new ≤ I.failed input.old + rack_survivors * length racks.now }
@@ -134,9 +135,9 @@ fn answer_racks<R: Threads + Wait + Sync, I: Shelf, P: Pause>(
     if let Some(lists) = only_rack(racks) {
         return answer_rack(rt, alloc, input, lists, settings, pause, most);
     }
-    let (feeds, unread) = read_feeds(rt, alloc, input, racks, settings.workers())?;
+    let (feeds, requests) = read_feeds(rt, alloc, input, racks, settings.workers())?;
     let answers = run_feeds(rt, alloc, &feeds, settings, pause)?;
-    Ok(Answered { answers, unread })
+    Ok(Answered { answers, requests })
 }
 
 // The lists of a single rack.
@@ -155,34 +156,34 @@ fn only_rack(racks: &[Vec<Vec<Record>>]) -> Option<&[Vec<Record>]>
 
 // The same of the lists of one rack, piece by piece. A piece that has a close ends the rack: of the pieces after it the survivors are read
 // alone, since the report names those that are left out of any request before its own list's close.
-fn answer_rack<R: Threads + Wait + Sync, I: Shelf, P: Pause>(
+fn answer_rack<'a, R: Threads + Wait + Sync, I: Shelf, P: Pause>(
     rt: &R,
     alloc: Global,
     input: &mut I,
-    lists: &[Vec<Record>],
+    lists: &'a [Vec<Record>],
     settings: Settings,
     pause: &P,
     most: u64,
-) -> Result<Answered, FarmError>
+) -> Result<Answered<'a>, FarmError>
     requires room { I.failed input.old + rack_survivors < 2 ^ 63 }
     requires feeds { (0 < length lists.now) × (length lists.now ≤ feed_limit) }
     requires orders { All (λ l. length l.items ≤ order_limit) lists.now }
     ensures same { I.files input.new ≡ I.files input.old }
-    ensures answered { IfOk result (λ v. (reads : List (List Reads)) × AreAnswered (I.files input.old) (map (λ l. l.items) lists.now ∷ []) (reads ∷ []) (all_answers v.answers.items) (all_places v.unread.items)
+    ensures answered { IfOk result (λ v. (reads : List (List Reads)) × AreAnswered (I.files input.old) (map (λ l. l.items) lists.now ∷ []) (reads ∷ []) (all_answers v.answers.items) (all_requests v.requests.items)
         × (I.failed input.new ≡ I.failed input.old + rack_failures reads)) }
     ensures more { I.failed input.old ≤ I.failed input.new }
     ensures few { I.failed input.new ≤ I.failed input.old + rack_survivors }
 {
     let served = lists_through_close(alloc, lists)?;
     let mut answers = Vec::new(alloc);
-    let mut unread = none_of_each(alloc, served.as_slice())?;
+    let mut requests = none_of_each(alloc, served.as_slice())?;
     let mut ended = false;
     let mut first = 0;
     while first < MOST_ORDERS {
         let end = end_of_positions(served.as_slice(), first, most);
         let part = piece_of(alloc, served.as_slice(), first, end)?;
-        let (orders, places) = read_piece(rt, alloc, input, part.as_slice(), settings.workers())?;
-        unread = append_each(alloc, unread, places)?;
+        let (orders, later) = read_piece(rt, alloc, input, part.as_slice(), settings.workers())?;
+        requests = append_each(alloc, requests, later)?;
         let batch = BatchPause {
             pause,
             rack: 0,
@@ -192,35 +193,38 @@ fn answer_rack<R: Threads + Wait + Sync, I: Shelf, P: Pause>(
         ended = answer_piece(rt, alloc, orders, settings, &batch, ended, &mut answers)?;
         first = end;
     }
-    Ok(one_rack(alloc, answers, unread)?)
+    Ok(one_rack(alloc, answers, requests)?)
 }
 
 // No requests of each list.
-fn none_of_each(alloc: Global, lists: &[&[Record]]) -> Result<Vec<Vec<Vec<Place>>>, AllocError>
-    ensures { IfOk result (λ v. rack_places v.items ≡ map (λ _. []) lists.now) }
+fn none_of_each<'a>(
+    alloc: Global,
+    lists: &[&'a [Record]],
+) -> Result<Vec<Vec<ReadRequest<'a>>>, AllocError>
+    ensures { IfOk result (λ v. rack_requests v.items ≡ map (λ _. []) lists.now) }
 {
-    let mut unread = Vec::new(alloc);
+    let mut requests = Vec::new(alloc);
     for _list in lists {
-        unread.push(Vec::new(alloc))?;
+        requests.push(Vec::new(alloc))?;
     }
-    Ok(unread)
+    Ok(requests)
 }
 
-// The places of each feed's requests, and after them those of the next piece. Taken from the front of at most four.
-fn append_each(
+// Each feed's requests, and after them those of the next piece. Taken from the front of at most four.
+fn append_each<'a>(
     alloc: Global,
-    mut unread: Vec<Vec<Vec<Place>>>,
-    mut places: Vec<Vec<Vec<Place>>>,
-) -> Result<Vec<Vec<Vec<Place>>>, AllocError>
-    requires { length unread.items ≡ length places.items }
-    ensures { IfOk result (λ v. rack_places v.items ≡ joined (rack_places unread.items) (rack_places places.items)) }
+    mut requests: Vec<Vec<ReadRequest<'a>>>,
+    mut later: Vec<Vec<ReadRequest<'a>>>,
+) -> Result<Vec<Vec<ReadRequest<'a>>>, AllocError>
+    requires { length requests.items ≡ length later.items }
+    ensures { IfOk result (λ v. rack_requests v.items ≡ joined (rack_requests requests.entry.items) (rack_requests later.entry.items)) }
 {
     let mut all = Vec::new(alloc);
-    while !unread.is_empty() {
-        let mut requests = unread.remove(0);
-        let mut later = places.remove(0);
-        requests.append(&mut later)?;
-        all.push(requests)?;
+    while !requests.is_empty() {
+        let mut feed = requests.remove(0);
+        let mut rest = later.remove(0);
+        feed.append(&mut rest)?;
+        all.push(feed)?;
     }
     Ok(all)
 }
@@ -291,21 +295,21 @@ fn feeds_of_rack(alloc: Global, orders: Vec<RackList>) -> Result<Feeds, AllocErr
     Ok(Feeds::from_checked(racks))
 }
 
-// The answers of one rack, and what was left out of its requests, as those of all racks.
-fn one_rack(
+// The answers and the requests of one rack as those of all racks.
+fn one_rack<'a>(
     alloc: Global,
     answers: Vec<(usize, Outcome)>,
-    unread: Vec<Vec<Vec<Place>>>,
-) -> Result<Answered, AllocError>
+    requests: Vec<Vec<ReadRequest<'a>>>,
+) -> Result<Answered<'a>, AllocError>
     ensures answers { IfOk result (λ v. all_answers v.answers.items ≡ answers.items ∷ []) }
-    ensures unread { IfOk result (λ v. all_places v.unread.items ≡ rack_places unread.items ∷ []) }
+    ensures requests { IfOk result (λ v. all_requests v.requests.items ≡ rack_requests requests.entry.items ∷ []) }
 {
     let mut all_answers = Vec::new(alloc);
     all_answers.push(answers)?;
-    let mut all_unread = Vec::new(alloc);
-    all_unread.push(unread)?;
+    let mut all_requests = Vec::new(alloc);
+    all_requests.push(requests)?;
     Ok(Answered {
         answers: all_answers,
-        unread: all_unread,
+        requests: all_requests,
     })
 }

@@ -28,8 +28,8 @@ mod writing;
 
 pub use batches::{Answered, MOST_BATCH_BYTES, answer_lists};
 pub use farm_lists::{
-    ListFault, Listed, Record, ReportRow, ReportShape, list_file, merged_report_text, read_list,
-    report_laws, report_text,
+    ListFault, Listed, ReadRequest, Record, ReportRow, ReportShape, list_file, merged_report_text,
+    read_list, report_laws, report_text,
 };
 pub use farm_shelves::{FolderShelf, MemoryShelf, Shelf, ShelfFault};
 pub use faults::ServeFault;

@@ -65,7 +65,7 @@ pub fn serve<R: Threads + Wait + Sync, I: Shelf, O: Shelf, P: Pause>(
     ensures failures { IfErr result (λ f. CountsServing f (I.failed input.old) (I.failed input.new) (O.failed output.old) (O.failed output.new)) }
 {
     let lists = read_lists(alloc, input)?;
-    let Answered { answers, unread } = answer_lists(
+    let Answered { answers, requests } = answer_lists(
         rt,
         alloc,
         input,
@@ -78,9 +78,8 @@ pub fn serve<R: Threads + Wait + Sync, I: Shelf, O: Shelf, P: Pause>(
         rt,
         alloc,
         settings.workers(),
-        lists.as_slice(),
+        requests.as_slice(),
         answers.as_slice(),
-        unread.as_slice(),
     )?;
     write_files(alloc, output, files.as_slice())?;
     Ok(Served {

@@ -1,7 +1,7 @@
 //! Answering lists in batches: of one request, of a part of a list, and of whole racks.
 use crate::shared::{MOST_FAILURES, serve_shelf, shelf_of};
 use farm_core::{NoPause, Pause, Settings};
-use farm_serving::{Answered, MemoryShelf, Shelf, answer_lists, read_lists, serve};
+use farm_serving::{Answered, MemoryShelf, ReadRequest, Shelf, answer_lists, read_lists, serve};
 use lrc_code::{Outcome, Place};
 use std::alloc::{AllocError, Global};
 use std::process::Abort;
@@ -46,13 +46,14 @@ fn input_of(alloc: Global) -> Result<MemoryShelf, AllocError> {
     Ok(input)
 }
 
-fn answer<R: Threads + Wait + Sync, P: Pause>(
+// Whether the three racks get their answers, with so many workers and batches of so many bytes.
+fn are_answered<R: Threads + Wait + Sync, P: Pause>(
     rt: &R,
     alloc: Global,
     workers: usize,
     most: u64,
     pause: &P,
-) -> Result<Answered, AllocError> {
+) -> Result<bool, AllocError> {
     let mut input = input_of(alloc)?;
     let Ok(settings) = Settings::new(workers, 1) else {
         return Err(AllocError);
@@ -72,7 +73,7 @@ fn answer<R: Threads + Wait + Sync, P: Pause>(
         pause,
         most,
     ) {
-        Ok(answered) => Ok(answered),
+        Ok(answered) => Ok(are_of_racks(&answered)),
         Err(_) => Err(AllocError),
     }
 }
@@ -84,19 +85,24 @@ fn is_rebuilt(answer: &(usize, Outcome), bytes: &[u8]) -> bool {
     }
 }
 
-// Whether these are the answers to the list, and what was left out of its requests.
-fn are_of_list(answers: &[(usize, Outcome)], unread: &[Vec<Place>]) -> bool {
-    match (answers, unread) {
+// Whether this is a request for the stripe of a name, of which nothing was left out.
+fn is_whole(request: &ReadRequest, stripe: &str) -> bool {
+    request.listed.stripe() == stripe && request.unread.is_empty()
+}
+
+// Whether these are the answers to the list, and its requests with what was left out of them.
+fn are_of_list(answers: &[(usize, Outcome)], requests: &[ReadRequest]) -> bool {
+    match (answers, requests) {
         ([a, b, c, d], [of_a, of_b, of_c, of_d]) => {
             is_rebuilt(a, b"a")
                 && is_rebuilt(b, b"b")
                 && c.0 == 0
                 && matches!(&c.1, Outcome::Several)
                 && is_rebuilt(d, b"d")
-                && of_a.is_empty()
-                && of_b.is_empty()
-                && matches!(of_c.as_slice(), [Place::Px])
-                && of_d.is_empty()
+                && is_whole(of_a, "a")
+                && is_whole(of_b, "b")
+                && matches!(of_c.unread.as_slice(), [Place::Px])
+                && is_whole(of_d, "d")
         }
         _ => false,
     }
@@ -104,7 +110,7 @@ fn are_of_list(answers: &[(usize, Outcome)], unread: &[Vec<Place>]) -> bool {
 
 // Whether these are the answers to the three racks.
 fn are_of_racks(answered: &Answered) -> bool {
-    match (answered.answers.as_slice(), answered.unread.as_slice()) {
+    match (answered.answers.as_slice(), answered.requests.as_slice()) {
         ([first, second, third], [of_first, of_second, of_third]) => {
             match (
                 of_first.as_slice(),
@@ -127,8 +133,7 @@ fn are_of_racks(answered: &Answered) -> bool {
 // In a run that refuses an allocation or a thread this ends with the refusal.
 #[test]
 fn batches_of_one_request(rt: HostRuntime) -> Result<(), AllocError> {
-    let answered = answer(&rt, rt.alloc(), 2, 1, &NoPause)?;
-    assert!(&rt; are_of_racks(&answered));
+    assert!(&rt; are_answered(&rt, rt.alloc(), 2, 1, &NoPause)?);
     Ok(())
 }
 
@@ -141,8 +146,7 @@ const MOST: &[u64] = &[0, 3, 6, 9, 11, 12, 24, 27, u64::MAX];
 fn batches_of_any_size(rt: HostRuntime) -> Result<(), AllocError> {
     for workers in WORKERS {
         for most in MOST {
-            let answered = answer(&rt, rt.alloc(), *workers, *most, &NoPause)?;
-            assert!(&rt; are_of_racks(&answered));
+            assert!(&rt; are_answered(&rt, rt.alloc(), *workers, *most, &NoPause)?);
         }
     }
     Ok(())
@@ -219,8 +223,7 @@ const CUTS: &[u64] = &[1, 6, 12, u64::MAX];
 fn a_pause_is_told_the_numbers_of_all_lists(rt: HostRuntime) -> Result<(), AllocError> {
     for most in CUTS {
         let told = Told::new();
-        let answered = answer(&rt, rt.alloc(), 2, *most, &told)?;
-        assert!(&rt; are_of_racks(&answered) && told.is_told_all());
+        assert!(&rt; are_answered(&rt, rt.alloc(), 2, *most, &told)? && told.is_told_all());
     }
     Ok(())
 }

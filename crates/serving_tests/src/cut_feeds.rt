@@ -1,7 +1,7 @@
 //! Racks with several feeds that are cut into batches: which requests of each feed are answered.
 use crate::shared::{MOST_FAILURES, shelf_of};
 use farm_core::{NoPause, Settings};
-use farm_serving::{Answered, MemoryShelf, Shelf, answer_lists, read_lists};
+use farm_serving::{Answered, MemoryShelf, ReadRequest, Shelf, answer_lists, read_lists};
 use lrc_code::Outcome;
 use std::alloc::{AllocError, Global};
 use std::process::Abort;
@@ -60,13 +60,14 @@ fn list_of(alloc: Global, orders: &str) -> Result<Vec<u8>, AllocError> {
     Ok(list)
 }
 
+// The answers of each rack, and whether all requests were read.
 fn answer<R: Threads + Wait + Sync>(
     rt: &R,
     alloc: Global,
     feeds: &[&str],
     workers: usize,
     most: u64,
-) -> Result<Answered, AllocError> {
+) -> Result<(Vec<Vec<(usize, Outcome)>>, bool), AllocError> {
     let mut input: MemoryShelf = shelf_of(alloc, &FRAGMENTS)?;
     for (name, orders) in FEEDS.iter().zip(feeds.iter()) {
         input.place(alloc, name, list_of(alloc, orders)?.as_slice())?;
@@ -89,7 +90,10 @@ fn answer<R: Threads + Wait + Sync>(
         &NoPause,
         most,
     ) {
-        Ok(answered) => Ok(answered),
+        Ok(Answered { answers, requests }) => {
+            let all_read = are_read(feeds, requests.as_slice());
+            Ok((answers, all_read))
+        }
         Err(_) => Err(AllocError),
     }
 }
@@ -142,19 +146,19 @@ fn are_lawful(feeds: &[&str], answers: &[(usize, Outcome)]) -> bool {
     if closes { closed } else { all }
 }
 
-// Whether each request before its own feed's close has its row of places, and none of its survivors was left out.
-fn are_read(feeds: &[&str], answered: &Answered) -> bool {
-    match answered.unread.as_slice() {
-        [unread] => {
-            if unread.len() != feeds.len() {
+// Whether the one rack has each request before its own feed's close, and none of its survivors was left out.
+fn are_read(feeds: &[&str], racks: &[Vec<Vec<ReadRequest>>]) -> bool {
+    match racks {
+        [requests] => {
+            if requests.len() != feeds.len() {
                 return false;
             }
-            for feed in 0..unread.len() {
-                if feed < feeds.len() && unread[feed].len() != served(feeds[feed]).len() {
+            for feed in 0..requests.len() {
+                if feed < feeds.len() && requests[feed].len() != served(feeds[feed]).len() {
                     return false;
                 }
-                for places in unread[feed].as_slice() {
-                    if !places.is_empty() {
+                for request in requests[feed].as_slice() {
+                    if !request.unread.is_empty() {
                         return false;
                     }
                 }
@@ -174,11 +178,9 @@ fn racks_of_several_feeds_in_batches_of_any_size(rt: HostRuntime) -> Result<(), 
     for workers in WORKERS {
         for most in MOST {
             for feeds in RACKS {
-                let answered = answer(&rt, rt.alloc(), feeds, *workers, *most)?;
-                match answered.answers.as_slice() {
-                    [answers] => assert!(&rt;
-                        are_lawful(feeds, answers.as_slice()) && are_read(feeds, &answered)
-                    ),
+                let (racks, all_read) = answer(&rt, rt.alloc(), feeds, *workers, *most)?;
+                match racks.as_slice() {
+                    [answers] => assert!(&rt; are_lawful(feeds, answers.as_slice()) && all_read),
                     _ => assert!(&rt; false),
                 }
             }
@@ -190,8 +192,8 @@ fn racks_of_several_feeds_in_batches_of_any_size(rt: HostRuntime) -> Result<(), 
 // A close that a piece ends is not passed: with batches of one position each, no other feed goes on past it by more than that position.
 #[test]
 fn no_piece_is_run_behind_a_close(rt: HostRuntime) -> Result<(), AllocError> {
-    let answered = answer(&rt, rt.alloc(), &["ab.", "abcdabcd"], 2, 0)?;
-    match answered.answers.as_slice() {
+    let (racks, _all_read) = answer(&rt, rt.alloc(), &["ab.", "abcdabcd"], 2, 0)?;
+    match racks.as_slice() {
         [answers] => assert!(&rt; answers.len() >= 4 && answers.len() <= 5),
         _ => assert!(&rt; false),
     }

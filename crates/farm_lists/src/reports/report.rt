@@ -93,15 +93,15 @@ pub(crate) fn merged_report_on(
     Ok(text)
 }
 
-// Whether a request is of the (12,2,2) code.
-fn is_wide_request(listed: &Listed) -> bool
+/// Whether a request is of the (12,2,2) code.
+pub(crate) fn is_wide_request(listed: &Listed) -> bool
     ensures { result ≡ is_wide listed.now }
 {
     listed.code() != Code::UNNAMED
 }
 
-/// Whether one of the requests is of the (12,2,2) code.
-pub(crate) fn has_wide(requests: &[&Listed]) -> bool
+// Whether one of the requests is of the (12,2,2) code.
+fn has_wide(requests: &[&Listed]) -> bool
     ensures { result ≡ list_any is_wide (map (λ r. r.now) requests.now) }
 {
     for index in 0..requests.len() {

@@ -8,17 +8,17 @@ ghost use Rattle.lrc_code.specs.Requests.{Asked};
 ghost use Rattle.farm_lists.specs.Listed.{survivor_limit};
 ghost use Rattle.farm_core.specs.Orders.{before_close};
 ghost use Rattle.farm_core.specs.declared.orders.Order.TheVariants.{Rebuild, Close};
-ghost use Rattle.farm_lists.specs.Report.{listed_before_close};
+ghost use Rattle.farm_lists.specs.Report.{listed_before_close, read_of};
 ghost use Rattle.lrc_code.specs.Survivors.{survivors_of};
 ghost use Rattle.farm_lists.specs.declared.lists.listing.Record.{Record};
 ghost use Rattle.farm_shelves.specs.Files.{Files};
 ghost use Rattle.farm_serving.specs.Ahead.{fragment_reads, named_limit};
-ghost use Rattle.farm_serving.specs.Serving.{AreAllReads, AreRackReads, AreReads, Reads, all_failures, asked, asked_feed, failures, feed_failures, fragment, orders_all, orders_feed, orders_rack, rack_failures, survivor, unread, unread_all, unread_feed, unread_rack};
+ghost use Rattle.farm_serving.specs.Serving.{AreAllReads, AreRackReads, AreReads, Reads, all_failures, all_read, asked, asked_feed, failures, feed_failures, feed_read, fragment, orders_all, orders_feed, orders_rack, rack_failures, rack_read, request_read, survivor, unread};
 ghost use Rattle.farm_lists.specs.Parts.{ArePart};
 
 use crate::cutting::lists_through_close;
 use farm_core::{Feeds, Order, RackList};
-use farm_lists::{Listed, Record, fragment_file, requests_before_close};
+use farm_lists::{Listed, ReadRequest, Record, fragment_file, requests_before_close};
 use farm_shelves::{Shelf, ShelfFault};
 use lrc_code::{Fragment, Place, Request};
 use std::alloc::{AllocError, Global};
@@ -82,16 +82,16 @@ fn read_survivors<I: Shelf>(
     Ok((fragments, unread))
 }
 
-// A listed request with the survivors that were read, and the places of the others.
-fn read_request<I: Shelf>(
+// A listed request with the survivors that were read, and beside it the places of the others.
+fn read_request<'a, I: Shelf>(
     alloc: Global,
     input: &mut I,
-    listed: &Listed,
-) -> Result<(Request, Vec<Place>), AllocError>
+    listed: &'a Listed,
+) -> Result<(Request, ReadRequest<'a>), AllocError>
     requires { I.failed input.old + survivor_limit < 2 ^ 63 }
     ensures same { I.files input.new ≡ I.files input.old }
     ensures read { IfOk result (λ v. (reads : Reads) × AreReads listed.now reads × (I.failed input.new ≡ I.failed input.old + failures reads)
-        × ((there : Files) → I.files input.old ≡ Some there → (v.0 ≡ asked there listed.now reads) × (v.1.items ≡ unread there listed.now reads))) }
+        × ((there : Files) → I.files input.old ≡ Some there → (v.0 ≡ asked there listed.now reads) × (read_of v.1 ≡ request_read there listed.now reads))) }
     ensures more { I.failed input.old ≤ I.failed input.new }
     ensures few { I.failed input.new ≤ I.failed input.old + survivor_limit }
 {
@@ -104,7 +104,7 @@ fn read_request<I: Shelf>(
         listed.length(),
         fragments,
     );
-    Ok((request, unread))
+    Ok((request, ReadRequest { listed, unread }))
 }
 
 // The names of the files of the requests' listed survivors, each with the limit that it is read up to, in the order of the reads.
@@ -134,38 +134,38 @@ fn push_fragment_files(
     Ok(())
 }
 
-// The orders of requests with the survivors that were read, and of a close after them where one is asked for; and for each request the
+// The orders of requests with the survivors that were read, and of a close after them where one is asked for; and each request with the
 // places of the others.
-fn read_requests<R: Threads + Sync, I: Shelf>(
+fn read_requests<'a, R: Threads + Sync, I: Shelf>(
     rt: &R,
     alloc: Global,
     input: &mut I,
-    requests: &[&Listed],
+    requests: &[&'a Listed],
     closes: bool,
     threads: usize,
-) -> Result<(RackList, Vec<Vec<Place>>), AllocError>
+) -> Result<(RackList, Vec<ReadRequest<'a>>), AllocError>
     requires room { I.failed input.old + survivor_limit * length requests.now < 2 ^ 63 }
     requires orders { length requests.now + (if closes then 1 else 0) ≤ order_limit }
     ensures same { I.files input.new ≡ I.files input.old }
     ensures read { IfOk result (λ v. (reads : List Reads) × AllZip AreReads (map (λ r. r.now) requests.now) reads × (I.failed input.new ≡ I.failed input.old + feed_failures reads)
         × ((there : Files) → I.files input.old ≡ Some there → (v.0 ≡ map Rebuild (asked_feed there (map (λ r. r.now) requests.now) reads) ++ (if closes then Close ∷ [] else []))
-        × (map (λ u. u.items) v.1.items ≡ unread_feed there (map (λ r. r.now) requests.now) reads))) }
+        × (map read_of v.1.items ≡ feed_read there (map (λ r. r.now) requests.now) reads))) }
     ensures orders { IfOk result (λ v. (wanted : List Asked) × (length wanted ≡ length requests.now) × (v.0 ≡ map Rebuild wanted ++ (if closes then Close ∷ [] else []))) }
-    ensures places { IfOk result (λ v. length v.1.items ≡ length requests.now) }
+    ensures counted { IfOk result (λ v. length v.1.items ≡ length requests.now) }
     ensures more { I.failed input.old ≤ I.failed input.new }
     ensures few { I.failed input.new ≤ I.failed input.old + survivor_limit * length requests.now }
 {
     let files = fragment_files(alloc, requests)?;
     input.read_ahead(rt, alloc, files.as_slice(), threads)?;
     let mut orders = Vec::new(alloc);
-    let mut unread = Vec::new(alloc);
+    let mut read = Vec::new(alloc);
     for index in 0..requests.len() {
-        let (request, places) = read_request(alloc, input, requests[index])?;
+        let (request, with_unread) = read_request(alloc, input, requests[index])?;
         orders.push(Order::Rebuild(request))?;
-        unread.push(places)?;
+        read.push(with_unread)?;
     }
     push_close(&mut orders, closes)?;
-    Ok((RackList::from_checked(orders), unread))
+    Ok((RackList::from_checked(orders), read))
 }
 
 // Adds a close, where one is asked for.
@@ -178,21 +178,21 @@ fn push_close(orders: &mut Vec<Order>, closes: bool) -> Result<(), AllocError>
     Ok(())
 }
 
-// The orders of a feed's list up to its first close, with the survivors that were read, and for each request the places of the others.
-fn read_feed<R: Threads + Sync, I: Shelf>(
+// The orders of a feed's list up to its first close, with the survivors that were read, and each request with the places of the others.
+fn read_feed<'a, R: Threads + Sync, I: Shelf>(
     rt: &R,
     alloc: Global,
     input: &mut I,
-    list: &[Record],
+    list: &'a [Record],
     threads: usize,
-) -> Result<(RackList, Vec<Vec<Place>>), AllocError>
+) -> Result<(RackList, Vec<ReadRequest<'a>>), AllocError>
     requires room { I.failed input.old + survivor_limit * length list.now < 2 ^ 63 }
     requires orders { length list.now ≤ order_limit }
     ensures same { I.files input.new ≡ I.files input.old }
     ensures read { IfOk result (λ v. (reads : List Reads) × AllZip AreReads (listed_before_close list.now) reads × (I.failed input.new ≡ I.failed input.old + feed_failures reads)
-        × ((there : Files) → I.files input.old ≡ Some there → (v.0 ≡ orders_feed there list.now reads) × (map (λ u. u.items) v.1.items ≡ unread_feed there (listed_before_close list.now) reads))) }
+        × ((there : Files) → I.files input.old ≡ Some there → (v.0 ≡ orders_feed there list.now reads) × (map read_of v.1.items ≡ feed_read there (listed_before_close list.now) reads))) }
     ensures orders { IfOk result (λ v. AreOrdersOf list.now v.0) }
-    ensures places { IfOk result (λ v. length v.1.items ≡ length (listed_before_close list.now)) }
+    ensures counted { IfOk result (λ v. length v.1.items ≡ length (listed_before_close list.now)) }
     ensures more { I.failed input.old ≤ I.failed input.new }
     ensures few { I.failed input.new ≤ I.failed input.old + survivor_limit * length list.now }
 {
@@ -205,51 +205,51 @@ fn read_feed<R: Threads + Sync, I: Shelf>(
 }
 
 /// The same of each feed of a rack's piece.
-pub(crate) fn read_piece<R: Threads + Sync, I: Shelf>(
+pub(crate) fn read_piece<'a, R: Threads + Sync, I: Shelf>(
     rt: &R,
     alloc: Global,
     input: &mut I,
-    lists: &[&[Record]],
+    lists: &[&'a [Record]],
     threads: usize,
-) -> Result<(Vec<RackList>, Vec<Vec<Vec<Place>>>), AllocError>
+) -> Result<(Vec<RackList>, Vec<Vec<ReadRequest<'a>>>), AllocError>
     requires room { I.failed input.old + survivor_limit * record_count (map (λ l. l.now) lists.now) < 2 ^ 63 }
     requires orders { All (λ l. length l.now ≤ order_limit) lists.now }
     ensures same { I.files input.new ≡ I.files input.old }
     ensures read { IfOk result (λ v. (reads : List (List Reads)) × AreRackReads (map (λ l. l.now) lists.now) reads × (I.failed input.new ≡ I.failed input.old + rack_failures reads)
         × ((there : Files) → I.files input.old ≡ Some there → (v.0.items ≡ orders_rack there (map (λ l. l.now) lists.now) reads)
-        × (map (λ us. map (λ u. u.items) us.items) v.1.items ≡ unread_rack there (map (λ l. l.now) lists.now) reads))) }
+        × (map (λ rs. map read_of rs.items) v.1.items ≡ rack_read there (map (λ l. l.now) lists.now) reads))) }
     ensures orders { IfOk result (λ v. AllZip AreOrdersOf (map (λ l. l.now) lists.now) v.0.items) }
-    ensures places { IfOk result (λ v. map (λ us. length us.items) v.1.items ≡ map (λ l. length (listed_before_close l.now)) lists.now) }
+    ensures counted { IfOk result (λ v. map (λ rs. length rs.items) v.1.items ≡ map (λ l. length (listed_before_close l.now)) lists.now) }
     ensures more { I.failed input.old ≤ I.failed input.new }
     ensures few { I.failed input.new ≤ I.failed input.old + survivor_limit * record_count (map (λ l. l.now) lists.now) }
 {
     let mut feeds = Vec::new(alloc);
-    let mut unread = Vec::new(alloc);
+    let mut read = Vec::new(alloc);
     for feed in 0..lists.len() {
-        let (list, places) = read_feed(rt, alloc, input, lists[feed], threads)?;
+        let (list, requests) = read_feed(rt, alloc, input, lists[feed], threads)?;
         feeds.push(list)?;
-        unread.push(places)?;
+        read.push(requests)?;
     }
-    Ok((feeds, unread))
+    Ok((feeds, read))
 }
 
 // The same of a whole rack.
-fn read_rack<R: Threads + Sync, I: Shelf>(
+fn read_rack<'a, R: Threads + Sync, I: Shelf>(
     rt: &R,
     alloc: Global,
     input: &mut I,
-    lists: &[Vec<Record>],
+    lists: &'a [Vec<Record>],
     threads: usize,
-) -> Result<(Vec<RackList>, Vec<Vec<Vec<Place>>>), AllocError>
+) -> Result<(Vec<RackList>, Vec<Vec<ReadRequest<'a>>>), AllocError>
     requires room { I.failed input.old + rack_survivors < 2 ^ 63 }
     requires feeds { length lists.now ≤ feed_limit }
     requires orders { All (λ l. length l.items ≤ order_limit) lists.now }
     ensures same { I.files input.new ≡ I.files input.old }
     ensures read { IfOk result (λ v. (reads : List (List Reads)) × AreRackReads (map (λ l. l.items) lists.now) reads × (I.failed input.new ≡ I.failed input.old + rack_failures reads)
         × ((there : Files) → I.files input.old ≡ Some there → (v.0.items ≡ orders_rack there (map (λ l. l.items) lists.now) reads)
-        × (map (λ us. map (λ u. u.items) us.items) v.1.items ≡ unread_rack there (map (λ l. l.items) lists.now) reads))) }
+        × (map (λ rs. map read_of rs.items) v.1.items ≡ rack_read there (map (λ l. l.items) lists.now) reads))) }
     ensures orders { IfOk result (λ v. map (λ os. length (before_close os)) v.0.items ≡ map (λ l. length (listed_before_close l.items)) lists.now) }
-    ensures places { IfOk result (λ v. map (λ us. length us.items) v.1.items ≡ map (λ l. length (listed_before_close l.items)) lists.now) }
+    ensures counted { IfOk result (λ v. map (λ rs. length rs.items) v.1.items ≡ map (λ l. length (listed_before_close l.items)) lists.now) }
     ensures more { I.failed input.old ≤ I.failed input.new }
     ensures few { I.failed input.new ≤ I.failed input.old + rack_survivors }
 {
@@ -258,14 +258,14 @@ fn read_rack<R: Threads + Sync, I: Shelf>(
     Ok(read)
 }
 
-/// The feeds of all racks with the survivors that were read, and for each request the places of the others.
-pub(crate) fn read_feeds<R: Threads + Sync, I: Shelf>(
+/// The feeds of all racks with the survivors that were read, and each request with the places of the others.
+pub(crate) fn read_feeds<'a, R: Threads + Sync, I: Shelf>(
     rt: &R,
     alloc: Global,
     input: &mut I,
-    lists: &[Vec<Vec<Record>>],
+    lists: &'a [Vec<Vec<Record>>],
     threads: usize,
-) -> Result<(Feeds, Vec<Vec<Vec<Vec<Place>>>>), AllocError>
+) -> Result<(Feeds, Vec<Vec<Vec<ReadRequest<'a>>>>), AllocError>
     requires room { I.failed input.old + rack_survivors * length lists.now < 2 ^ 63 }
     requires racks { length lists.now ≤ rack_limit }
     requires feeds { All (λ feeds. (0 < length feeds.items) × (length feeds.items ≤ feed_limit)) lists.now }
@@ -273,18 +273,18 @@ pub(crate) fn read_feeds<R: Threads + Sync, I: Shelf>(
     ensures same { I.files input.new ≡ I.files input.old }
     ensures read { IfOk result (λ v. (reads : List (List (List Reads))) × AreAllReads (map (λ feeds. map (λ l. l.items) feeds.items) lists.now) reads × (I.failed input.new ≡ I.failed input.old + all_failures reads)
         × ((there : Files) → I.files input.old ≡ Some there → (v.0 ≡ orders_all there (map (λ feeds. map (λ l. l.items) feeds.items) lists.now) reads)
-        × (map (λ fs. map (λ us. map (λ u. u.items) us.items) fs.items) v.1.items ≡ unread_all there (map (λ feeds. map (λ l. l.items) feeds.items) lists.now) reads))) }
+        × (map (λ fs. map (λ rs. map read_of rs.items) fs.items) v.1.items ≡ all_read there (map (λ feeds. map (λ l. l.items) feeds.items) lists.now) reads))) }
     ensures orders { IfOk result (λ v. map (λ feeds. map (λ os. length (before_close os)) feeds) v.0 ≡ map (λ feeds. map (λ l. length (listed_before_close l.items)) feeds.items) lists.now) }
-    ensures places { IfOk result (λ v. map (λ fs. map (λ us. length us.items) fs.items) v.1.items ≡ map (λ feeds. map (λ l. length (listed_before_close l.items)) feeds.items) lists.now) }
+    ensures counted { IfOk result (λ v. map (λ fs. map (λ rs. length rs.items) fs.items) v.1.items ≡ map (λ feeds. map (λ l. length (listed_before_close l.items)) feeds.items) lists.now) }
     ensures more { I.failed input.old ≤ I.failed input.new }
     ensures few { I.failed input.new ≤ I.failed input.old + rack_survivors * length lists.now }
 {
     let mut racks = Vec::new(alloc);
-    let mut unread = Vec::new(alloc);
+    let mut read = Vec::new(alloc);
     for rack in 0..lists.len() {
-        let (feeds, places) = read_rack(rt, alloc, input, lists[rack].as_slice(), threads)?;
+        let (feeds, requests) = read_rack(rt, alloc, input, lists[rack].as_slice(), threads)?;
         racks.push(feeds)?;
-        unread.push(places)?;
+        read.push(requests)?;
     }
-    Ok((Feeds::from_checked(racks), unread))
+    Ok((Feeds::from_checked(racks), read))
 }

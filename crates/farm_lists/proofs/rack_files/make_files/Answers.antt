@@ -1,24 +1,19 @@
 use Rattle.std.proofs.Common.{◌≡◌, ◌+◌, ◌∙◌, ◌++◌, List, Option, Vec, Global, ℕ, ap, sym, subst, arith, length, map, drop, flat_map, get_or}
-use Rattle.std.specs.List.{AllZip}
-use Rattle.lrc_code.specs.declared.places.Place.{Place}
 use Rattle.lrc_code.specs.declared.outcomes.Outcome.{Outcome}
 use Rattle.farm_lists.specs.Named.{named}
-use Rattle.farm_lists.specs.Report.{listed_before_close, fragment_digest}
+use Rattle.farm_lists.specs.Report.{fragment_digest, read_of}
 use Rattle.farm_lists.specs.Rows.{FitsFeeds}
 use Rattle.farm_lists.specs.Written.{answered_files}
-use Rattle.farm_lists.specs.declared.lists.listing.Record.{Record}
+use Rattle.farm_lists.specs.declared.lists.requests.ReadRequest.{ReadRequest}
 use Rattle.farm_lists.proofs.MakingAll.{all_zip-at, all_zip-length, files_done, files_step}
 use Rattle.farm_lists.proofs.RackDigests.{rack_dropped, rack_first, rack_fits, rack_taken}
 use Rattle.farm_lists.proofs.rack_files.make_files.Goals as goal
 use Rattle.farm_lists.proofs.rack_files.make_files.Goals.{After-as_slice-outcomes}
 use Rattle.farm_lists.proofs.rack_files.make_files.Given.{Over}
 
--- how many requests are before each feed's close
-abbrev counts : List (Vec Record Global) → List ℕ
-counts feeds = map (λ (f : Vec Record Global). length (listed_before_close f.items)) feeds
-
-abbrev Sized : List (Vec Record Global) → List (Vec (Vec Place Global) Global) → Type 0
-Sized feeds unread = AllZip (λ (f : Vec Record Global) (u : Vec (Vec Place Global) Global). length u.items ≡ length (listed_before_close f.items)) feeds unread
+-- how many requests each feed has
+abbrev counts : List (Vec ReadRequest Global) → List ℕ
+counts feeds = map (λ (rs : Vec ReadRequest Global). length rs.items) feeds
 
 -- the digests of the racks after
 rest : (g : Over) (c : After-as_slice-outcomes g) → List (Option (List ℕ))
@@ -29,7 +24,7 @@ left_is : (g : Over) (c : After-as_slice-outcomes g) → c.loop-rack.digests_lef
 unfolding rest
 left_is g c =
     rack_first c.args.answers.now c.loop-rack.rack c.index-answers-rack.result c.loop-rack.digests_left.now
-    (omega (arith, all_zip-length _ c.args.lists.now c.args.answers.now c.requires.answers, c.loop-rack-test.true)) c.index-answers-rack.is c.loop-rack.invariant.left
+    (omega (arith, all_zip-length _ c.args.racks.now c.args.answers.now c.requires.answers, c.loop-rack-test.true)) c.index-answers-rack.is c.loop-rack.invariant.left
 
 outcomes_counted : (g : Over) (c : After-as_slice-outcomes g) → length c.as_slice-outcomes.result.now ≡ length c.index-answers-rack.result.items
 outcomes_counted g c = ap (λ (os : List (ℕ × Outcome)). length os) c.as_slice-outcomes.ensures.value
@@ -41,10 +36,7 @@ loop-rack-init g c = record {
 }
 
 pub bounds-answers-rack : goal.bounds-answers-rack
-bounds-answers-rack g c = omega (arith, all_zip-length _ c.args.lists.now c.args.answers.now c.requires.answers, c.loop-rack-test.true)
-
-pub bounds-unread-rack : goal.bounds-unread-rack
-bounds-unread-rack g c = omega (arith, all_zip-length _ c.args.lists.now c.args.unread.now c.requires.unread, c.loop-rack-test.true)
+bounds-answers-rack g c = omega (arith, all_zip-length _ c.args.racks.now c.args.answers.now c.requires.answers, c.loop-rack-test.true)
 
 pub split_at-requires : goal.split_at-requires
 split_at-requires g c =
@@ -53,12 +45,12 @@ split_at-requires g c =
 
 pub push_rack-requires-clause-answers : goal.push_rack-requires-clause-answers
 push_rack-requires-clause-answers g c =
-    let fits = all_zip-at (λ (l : Vec (Vec Record Global) Global) (os : Vec (ℕ × Outcome) Global). FitsFeeds (counts l.items) (map (λ a. a.0) os.items)) c.args.lists.now c.args.answers.now c.loop-rack.rack
-    c.index-lists-rack.result c.index-answers-rack.result c.loop-rack-test.true c.requires.answers in
+    let fits = all_zip-at (λ (feeds : Vec (Vec ReadRequest Global) Global) (os : Vec (ℕ × Outcome) Global). FitsFeeds (counts feeds.items) (map (λ a. a.0) os.items)) c.args.racks.now c.args.answers.now c.loop-rack.rack
+    c.index-racks-rack.result c.index-answers-rack.result c.loop-rack-test.true c.requires.answers in
     subst (λ fs. FitsFeeds (counts fs) (map (λ a. a.0) c.as_slice-outcomes.result.now)) (sym c.as_slice.ensures.value)
-    (subst (λ os. FitsFeeds (counts c.index-lists-rack.result.items) (map (λ a. a.0) os)) (sym c.as_slice-outcomes.ensures.value)
-    (subst (λ (l : Vec (Vec Record Global) Global). FitsFeeds (counts l.items) (map (λ a. a.0) c.index-answers-rack.result.items)) (sym c.index-lists-rack.is)
-    (subst (λ (os : Vec (ℕ × Outcome) Global). FitsFeeds (counts (get_or c.args.lists.now c.loop-rack.rack c.index-lists-rack.result).items) (map (λ a. a.0) os.items)) (sym c.index-answers-rack.is) fits)))
+    (subst (λ os. FitsFeeds (counts c.index-racks-rack.result.items) (map (λ a. a.0) os)) (sym c.as_slice-outcomes.ensures.value)
+    (subst (λ (feeds : Vec (Vec ReadRequest Global) Global). FitsFeeds (counts feeds.items) (map (λ a. a.0) c.index-answers-rack.result.items)) (sym c.index-racks-rack.is)
+    (subst (λ (os : Vec (ℕ × Outcome) Global). FitsFeeds (counts (get_or c.args.racks.now c.loop-rack.rack c.index-racks-rack.result).items) (map (λ a. a.0) os.items)) (sym c.index-answers-rack.is) fits)))
 
 pub push_rack-requires-clause-digests : goal.push_rack-requires-clause-digests
 push_rack-requires-clause-digests g c =
@@ -67,37 +59,25 @@ push_rack-requires-clause-digests g c =
     c.split_at.ensures.front
     ∙ ap (map (λ a. fragment_digest a.1)) (sym c.as_slice-outcomes.ensures.value)
 
-pub push_rack-requires-clause-unread : goal.push_rack-requires-clause-unread
-push_rack-requires-clause-unread g c =
-    let sized = all_zip-at (λ (l : Vec (Vec Record Global) Global) (us : Vec (Vec (Vec Place Global) Global) Global). Sized l.items us.items) c.args.lists.now c.args.unread.now c.loop-rack.rack
-    c.index-lists-rack.result c.index-unread-rack.result c.loop-rack-test.true c.requires.unread in
-    subst (λ fs. Sized fs c.as_slice-in-loop-rack.result.now) (sym c.as_slice.ensures.value)
-    (subst (λ us. Sized c.index-lists-rack.result.items us) (sym c.as_slice-in-loop-rack.ensures.value)
-    (subst (λ (l : Vec (Vec Record Global) Global). Sized l.items c.index-unread-rack.result.items) (sym c.index-lists-rack.is)
-    (subst (λ (us : Vec (Vec (Vec Place Global) Global) Global). Sized (get_or c.args.lists.now c.loop-rack.rack c.index-lists-rack.result).items us.items) (sym c.index-unread-rack.is) sized)))
-
 pub loop-rack-preserved : goal.loop-rack-preserved
 unfolding rest
 loop-rack-preserved g c =
     let at = (goal.at.loop-rack-preserved g c).After-as_slice-outcomes in
-    let requests = λ (fs : List (Vec Record Global)). map (λ (f : Vec Record Global). listed_before_close f.items) fs in
-    let places = λ (us : List (Vec (Vec Place Global) Global)). map (λ (u : Vec (Vec Place Global) Global). map (λ (ps : Vec Place Global). ps.items) u.items) us in
+    let requests = λ (feeds : List (Vec ReadRequest Global)). map (λ (rs : Vec ReadRequest Global). map read_of rs.items) feeds in
     record {
       made =
-          files_step c.args.lists.now c.args.answers.now c.args.unread.now c.loop-rack.rack c.index-lists-rack.result c.index-answers-rack.result c.index-unread-rack.result
+          files_step c.args.racks.now c.args.answers.now c.loop-rack.rack c.index-racks-rack.result c.index-answers-rack.result
           (map named c.loop-rack.files.items) (map named c.push_rack.new.files.items) c.loop-rack-test.true
-          (all_zip-length _ c.args.lists.now c.args.answers.now c.requires.answers) (all_zip-length _ c.args.lists.now c.args.unread.now c.requires.unread)
-          c.index-lists-rack.is c.index-answers-rack.is c.index-unread-rack.is c.loop-rack.invariant.made
+          (all_zip-length _ c.args.racks.now c.args.answers.now c.requires.answers) c.index-racks-rack.is c.index-answers-rack.is c.loop-rack.invariant.made
           (c.in_ok-push_rack.ensures
           ∙ ap (λ t. map named c.loop-rack.files.items ++ t)
-          (ap (λ fs. answered_files c.loop-rack.rack (requests fs) c.as_slice-outcomes.result.now (places c.as_slice-in-loop-rack.result.now)) c.as_slice.ensures.value
-          ∙ ap (λ os. answered_files c.loop-rack.rack (requests c.index-lists-rack.result.items) os (places c.as_slice-in-loop-rack.result.now)) c.as_slice-outcomes.ensures.value
-          ∙ ap (λ us. answered_files c.loop-rack.rack (requests c.index-lists-rack.result.items) c.index-answers-rack.result.items (places us)) c.as_slice-in-loop-rack.ensures.value));
+          (ap (λ fs. answered_files c.loop-rack.rack (requests fs) c.as_slice-outcomes.result.now) c.as_slice.ensures.value
+          ∙ ap (λ os. answered_files c.loop-rack.rack (requests c.index-racks-rack.result.items) os) c.as_slice-outcomes.ensures.value));
       left = rack_dropped c.split_at.result.1.now (rest g at) c.index-answers-rack.result.items (length c.as_slice-outcomes.result.now) c.loop-rack.digests_left.now (left_is g at) (outcomes_counted g at)
           c.split_at.ensures.back;
     }
 
 pub returns : goal.returns
 returns g c =
-    files_done c.args.lists.now c.args.answers.now c.args.unread.now c.loop-rack.rack (map named c.loop-rack.files.items) (omega (arith, c.loop-rack-test.false))
-    (all_zip-length _ c.args.lists.now c.args.answers.now c.requires.answers) (all_zip-length _ c.args.lists.now c.args.unread.now c.requires.unread) c.loop-rack.invariant.made
+    files_done c.args.racks.now c.args.answers.now c.loop-rack.rack (map named c.loop-rack.files.items) (omega (arith, c.loop-rack-test.false))
+    (all_zip-length _ c.args.racks.now c.args.answers.now c.requires.answers) c.loop-rack.invariant.made

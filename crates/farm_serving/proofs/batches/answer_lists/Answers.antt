@@ -2,12 +2,13 @@ use Rattle.std.proofs.Common.{◌≡◌, ◌∙◌, ◌++◌, Vec, Global, ℕ, 
 use Rattle.std.proofs.lemmas.List.{map-append}
 use Rattle.std.proofs.lemmas.List.Sums.{sum_by-append}
 use Rattle.std.specs.List.{slice_range}
-use Rattle.lrc_code.specs.declared.places.Place.{Place}
 use Rattle.lrc_code.specs.declared.outcomes.Outcome.{Outcome}
-use Rattle.farm_serving.specs.AnsweredRacks.{AreAnswered, all_answers, all_places, all_records}
+use Rattle.farm_serving.specs.AnsweredRacks.{AreAnswered, all_answers, all_records, all_requests}
 use Rattle.farm_serving.specs.Serving.{rack_failures}
 use Rattle.farm_lists.specs.declared.lists.listing.Record.{Record}
+use Rattle.farm_lists.specs.declared.lists.requests.ReadRequest.{ReadRequest}
 use Rattle.farm_serving.proofs.AnsweredRacks.{answered_append, answered_none, range_length, take_range}
+use Rattle.farm_lists.specs.Report.{RequestRead, read_of}
 use Rattle.farm_serving.proofs.batches.answer_lists.Goals as goal
 
 abbrev records : Vec (Vec Record Global) Global → List (List Record)
@@ -16,13 +17,13 @@ records feeds = map (λ (l : Vec Record Global). l.items) feeds.items
 abbrev outcomes : Vec (ℕ × Outcome) Global → List (ℕ × Outcome)
 outcomes answers = answers.items
 
-abbrev places : Vec (Vec (Vec Place Global) Global) Global → List (List (List Place))
-places rack = map (λ (us : Vec (Vec Place Global) Global). map (λ (u : Vec Place Global). u.items) us.items) rack.items
+abbrev requests : Vec (Vec ReadRequest Global) Global → List (List RequestRead)
+requests rack = map (λ (us : Vec ReadRequest Global). map read_of us.items) rack.items
 
 pub loop-first-init : goal.loop-first-init
 loop-first-init g c = (
   [],
-  rw (c.new-answers.ensures.items, c.new-unread.ensures.items) (answered_none (g.I.Shelf.files c.args.input.now)),
+  rw (c.new-answers.ensures.items, c.new-requests.ensures.items) (answered_none (g.I.Shelf.files c.args.input.now)),
   omega arith,
   refl,
   omega arith,
@@ -39,15 +40,15 @@ loop-first-preserved g c =
     let j : ℕ = c.end_of_racks-end.result in
     let part : List (Vec (Vec Record Global) Global) = slice_range lists i j in
     let split : all_records (take j lists) ≡ all_records (take i lists) ++ all_records part = ap all_records (take_range lists i j (omega (arith, c.end_of_racks-end.ensures.within.0))) ∙ map-append records (take i lists) part in
-    let here = subst (λ t. AreAnswered t (all_records part) qs (all_answers c.in_ok-part.part.answers.items) (all_places c.in_ok-part.part.unread.items)) same now in
+    let here = subst (λ t. AreAnswered t (all_records part) qs (all_answers c.in_ok-part.part.answers.items) (all_requests c.in_ok-part.part.requests.items)) same now in
     let answers_are : all_answers c.append.new.self.items ≡ all_answers c.loop-first.answers.items ++ all_answers c.in_ok-part.part.answers.items =
     ap all_answers c.in_ok-append.ensures.items ∙ map-append outcomes c.loop-first.answers.items c.in_ok-part.part.answers.items in
-    let unread_is : all_places c.append-in-loop-first.new.self.items ≡ all_places c.loop-first.unread.items ++ all_places c.in_ok-part.part.unread.items =
-    ap all_places c.in_ok-append-2.ensures.items ∙ map-append places c.loop-first.unread.items c.in_ok-part.part.unread.items in (
+    let requests_are : all_requests c.append-in-loop-first.new.self.items ≡ all_requests c.loop-first.requests.items ++ all_requests c.in_ok-part.part.requests.items =
+    ap all_requests c.in_ok-append-2.ensures.items ∙ map-append requests c.loop-first.requests.items c.in_ok-part.part.requests.items in (
       reads ++ qs,
-      rw (split, answers_are, unread_is)
+      rw (split, answers_are, requests_are)
           (answered_append told (all_records (take i lists)) (all_records part) reads qs (all_answers c.loop-first.answers.items) (all_answers c.in_ok-part.part.answers.items)
-          (all_places c.loop-first.unread.items) (all_places c.in_ok-part.part.unread.items) so here),
+          (all_requests c.loop-first.requests.items) (all_requests c.in_ok-part.part.requests.items) so here),
       omega (arith, c.end_of_racks-end.ensures.within.1),
       c.in_ok-part.ensures.same ∙ same,
       omega (arith, rose, failed, sum_by-append rack_failures reads qs),

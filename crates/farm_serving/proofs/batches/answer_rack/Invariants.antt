@@ -1,5 +1,5 @@
 use Rattle.std.proofs.Common.{◌-◌, ◌≡◌, ◌+◌, ◌*◌, ◌≤◌, List}
-use Rattle.farm_serving.specs.AnsweredRacks.{rack_places}
+use Rattle.farm_serving.specs.AnsweredRacks.{rack_requests}
 use Rattle.farm_serving.specs.Pieces.{record_count}
 use Rattle.farm_serving.specs.Serving.{Reads, rack_failures}
 use Rattle.farm_serving.proofs.RackBatches.{AreSoFar, fronts}
@@ -8,7 +8,7 @@ use Rattle.farm_serving.proofs.batches.answer_rack.Given as goal
 abbrev pub invariant-loop-first : goal.invariant-loop-first
 invariant-loop-first g l =
     (reads : List (List Reads))
-    × AreSoFar (g.I.Shelf.files l.fn.input) (fronts l.lists l.first) reads l.answers.items (rack_places l.unread.items) l.ended
+    × AreSoFar (g.I.Shelf.files l.fn.input) (fronts l.lists l.first) reads l.answers.items (rack_requests l.requests.items) l.ended
     × (l.first ≤ 4096)
     × (g.I.Shelf.files l.input ≡ g.I.Shelf.files l.fn.input)
     × (g.I.Shelf.failed l.input ≡ g.I.Shelf.failed l.fn.input + rack_failures reads)

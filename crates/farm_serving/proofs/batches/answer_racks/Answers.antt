@@ -1,5 +1,5 @@
 use Rattle.std.proofs.Common.{◌∙◌, sym}
-use Rattle.farm_serving.proofs.AnsweredRacks.{counts_same, places_same}
+use Rattle.farm_serving.proofs.AnsweredRacks.{counts_same, requests_counted}
 use Rattle.farm_serving.proofs.batches.answer_racks.Goals as goal
 
 pub returns-clause-answered : goal.returns-clause-answered
@@ -11,7 +11,7 @@ returns-clause-answered g c =
         orders = c.in_ok-feeds.feeds;
         ordered = c.in_ok-feeds.ensures.orders ∙ sym (counts_same c.args.racks.now);
         merged = c.in_ok-answers.ensures;
-        places = places_same c.in_ok-feeds.unread.items ∙ c.in_ok-feeds.ensures.places ∙ sym (counts_same c.args.racks.now);
+        counted = requests_counted c.in_ok-feeds.requests.items ∙ c.in_ok-feeds.ensures.counted ∙ sym (counts_same c.args.racks.now);
         given = told;
       },
       rose,

@@ -1,13 +1,13 @@
 use Rattle.std.proofs.Common.{◌≡◌, ◌++◌, length}
 use Rattle.farm_core.specs.Merge.{joined}
-use Rattle.farm_serving.specs.AnsweredRacks.{rack_places}
+use Rattle.farm_serving.specs.AnsweredRacks.{rack_requests}
 use Rattle.farm_serving.proofs.batches.append_each.Given as goal
 
-abbrev pub invariant-loop-unread : goal.invariant-loop-unread
-invariant-loop-unread l = record {
-  same : length l.unread.items ≡ length l.places.items;
-  so_far : rack_places l.all.items ++ joined (rack_places l.unread.items) (rack_places l.places.items) ≡ joined (rack_places l.fn.unread.items) (rack_places l.fn.places.items);
+abbrev pub invariant-loop-requests : goal.invariant-loop-requests
+invariant-loop-requests l = record {
+  same : length l.requests.items ≡ length l.later.items;
+  so_far : rack_requests l.all.items ++ joined (rack_requests l.requests.items) (rack_requests l.later.items) ≡ joined (rack_requests l.fn.requests.items) (rack_requests l.fn.later.items);
 }
 
-abbrev pub decreases-loop-unread : goal.decreases-loop-unread
-decreases-loop-unread l = length l.unread.items
+abbrev pub decreases-loop-requests : goal.decreases-loop-requests
+decreases-loop-requests l = length l.requests.items

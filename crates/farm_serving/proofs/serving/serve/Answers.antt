@@ -7,61 +7,57 @@ use Rattle.lrc_code.specs.declared.outcomes.Outcome.{Outcome}
 use Rattle.farm_core.specs.Merge.{AreAllMergedAnswers}
 use Rattle.farm_core.specs.declared.orders.Order.{Order}
 use Rattle.farm_lists.specs.declared.lists.listing.Record.{Record}
+use Rattle.farm_lists.specs.declared.lists.requests.ReadRequest.{ReadRequest}
 use Rattle.farm_serving.specs.Causes.{of_farm}
 use Rattle.farm_serving.specs.Faults.{Explains}
 use Rattle.farm_shelves.specs.Files.{Files, StopsWriting, put_all}
 use Rattle.farm_lists.specs.Named.{named}
 use Rattle.farm_lists.specs.Report.{listed_before_close}
-use Rattle.farm_serving.specs.Serving.{AreAllReads, Reads, Serves, orders_all, unread_all, written_files}
-use Rattle.farm_serving.proofs.AnsweredRacks.{counts_same, places_same}
-use Rattle.farm_serving.proofs.ServeEnds.{Answers, Lists, RackUnread, farm_explains, records, total_is, unread_sized, where_told, write_leaves, written_is}
-use Rattle.farm_serving.proofs.FewAnswers.{FitLists, all_few, fit_lists}
+use Rattle.farm_lists.specs.Rows.{FitsFeeds}
+use Rattle.farm_serving.specs.Serving.{AreAllReads, Reads, Serves, all_read, orders_all, written_files}
+use Rattle.farm_serving.proofs.AnsweredRacks.{counts_same, requests_counted}
+use Rattle.farm_serving.proofs.ServeEnds.{Answers, Lists, Requests, farm_explains, records, total_is, where_told, write_leaves, written_is}
+use Rattle.farm_serving.proofs.FewAnswers.{FitLists, all_few, fit_counts, listed_counts}
 use Rattle.farm_serving.proofs.Fits.{all_answers_fit}
 use Rattle.farm_lists.proofs.MakingAll.{all_zip-length}
 use Rattle.farm_serving.proofs.serving.serve.Goals as goal
-use Rattle.farm_serving.proofs.serving.serve.Goals.{After-as_slice-4, After-as_slice-5, After-as_slice-6}
+use Rattle.farm_serving.proofs.serving.serve.Goals.{After-as_slice-3, After-as_slice-4, After-as_slice-5}
 use Rattle.farm_serving.proofs.serving.serve.Given.{Over}
 
 -- the lists that were handed to reading are those that were read
-same_lists : (g : Over) (c : After-as_slice-4 g) → c.as_slice.result.now ≡ c.in_ok-lists.lists.items
+same_lists : (g : Over) (c : After-as_slice-3 g) → c.as_slice.result.now ≡ c.in_ok-lists.lists.items
 same_lists g c = c.as_slice.ensures.value
 
 -- the answers of each rack fit the requests before its lists' closes
-fit : (g : Over) (c : After-as_slice-4 g) → AllZip FitLists c.in_ok-lists.lists.items c.in_ok-answers.field-0.answers.items
+fit : (g : Over) (c : After-as_slice-3 g) → AllZip FitLists c.in_ok-lists.lists.items c.in_ok-answers.field-0.answers.items
 fit g c =
     let (reads, so, rose) = c.in_ok-answers.ensures.answered in
-    fit_lists c.in_ok-lists.lists.items so.orders c.in_ok-answers.field-0.answers.items
+    fit_counts listed_counts c.in_ok-lists.lists.items so.orders c.in_ok-answers.field-0.answers.items
     (so.ordered ∙ counts_same c.as_slice.result.now ∙ ap (map (λ (l : Lists). map (λ (v : Vec Record Global). length (listed_before_close v.items)) l.items)) (same_lists g c))
     (all_answers_fit so.orders (map (λ (a : Answers). a.items) c.in_ok-answers.field-0.answers.items) so.merged)
 
--- as they are handed on
-lent : (g : Over) (c : After-as_slice-4 g) → AllZip FitLists c.as_slice-2.result.now c.as_slice-3.result.now
+-- how many requests each feed has
+abbrev counts : Requests → List ℕ
+counts feeds = map (λ (rs : Vec ReadRequest Global). length rs.items) feeds.items
+
+abbrev Fit : Requests → Answers → Type 0
+Fit feeds answers = FitsFeeds (counts feeds) (map (λ (a : ℕ × Outcome). a.0) answers.items)
+
+-- so they fit these requests, as they are handed on
+lent : (g : Over) (c : After-as_slice-3 g) → AllZip Fit c.as_slice-2.result.now c.as_slice-3.result.now
 lent g c =
-    subst (λ (ls : List Lists). AllZip FitLists ls c.as_slice-3.result.now) (sym c.as_slice-2.ensures.value)
-    (subst (λ (os : List Answers). AllZip FitLists c.in_ok-lists.lists.items os) (sym c.as_slice-3.ensures.value) (fit g c))
+    let (reads, so, rose) = c.in_ok-answers.ensures.answered in
+    subst (λ (rs : List Requests). AllZip Fit rs c.as_slice-3.result.now) (sym c.as_slice-2.ensures.value)
+    (subst (λ (os : List Answers). AllZip Fit c.in_ok-answers.field-0.requests.items os) (sym c.as_slice-3.ensures.value)
+    (fit_counts counts c.in_ok-answers.field-0.requests.items so.orders c.in_ok-answers.field-0.answers.items
+    (so.ordered ∙ sym so.counted ∙ requests_counted c.in_ok-answers.field-0.requests.items)
+    (all_answers_fit so.orders (map (λ (a : Answers). a.items) c.in_ok-answers.field-0.answers.items) so.merged)))
 
 pub make_files-requires-clause-answers : goal.make_files-requires-clause-answers
 make_files-requires-clause-answers g c = λ _ _. lent g c
 
-Sized : Lists → RackUnread → Type 0
-Sized l us = AllZip (λ f u. length u.items ≡ length (listed_before_close f.items)) l.items us.items
-
--- so are the places that were left out
-lent_unread : (g : Over) (c : After-as_slice-4 g) → AllZip Sized c.as_slice-2.result.now c.as_slice-4.result.now
-unfolding Sized
-lent_unread g c =
-    let (reads, so, rose) = c.in_ok-answers.ensures.answered in
-    subst (λ (ls : List Lists). AllZip Sized ls c.as_slice-4.result.now) (sym c.as_slice-2.ensures.value)
-    (subst (λ (us : List RackUnread). AllZip Sized c.in_ok-lists.lists.items us) (sym c.as_slice-4.ensures.value)
-    (unread_sized c.in_ok-lists.lists.items c.in_ok-answers.field-0.unread.items
-    (sym (places_same c.in_ok-answers.field-0.unread.items) ∙ so.places ∙ counts_same c.as_slice.result.now ∙ ap (map (λ (l : Lists). map (λ (v : Vec Record Global). length (listed_before_close v.items)) l.items)) (same_lists g c))))
-
-pub make_files-requires-clause-unread : goal.make_files-requires-clause-unread
-unfolding Sized
-make_files-requires-clause-unread g c = λ _ _. lent_unread g c
-
 -- where the input tells its files, they are served
-told_serves : (g : Over) (c : After-as_slice-4 g) (there : Files) → g.I.Shelf.files c.args.input.now ≡ Some there
+told_serves : (g : Over) (c : After-as_slice-3 g) (there : Files) → g.I.Shelf.files c.args.input.now ≡ Some there
     → Serves there (map records c.in_ok-lists.lists.items) c.in_ok-answers.ensures.answered.0 (map (λ a. a.items) c.in_ok-answers.field-0.answers.items)
 told_serves g c there e =
     let (reads, so, rose) = c.in_ok-answers.ensures.answered in
@@ -76,15 +72,15 @@ told_serves g c there e =
     }
 
 -- the files that are made are those that serving writes
-told_files : (g : Over) (c : After-as_slice-5 g) (there : Files) → g.I.Shelf.files c.args.input.now ≡ Some there
-    → map named c.as_slice-5.result.now ≡ written_files there (map records c.in_ok-lists.lists.items) c.in_ok-answers.ensures.answered.0 (map (λ a. a.items) c.in_ok-answers.field-0.answers.items)
+told_files : (g : Over) (c : After-as_slice-4 g) (there : Files) → g.I.Shelf.files c.args.input.now ≡ Some there
+    → map named c.as_slice-4.result.now ≡ written_files there (map records c.in_ok-lists.lists.items) c.in_ok-answers.ensures.answered.0 (map (λ a. a.items) c.in_ok-answers.field-0.answers.items)
 told_files g c there e =
     let (reads, so, rose) = c.in_ok-answers.ensures.answered in
     let same : map records c.as_slice.result.now ≡ map records c.in_ok-lists.lists.items = ap (map records) c.as_slice.ensures.value in
     let t = so.given there (c.in_ok-lists.ensures.same ∙ e) in
-    written_is there c.in_ok-lists.lists.items c.as_slice-2.result.now c.in_ok-answers.field-0.answers.items c.as_slice-3.result.now c.in_ok-answers.field-0.unread.items c.as_slice-4.result.now reads (map named c.as_slice-5.result.now)
-    c.as_slice-2.ensures.value c.as_slice-3.ensures.value c.as_slice-4.ensures.value (t.1 ∙ ap (λ (ls : List (List (List Record))). unread_all there ls reads) same)
-    (ap (map named) c.as_slice-5.ensures.value ∙ c.in_ok-files.ensures)
+    written_is there c.in_ok-lists.lists.items c.in_ok-answers.field-0.requests.items c.as_slice-2.result.now c.in_ok-answers.field-0.answers.items c.as_slice-3.result.now reads (map named c.as_slice-4.result.now)
+    c.as_slice-2.ensures.value c.as_slice-3.ensures.value (t.1 ∙ ap (λ (ls : List (List (List Record))). all_read there ls reads) same)
+    (ap (map named) c.as_slice-4.ensures.value ∙ c.in_ok-files.ensures)
 
 pub returns-in_err-answers-clause-why : goal.returns-in_err-answers-clause-why
 returns-in_err-answers-clause-why g c =
@@ -105,20 +101,20 @@ returns-in_err-write_files-clause-output g c =
       map records c.in_ok-lists.lists.items,
       c.in_ok-answers.ensures.answered.0,
       map (λ (a : Answers). a.items) c.in_ok-answers.field-0.answers.items,
-      told_serves g at.After-as_slice-4 t e,
-      subst (λ fs. StopsWriting c.in_err-write_files.field-0.0 fs (g.O.Shelf.files c.args.output.now) (g.O.Shelf.files c.write_files.new.output)) (told_files g at.After-as_slice-5 t e) c.in_err-write_files.ensures.fault,
+      told_serves g at.After-as_slice-3 t e,
+      subst (λ fs. StopsWriting c.in_err-write_files.field-0.0 fs (g.O.Shelf.files c.args.output.now) (g.O.Shelf.files c.write_files.new.output)) (told_files g at.After-as_slice-4 t e) c.in_err-write_files.ensures.fault,
     ))))
 
 pub count_answers-requires-clause-racks : goal.count_answers-requires-clause-racks
 count_answers-requires-clause-racks g c =
-    let count = all_zip-length FitLists c.in_ok-lists.lists.items c.in_ok-answers.field-0.answers.items (fit g (goal.at.count_answers-requires-clause-racks g c).After-as_slice-4) in
-    let same = ap (λ (os : List Answers). length os) c.as_slice-6.ensures.value in
+    let count = all_zip-length FitLists c.in_ok-lists.lists.items c.in_ok-answers.field-0.answers.items (fit g (goal.at.count_answers-requires-clause-racks g c).After-as_slice-3) in
+    let same = ap (λ (os : List Answers). length os) c.as_slice-5.ensures.value in
     omega (arith, count, same, c.in_ok-lists.ensures.racks)
 
 pub count_answers-requires-clause-few : goal.count_answers-requires-clause-few
 count_answers-requires-clause-few g c =
-    subst (λ (os : List Answers). All (λ (a : Answers). length a.items ≤ 16384) os) (sym c.as_slice-6.ensures.value)
-    (all_few c.in_ok-lists.lists.items c.in_ok-answers.field-0.answers.items c.in_ok-lists.ensures.feeds c.in_ok-lists.ensures.orders (fit g (goal.at.count_answers-requires-clause-few g c).After-as_slice-4))
+    subst (λ (os : List Answers). All (λ (a : Answers). length a.items ≤ 16384) os) (sym c.as_slice-5.ensures.value)
+    (all_few c.in_ok-lists.lists.items c.in_ok-answers.field-0.answers.items c.in_ok-lists.ensures.feeds c.in_ok-lists.ensures.orders (fit g (goal.at.count_answers-requires-clause-few g c).After-as_slice-3))
 
 pub returns-clause-served : goal.returns-clause-served
 returns-clause-served g c =
@@ -131,11 +127,11 @@ returns-clause-served g c =
       answers,
       omega (arith, rose, c.in_ok-lists.ensures.calm),
       omega (arith, length-map c.in_ok-lists.lists.items records, c.len.ensures),
-      c.count_answers.ensures ∙ ap (sum_by (λ (a : Answers). length a.items)) c.as_slice-6.ensures.value ∙ total_is c.in_ok-answers.field-0.answers.items,
+      c.count_answers.ensures ∙ ap (sum_by (λ (a : Answers). length a.items)) c.as_slice-5.ensures.value ∙ total_is c.in_ok-answers.field-0.answers.items,
       where_told (g.I.Shelf.files c.args.input.now)
           (λ there. Serves there lists reads answers × (g.O.Shelf.files c.write_files.new.output ≡ option_map (λ old. put_all old (written_files there lists reads answers)) (g.O.Shelf.files c.args.output.now)))
           (λ there e. (
-            told_serves g at.After-as_slice-4 there e,
-            c.in_ok-write_files.ensures.ok ∙ ap (λ fs. option_map (λ old. put_all old fs) (g.O.Shelf.files c.args.output.now)) (told_files g at.After-as_slice-5 there e),
+            told_serves g at.After-as_slice-3 there e,
+            c.in_ok-write_files.ensures.ok ∙ ap (λ fs. option_map (λ old. put_all old fs) (g.O.Shelf.files c.args.output.now)) (told_files g at.After-as_slice-4 there e),
           )),
     )

@@ -1,24 +1,24 @@
-use Rattle.std.proofs.Common.{◌≡◌, ◌∙◌, Bool, Bor, Vec, Global, List, map, get_or, refl, sym, ap, arith}
+use Rattle.std.proofs.Common.{◌≡◌, ◌∙◌, Bool, Vec, Global, List, map, get_or, refl, sym, ap, arith}
 use Rattle.std.specs.List.{list_any}
 use Rattle.std.proofs.lemmas.List.{get_or-map, length-map}
 use Rattle.std.proofs.lemmas.List.Folds.{list_any_at, list_any_more}
-use Rattle.farm_lists.specs.Listed.{ListedRequest}
-use Rattle.farm_lists.specs.Report.{is_wide}
+use Rattle.farm_lists.specs.Report.{RequestRead, is_wide_read, read_of}
+use Rattle.farm_lists.specs.declared.lists.requests.ReadRequest.{ReadRequest}
 use Rattle.farm_lists.proofs.reports.rows.any_wide.Goals as goal
 use Rattle.farm_lists.proofs.reports.rows.any_wide.Goals.{After-has_wide}
 
-values : Vec (Bor ListedRequest) Global → List ListedRequest
-values rs = map (λ r. r.now) rs.items
+values : Vec ReadRequest Global → List RequestRead
+values rs = map read_of rs.items
 
-wide : List ListedRequest → Bool
-wide rs = list_any is_wide rs
+wide : List RequestRead → Bool
+wide rs = list_any is_wide_read rs
 
 -- what the call told is of the list at the index
 told : (c : After-has_wide) → c.has_wide.result ≡ wide (get_or (map values c.args.requests.now) c.loop-index.index (values c.index-requests-index.result))
 unfolding values wide
 told c =
     let rs = c.index-requests-index.result in
-    c.has_wide.ensures ∙ ap (λ (items : List (Bor ListedRequest)). list_any is_wide (map (λ r. r.now) items)) c.as_slice.ensures.value
+    c.has_wide.ensures ∙ ap (λ (items : List ReadRequest). list_any is_wide_read (map read_of items)) c.as_slice.ensures.value
     ∙ ap wide (sym (get_or-map values c.args.requests.now c.loop-index.index rs (values rs) c.loop-index-test.true ∙ ap values (sym c.index-requests-index.is)))
 
 pub returns-then-has_wide : goal.returns-then-has_wide

@@ -1,32 +1,31 @@
-use Rattle.std.proofs.Common.{◌≡◌, ◌<◌, ◌+◌, ◌++◌, ◌∷◌, [], ◌∙◌, Bor, Vec, Global, ℕ, length, map, set, get_or, sym, ap, arith}
+use Rattle.std.proofs.Common.{◌≡◌, ◌<◌, ◌+◌, ◌++◌, ◌∷◌, [], ◌∙◌, Vec, Global, ℕ, length, map, set, get_or, sym, ap, arith}
 use Rattle.std.proofs.lemmas.List.{length-set, map-append}
-use Rattle.lrc_code.specs.declared.places.Place.{Place}
-use Rattle.farm_lists.specs.Listed.{ListedRequest}
-use Rattle.farm_lists.specs.Report.{row_of}
+use Rattle.farm_lists.specs.declared.lists.requests.ReadRequest.{ReadRequest}
+use Rattle.farm_lists.specs.Report.{read_of, row_of}
 use Rattle.farm_lists.specs.Rows.{position, row_of_number}
-use Rattle.farm_lists.proofs.RackRows.{as_many, as_many_at, counts_step, known_in, number_is, numbers_push, position_in, position_most, position_read, told_step}
+use Rattle.farm_lists.proofs.RackRows.{counts_step, known_in, number_is, numbers_push, position_in, position_most, position_read, told_step}
 use Rattle.farm_lists.proofs.reports.rows.rack_rows.Goals as goal
 use Rattle.farm_lists.proofs.reports.rows.rack_rows.Goals.{After-index-position}
 
-size : Vec (Bor ListedRequest) Global → ℕ
+size : Vec ReadRequest Global → ℕ
 size rs = length rs.items
 
 known : (c : After-index-position) → c.index-answers-number.result.0 < length c.args.requests.now
 unfolding size
-known c = known_in size c.args.requests.now c.args.answers.now c.loop-number.number c.index-answers-number.result c.requires.answers c.loop-number-test.true c.index-answers-number.is
+known c = known_in size c.args.requests.now c.args.answers.now c.loop-number.number c.index-answers-number.result c.requires c.loop-number-test.true c.index-answers-number.is
 
 at : (c : After-index-position) → c.index-position.result.now ≡ position c.args.answers.now c.index-answers-number.result.0 c.loop-number.number
 unfolding size
 at c =
     position_read size c.args.requests.now c.args.answers.now c.loop-number.counts.items c.loop-number.number c.index-position.result.now c.index-answers-number.result
-    c.requires.answers c.loop-number-test.true c.index-answers-number.is c.loop-number.invariant.sized c.loop-number.invariant.counted c.index-position.ensures
+    c.requires c.loop-number-test.true c.index-answers-number.is c.loop-number.invariant.sized c.loop-number.invariant.counted c.index-position.ensures
 
 pub index-position-requires : goal.index-position-requires
 unfolding size
 index-position-requires c =
     omega (
       arith,
-      known_in size c.args.requests.now c.args.answers.now c.loop-number.number c.index-answers-number.result c.requires.answers c.loop-number-test.true c.index-answers-number.is,
+      known_in size c.args.requests.now c.args.answers.now c.loop-number.number c.index-answers-number.result c.requires c.loop-number-test.true c.index-answers-number.is,
       c.loop-number.invariant.sized,
       c.loop-number.counts.ok.0,
     )
@@ -43,31 +42,18 @@ answer_row-requires-clause-feed c = known (goal.at.answer_row-requires-clause-fe
 
 pub answer_row-requires-clause-position : goal.answer_row-requires-clause-position
 answer_row-requires-clause-position c =
-    position_in (λ (rs : Vec (Bor ListedRequest) Global). rs.items) c.args.requests.now c.args.answers.now c.loop-number.number c.index-position.result.now c.index-answers-number.result c.requires.answers
+    position_in (λ (rs : Vec ReadRequest Global). rs.items) c.args.requests.now c.args.answers.now c.loop-number.number c.index-position.result.now c.index-answers-number.result c.requires
     c.loop-number-test.true c.index-answers-number.is (at (goal.at.answer_row-requires-clause-position c).After-index-position)
-
-pub answer_row-requires-clause-unread_feed : goal.answer_row-requires-clause-unread_feed
-answer_row-requires-clause-unread_feed c =
-    let counted = as_many (λ (rs : Vec (Bor ListedRequest) Global). rs.items) (λ (us : Vec (Vec Place Global) Global). us.items) c.args.requests.now c.args.unread.now c.requires.unread in
-    omega (arith, known (goal.at.answer_row-requires-clause-unread_feed c).After-index-position, counted)
-
-pub answer_row-requires-clause-unread_position : goal.answer_row-requires-clause-unread_position
-answer_row-requires-clause-unread_position c =
-    let within = position_in (λ (rs : Vec (Bor ListedRequest) Global). rs.items) c.args.requests.now c.args.answers.now c.loop-number.number c.index-position.result.now c.index-answers-number.result c.requires.answers
-    c.loop-number-test.true c.index-answers-number.is (at (goal.at.answer_row-requires-clause-unread_position c).After-index-position) in
-    let same = as_many_at (λ (rs : Vec (Bor ListedRequest) Global). rs.items) (λ (us : Vec (Vec Place Global) Global). us.items) c.args.requests.now c.args.unread.now c.index-answers-number.result.0 c.requires.unread in
-    omega (arith, within, same)
 
 pub loop-number-preserved : goal.loop-number-preserved
 loop-number-preserved c =
     let here = (goal.at.loop-number-preserved c).After-index-position in
-    let requests = map (λ (rs : Vec (Bor ListedRequest) Global). map (λ (r : Bor ListedRequest). r.now) rs.items) c.args.requests.now in
-    let unread = map (λ (us : Vec (Vec Place Global) Global). map (λ (u : Vec Place Global). u.items) us.items) c.args.unread.now in
-    let made = number_is requests unread c.args.answers.now c.loop-number.number c.index-position.result.now c.index-answers-number.result (row_of c.answer_row.result)
+    let requests = map (λ (rs : Vec ReadRequest Global). map read_of rs.items) c.args.requests.now in
+    let made = number_is requests c.args.answers.now c.loop-number.number c.index-position.result.now c.index-answers-number.result (row_of c.answer_row.result)
     c.loop-number-test.true c.index-answers-number.is (at here) c.answer_row.ensures.row in
     record {
       made = ap (map row_of) c.in_ok-push.ensures.items ∙ map-append row_of c.loop-number.rows.items _ ∙ ap (λ t. t ++ row_of c.answer_row.result ∷ []) c.loop-number.invariant.made
-          ∙ sym (numbers_push (row_of_number requests unread c.args.answers.now) c.loop-number.number (row_of c.answer_row.result) made);
+          ∙ sym (numbers_push (row_of_number requests c.args.answers.now) c.loop-number.number (row_of c.answer_row.result) made);
       told = told_step (λ r. r.outcome.now) c.args.answers.now c.loop-number.number c.index-answers-number.result c.answer_row.result c.loop-number.rows.items c.push.new.self.items
           c.loop-number-test.true c.index-answers-number.is c.answer_row.ensures.outcome c.loop-number.invariant.told c.in_ok-push.ensures.items;
       sized = length-set c.loop-number.counts.items c.index-answers-number.result.0 (c.index-position.result.now + 1) ∙ c.loop-number.invariant.sized;

@@ -6,7 +6,7 @@ use Rattle.std.specs.List.{AllZip}
 use Rattle.std.proofs.lemmas.List.{length-map}
 use Rattle.farm_lists.specs.Listed.{ListedRequest}
 use Rattle.farm_lists.specs.Report.{listed_before_close}
-use Rattle.farm_serving.specs.Serving.{AreReads, asked_feed, unread_feed}
+use Rattle.farm_serving.specs.Serving.{AreReads, asked_feed, feed_read}
 use Rattle.farm_serving.proofs.ReadRequests.{close_counted, close_where, counted_few, served_few}
 use Rattle.farm_serving.proofs.reading.fragments.read_feed.Goals as goal
 use Rattle.farm_serving.proofs.reading.fragments.read_feed.Goals.{After-as_slice}
@@ -53,7 +53,7 @@ returns-clause-read g c =
             t.0
                 ∙ ap (λ (rs : List ListedRequest). map Rebuild (asked_feed there rs reads) ++ close_where (nat_lt c.len.result (length c.args.list.now))) same
                 ∙ ap (λ (tail : List Order). map Rebuild (asked_feed there (listed_before_close c.args.list.now) reads) ++ tail) (sym (close_counted c.args.list.now c.len.result counted)),
-            t.1 ∙ ap (λ (rs : List ListedRequest). unread_feed there rs reads) same,
+            t.1 ∙ ap (λ (rs : List ListedRequest). feed_read there rs reads) same,
           ),
     )
 
@@ -74,5 +74,5 @@ returns-clause-orders g c =
       is ∙ ap (λ (tail : List Order). map Rebuild wanted ++ tail) (sym (close_counted c.args.list.now c.len.result counted)),
     )
 
-pub returns-clause-places : goal.returns-clause-places
-returns-clause-places g c = c.in_ok-read.ensures.places ∙ sized g (goal.at.returns-clause-places g c).After-as_slice
+pub returns-clause-counted : goal.returns-clause-counted
+returns-clause-counted g c = c.in_ok-read.ensures.counted ∙ sized g (goal.at.returns-clause-counted g c).After-as_slice

@@ -2,8 +2,8 @@ use Rattle.std.proofs.Common.{◌≡◌, ◌≤◌, ◌+◌, ◌*◌, List, Some
 use Rattle.std.specs.List.{AllZip}
 use Rattle.farm_serving.specs.Pieces.{AreOrdersOf, record_count}
 use Rattle.farm_shelves.specs.Files.{Files}
-use Rattle.farm_lists.specs.Report.{listed_before_close}
-use Rattle.farm_serving.specs.Serving.{AreRackReads, Reads, orders_rack, rack_failures, unread_rack}
+use Rattle.farm_lists.specs.Report.{listed_before_close, read_of}
+use Rattle.farm_serving.specs.Serving.{AreRackReads, Reads, orders_rack, rack_failures, rack_read}
 use Rattle.farm_serving.proofs.reading.fragments.read_piece.Given as goal
 
 abbrev pub invariant-loop-feed : goal.invariant-loop-feed
@@ -14,7 +14,7 @@ invariant-loop-feed g l =
     × (g.I.Shelf.failed l.input ≡ g.I.Shelf.failed l.fn.input + rack_failures reads)
     × (g.I.Shelf.failed l.input ≤ g.I.Shelf.failed l.fn.input + 15 * record_count (map (λ l. l.now) (take l.feed l.lists)))
     × AllZip AreOrdersOf (map (λ l. l.now) (take l.feed l.lists)) l.feeds.items
-    × (map (λ us. length us.items) l.unread.items ≡ map (λ list. length (listed_before_close list.now)) (take l.feed l.lists))
+    × (map (λ rs. length rs.items) l.read.items ≡ map (λ list. length (listed_before_close list.now)) (take l.feed l.lists))
     × ((there : Files) → g.I.Shelf.files l.fn.input ≡ Some there
     → (l.feeds.items ≡ orders_rack there (map (λ l. l.now) (take l.feed l.lists)) reads)
-    × (map (λ us. map (λ u. u.items) us.items) l.unread.items ≡ unread_rack there (map (λ l. l.now) (take l.feed l.lists)) reads))
+    × (map (λ rs. map read_of rs.items) l.read.items ≡ rack_read there (map (λ l. l.now) (take l.feed l.lists)) reads))

@@ -3,8 +3,8 @@ use Rattle.std.proofs.lemmas.Simd.{map-map}
 use Rattle.farm_lists.specs.Report.{listed_before_close}
 use Rattle.farm_lists.specs.declared.lists.listing.Record.{Record}
 use Rattle.farm_serving.specs.Pieces.{record_count, through_close}
-use Rattle.farm_serving.specs.Serving.{AreRackReads, orders_rack, unread_rack}
-use Rattle.farm_serving.proofs.Pieces.{count_few, counts_through, each_few, orders_counted, orders_same, reads_same, unread_same}
+use Rattle.farm_serving.specs.Serving.{AreRackReads, orders_rack, rack_read}
+use Rattle.farm_serving.proofs.Pieces.{count_few, counts_through, each_few, orders_counted, orders_same, reads_same, requests_same}
 use Rattle.farm_serving.proofs.reading.fragments.read_rack.Goals as goal
 use Rattle.farm_serving.proofs.reading.fragments.read_rack.Goals.{After-as_slice}
 
@@ -43,7 +43,7 @@ returns-clause-read g c =
       λ there e.
           let t = told there e in (
             t.0 ∙ ap (λ (ls : List (List Record)). orders_rack there ls reads) same ∙ orders_same there c.args.lists.now reads,
-            t.1 ∙ ap (λ (ls : List (List Record)). unread_rack there ls reads) same ∙ unread_same there c.args.lists.now reads,
+            t.1 ∙ ap (λ (ls : List (List Record)). rack_read there ls reads) same ∙ requests_same there c.args.lists.now reads,
           ),
     )
 
@@ -54,10 +54,10 @@ returns-clause-orders g c =
     ∙ ap (map (λ (l : List Record). length (listed_before_close l))) same
     ∙ counts_through c.args.lists.now
 
-pub returns-clause-places : goal.returns-clause-places
-returns-clause-places g c =
-    let same = the_lists g (goal.at.returns-clause-places g c).After-as_slice in
-    c.in_ok-read.ensures.places
+pub returns-clause-counted : goal.returns-clause-counted
+returns-clause-counted g c =
+    let same = the_lists g (goal.at.returns-clause-counted g c).After-as_slice in
+    c.in_ok-read.ensures.counted
     ∙ sym (map-map (λ (l : List Record). length (listed_before_close l)) lent c.as_slice.result.now)
     ∙ ap (map (λ (l : List Record). length (listed_before_close l))) same
     ∙ counts_through c.args.lists.now

@@ -1,11 +1,10 @@
 use Rattle.std.proofs.Common.{◌≡◌, ◌++◌, ◌∷◌, [], ◌∙◌, Bor, List, arith, map, take, ap, length, refl}
 use Rattle.std.proofs.lemmas.List.{length-append}
-use Rattle.std.proofs.Common.{Vec, Global}
-use Rattle.lrc_code.specs.declared.places.Place.{Place}
 use Rattle.farm_lists.specs.Listed.{ListedRequest}
-use Rattle.farm_serving.specs.Serving.{AreReads, failures, unread}
+use Rattle.farm_serving.specs.Serving.{AreReads, failures, request_read}
 use Rattle.farm_serving.proofs.Pairs.{images_more, sum_push}
 use Rattle.farm_serving.proofs.ReadRequests.{close_where, orders_few, orders_more, orders_push, reads_push, taken}
+use Rattle.farm_lists.specs.Report.{read_of}
 use Rattle.farm_serving.proofs.reading.fragments.read_requests.Goals as goal
 
 pub read_request-requires : goal.read_request-requires
@@ -46,12 +45,12 @@ loop-index-preserved g c =
         orders_push c.loop-index.orders.items c.push.new.self.items made.0 c.in_ok-request.request made.1 c.in_ok-push.ensures.items,
         omega (arith, made.2, length-append made.0 (c.in_ok-request.request ∷ [])),
       ),
-      ap length c.in_ok-push-2.ensures.items ∙ omega (arith, left, length-append c.loop-index.unread.items (c.in_ok-request.places ∷ [])),
+      ap length c.in_ok-push-2.ensures.items ∙ omega (arith, left, length-append c.loop-index.read.items (c.in_ok-request.with_unread ∷ [])),
       λ there e.
           let before = told there e in
           let now = gives there (same ∙ e) in (
             orders_more there rs reads r q c.loop-index.orders.items c.push.new.self.items c.in_ok-request.request are c.in_ok-push.ensures.items before.0 now.0,
-            images_more (unread there) (λ (u : Vec Place Global). u.items) AreReads rs reads r q c.loop-index.unread.items c.push-in-loop-index.new.self.items c.in_ok-request.places are c.in_ok-push-2.ensures.items before.1 now.1,
+            images_more (request_read there) read_of AreReads rs reads r q c.loop-index.read.items c.push-in-loop-index.new.self.items c.in_ok-request.with_unread are c.in_ok-push-2.ensures.items before.1 now.1,
           ),
     )
 
@@ -63,8 +62,8 @@ loop-index-init g c = (
   omega (arith, c.in_ok-read_ahead.ensures.failure),
   omega (arith, c.in_ok-read_ahead.ensures.failure),
   ([], c.new-orders.ensures.items, refl),
-  ap length c.new-unread.ensures.items,
-  λ there e. (c.new-orders.ensures.items, ap (map (λ (u : Vec Place Global). u.items)) c.new-unread.ensures.items),
+  ap length c.new-read.ensures.items,
+  λ there e. (c.new-orders.ensures.items, ap (map read_of) c.new-read.ensures.items),
 )
 
 pub returns-in_err-push_close-clause-few : goal.returns-in_err-push_close-clause-few
@@ -84,8 +83,8 @@ returns-clause-orders g c =
     let all : c.loop-index.index ≡ length c.args.requests.now = omega (arith, c.loop-index-test.false, c.loop-index.auto.index-end) in
     (made.0, made.2 ∙ all, c.from_checked.ensures ∙ c.in_ok-push_close.ensures ∙ ap (λ t. t ++ close_where c.args.closes) made.1)
 
-pub returns-clause-places : goal.returns-clause-places
-returns-clause-places g c =
+pub returns-clause-counted : goal.returns-clause-counted
+returns-clause-counted g c =
     let (reads, are, same, failed, few, made, left, told) = c.loop-index.invariant in
     let all : c.loop-index.index ≡ length c.args.requests.now = omega (arith, c.loop-index-test.false, c.loop-index.auto.index-end) in
     left ∙ all

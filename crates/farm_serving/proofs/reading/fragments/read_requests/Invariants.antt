@@ -3,7 +3,8 @@ use Rattle.std.specs.List.{AllZip}
 use Rattle.lrc_code.specs.Requests.{Asked}
 use Rattle.farm_core.specs.declared.orders.Order.TheVariants.{Rebuild}
 use Rattle.farm_shelves.specs.Files.{Files}
-use Rattle.farm_serving.specs.Serving.{AreReads, Reads, asked_feed, feed_failures, unread_feed}
+use Rattle.farm_serving.specs.Serving.{AreReads, Reads, asked_feed, feed_failures, feed_read}
+use Rattle.farm_lists.specs.Report.{read_of}
 use Rattle.farm_serving.proofs.reading.fragments.read_requests.Given as goal
 
 abbrev pub invariant-loop-index : goal.invariant-loop-index
@@ -13,6 +14,6 @@ invariant-loop-index g l =
     × (g.I.Shelf.files l.input ≡ g.I.Shelf.files l.fn.input)
     × (g.I.Shelf.failed l.input ≡ g.I.Shelf.failed l.fn.input + feed_failures reads)
     × (g.I.Shelf.failed l.input ≤ g.I.Shelf.failed l.fn.input + 15 * l.index)
-    × ((requests : List Asked) × (l.orders.items ≡ map Rebuild requests) × (length requests ≡ l.index)) × (length l.unread.items ≡ l.index)
+    × ((requests : List Asked) × (l.orders.items ≡ map Rebuild requests) × (length requests ≡ l.index)) × (length l.read.items ≡ l.index)
     × ((there : Files) → g.I.Shelf.files l.fn.input ≡ Some there
-    → (l.orders.items ≡ map Rebuild (asked_feed there (map (λ r. r.now) (take l.index l.requests)) reads)) × (map (λ u. u.items) l.unread.items ≡ unread_feed there (map (λ r. r.now) (take l.index l.requests)) reads))
+    → (l.orders.items ≡ map Rebuild (asked_feed there (map (λ r. r.now) (take l.index l.requests)) reads)) × (map read_of l.read.items ≡ feed_read there (map (λ r. r.now) (take l.index l.requests)) reads))
