@@ -1,5 +1,6 @@
 -- The fields of a report call for no quotes.
-use Rattle.std.proofs.Common.{◌≡◌, ◌<◌, ◌≤◌, ◌++◌, ◌∙◌, ◌^◌, ◌/◌, ◌%◌, ℕ, zero, suc, Bool, true, false, cond, List, [], ◌∷◌, Option, Some, None, length, get_or, map, decimal, refl, ap, arith}
+use Rattle.std.proofs.Common.{◌≡◌, ◌<◌, ◌≤◌, ◌++◌, ◌∙◌, ◌^◌, ◌/◌, ◌%◌, ℕ, zero, suc, Bool, true, false, cond, List, [], ◌∷◌, Option, Some}
+use Rattle.std.proofs.Common.{None, length, get_or, map, decimal, refl, ap, arith}
 use Rattle.std.specs.Prelude.{nat_le, not, ◌==◌, ◌&&◌, ◌||◌}
 use Rattle.std.specs.List.{AllByRecursion, join_with_byte, list_all, list_any}
 use Rattle.std.specs.Str.Parse.{AllDigits}
@@ -33,7 +34,8 @@ IsPlain f = needs_quotes default_writer f ≡ false
 abbrev pub ArePlain : List (List ℕ) → Type 0
 ArePlain fields = AllByRecursion (λ f. IsPlain f) fields
 
-body : (f : List ℕ) (fs : List (List ℕ)) → ArePlain (f ∷ fs) → field_text default_writer f ++ fields_text default_writer fs ≡ join_with_byte 44 (f ∷ fs)
+body : (f : List ℕ) (fs : List (List ℕ)) → ArePlain (f ∷ fs)
+    → field_text default_writer f ++ fields_text default_writer fs ≡ join_with_byte 44 (f ∷ fs)
 unfolding fields_text
 body f [] plain = rw (plain.0) (append-nil f)
 body f (g ∷ gs) plain = rw (plain.0) (ap (λ t. f ++ 44 ∷ t) (body g gs plain.1))
@@ -71,7 +73,8 @@ name_high b h = grind arith
 
 plain_name : (f : List ℕ) → list_all is_name_byte f ≡ true → IsPlain f
 plain_name [] h = refl
-plain_name (b ∷ f) h = plain_cons b f (high b (name_high b (and_left (is_name_byte b) (list_all is_name_byte f) h))) (plain_name f (and_right (is_name_byte b) (list_all is_name_byte f) h))
+plain_name (b ∷ f) h = plain_cons b f (high b (name_high b (and_left (is_name_byte b) (list_all is_name_byte f) h)))
+    (plain_name f (and_right (is_name_byte b) (list_all is_name_byte f) h))
 
 or_left : (a b : Bool) → (a || b) ≡ false → a ≡ false
 or_left true b h = h
@@ -114,7 +117,8 @@ plain_place place.Y5 = refl
 plain_places : (ps : List Place) → IsPlain (join_with_byte 32 (map name_of ps))
 plain_places [] = refl
 plain_places (p ∷ []) = plain_place p
-plain_places (p ∷ q ∷ ps) = plain_append (name_of p) (32 ∷ join_with_byte 32 (map name_of (q ∷ ps))) (plain_place p) (plain_cons 32 (join_with_byte 32 (map name_of (q ∷ ps))) refl (plain_places (q ∷ ps)))
+plain_places (p ∷ q ∷ ps) = plain_append (name_of p) (32 ∷ join_with_byte 32 (map name_of (q ∷ ps))) (plain_place p)
+    (plain_cons 32 (join_with_byte 32 (map name_of (q ∷ ps))) refl (plain_places (q ∷ ps)))
 
 plain_outcome : (o : Outcome) → IsPlain (outcome_name o)
 plain_outcome (outcome.Rebuilt f) = refl
@@ -154,21 +158,38 @@ plain_code : (code : CodeName) → IsPlain (code_text code)
 plain_code Narrow = refl
 plain_code Wide = refl
 
-pub plain_fields : (shape : ReportShape) (n : ℕ) (row : Row) → n < 2 ^ 64 → row.feed < 2 ^ 64 → listed_refusal row.listed ≡ None → ArePlain (report_fields shape n row)
+pub plain_fields : (shape : ReportShape) (n : ℕ) (row : Row) → n < 2 ^ 64 → row.feed < 2 ^ 64 → listed_refusal row.listed ≡ None
+    → ArePlain (report_fields shape n row)
 plain_fields shape n row small fed e =
     let r = row.listed in
     let a = accepted row.listed e in
-    let named = plain_name r.stripe (and_right (nat_le 1 (length r.stripe) && nat_le (length r.stripe) 32) (list_all is_name_byte r.stripe) a.named) in (
+    let named = plain_name r.stripe (and_right (nat_le 1 (length r.stripe) && nat_le (length r.stripe) 32)
+    (list_all is_name_byte r.stripe) a.named) in (
       plain_decimal n small,
-      plain_if shape.feeds (decimal row.feed) _ (plain_decimal row.feed fed)
-          (named, (plain_place r.target, (plain_decimal r.len (omega (arith, a.short)), (plain_outcome row.outcome, (plain_digest row.outcome, (plain_places row.unread, plain_end shape.codes (code_text r.code) (plain_code r.code))))))),
+      plain_if shape.feeds (decimal row.feed) _ (plain_decimal row.feed fed) (
+        named,
+        (
+          plain_place r.target,
+          (
+            plain_decimal r.len (omega (arith, a.short)),
+            (
+              plain_outcome row.outcome,
+              (
+                plain_digest row.outcome,
+                (plain_places row.unread, plain_end shape.codes (code_text r.code) (plain_code r.code)),
+              ),
+            ),
+          ),
+        ),
+      ),
     )
 
 several_fields : (shape : ReportShape) (n : ℕ) (row : Row) → 1 < length (report_fields shape n row)
 several_fields shape n row = by shape.feeds
   where
     by : (b : Bool) → 1 < length (decimal n ∷ (field_if b (decimal row.feed)
-        ++ row.listed.stripe ∷ name_of row.listed.target ∷ decimal row.listed.len ∷ outcome_name row.outcome ∷ digest_text (fragment_digest row.outcome)
+        ++ row.listed.stripe ∷ name_of row.listed.target ∷ decimal row.listed.len ∷ outcome_name row.outcome ∷ digest_text
+        (fragment_digest row.outcome)
         ∷ join_with_byte 32 (map name_of row.unread) ∷ field_if shape.codes (code_text row.listed.code)))
     by true = omega arith
     by false = omega arith
@@ -177,10 +198,14 @@ pub row_line : (shape : ReportShape) (n : ℕ) (row : Row) → n < 2 ^ 64 → ro
     → row_text default_writer (report_fields shape n row) ≡ report_line (report_fields shape n row)
 row_line shape n row small fed e = plain_row (report_fields shape n row) (several_fields shape n row) (plain_fields shape n row small fed e)
 
-pub row_fields : (shape : ReportShape) (n : ℕ) (row : Row) (a b c d e f g h i : List ℕ) → n < 2 ^ 64 → row.feed < 2 ^ 64 → listed_refusal row.listed ≡ None
-    → a ≡ decimal n → b ≡ decimal row.feed → c ≡ row.listed.stripe → d ≡ name_of row.listed.target → e ≡ decimal row.listed.len → f ≡ outcome_name row.outcome
+pub row_fields : (shape : ReportShape) (n : ℕ) (row : Row) (a b c d e f g h i : List ℕ) → n < 2 ^ 64 → row.feed < 2 ^ 64
+    → listed_refusal row.listed ≡ None
+    → a ≡ decimal n → b ≡ decimal row.feed → c ≡ row.listed.stripe → d ≡ name_of row.listed.target → e ≡ decimal row.listed.len
+    → f ≡ outcome_name row.outcome
     → g ≡ digest_text (fragment_digest row.outcome) → h ≡ join_with_byte 32 (map name_of row.unread) → i ≡ code_text row.listed.code
-    → row_text default_writer (a ∷ (field_if shape.feeds b ++ c ∷ d ∷ e ∷ f ∷ g ∷ h ∷ field_if shape.codes i)) ≡ report_line (report_fields shape n row)
+    → row_text default_writer (a ∷ (field_if shape.feeds b ++ c ∷ d ∷ e ∷ f ∷ g ∷ h ∷ field_if shape.codes i))
+    ≡ report_line (report_fields shape n row)
 row_fields shape n row a b c d e f g h i small fed accept ha hb hc hd he hf hg hh hi =
-    let same : a ∷ (field_if shape.feeds b ++ c ∷ d ∷ e ∷ f ∷ g ∷ h ∷ field_if shape.codes i) ≡ report_fields shape n row = rw (ha, hb, hc, hd, he, hf, hg, hh, hi) refl in
+    let same : a ∷ (field_if shape.feeds b ++ c ∷ d ∷ e ∷ f ∷ g ∷ h ∷ field_if shape.codes i) ≡ report_fields shape n row =
+    rw (ha, hb, hc, hd, he, hf, hg, hh, hi) refl in
     ap (row_text default_writer) same ∙ row_line shape n row small fed accept

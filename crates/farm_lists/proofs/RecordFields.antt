@@ -29,7 +29,8 @@ and_right false b h = cc
 low : (b : ℕ) → is_name_byte b ≡ true → b < 128
 low b h = grind arith
 
-pub places_by_parts : (code : CodeName) (text : List ℕ) (names items : List (Bor (List ℕ))) → (length text ≡ 0 → ⊥) → names ≡ items → map (λ w. w.now) items ≡ slice_split is_space text
+pub places_by_parts : (code : CodeName) (text : List ℕ) (names items : List (Bor (List ℕ))) → (length text ≡ 0 → ⊥) → names ≡ items
+    → map (λ w. w.now) items ≡ slice_split is_space text
     → every (map (λ n. place_named (tables_of code) n.now) names) ≡ places code text
 places_by_parts code [] names items some same parts = absurd (some refl)
 places_by_parts code (b ∷ bs) names items some same parts =
@@ -44,15 +45,19 @@ ascii_name (b ∷ bs) h zero = low b (and_left (is_name_byte b) (list_all is_nam
 ascii_name (b ∷ bs) h (suc i) = ascii_name bs (and_right (is_name_byte b) (list_all is_name_byte bs) h) i
 
 pub name_is_text : (bs : List ℕ) → is_name bs ≡ true → IsUtf8 bs
-name_is_text bs h = IsUtf8-from_ascii bs (ascii_name bs (and_right (nat_le 1 (length bs) && nat_le (length bs) 32) (list_all is_name_byte bs) h))
+name_is_text bs h = IsUtf8-from_ascii bs (ascii_name bs (and_right (nat_le 1 (length bs) && nat_le (length bs) 32)
+    (list_all is_name_byte bs) h))
 
 -- a stripe's name that isn't text is refused, where the other fields have their forms
-pub bad_stripe : (code : CodeName) (n : ℕ) (stripe target size survivors : List ℕ) (p : Place) (m : ℕ) (s : List Place) → Some p ≡ place_named (tables_of code) target → Some m ≡ number size → Some s ≡ places code survivors
+pub bad_stripe : (code : CodeName) (n : ℕ) (stripe target size survivors : List ℕ) (p : Place) (m : ℕ) (s : List Place)
+    → Some p ≡ place_named (tables_of code) target → Some m ≡ number size → Some s ≡ places code survivors
     → (IsUtf8 stripe → ⊥) → rebuild_at n (listed code stripe target size survivors) ≡ Err (fault.Refused n refused.BadStripe)
 bad_stripe code n stripe target size survivors p m s is_target is_size are bad =
-    let form : listed code stripe target size survivors ≡ Some (record { code = code; stripe = stripe; target = p; len = m; survivors = s }) = rw (sym is_target, sym is_size, sym are) refl in
+    let form : listed code stripe target size survivors ≡ Some
+    (record { code = code; stripe = stripe; target = p; len = m; survivors = s }) = rw (sym is_target, sym is_size, sym are) refl in
     ap (rebuild_at n) form ∙ by (is_name stripe) refl
   where
-    by : (b : Bool) → is_name stripe ≡ b → rebuild_at n (Some (record { code = code; stripe = stripe; target = p; len = m; survivors = s })) ≡ Err (fault.Refused n refused.BadStripe)
+    by : (b : Bool) → is_name stripe ≡ b → rebuild_at n (Some (record { code = code; stripe = stripe; target = p; len = m; survivors = s }))
+        ≡ Err (fault.Refused n refused.BadStripe)
     by true h = absurd (bad (name_is_text stripe h))
     by false h = rw h refl

@@ -1,5 +1,6 @@
 -- What a request list reads as.
-use Rattle.std.specs.Prelude.{◌≡◌, not, true, false, ◌+◌, ◌==◌, ◌&&◌, nat_lt, Bool, ℕ, List, [], ◌∷◌, length, map, Option, Some, None, Result, Ok, Err, option_map, option_and_then, if◌then◌else◌, codes}
+use Rattle.std.specs.Prelude.{◌≡◌, not, true, false, ◌+◌, ◌==◌, ◌&&◌, nat_lt, Bool, ℕ, List, [], ◌∷◌, length, map, Option, Some, None}
+use Rattle.std.specs.Prelude.{Result, Ok, Err, option_map, option_and_then, if◌then◌else◌, codes}
 use Rattle.std.specs.List.{slice_split}
 use Rattle.std.specs.Str.{bytes_eq}
 use Rattle.lrc_code.specs.Text.{every, is_space, number}
@@ -34,7 +35,9 @@ places code (b ∷ bs) = every (map (place_named (tables_of code)) (slice_split 
 -- the request that four fields list over a code, where each has its form
 abbrev pub listed : CodeName → List ℕ → List ℕ → List ℕ → List ℕ → Option ListedRequest
 listed code stripe target size survivors =
-    option_and_then (λ p. option_and_then (λ n. option_map (λ s. record { code = code; stripe = stripe; target = p; len = n; survivors = s }) (places code survivors)) (number size)) (place_named (tables_of code) target)
+    option_and_then (λ p. option_and_then (λ n. option_map
+    (λ s. record { code = code; stripe = stripe; target = p; len = n; survivors = s }) (places code survivors)) (number size))
+    (place_named (tables_of code) target)
 
 -- the order of record n that lists a request, where it has its form
 abbrev pub rebuild_at : ℕ → Option ListedRequest → Result Record ListFault
@@ -49,12 +52,14 @@ close_at n is_close = if is_close then Ok rec.Close else Err (fault.BadRecord n)
 abbrev pub order_in : Option CodeName → Bool → ℕ → List ℕ → List ℕ → List ℕ → List ℕ → List ℕ → Result Record ListFault
 order_in code blank n word stripe target size survivors =
     if bytes_eq word (codes "rebuild") then rebuild_at n (option_and_then (λ c. listed c stripe target size survivors) code)
-    else close_at n (bytes_eq word (codes "close") && (length stripe == 0 && (length target == 0 && (length size == 0 && (length survivors == 0 && blank)))))
+    else close_at n (bytes_eq word (codes "close") && (length stripe == 0 &&
+    (length target == 0 && (length size == 0 && (length survivors == 0 && blank)))))
 
 -- the order that the fields of record n give; in a list with codes the sixth names the code
 abbrev pub order_at : Bool → ℕ → List (List ℕ) → Result Record ListFault
 order_at false n (word ∷ stripe ∷ target ∷ size ∷ survivors ∷ []) = order_in (Some Narrow) true n word stripe target size survivors
-order_at true n (word ∷ stripe ∷ target ∷ size ∷ survivors ∷ code ∷ []) = order_in (code_named code) (length code == 0) n word stripe target size survivors
+order_at true n (word ∷ stripe ∷ target ∷ size ∷ survivors ∷ code ∷ []) =
+    order_in (code_named code) (length code == 0) n word stripe target size survivors
 order_at coded n _ = Err (fault.BadRecord n)
 
 -- ---- all records
@@ -74,7 +79,8 @@ and_then (Ok o) (Ok os) = Ok (o ∷ os)
 -- the orders of the records from the n-th on
 abbrev pub orders : Bool → ℕ → List (List (List ℕ)) → Result (List Record) ListFault
 orders coded n [] = Ok []
-orders coded n (row ∷ rows) = if nat_lt order_limit n then Err fault.TooManyOrders else and_then (order_at coded n row) (orders coded (n + 1) rows)
+orders coded n (row ∷ rows) = if nat_lt order_limit n then Err fault.TooManyOrders else and_then (order_at coded n row)
+    (orders coded (n + 1) rows)
 
 -- the orders of a header and the records after it
 abbrev pub list_of_rows : List (List (List ℕ)) → Result (List Record) ListFault

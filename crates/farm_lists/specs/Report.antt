@@ -78,13 +78,15 @@ field_if false field = []
 abbrev pub report_header : ReportShape → List (List ℕ)
 report_header shape =
     codes "number" ∷ (field_if shape.feeds (codes "feed")
-    ++ codes "stripe" ∷ codes "target" ∷ codes "length" ∷ codes "outcome" ∷ codes "digest" ∷ codes "unread" ∷ field_if shape.codes (codes "code"))
+    ++ codes "stripe" ∷ codes "target" ∷ codes "length" ∷ codes "outcome" ∷ codes "digest" ∷ codes "unread" ∷ field_if shape.codes
+    (codes "code"))
 
 -- the fields of row n
 abbrev pub report_fields : ReportShape → ℕ → Row → List (List ℕ)
 report_fields shape n row =
     decimal n ∷ (field_if shape.feeds (decimal row.feed)
-    ++ row.listed.stripe ∷ name_of row.listed.target ∷ decimal row.listed.len ∷ outcome_name row.outcome ∷ digest_text (fragment_digest row.outcome)
+    ++ row.listed.stripe ∷ name_of row.listed.target ∷ decimal row.listed.len ∷ outcome_name row.outcome ∷ digest_text
+    (fragment_digest row.outcome)
     ∷ join_with_byte 32 (map name_of row.unread) ∷ field_if shape.codes (code_text row.listed.code))
 
 -- the fields of the rows from the n-th on

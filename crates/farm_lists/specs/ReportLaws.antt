@@ -17,7 +17,8 @@ seven_names = codes "number" ∷ codes "stripe" ∷ codes "target" ∷ codes "le
 
 abbrev pub seven_fields : ℕ → ListedRequest → Outcome → List Place → List (List ℕ)
 seven_fields n r o u =
-    decimal n ∷ r.stripe ∷ name_of r.target ∷ decimal r.len ∷ outcome_name o ∷ digest_text (fragment_digest o) ∷ join_with_byte 32 (map name_of u) ∷ []
+    decimal n ∷ r.stripe ∷ name_of r.target ∷ decimal r.len ∷ outcome_name o ∷ digest_text (fragment_digest o) ∷ join_with_byte 32
+    (map name_of u) ∷ []
 
 -- the fields of the requests from the n-th on
 abbrev pub seven_rows : ℕ → List ListedRequest → List Outcome → List (List Place) → List (List (List ℕ))
@@ -47,18 +48,21 @@ list_files k rs os us = rebuilt_of_list k 0 rs os ++ (report_name k, report rs o
 abbrev pub lists_files : ℕ → List (List RequestRead) → List (List Outcome) → List (List ℕ × List ℕ)
 lists_files k [] answers = []
 lists_files k (rs ∷ lists) [] = []
-lists_files k (rs ∷ lists) (a ∷ answers) = list_files k (map (λ r. r.listed) rs) a (map (λ r. r.unread) rs) ++ lists_files (k + 1) lists answers
+lists_files k (rs ∷ lists) (a ∷ answers) = list_files k (map (λ r. r.listed) rs) a (map (λ r. r.unread) rs) ++ lists_files
+    (k + 1) lists answers
 
 -- racks with one feed each have the files of their lists
 abbrev pub FilesOfOneFeedAreOfItsList : Type 0
-FilesOfOneFeedAreOfItsList = (lists : List (List RequestRead)) (answers : List (List Outcome)) → AllZip (λ rs os. length os ≡ length rs) lists answers
+FilesOfOneFeedAreOfItsList = (lists : List (List RequestRead)) (answers : List (List Outcome))
+    → AllZip (λ rs os. length os ≡ length rs) lists answers
     → files_from 0 (map (λ rs. rs ∷ []) lists) (map (λ os. map (λ o. (0, o)) os) answers) ≡ lists_files 0 lists answers
 
 -- ---- the rows of a rack
 
 -- where the answers fit the feeds there is a row for each answer, in order, which says its feed and its outcome
 abbrev pub RowsTellTheAnswers : Type 0
-RowsTellTheAnswers = (requests : List (List RequestRead)) (answers : List (ℕ × Outcome)) → FitsFeeds (map length requests) (map (λ a. a.0) answers)
+RowsTellTheAnswers = (requests : List (List RequestRead)) (answers : List (ℕ × Outcome))
+    → FitsFeeds (map length requests) (map (λ a. a.0) answers)
     → map (λ row. (row.feed, row.outcome)) (rack_rows requests answers) ≡ answers
 
 -- the request that a row is about
@@ -67,6 +71,7 @@ request_of row = record { listed = row.listed; unread = row.unread }
 
 -- and the rows of one feed are about the feed's first requests, in order
 abbrev pub RowsOfAFeedAreItsFirst : Type 0
-RowsOfAFeedAreItsFirst = (requests : List (List RequestRead)) (answers : List (ℕ × Outcome)) (feed : ℕ) → FitsFeeds (map length requests) (map (λ a. a.0) answers)
+RowsOfAFeedAreItsFirst = (requests : List (List RequestRead)) (answers : List (ℕ × Outcome)) (feed : ℕ)
+    → FitsFeeds (map length requests) (map (λ a. a.0) answers)
     → map request_of (filter (λ row. row.feed == feed) (rack_rows requests answers))
     ≡ take (count_by (λ a. a.0 == feed) answers) (slice_index_or requests feed [])

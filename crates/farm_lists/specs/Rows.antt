@@ -15,7 +15,8 @@ position answers feed n = count_by (λ a. a.0 == feed) (take n answers)
 
 -- the row of an answer to the request at a position of its feed
 abbrev pub row_at : List (List RequestRead) → ℕ × Outcome → ℕ → Option Row
-row_at requests answer p = option_map (λ r. record { feed = answer.0; listed = r.listed; outcome = answer.1; unread = r.unread }) (member requests answer.0 p)
+row_at requests answer p = option_map (λ r. record { feed = answer.0; listed = r.listed; outcome = answer.1; unread = r.unread })
+    (member requests answer.0 p)
 
 -- row n of a rack with these requests, feed by feed, and these answers, each with its feed's number
 abbrev pub row_of_number : List (List RequestRead) → List (ℕ × Outcome) → ℕ → Option Row

@@ -32,7 +32,8 @@ fn push_rebuilt<'a>(
     number: usize,
     row: &ReportRow<'a>,
 ) -> Result<(), AllocError>
-    ensures { OnOk result (map named files.new.items ≡ map named files.old.items ++ rebuilt_file rack number row.now.listed.now row.now.outcome.now) }
+    ensures { OnOk result (map named files.new.items ≡ map named files.old.items
+        ++ rebuilt_file rack number row.now.listed.now row.now.outcome.now) }
 {
     match row.outcome {
         Outcome::Rebuilt(bytes) => {
@@ -99,7 +100,8 @@ pub fn make_files<'a, R: Threads + Sync>(
     answers: &'a [Vec<(usize, Outcome)>],
 ) -> Result<Vec<NamedFile<'a>>, AllocError>
     requires threads { 0 < threads }
-    requires answers { AllZip (λ feeds os. FitsFeeds (map (λ rs. length rs.items) feeds.items) (map (λ a. a.0) os.items)) racks.now answers.now }
+    requires answers { AllZip (λ feeds os. FitsFeeds (map (λ rs. length rs.items) feeds.items)
+        (map (λ a. a.0) os.items)) racks.now answers.now }
     ensures { IfOk result (λ v. map named v.items
         ≡ files_from 0 (map (λ feeds. map (λ rs. map read_of rs.items) feeds.items) racks.now) (map (λ os. os.items) answers.now)) }
 {

@@ -1,5 +1,6 @@
 //! Laws of reports: each function's contract is one, over the definitions alone.
-ghost use Rattle.farm_lists.specs.ReportLaws.{FilesOfOneFeedAreOfItsList, NarrowReportHasSevenFields, RowsOfAFeedAreItsFirst, RowsTellTheAnswers};
+ghost use Rattle.farm_lists.specs.ReportLaws.{FilesOfOneFeedAreOfItsList, NarrowReportHasSevenFields, RowsOfAFeedAreItsFirst};
+ghost use Rattle.farm_lists.specs.ReportLaws.{RowsTellTheAnswers};
 
 /// Where no request is of the (12,2,2) code, each line of the report on a list has seven fields.
 pub fn narrow_report_has_seven_fields()

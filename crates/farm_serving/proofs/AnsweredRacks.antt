@@ -27,22 +27,31 @@ range_length xs a b within past = length-take-le (b - a) (drop a xs) (omega (ari
 
 -- ---- how many requests, in memory and as lists
 
-pub counts_same : (racks : List (Vec (Vec Record Global) Global)) → listed_counts (all_records racks) ≡ map (λ feeds. map (λ list. length (listed_before_close list.items)) feeds.items) racks
+pub counts_same : (racks : List (Vec (Vec Record Global) Global))
+    → listed_counts (all_records racks) ≡ map (λ feeds. map (λ list. length (listed_before_close list.items)) feeds.items) racks
 counts_same [] = refl
 counts_same (feeds ∷ racks) =
-    ap (λ (t : List ℕ). t ∷ listed_counts (all_records racks)) (map-map (λ (list : List Record). length (listed_before_close list)) (λ (list : Vec Record Global). list.items) feeds.items)
-    ∙ ap (λ (t : List (List ℕ)). map (λ (list : Vec Record Global). length (listed_before_close list.items)) feeds.items ∷ t) (counts_same racks)
+    ap (λ (t : List ℕ). t ∷ listed_counts (all_records racks))
+    (map-map (λ (list : List Record). length (listed_before_close list)) (λ (list : Vec Record Global). list.items) feeds.items)
+    ∙ ap (λ (t : List (List ℕ)). map (λ (list : Vec Record Global). length (listed_before_close list.items)) feeds.items ∷ t)
+    (counts_same racks)
 
-pub lengths_same : (feeds : List (Vec ReadRequest Global)) → map (λ requests. length requests) (map (λ (us : Vec ReadRequest Global). map read_of us.items) feeds) ≡ map (λ us. length us.items) feeds
+pub lengths_same : (feeds : List (Vec ReadRequest Global))
+    → map (λ requests. length requests) (map (λ (us : Vec ReadRequest Global). map read_of us.items) feeds)
+    ≡ map (λ us. length us.items) feeds
 lengths_same [] = refl
 lengths_same (us ∷ feeds) =
-    ap (λ n. n ∷ map (λ (rs : List RequestRead). length rs) (map (λ (us : Vec ReadRequest Global). map read_of us.items) feeds)) (length-map us.items read_of)
+    ap (λ n. n ∷ map (λ (rs : List RequestRead). length rs) (map (λ (us : Vec ReadRequest Global). map read_of us.items) feeds))
+    (length-map us.items read_of)
     ∙ ap (λ (t : List ℕ). length us.items ∷ t) (lengths_same feeds)
 
-pub requests_counted : (racks : List (Vec (Vec ReadRequest Global) Global)) → map (λ feeds. map (λ requests. length requests) feeds) (all_requests racks) ≡ map (λ feeds. map (λ us. length us.items) feeds.items) racks
+pub requests_counted : (racks : List (Vec (Vec ReadRequest Global) Global))
+    → map (λ feeds. map (λ requests. length requests) feeds) (all_requests racks)
+    ≡ map (λ feeds. map (λ us. length us.items) feeds.items) racks
 requests_counted [] = refl
 requests_counted (feeds ∷ racks) =
-    ap (λ (t : List ℕ). t ∷ map (λ (feeds : List (List RequestRead)). map (λ (rs : List RequestRead). length rs) feeds) (all_requests racks)) (lengths_same feeds.items)
+    ap (λ (t : List ℕ). t ∷ map (λ (feeds : List (List RequestRead)). map (λ (rs : List RequestRead). length rs) feeds)
+    (all_requests racks)) (lengths_same feeds.items)
     ∙ ap (λ (t : List (List ℕ)). map (λ (us : Vec ReadRequest Global). length us.items) feeds.items ∷ t) (requests_counted racks)
 
 -- ---- batches
@@ -55,11 +64,14 @@ zip_with_append f R (x ∷ xs) xs' [] ys' all = absurd all
 zip_with_append f R (x ∷ xs) xs' (y ∷ ys) ys' all = ap (λ t. f x y ∷ t) (zip_with_append f R xs xs' ys ys' all.1)
 
 -- images that are those of two parts
-pub both_images : {A B C : Type 0} (f : A → C) (g : B → C) (xs xs' : List A) (ys ys' : List B) → map f xs ≡ map g ys → map f xs' ≡ map g ys' → map f (xs ++ xs') ≡ map g (ys ++ ys')
-both_images {C = C} f g xs xs' ys ys' first last = map-append f xs xs' ∙ ap (λ (t : List C). t ++ map f xs') first ∙ ap (λ (t : List C). map g ys ++ t) last ∙ sym (map-append g ys ys')
+pub both_images : {A B C : Type 0} (f : A → C) (g : B → C) (xs xs' : List A) (ys ys' : List B) → map f xs ≡ map g ys → map f xs' ≡ map g ys'
+    → map f (xs ++ xs') ≡ map g (ys ++ ys')
+both_images {C = C} f g xs xs' ys ys' first last = map-append f xs xs' ∙ ap (λ (t : List C). t ++ map f xs') first
+    ∙ ap (λ (t : List C). map g ys ++ t) last ∙ sym (map-append g ys ys')
 
 -- values of pairs that are those of two parts
-pub both_values : {A B C : Type 0} (f : A → B → C) (R : A → B → Type 0) (xs xs' : List A) (ys ys' : List B) (zs zs' : List C) → AllZip R xs ys → zs ≡ zip_with f xs ys → zs' ≡ zip_with f xs' ys'
+pub both_values : {A B C : Type 0} (f : A → B → C) (R : A → B → Type 0) (xs xs' : List A) (ys ys' : List B) (zs zs' : List C)
+    → AllZip R xs ys → zs ≡ zip_with f xs ys → zs' ≡ zip_with f xs' ys'
     → zs ++ zs' ≡ zip_with f (xs ++ xs') (ys ++ ys')
 both_values {C = C} f R xs xs' ys ys' zs zs' all first last =
     ap (λ (t : List C). t ++ zs') first ∙ ap (λ (t : List C). zip_with f xs ys ++ t) last ∙ sym (zip_with_append f R xs xs' ys ys' all)
@@ -69,18 +81,24 @@ pub answered_none : (told : Told) → AreAnswered told [] [] [] []
 answered_none told = record { read = tt; orders = []; ordered = refl; merged = tt; counted = refl; given = λ there e. (refl, refl) }
 
 -- what is expected of racks, and of those after them, is expected of all
-pub answered_append : (told : Told) (lists lists' : List (List (List Record))) (reads reads' : List (List (List Reads))) (answers answers' : List (List (ℕ × Outcome))) (requests requests' : List (List (List RequestRead)))
-    → AreAnswered told lists reads answers requests → AreAnswered told lists' reads' answers' requests' → AreAnswered told (lists ++ lists') (reads ++ reads') (answers ++ answers') (requests ++ requests')
+pub answered_append : (told : Told) (lists lists' : List (List (List Record))) (reads reads' : List (List (List Reads)))
+    (answers answers' : List (List (ℕ × Outcome))) (requests requests' : List (List (List RequestRead)))
+    → AreAnswered told lists reads answers requests → AreAnswered told lists' reads' answers' requests'
+    → AreAnswered told (lists ++ lists') (reads ++ reads') (answers ++ answers') (requests ++ requests')
 answered_append told lists lists' reads reads' answers answers' requests requests' first last = record {
   read = zip_append AreRackReads lists lists' reads reads' first.read last.read;
   orders = first.orders ++ last.orders;
-  ordered = both_images (λ (feeds : List (List Order)). map (λ (list : List Order). length (before_close list)) feeds) (λ (feeds : List (List Record)). map (λ (list : List Record). length (listed_before_close list)) feeds)
+  ordered = both_images (λ (feeds : List (List Order)). map (λ (list : List Order). length (before_close list)) feeds)
+      (λ (feeds : List (List Record)). map (λ (list : List Record). length (listed_before_close list)) feeds)
       first.orders last.orders lists lists' first.ordered last.ordered;
   merged = zip_append AreMergedAnswers first.orders last.orders answers answers' first.merged last.merged;
-  counted = both_images (λ (feeds : List (List RequestRead)). map (λ (rs : List RequestRead). length rs) feeds) (λ (feeds : List (List Record)). map (λ (list : List Record). length (listed_before_close list)) feeds)
+  counted = both_images (λ (feeds : List (List RequestRead)). map (λ (rs : List RequestRead). length rs) feeds)
+      (λ (feeds : List (List Record)). map (λ (list : List Record). length (listed_before_close list)) feeds)
       requests requests' lists lists' first.counted last.counted;
   given = λ there e. (
-    both_values (orders_rack there) AreRackReads lists lists' reads reads' first.orders last.orders first.read (first.given there e).0 (last.given there e).0,
-    both_values (rack_read there) AreRackReads lists lists' reads reads' requests requests' first.read (first.given there e).1 (last.given there e).1,
+    both_values (orders_rack there) AreRackReads lists lists' reads reads' first.orders last.orders first.read (first.given there e).0
+        (last.given there e).0,
+    both_values (rack_read there) AreRackReads lists lists' reads reads' requests requests' first.read (first.given there e).1
+        (last.given there e).1,
   );
 }

@@ -1,5 +1,6 @@
 -- Answers that fit a rack's feeds, and how many they are.
-use Rattle.std.proofs.Common.{◌≡◌, ◌<◌, ◌≤◌, ◌+◌, Vec, Global, ℕ, zero, suc, cond, List, [], ◌∷◌, All, length, map, ap, drop, get_or, refl, arith, subst, inl, inr, true, false}
+use Rattle.std.proofs.Common.{◌≡◌, ◌<◌, ◌≤◌, ◌+◌, Vec, Global, ℕ, zero, suc, cond, List, [], ◌∷◌, All, length, map, ap, drop, get_or, refl}
+use Rattle.std.proofs.Common.{arith, subst, inl, inr, true, false}
 use Rattle.std.specs.Prelude.{Bool, count_by, ◌==◌}
 use Rattle.std.specs.List.{AllByRecursion, AllZip}
 use Rattle.std.proofs.lemmas.Bool.{cases_lt}
@@ -77,8 +78,10 @@ abbrev pub FitLists : Lists → Answers → Type 0
 FitLists lists answers = FitsFeeds (listed_counts lists) (map (λ (a : ℕ × Outcome). a.0) answers.items)
 
 -- answers that fit the orders fit what has as many requests, feed by feed
-pub fit_counts : {A : Type 0} (counts : A → List ℕ) (xs : List A) (racks : List (List (List Order))) (answers : List Answers) → map request_counts racks ≡ map counts xs
-    → AllZip (λ feeds os. FitsFeeds (request_counts feeds) (map (λ a. a.0) os)) racks (map (λ a. a.items) answers) → AllZip (λ x a. FitsFeeds (counts x) (map (λ o. o.0) a.items)) xs answers
+pub fit_counts : {A : Type 0} (counts : A → List ℕ) (xs : List A) (racks : List (List (List Order))) (answers : List Answers)
+    → map request_counts racks ≡ map counts xs
+    → AllZip (λ feeds os. FitsFeeds (request_counts feeds) (map (λ a. a.0) os)) racks (map (λ a. a.items) answers)
+    → AllZip (λ x a. FitsFeeds (counts x) (map (λ o. o.0) a.items)) xs answers
 fit_counts counts [] [] [] same fit = tt
 fit_counts counts [] [] (a ∷ answers) same fit = absurd fit
 fit_counts counts [] (r ∷ racks) answers same fit = absurd (let sizes = ap (λ (ns : List (List ℕ)). length ns) same in omega (arith, sizes))
@@ -89,26 +92,31 @@ fit_counts counts (x ∷ xs) (r ∷ racks) (a ∷ answers) same fit = (
   fit_counts counts xs racks answers (ap (λ (ns : List (List ℕ)). drop 1 ns) same) fit.1,
 )
 
-counts_few : (ls : List (Vec Record Global)) → AllByRecursion (λ (v : Vec Record Global). length v.items ≤ 4096) ls → AllByRecursion (λ n. n ≤ 4096) (map (λ v. length (listed_before_close v.items)) ls)
+counts_few : (ls : List (Vec Record Global)) → AllByRecursion (λ (v : Vec Record Global). length v.items ≤ 4096) ls
+    → AllByRecursion (λ n. n ≤ 4096) (map (λ v. length (listed_before_close v.items)) ls)
 counts_few [] few = tt
 counts_few (l ∷ ls) few = (omega (arith, served_few l.items, few.0), counts_few ls few.1)
 
-rack_few : (l : Lists) (a : Answers) → (0 < length l.items) × (length l.items ≤ 4) → All (λ (v : Vec Record Global). length v.items ≤ 4096) l.items → FitLists l a → length a.items ≤ 16384
+rack_few : (l : Lists) (a : Answers) → (0 < length l.items) × (length l.items ≤ 4)
+    → All (λ (v : Vec Record Global). length v.items ≤ 4096) l.items → FitLists l a → length a.items ≤ 16384
 rack_few l a feeds small fit =
     let counts = counts_few l.items (recursion_from_All (λ (v : Vec Record Global). length v.items ≤ 4096) l.items small) in
     let size = length-map l.items (λ (v : Vec Record Global). length (listed_before_close v.items)) in
-    let few = few_answers (listed_counts l) (map (λ (x : ℕ × Outcome). x.0) a.items) (omega (arith, feeds.1, size)) (All-from_recursion (λ n. n ≤ 4096) (listed_counts l) counts) fit in
+    let few = few_answers (listed_counts l) (map (λ (x : ℕ × Outcome). x.0) a.items) (omega (arith, feeds.1, size))
+    (All-from_recursion (λ n. n ≤ 4096) (listed_counts l) counts) fit in
     omega (arith, few, length-map a.items (λ (x : ℕ × Outcome). x.0))
 
 each_few : (lists : List Lists) (answers : List Answers) → AllByRecursion (λ (l : Lists). (0 < length l.items) × (length l.items ≤ 4)) lists
-    → AllByRecursion (λ (l : Lists). All (λ (v : Vec Record Global). length v.items ≤ 4096) l.items) lists → AllZip FitLists lists answers → AllByRecursion (λ (a : Answers). length a.items ≤ 16384) answers
+    → AllByRecursion (λ (l : Lists). All (λ (v : Vec Record Global). length v.items ≤ 4096) l.items) lists → AllZip FitLists lists answers
+    → AllByRecursion (λ (a : Answers). length a.items ≤ 16384) answers
 each_few [] [] feeds small fit = tt
 each_few [] (a ∷ answers) feeds small fit = absurd fit
 each_few (l ∷ lists) [] feeds small fit = absurd fit
 each_few (l ∷ lists) (a ∷ answers) feeds small fit = (rack_few l a feeds.0 small.0 fit.0, each_few lists answers feeds.1 small.1 fit.1)
 
 pub all_few : (lists : List Lists) (answers : List Answers) → All (λ (l : Lists). (0 < length l.items) × (length l.items ≤ 4)) lists
-    → All (λ (l : Lists). All (λ (v : Vec Record Global). length v.items ≤ 4096) l.items) lists → AllZip FitLists lists answers → All (λ (a : Answers). length a.items ≤ 16384) answers
+    → All (λ (l : Lists). All (λ (v : Vec Record Global). length v.items ≤ 4096) l.items) lists → AllZip FitLists lists answers
+    → All (λ (a : Answers). length a.items ≤ 16384) answers
 all_few lists answers feeds small fit =
     All-from_recursion (λ (a : Answers). length a.items ≤ 16384) answers
     (each_few lists answers (recursion_from_All (λ (l : Lists). (0 < length l.items) × (length l.items ≤ 4)) lists feeds)

@@ -1,5 +1,6 @@
 -- The answers to a lawful merge fit the rack's feeds.
-use Rattle.std.proofs.Common.{◌≡◌, ◌<◌, ◌+◌, ◌∙◌, ℕ, zero, suc, Bool, true, false, cond, List, [], ◌∷◌, length, map, get_or, refl, sym, ap, subst, arith}
+use Rattle.std.proofs.Common.{◌≡◌, ◌<◌, ◌+◌, ◌∙◌, ℕ, zero, suc, Bool, true, false, cond, List, [], ◌∷◌, length, map, get_or, refl, sym, ap}
+use Rattle.std.proofs.Common.{subst, arith}
 use Rattle.std.specs.Prelude.{count_by, ◌==◌}
 use Rattle.std.specs.List.{All, AllZip}
 use Rattle.std.proofs.lemmas.List.{get_or-map, length-map, length-take}
@@ -37,7 +38,8 @@ elem_at [] f below = absurd (omega arith)
 elem_at (list ∷ feeds) zero below = refl
 elem_at (list ∷ feeds) (suc f) below = elem_at feeds f (omega arith)
 
-pub merge_fits : (feeds : List (List Order)) (merge : List (ℕ × Asked)) → IsLawfulMerge feeds merge → FitsFeeds (request_counts feeds) (map (λ x. x.0) merge)
+pub merge_fits : (feeds : List (List Order)) (merge : List (ℕ × Asked)) → IsLawfulMerge feeds merge
+    → FitsFeeds (request_counts feeds) (map (λ x. x.0) merge)
 merge_fits feeds merge lawful =
     let size : length (request_counts feeds) ≡ length feeds = length-map feeds (λ (list : List Order). length (before_close list)) in
     record {
@@ -52,14 +54,17 @@ merge_fits feeds merge lawful =
     }
 
 -- the answers have the feeds' numbers of the merge
-pub answered_feeds : (merge : List (ℕ × Asked)) (answers : List (ℕ × Outcome)) → AllZip IsFedAnswer merge answers → map (λ a. a.0) answers ≡ map (λ x. x.0) merge
+pub answered_feeds : (merge : List (ℕ × Asked)) (answers : List (ℕ × Outcome)) → AllZip IsFedAnswer merge answers
+    → map (λ a. a.0) answers ≡ map (λ x. x.0) merge
 answered_feeds [] [] all = refl
 answered_feeds [] (a ∷ answers) all = absurd all
 answered_feeds (x ∷ merge) [] all = absurd all
 answered_feeds (x ∷ merge) (a ∷ answers) all = let same = all.0.0 in let rest = answered_feeds merge answers all.1 in cc
 
-pub answers_fit : (feeds : List (List Order)) (answers : List (ℕ × Outcome)) → AreMergedAnswers feeds answers → FitsFeeds (request_counts feeds) (map (λ a. a.0) answers)
-answers_fit feeds answers merged = subst (λ numbers. FitsFeeds (request_counts feeds) numbers) (sym (answered_feeds merged.0 answers merged.2)) (merge_fits feeds merged.0 merged.1)
+pub answers_fit : (feeds : List (List Order)) (answers : List (ℕ × Outcome)) → AreMergedAnswers feeds answers
+    → FitsFeeds (request_counts feeds) (map (λ a. a.0) answers)
+answers_fit feeds answers merged = subst (λ numbers. FitsFeeds (request_counts feeds) numbers)
+    (sym (answered_feeds merged.0 answers merged.2)) (merge_fits feeds merged.0 merged.1)
 
 -- of all racks
 pub all_answers_fit : (racks : List (List (List Order))) (answers : List (List (ℕ × Outcome))) → AreAllMergedAnswers racks answers

@@ -1,5 +1,6 @@
 -- Pieces of a rack's feeds.
-use Rattle.std.proofs.Common.{◌≡◌, ◌<◌, ◌≤◌, ◌+◌, ◌*◌, ◌++◌, ◌∙◌, Bor, Vec, Global, ℕ, zero, suc, Bool, List, [], ◌∷◌, All, length, map, take, drop, get_or, refl, sym, ap, subst, arith}
+use Rattle.std.proofs.Common.{◌≡◌, ◌<◌, ◌≤◌, ◌+◌, ◌*◌, ◌++◌, ◌∙◌, Bor, Vec, Global, ℕ, zero, suc, Bool, List, [], ◌∷◌, All, length, map}
+use Rattle.std.proofs.Common.{take, drop, get_or, refl, sym, ap, subst, arith}
 use Rattle.std.specs.Prelude.{nat_lt}
 use Rattle.std.specs.List.{AllZip}
 use Rattle.std.proofs.lemmas.List.{take_all}
@@ -52,16 +53,19 @@ whole_is (rec.Rebuild r ∷ list) most = ap (λ (t : List Record). rec.Rebuild r
 
 -- ---- the orders of a list
 
-pub orders_served : (list : List Record) (orders : List Order) → AreOrdersOf list orders → length (before_close orders) ≡ length (listed_before_close list)
+pub orders_served : (list : List Record) (orders : List Order) → AreOrdersOf list orders
+    → length (before_close orders) ≡ length (listed_before_close list)
 orders_served list orders are =
     let closes : Bool = nat_lt (length (listed_before_close list)) (length list) in
-    ap (λ (t : List Asked). length t) (all_served orders are.0 closes (are.2 ∙ ap (λ (tail : List Order). map Rebuild are.0 ++ tail) (close_told list closes refl))) ∙ are.1
+    ap (λ (t : List Asked). length t) (all_served orders are.0 closes
+    (are.2 ∙ ap (λ (tail : List Order). map Rebuild are.0 ++ tail) (close_told list closes refl))) ∙ are.1
 
 -- a list has a close where not all its orders are requests before one
 pub has_close : (list : List Order) → length (before_close list) < length list → HasClose list
 has_close [] less = absurd (omega (arith, less))
 has_close (Close ∷ list) less = (0, omega arith, refl)
-has_close (Rebuild r ∷ list) less = let has = has_close list (omega (arith, less)) in (suc has.0, (let within = has.1 in omega (arith, within)), has.2)
+has_close (Rebuild r ∷ list) less = let has = has_close list (omega (arith, less)) in
+    (suc has.0, (let within = has.1 in omega (arith, within)), has.2)
 
 pub has_no_close : (list : List Order) → length list ≤ length (before_close list) → HasClose list → ⊥
 has_no_close [] most has = let within = has.1 in omega (arith, within)
@@ -80,13 +84,18 @@ served list = through_close list.items
 abbrev all : Vec Record Global → List Record
 all list = list.items
 
-pub reads_same : (lists : List (Vec Record Global)) (reads : List (List Reads)) → AreRackReads (map served lists) reads → AreRackReads (map all lists) reads
+pub reads_same : (lists : List (Vec Record Global)) (reads : List (List Reads)) → AreRackReads (map served lists) reads
+    → AreRackReads (map all lists) reads
 reads_same [] [] are = tt
 reads_same [] (q ∷ reads) are = absurd are
 reads_same (l ∷ lists) [] are = absurd are
-reads_same (l ∷ lists) (q ∷ reads) are = (subst (λ (rs : List ListedRequest). AllZip AreReads rs q) (same_requests l.items) are.0, reads_same lists reads are.1)
+reads_same (l ∷ lists) (q ∷ reads) are = (
+  subst (λ (rs : List ListedRequest). AllZip AreReads rs q) (same_requests l.items) are.0,
+  reads_same lists reads are.1,
+)
 
-pub orders_same : (there : Files) (lists : List (Vec Record Global)) (reads : List (List Reads)) → orders_rack there (map served lists) reads ≡ orders_rack there (map all lists) reads
+pub orders_same : (there : Files) (lists : List (Vec Record Global)) (reads : List (List Reads))
+    → orders_rack there (map served lists) reads ≡ orders_rack there (map all lists) reads
 orders_same there [] reads = refl
 orders_same there (l ∷ lists) [] = refl
 orders_same there (l ∷ lists) (q ∷ reads) =
@@ -96,20 +105,24 @@ orders_same there (l ∷ lists) (q ∷ reads) =
     one : (list : List Record) (feed : List Reads) → orders_feed there (through_close list) feed ≡ orders_feed there list feed
     one list feed = rw (same_requests list, same_close list) refl
 
-pub requests_same : (there : Files) (lists : List (Vec Record Global)) (reads : List (List Reads)) → rack_read there (map served lists) reads ≡ rack_read there (map all lists) reads
+pub requests_same : (there : Files) (lists : List (Vec Record Global)) (reads : List (List Reads))
+    → rack_read there (map served lists) reads ≡ rack_read there (map all lists) reads
 requests_same there [] reads = refl
 requests_same there (l ∷ lists) [] = refl
 requests_same there (l ∷ lists) (q ∷ reads) =
     ap (λ (rs : List ListedRequest). feed_read there rs q ∷ rack_read there (map served lists) reads) (same_requests l.items)
     ∙ ap (λ (t : List (List RequestRead)). feed_read there (listed_before_close l.items) q ∷ t) (requests_same there lists reads)
 
-pub counts_through : (lists : List (Vec Record Global)) → map (λ (list : List Record). length (listed_before_close list)) (map served lists) ≡ map (λ (list : Vec Record Global). length (listed_before_close list.items)) lists
+pub counts_through : (lists : List (Vec Record Global)) → map (λ (list : List Record). length (listed_before_close list)) (map served lists)
+    ≡ map (λ (list : Vec Record Global). length (listed_before_close list.items)) lists
 counts_through [] = refl
 counts_through (l ∷ lists) =
-    ap (λ (rs : List ListedRequest). length rs ∷ map (λ (list : List Record). length (listed_before_close list)) (map served lists)) (same_requests l.items)
+    ap (λ (rs : List ListedRequest). length rs ∷ map (λ (list : List Record). length (listed_before_close list)) (map served lists))
+    (same_requests l.items)
     ∙ ap (λ (t : List ℕ). length (listed_before_close l.items) ∷ t) (counts_through lists)
 
-pub orders_counted : (lists : List (List Record)) (orders : List (List Order)) → AllZip AreOrdersOf lists orders → map (λ (os : List Order). length (before_close os)) orders ≡ map (λ (list : List Record). length (listed_before_close list)) lists
+pub orders_counted : (lists : List (List Record)) (orders : List (List Order)) → AllZip AreOrdersOf lists orders
+    → map (λ (os : List Order). length (before_close os)) orders ≡ map (λ (list : List Record). length (listed_before_close list)) lists
 orders_counted [] [] are = refl
 orders_counted [] (os ∷ orders) are = absurd are
 orders_counted (l ∷ lists) [] are = absurd are
@@ -122,20 +135,38 @@ orders_counted (l ∷ lists) (os ∷ orders) are =
 pub count_within : (lists : List (Bor (List Record))) (i : ℕ) (d : Bor (List Record)) → i < length lists
     → record_count (map (λ l. l.now) (take i lists)) + length (get_or lists i d).now ≤ record_count (map (λ l. l.now) lists)
 count_within [] i d within = absurd (omega (arith, within))
-count_within (l ∷ lists) zero d within = omega (arith, sum_by-cons (λ (list : List Record). length list) l.now (map (λ (x : Bor (List Record)). x.now) lists))
+count_within (l ∷ lists) zero d within = omega (
+  arith,
+  sum_by-cons (λ (list : List Record). length list) l.now
+      (map (λ (x : Bor (List Record)). x.now) lists),
+)
 count_within (l ∷ lists) (suc i) d within =
     let rest = count_within lists i d (omega (arith, within)) in
-    omega (arith, rest, sum_by-cons (λ (list : List Record). length list) l.now (map (λ (x : Bor (List Record)). x.now) lists), sum_by-cons (λ (list : List Record). length list) l.now (map (λ (x : Bor (List Record)). x.now) (take i lists)))
+    omega (
+      arith,
+      rest,
+      sum_by-cons (λ (list : List Record). length list) l.now (map (λ (x : Bor (List Record)). x.now) lists),
+      sum_by-cons (λ (list : List Record). length list) l.now (map (λ (x : Bor (List Record)). x.now) (take i lists)),
+    )
 
-pub count_few : (lists : List (Vec Record Global)) → All (λ l. length l.items ≤ 4096) lists → record_count (map served lists) ≤ 4096 * length lists
+pub count_few : (lists : List (Vec Record Global)) → All (λ l. length l.items ≤ 4096) lists
+    → record_count (map served lists) ≤ 4096 * length lists
 count_few [] few = omega arith
 count_few (l ∷ lists) few =
     let here = few 0 l (omega arith) in
     let rest = count_few lists (λ k d within. few (suc k) d (omega (arith, within))) in
-    omega (arith, here, rest, through_few l.items, sum_by-cons (λ (list : List Record). length list) (through_close l.items) (map served lists))
+    omega (
+      arith,
+      here,
+      rest,
+      through_few l.items,
+      sum_by-cons (λ (list : List Record). length list) (through_close l.items)
+          (map served lists),
+    )
 
 -- lists that are these up to their closes are as short
-pub each_few : (lent : List (Bor (List Record))) (lists : List (Vec Record Global)) → map (λ l. l.now) lent ≡ map served lists → All (λ l. length l.items ≤ 4096) lists → All (λ l. length l.now ≤ 4096) lent
+pub each_few : (lent : List (Bor (List Record))) (lists : List (Vec Record Global)) → map (λ l. l.now) lent ≡ map served lists
+    → All (λ l. length l.items ≤ 4096) lists → All (λ l. length l.now ≤ 4096) lent
 each_few [] lists same few k d within = absurd (omega (arith, within))
 each_few (l ∷ lent) [] same few k d within = absurd (let sizes = ap (λ (ls : List (List Record)). length ls) same in omega (arith, sizes))
 each_few (l ∷ lent) (v ∷ lists) same few zero d within =
@@ -143,7 +174,8 @@ each_few (l ∷ lent) (v ∷ lists) same few zero d within =
     let here = few 0 v (omega arith) in
     omega (arith, is, here, through_few v.items)
 each_few (l ∷ lent) (v ∷ lists) same few (suc k) d within =
-    each_few lent lists (ap (λ (ls : List (List Record)). drop 1 ls) same) (λ j e low. few (suc j) e (omega (arith, low))) k d (omega (arith, within))
+    each_few lent lists (ap (λ (ls : List (List Record)). drop 1 ls) same) (λ j e low. few (suc j) e (omega (arith, low))) k d
+    (omega (arith, within))
 
 -- ---- whether some list of orders has a close
 
@@ -152,10 +184,12 @@ at_or [] i x within is = absurd (omega (arith, within))
 at_or (y ∷ lists) zero x within is = ap some (sym is)
 at_or (y ∷ lists) (suc i) x within is = at_or lists i x (omega (arith, within)) is
 
-pub closes_at : (lists : List (List Order)) (i : ℕ) (x : List Order) → i < length lists → x ≡ get_or lists i x → HasClose x → HaveClose lists
+pub closes_at : (lists : List (List Order)) (i : ℕ) (x : List Order) → i < length lists → x ≡ get_or lists i x → HasClose x
+    → HaveClose lists
 closes_at lists i x within is has = (i, x, at_or lists i x within is, has)
 
-pub open_more : (lists : List (List Order)) (i j : ℕ) (x : List Order) → j ≡ i + 1 → x ≡ get_or lists i x → AreOpen (take i lists) → (HasClose x → ⊥) → AreOpen (take j lists)
+pub open_more : (lists : List (List Order)) (i j : ℕ) (x : List Order) → j ≡ i + 1 → x ≡ get_or lists i x → AreOpen (take i lists)
+    → (HasClose x → ⊥) → AreOpen (take j lists)
 open_more lists i zero x is at opened not k l e has = absurd (omega (arith, is))
 open_more [] i (suc j) x is at opened not k l e has = absurd (some-ne-none l (sym e))
 open_more (y ∷ lists) zero (suc j) x is at opened not zero l e has = not (subst HasClose (sym (at ∙ some-injective y l e)) has)
@@ -163,7 +197,8 @@ open_more (y ∷ lists) zero (suc j) x is at opened not (suc k) l e has =
     let none : j ≡ 0 = omega (arith, is) in
     absurd (some-ne-none l (sym (subst (λ (n : ℕ). get_elem? (take n lists) k ≡ some l) none e)))
 open_more (y ∷ lists) (suc i) (suc j) x is at opened not zero l e has = opened 0 l e has
-open_more (y ∷ lists) (suc i) (suc j) x is at opened not (suc k) l e has = open_more lists i j x (omega (arith, is)) at (λ m z f. opened (suc m) z f) not k l e has
+open_more (y ∷ lists) (suc i) (suc j) x is at opened not (suc k) l e has =
+    open_more lists i j x (omega (arith, is)) at (λ m z f. opened (suc m) z f) not k l e has
 
 pub open_all : (lists : List (List Order)) (i : ℕ) → length lists ≤ i → AreOpen (take i lists) → AreOpen lists
 open_all lists i all opened = subst AreOpen (take_all i lists all) opened

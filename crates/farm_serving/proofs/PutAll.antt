@@ -1,5 +1,6 @@
 -- Files put one after the other.
-use Rattle.std.proofs.Common.{◌≡◌, ◌<◌, ◌+◌, ◌++◌, ◌∙◌, ℕ, List, [], ◌∷◌, Some, None, length, take, map, get_or, refl, ap, sym, option_map, string_bytes, arith}
+use Rattle.std.proofs.Common.{◌≡◌, ◌<◌, ◌+◌, ◌++◌, ◌∙◌, ℕ, List, [], ◌∷◌, Some, None, length, take, map, get_or, refl, ap, sym, option_map}
+use Rattle.std.proofs.Common.{string_bytes, arith}
 use Rattle.std.proofs.lemmas.List.{take_more, get_or-map, length-map}
 use Rattle.farm_shelves.specs.Files.{Files, Told, put, put_all}
 use Rattle.std.specs.Cow.{cow_slice_items}
@@ -24,5 +25,6 @@ pub put_more : (files : List NamedFile) (i : ℕ) (file : NamedFile) (old mid ne
 put_more files i file old mid new name bytes within is so named_so bytes_so wrote =
     let within_map : i < length (map named files) = omega (arith, length-map files named) in
     let next : take (i + 1) (map named files) ≡ take i (map named files) ++ named file ∷ [] =
-    take_more (map named files) i (named file) within_map ∙ ap (λ f. take i (map named files) ++ f ∷ []) (get_or-map named files i file (named file) within ∙ ap named (sym is)) in
+    take_more (map named files) i (named file) within_map
+    ∙ ap (λ f. take i (map named files) ++ f ∷ []) (get_or-map named files i file (named file) within ∙ ap named (sym is)) in
     wrote ∙ rw (so, named_so, bytes_so, next) (over old (take i (map named files)) (named file))

@@ -1,5 +1,6 @@
 -- The lists of the racks and of their feeds, one more.
-use Rattle.std.proofs.Common.{◌≡◌, ◌<◌, ◌≤◌, ◌+◌, ◌++◌, ◌∙◌, Global, Vec, ℕ, List, [], ◌∷◌, true, false, Option, Some, None, Ok, length, map, refl, sym, ap, arith, option_map, subst}
+use Rattle.std.proofs.Common.{◌≡◌, ◌<◌, ◌≤◌, ◌+◌, ◌++◌, ◌∙◌, Global, Vec, ℕ, List, [], ◌∷◌, true, false, Option, Some, None, Ok, length}
+use Rattle.std.proofs.Common.{map, refl, sym, ap, arith, option_map, subst}
 use Rattle.std.specs.Prelude.{is_some}
 use Rattle.std.proofs.lemmas.Bool.{false≢true}
 use Rattle.std.proofs.lemmas.List.{length-map, map-append}
@@ -24,22 +25,37 @@ not_some (Some b) e = cc
 
 have_more : (there : Files) (rack f : ℕ) (ls : List (List Record)) (l : List Record) (n : ℕ) → f + length ls ≡ n → HaveFeeds there rack f ls
     → option_map list_of (there (list_name rack n)) ≡ Some (Ok l) → HaveFeeds there rack f (ls ++ l ∷ [])
-have_more there rack f [] l n e have is = let same : n ≡ f = omega arith in ((let P : ℕ → Type 0 = λ m. option_map list_of (there (list_name rack m)) ≡ Some (Ok l) in subst P same is), tt)
+have_more there rack f [] l n e have is = let same : n ≡ f =
+    omega arith in ((let P : ℕ → Type 0 = λ m. option_map list_of (there (list_name rack m)) ≡ Some (Ok l) in subst P same is), tt)
 have_more there rack f (x ∷ ls) l n e have is = (have.0, have_more there rack (f + 1) ls l n (omega arith) have.1 is)
 
-pub feeds_push : (there : Files) (rack : ℕ) (feeds : List (Vec Record Global)) (list : Vec Record Global) (n : ℕ) → length feeds ≡ n → HaveFeeds there rack 0 (map (λ v. v.items) feeds)
-    → option_map list_of (there (list_name rack n)) ≡ Some (Ok list.items) → HaveFeeds there rack 0 (map (λ v. v.items) (feeds ++ list ∷ []))
+pub feeds_push : (there : Files) (rack : ℕ) (feeds : List (Vec Record Global)) (list : Vec Record Global) (n : ℕ) → length feeds ≡ n
+    → HaveFeeds there rack 0 (map (λ v. v.items) feeds)
+    → option_map list_of (there (list_name rack n)) ≡ Some (Ok list.items)
+    → HaveFeeds there rack 0 (map (λ v. v.items) (feeds ++ list ∷ []))
 feeds_push there rack feeds list n e have is =
     let P : List (List Record) → Type 0 = λ ls. HaveFeeds there rack 0 ls in
     subst P (sym (map-append (λ (v : Vec Record Global). v.items) feeds (list ∷ [])))
-    (have_more there rack 0 (map (λ v. v.items) feeds) list.items n (omega (arith, e, length-map feeds (λ (v : Vec Record Global). v.items))) have is)
+    (have_more there rack 0 (map (λ v. v.items) feeds) list.items n
+    (omega (arith, e, length-map feeds (λ (v : Vec Record Global). v.items))) have is)
 
 -- the list of the next feed can't be read
-pub feed_explains : (f : ServeFault) (there : Files) (told : Told) (rack : ℕ) (feeds : List (Vec Record Global)) (k n m : ℕ) → told ≡ Some there → length feeds ≡ k → k < 4 → HaveFeeds there rack 0 (map (λ v. v.items) feeds)
+pub feed_explains : (f : ServeFault) (there : Files) (told : Told) (rack : ℕ) (feeds : List (Vec Record Global)) (k n m : ℕ)
+    → told ≡ Some there → length feeds ≡ k → k < 4 → HaveFeeds there rack 0 (map (λ v. v.items) feeds)
     → IsListFault f rack k told n m → IsRackFault f rack there
 feed_explains (fault.List j i reason) there told rack feeds k n m t e few have is =
-    let size : length (map (λ (v : Vec Record Global). v.items) feeds) ≡ i = length-map feeds (λ (v : Vec Record Global). v.items) ∙ e ∙ sym is.1 in
-    (is.0, (map (λ v. v.items) feeds, have, size, omega (arith, is.1), ap (λ i. option_map list_of (there (list_name rack i))) is.1 ∙ is.3 there t))
+    let size : length (map (λ (v : Vec Record Global). v.items) feeds) ≡ i =
+    length-map feeds (λ (v : Vec Record Global). v.items) ∙ e ∙ sym is.1 in (
+      is.0,
+      (
+        map (λ v. v.items) feeds,
+        have,
+        size,
+        omega (arith, is.1),
+        ap (λ i. option_map list_of (there (list_name rack i))) is.1
+            ∙ is.3 there t,
+      ),
+    )
 feed_explains fault.Device there told rack feeds k n m t e few have is = tt
 feed_explains fault.OutOfMemory there told rack feeds k n m t e few have is = tt
 feed_explains fault.BadFeeds there told rack feeds k n m t e few have is = absurd is
@@ -48,10 +64,16 @@ feed_explains fault.NoRacks there told rack feeds k n m t e few have is = absurd
 feed_explains fault.NoThread there told rack feeds k n m t e few have is = absurd is
 
 -- a fifth feed is there
-pub fifth_explains : (there : Files) (rack : ℕ) (feeds : List (Vec Record Global)) (k : ℕ) → length feeds ≡ k → k ≡ 4 → HaveFeeds there rack 0 (map (λ v. v.items) feeds) → is_some (there (list_name rack 4)) ≡ true
+pub fifth_explains : (there : Files) (rack : ℕ) (feeds : List (Vec Record Global)) (k : ℕ) → length feeds ≡ k → k ≡ 4
+    → HaveFeeds there rack 0 (map (λ v. v.items) feeds) → is_some (there (list_name rack 4)) ≡ true
     → IsRackFault fault.BadFeeds rack there
-fifth_explains there rack feeds k e all have is =
-    (map (λ v. v.items) feeds, have, length-map feeds (λ (v : Vec Record Global). v.items) ∙ e ∙ all, λ none. false≢true (ap is_some (sym none) ∙ is))
+fifth_explains there rack feeds k e all have is = (
+  map (λ v. v.items) feeds,
+  have,
+  length-map feeds (λ (v : Vec Record Global). v.items) ∙ e
+      ∙ all,
+  λ none. false≢true (ap is_some (sym none) ∙ is),
+)
 
 -- ---- the racks
 
@@ -61,35 +83,42 @@ Feeds = Vec (Vec Record Global) Global
 abbrev records : Feeds → List (List Record)
 records feeds = map (λ (v : Vec Record Global). v.items) feeds.items
 
-have_rack_more : (there : Files) (k : ℕ) (racks : List (List (List Record))) (feeds : List (List Record)) (n : ℕ) → k + length racks ≡ n → HaveLists there k racks → AreFeeds there n feeds
+have_rack_more : (there : Files) (k : ℕ) (racks : List (List (List Record))) (feeds : List (List Record)) (n : ℕ) → k + length racks ≡ n
+    → HaveLists there k racks → AreFeeds there n feeds
     → HaveLists there k (racks ++ feeds ∷ [])
-have_rack_more there k [] feeds n e have are = let same : n ≡ k = omega arith in ((let P : ℕ → Type 0 = λ m. AreFeeds there m feeds in subst P same are), tt)
+have_rack_more there k [] feeds n e have are = let same : n ≡ k =
+    omega arith in ((let P : ℕ → Type 0 = λ m. AreFeeds there m feeds in subst P same are), tt)
 have_rack_more there k (x ∷ racks) feeds n e have are = (have.0, have_rack_more there (k + 1) racks feeds n (omega arith) have.1 are)
 
 -- the feeds that were read are all of their rack
-pub feeds_all : (there : Files) (rack : ℕ) (feeds : Feeds) → HaveFeeds there rack 0 (map (λ v. v.items) feeds.items) → there (list_name rack (length feeds.items)) ≡ None → 0 < length feeds.items → length feeds.items ≤ 4
+pub feeds_all : (there : Files) (rack : ℕ) (feeds : Feeds) → HaveFeeds there rack 0 (map (λ v. v.items) feeds.items)
+    → there (list_name rack (length feeds.items)) ≡ None → 0 < length feeds.items → length feeds.items ≤ 4
     → AreFeeds there rack (records feeds)
 feeds_all there rack feeds have none some few =
     let size = length-map feeds.items (λ (v : Vec Record Global). v.items) in
     (have, ap (λ n. there (list_name rack n)) size ∙ none, omega (arith, size), omega (arith, size))
 
-pub racks_push : (there : Files) (racks : List Feeds) (feeds : Feeds) (k : ℕ) → length racks ≡ k → HaveLists there 0 (map records racks) → AreFeeds there k (records feeds) → HaveLists there 0 (map records (racks ++ feeds ∷ []))
+pub racks_push : (there : Files) (racks : List Feeds) (feeds : Feeds) (k : ℕ) → length racks ≡ k → HaveLists there 0 (map records racks)
+    → AreFeeds there k (records feeds) → HaveLists there 0 (map records (racks ++ feeds ∷ []))
 racks_push there racks feeds k e have are =
     let P : List (List (List Record)) → Type 0 = λ ls. HaveLists there 0 ls in
     subst P (sym (map-append records racks (feeds ∷ [])))
     (have_rack_more there 0 (map records racks) (records feeds) k (omega (arith, e, length-map racks records)) have are)
 
-pub racks_all : (there : Files) (racks : List Feeds) (k : ℕ) → length racks ≡ k → 0 < k → k ≤ 16 → HaveLists there 0 (map records racks) → there (list_name k 0) ≡ None → AreLists there (map records racks)
+pub racks_all : (there : Files) (racks : List Feeds) (k : ℕ) → length racks ≡ k → 0 < k → k ≤ 16 → HaveLists there 0 (map records racks)
+    → there (list_name k 0) ≡ None → AreLists there (map records racks)
 racks_all there racks k e some few have none =
     let size : length (map records racks) ≡ k = length-map racks records ∙ e in
     (have, ap (λ n. there (list_name n 0)) size ∙ none, omega (arith, size), omega (arith, size))
 
 -- no feed of the rack is there
-pub none_at : (there : Files) (rack : ℕ) (feeds : Feeds) → there (list_name rack (length feeds.items)) ≡ None → length feeds.items ≡ 0 → there (list_name rack 0) ≡ None
+pub none_at : (there : Files) (rack : ℕ) (feeds : Feeds) → there (list_name rack (length feeds.items)) ≡ None → length feeds.items ≡ 0
+    → there (list_name rack 0) ≡ None
 none_at there rack feeds none empty = ap (λ n. there (list_name rack n)) (sym empty) ∙ none
 
 -- the lists of the next rack's feeds can't be read
-pub rack_explains : (f : ServeFault) (there : Files) (racks : List Feeds) (k : ℕ) → length racks ≡ k → k < 16 → HaveLists there 0 (map records racks) → IsRackFault f k there → Explains f there
+pub rack_explains : (f : ServeFault) (there : Files) (racks : List Feeds) (k : ℕ) → length racks ≡ k → k < 16
+    → HaveLists there 0 (map records racks) → IsRackFault f k there → Explains f there
 rack_explains (fault.List j i reason) there racks k e few have is =
     let size : length (map records racks) ≡ j = length-map racks records ∙ e ∙ sym is.0 in
     (map records racks, have, size, omega (arith, is.0), subst (λ r. RefusesFeed there r i reason) (sym is.0) is.1)
@@ -102,5 +131,12 @@ rack_explains fault.TooManyRacks there racks k e few have is = absurd is
 rack_explains fault.NoRacks there racks k e few have is = absurd is
 rack_explains fault.NoThread there racks k e few have is = absurd is
 
-pub many_explain : (there : Files) (racks : List Feeds) (k : ℕ) → length racks ≡ k → k ≡ 16 → HaveLists there 0 (map records racks) → is_some (there (list_name 16 0)) ≡ true → Explains fault.TooManyRacks there
-many_explain there racks k e all have is = (map records racks, have, length-map racks records ∙ e ∙ all, λ none. false≢true (ap is_some (sym none) ∙ is))
+pub many_explain : (there : Files) (racks : List Feeds) (k : ℕ) → length racks ≡ k → k ≡ 16 → HaveLists there 0 (map records racks)
+    → is_some (there (list_name 16 0)) ≡ true → Explains fault.TooManyRacks there
+many_explain there racks k e all have is = (
+  map records racks,
+  have,
+  length-map racks records ∙ e
+      ∙ all,
+  λ none. false≢true (ap is_some (sym none) ∙ is),
+)

@@ -33,7 +33,8 @@ requests rack = map (λ (rs : Vec ReadRequest Global). map read_of rs.items) rac
 
 -- ---- how many answers
 
-pub total_is : (answers : List Answers) → sum_by (λ a. length a.items) answers ≡ sum_by (λ (a : List (ℕ × Outcome)). length a) (map (λ a. a.items) answers)
+pub total_is : (answers : List Answers) → sum_by (λ a. length a.items) answers
+    ≡ sum_by (λ (a : List (ℕ × Outcome)). length a) (map (λ a. a.items) answers)
 total_is [] = refl
 total_is (a ∷ answers) =
     sum_by-cons (λ (x : Answers). length x.items) a answers ∙ ap (λ n. length a.items + n) (total_is answers)
@@ -41,7 +42,8 @@ total_is (a ∷ answers) =
 
 -- ---- the files
 
-pub written_is : (there : Files) (lists : List Lists) (racks lent : List Requests) (answers given : List Answers) (reads : List (List (List Reads))) (files : List (List ℕ × List ℕ))
+pub written_is : (there : Files) (lists : List Lists) (racks lent : List Requests) (answers given : List Answers)
+    (reads : List (List (List Reads))) (files : List (List ℕ × List ℕ))
     → lent ≡ racks → given ≡ answers → map requests racks ≡ all_read there (map records lists) reads
     → files ≡ files_from 0 (map requests lent) (map (λ a. a.items) given)
     → files ≡ written_files there (map records lists) reads (map (λ a. a.items) answers)
@@ -59,7 +61,8 @@ where_told None P each = tt
 where_told (Some there) P each = each there refl
 
 -- what a failed write leaves
-pub write_leaves : (f : ShelfFault) (told old new : Told) (before after : ℕ) → CountsFailure {A = Unit {0}} (Err f) before after → StopsServing f told old new → LeavesOutput (of_shelf f) told old new before after
+pub write_leaves : (f : ShelfFault) (told old new : Told) (before after : ℕ) → CountsFailure {A = Unit {0}} (Err f) before after
+    → StopsServing f told old new → LeavesOutput (of_shelf f) told old new before after
 write_leaves shelf.Device told old new before after rose stops = inr (rose, stops)
 write_leaves shelf.OutOfMemory told old new before after calm stops = (calm, inr stops)
 

@@ -34,7 +34,8 @@ listed_counts racks = map (λ feeds. map (λ list. length (listed_before_close l
 -- Of racks with these lists: the reads of their survivors, and of each rack the answers to a lawful merge of its feeds' orders. Where the
 -- input tells its files, these orders are those that the lists and the reads give, and so are the requests, with the places that were left
 -- out.
-pub record AreAnswered (told : Told) (lists : List (List (List Record))) (reads : List (List (List Reads))) (answers : List (List (ℕ × Outcome)))
+pub record AreAnswered (told : Told) (lists : List (List (List Record))) (reads : List (List (List Reads)))
+    (answers : List (List (ℕ × Outcome)))
     (requests : List (List (List RequestRead))) : Type 0 where
   pub read : AreAllReads lists reads
   pub orders : List (List (List Order))

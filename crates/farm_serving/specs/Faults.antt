@@ -20,28 +20,35 @@ RefusesFeed there rack feed reason = (feeds : List (List Record)) × HaveFeeds t
 
 -- four feeds of the rack have lists, and there is a list of a fifth
 abbrev pub HasFifthFeed : Files → ℕ → Type 0
-HasFifthFeed there rack = (feeds : List (List Record)) × HaveFeeds there rack 0 feeds × (length feeds ≡ 4) × (there (list_name rack 4) ≡ None → ⊥)
+HasFifthFeed there rack = (feeds : List (List Record)) × HaveFeeds there rack 0 feeds × (length feeds ≡ 4)
+    × (there (list_name rack 4) ≡ None → ⊥)
 
 -- why serving ended, by the files of the input
 abbrev pub Explains : ServeFault → Files → Type 0
 Explains fault.NoRacks there = there (list_name 0 0) ≡ None
-Explains fault.TooManyRacks there = (lists : List (List (List Record))) × HaveLists there 0 lists × (length lists ≡ 16) × (there (list_name 16 0) ≡ None → ⊥)
-Explains fault.BadFeeds there = (lists : List (List (List Record))) × HaveLists there 0 lists × (length lists < 16) × HasFifthFeed there (length lists)
-Explains (fault.List rack feed reason) there = (lists : List (List (List Record))) × HaveLists there 0 lists × (length lists ≡ rack) × (rack < 16) × RefusesFeed there rack feed reason
+Explains fault.TooManyRacks there = (lists : List (List (List Record))) × HaveLists there 0 lists × (length lists ≡ 16)
+    × (there (list_name 16 0) ≡ None → ⊥)
+Explains fault.BadFeeds there = (lists : List (List (List Record))) × HaveLists there 0 lists × (length lists < 16)
+    × HasFifthFeed there (length lists)
+Explains (fault.List rack feed reason) there = (lists : List (List (List Record))) × HaveLists there 0 lists × (length lists ≡ rack)
+    × (rack < 16) × RefusesFeed there rack feed reason
 Explains fault.Device there = Unit {0}
 Explains fault.OutOfMemory there = Unit {0}
 Explains fault.NoThread there = (lists : List (List (List Record))) × AreLists there lists
 
 -- a write of what serving these files gives failed
 abbrev pub StopsServing : ShelfFault → Told → Told → Told → Type 0
-StopsServing f there old new = IfSome there (λ t. (lists : List (List (List Record))) × (reads : List (List (List Reads))) × (answers : List (List (ℕ × Outcome)))
+StopsServing f there old new = IfSome there (λ t. (lists : List (List (List Record))) × (reads : List (List (List Reads)))
+    × (answers : List (List (ℕ × Outcome)))
     × Serves t lists reads answers × StopsWriting f (written_files t lists reads answers) old new)
 
 -- what a fault leaves of the output, whose device failed so often before and after: a failed write leaves it as StopsWriting says,
 -- and where the failed device was the input's it is as it was
 abbrev pub LeavesOutput : ServeFault → Told → Told → Told → ℕ → ℕ → Type 0
-LeavesOutput fault.Device there old new before after = ((after ≡ before) × (new ≡ old)) ⊎ ((after ≡ before + 1) × StopsServing shelf_fault.Device there old new)
-LeavesOutput fault.OutOfMemory there old new before after = (after ≡ before) × ((new ≡ old) ⊎ StopsServing shelf_fault.OutOfMemory there old new)
+LeavesOutput fault.Device there old new before after = ((after ≡ before) × (new ≡ old))
+    ⊎ ((after ≡ before + 1) × StopsServing shelf_fault.Device there old new)
+LeavesOutput fault.OutOfMemory there old new before after =
+    (after ≡ before) × ((new ≡ old) ⊎ StopsServing shelf_fault.OutOfMemory there old new)
 LeavesOutput fault.NoThread there old new before after = (after ≡ before) × (new ≡ old)
 LeavesOutput fault.NoRacks there old new before after = (after ≡ before) × (new ≡ old)
 LeavesOutput fault.TooManyRacks there old new before after = (after ≡ before) × (new ≡ old)
@@ -50,7 +57,9 @@ LeavesOutput (fault.List rack feed reason) there old new before after = (after �
 
 -- why the list of a rack's feed can't be read: by the files of the input, and by how often its device failed before and after
 abbrev pub IsListFault : ServeFault → ℕ → ℕ → Told → ℕ → ℕ → Type 0
-IsListFault (fault.List k f reason) rack feed there before after = (k ≡ rack) × (f ≡ feed) × (after ≡ before) × ((t : Files) → there ≡ Some t → option_map list_of (t (list_name rack feed)) ≡ Some (Err reason))
+IsListFault (fault.List k f reason) rack feed there before after =
+    (k ≡ rack) × (f ≡ feed) × (after ≡ before) × ((t : Files) → there ≡ Some t
+    → option_map list_of (t (list_name rack feed)) ≡ Some (Err reason))
 IsListFault fault.Device rack feed there before after = after ≡ before + 1
 IsListFault fault.OutOfMemory rack feed there before after = after ≡ before
 IsListFault fault.BadFeeds rack feed there before after = ⊥

@@ -18,7 +18,8 @@ through_close (rec.Rebuild r ∷ rest) = rec.Rebuild r ∷ through_close rest
 
 -- the orders of a list: a rebuild for each request before its close, and the close, where there is one
 abbrev pub AreOrdersOf : List Record → List Order → Type 0
-AreOrdersOf list orders = (wanted : List Asked) × (length wanted ≡ length (listed_before_close list)) × (orders ≡ map Rebuild wanted ++ close_of list)
+AreOrdersOf list orders = (wanted : List Asked) × (length wanted ≡ length (listed_before_close list))
+    × (orders ≡ map Rebuild wanted ++ close_of list)
 
 -- the records of all feeds
 abbrev pub record_count : List (List Record) → ℕ

@@ -1,5 +1,6 @@
 -- What serving a folder of lists reads, and answers.
-use Rattle.std.specs.Prelude.{◌≡◌, ◌+◌, ◌<◌, ◌≤◌, ◌==◌, ◌++◌, Bool, ℕ, List, [], ◌∷◌, length, map, Option, Some, None, Ok, option_map, option_and_then, if◌then◌else◌, count_by, sum_by}
+use Rattle.std.specs.Prelude.{◌≡◌, ◌+◌, ◌<◌, ◌≤◌, ◌==◌, ◌++◌, Bool, ℕ, List, [], ◌∷◌, length, map, Option, Some, None, Ok, option_map}
+use Rattle.std.specs.Prelude.{option_and_then, if◌then◌else◌, count_by, sum_by}
 use Rattle.std.specs.List.{AllZip, filter, filter_map}
 use Rattle.std.specs.Option.{is_none}
 use Rattle.lrc_code.specs.declared.places.Place.{Place}
@@ -28,7 +29,8 @@ HaveFeeds there rack f (l ∷ ls) = (option_map list_of (there (list_name rack f
 
 -- these are the lists of all feeds of a rack
 abbrev pub AreFeeds : Files → ℕ → List (List Record) → Type 0
-AreFeeds there rack feeds = HaveFeeds there rack 0 feeds × (there (list_name rack (length feeds)) ≡ None) × (0 < length feeds) × (length feeds ≤ feed_limit)
+AreFeeds there rack feeds = HaveFeeds there rack 0 feeds × (there (list_name rack (length feeds)) ≡ None) × (0 < length feeds)
+    × (length feeds ≤ feed_limit)
 
 -- the racks from the k-th on have these lists, feed by feed
 abbrev pub HaveLists : Files → ℕ → List (List (List Record)) → Type 0
@@ -37,7 +39,8 @@ HaveLists there k (feeds ∷ racks) = AreFeeds there k feeds × HaveLists there 
 
 -- these are the lists of all racks, feed by feed
 abbrev pub AreLists : Files → List (List (List Record)) → Type 0
-AreLists there racks = HaveLists there 0 racks × (there (list_name (length racks) 0) ≡ None) × (0 < length racks) × (length racks ≤ rack_limit)
+AreLists there racks = HaveLists there 0 racks × (there (list_name (length racks) 0) ≡ None) × (0 < length racks)
+    × (length racks ≤ rack_limit)
 
 -- ---- the fragments
 
@@ -56,7 +59,13 @@ survivor there r read = option_map (λ b. record { place = read.0; bytes = b }) 
 
 -- the request with the survivors that were read
 abbrev pub asked : Files → ListedRequest → Reads → Asked
-asked there r reads = record { code = r.code; stripe = r.stripe; target = r.target; len = r.len; survivors = filter_map (survivor there r) reads }
+asked there r reads = record {
+  code = r.code;
+  stripe = r.stripe;
+  target = r.target;
+  len = r.len;
+  survivors = filter_map (survivor there r) reads;
+}
 
 -- the places of the others
 abbrev pub unread : Files → ListedRequest → Reads → List Place
@@ -127,7 +136,8 @@ all_failures reads = sum_by rack_failures reads
 
 -- These are the lists of the files, the reads of their survivors, and of each rack the answers to a lawful merge of its feeds, each
 -- with its feed's number.
-pub record Serves (there : Files) (lists : List (List (List Record))) (reads : List (List (List Reads))) (answers : List (List (ℕ × Outcome))) : Type 0 where
+pub record Serves (there : Files) (lists : List (List (List Record))) (reads : List (List (List Reads)))
+    (answers : List (List (ℕ × Outcome))) : Type 0 where
   pub listed : AreLists there lists
   pub read : AreAllReads lists reads
   pub answered : AreAllMergedAnswers (orders_all there lists reads) answers

@@ -17,8 +17,10 @@ asked_lists there lists reads = zip_with (λ list feed. asked_feed there (listed
 -- Where each rack is fed by one list, its answers are those to the requests before that list's close, all of them and in order, and the
 -- files that are written are those of the lists.
 abbrev pub RacksOfOneFeedAreServedAsLists : Type 0
-RacksOfOneFeedAreServedAsLists = (there : Files) (lists : List (List Record)) (reads : List (List (List Reads))) (answers : List (List (ℕ × Outcome)))
+RacksOfOneFeedAreServedAsLists = (there : Files) (lists : List (List Record)) (reads : List (List (List Reads)))
+    (answers : List (List (ℕ × Outcome)))
     → Serves there (map (λ l. l ∷ []) lists) reads answers
-    → (read : List (List Reads)) × (outcomes : List (List Outcome)) × (reads ≡ map (λ q. q ∷ []) read) × (answers ≡ map (λ os. map (λ o. (0, o)) os) outcomes)
+    → (read : List (List Reads)) × (outcomes : List (List Outcome)) × (reads ≡ map (λ q. q ∷ []) read)
+    × (answers ≡ map (λ os. map (λ o. (0, o)) os) outcomes)
     × AreAllAnswers (asked_lists there lists read) outcomes
     × (written_files there (map (λ l. l ∷ []) lists) reads answers ≡ lists_files 0 (rack_read there lists read) outcomes)

@@ -88,7 +88,8 @@ pub fn answer_lists<'a, R: Threads + Wait + Sync, I: Shelf, P: Pause>(
     requires feeds { All (λ feeds. (0 < length feeds.items) × (length feeds.items ≤ feed_limit)) lists.now }
     requires orders { All (λ feeds. All (λ l. length l.items ≤ order_limit) feeds.items) lists.now }
     ensures same { I.files input.new ≡ I.files input.old }
-    ensures answered { IfOk result (λ v. (reads : List (List (List Reads))) × AreAnswered (I.files input.old) (all_records lists.now) reads (all_answers v.answers.items) (all_requests v.requests.items)
+    ensures answered { IfOk result (λ v. (reads : List (List (List Reads)))
+        × AreAnswered (I.files input.old) (all_records lists.now) reads (all_answers v.answers.items) (all_requests v.requests.items)
         × (I.failed input.new ≡ I.failed input.old + all_failures reads)) }
     ensures more { I.failed input.old ≤ I.failed input.new }
     ensures few { I.failed input.new ≤ I.failed input.old + all_survivors }
@@ -127,7 +128,8 @@ fn answer_racks<'a, R: Threads + Wait + Sync, I: Shelf, P: Pause>(
     requires feeds { All (λ feeds. (0 < length feeds.items) × (length feeds.items ≤ feed_limit)) racks.now }
     requires orders { All (λ feeds. All (λ l. length l.items ≤ order_limit) feeds.items) racks.now }
     ensures same { I.files input.new ≡ I.files input.old }
-    ensures answered { IfOk result (λ v. (reads : List (List (List Reads))) × AreAnswered (I.files input.old) (all_records racks.now) reads (all_answers v.answers.items) (all_requests v.requests.items)
+    ensures answered { IfOk result (λ v. (reads : List (List (List Reads)))
+        × AreAnswered (I.files input.old) (all_records racks.now) reads (all_answers v.answers.items) (all_requests v.requests.items)
         × (I.failed input.new ≡ I.failed input.old + all_failures reads)) }
     ensures more { I.failed input.old ≤ I.failed input.new }
     ensures few { I.failed input.new ≤ I.failed input.old + rack_survivors * length racks.now }
@@ -169,7 +171,9 @@ fn answer_rack<'a, R: Threads + Wait + Sync, I: Shelf, P: Pause>(
     requires feeds { (0 < length lists.now) × (length lists.now ≤ feed_limit) }
     requires orders { All (λ l. length l.items ≤ order_limit) lists.now }
     ensures same { I.files input.new ≡ I.files input.old }
-    ensures answered { IfOk result (λ v. (reads : List (List Reads)) × AreAnswered (I.files input.old) (map (λ l. l.items) lists.now ∷ []) (reads ∷ []) (all_answers v.answers.items) (all_requests v.requests.items)
+    ensures answered { IfOk result (λ v. (reads : List (List Reads))
+        × AreAnswered (I.files input.old) (map (λ l. l.items) lists.now ∷ []) (reads ∷ []) (all_answers v.answers.items)
+        (all_requests v.requests.items)
         × (I.failed input.new ≡ I.failed input.old + rack_failures reads)) }
     ensures more { I.failed input.old ≤ I.failed input.new }
     ensures few { I.failed input.new ≤ I.failed input.old + rack_survivors }
@@ -229,7 +233,8 @@ fn append_each<'a>(
     Ok(all)
 }
 
-// Adds the answers to a piece's orders, which are dropped with the survivors, unless a close ended the rack before. Whether one ended it now.
+// Adds the answers to a piece's orders, which are dropped with the survivors, unless a close ended the rack before. Whether one ended it
+// now.
 fn answer_piece<R: Threads + Wait + Sync, P: Pause>(
     rt: &R,
     alloc: Global,

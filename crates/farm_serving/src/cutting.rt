@@ -2,7 +2,8 @@
 ghost use Rattle.std.specs.Prelude.{◌≡◌, ◌<◌, ◌≤◌, ◌+◌, ◌*◌, IfOk, length, map, sum_by};
 ghost use Rattle.std.specs.List.{All, slice_range};
 ghost use Rattle.farm_core.specs.Limits.{feed_limit, order_limit, rack_limit};
-ghost use Rattle.farm_serving.specs.Pieces.{IsBatchEnd, list_bytes, listed_bytes, piece, rack_bytes, record_bytes, record_most, through_close};
+ghost use Rattle.farm_serving.specs.Pieces.{IsBatchEnd, list_bytes, listed_bytes, piece, rack_bytes, record_bytes, record_most};
+ghost use Rattle.farm_serving.specs.Pieces.{through_close};
 
 use farm_core::limits::MOST_ORDERS;
 use farm_lists::{Listed, Record, requests_before_close};
@@ -62,7 +63,8 @@ pub(crate) fn end_of_racks(lists: &[Vec<Vec<Record>>], first: usize, most: u64) 
     requires feeds { All (λ feeds. (0 < length feeds.items) × (length feeds.items ≤ feed_limit)) lists.now }
     requires orders { All (λ feeds. All (λ l. length l.items ≤ order_limit) feeds.items) lists.now }
     ensures within { (first < result) × (result ≤ length lists.now) }
-    ensures end { IsBatchEnd (λ from to. sum_by (λ feeds. rack_bytes feeds.items) (slice_range lists.now from to)) (length lists.now) most first result }
+    ensures end { IsBatchEnd (λ from to. sum_by (λ feeds. rack_bytes feeds.items) (slice_range lists.now from to))
+        (length lists.now) most first result }
 {
     let mut bytes = 0u64;
     for rack in first..lists.len() {

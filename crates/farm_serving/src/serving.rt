@@ -52,7 +52,8 @@ pub fn serve<R: Threads + Wait + Sync, I: Shelf, O: Shelf, P: Pause>(
     requires input_room { I.failed input.old < 2 ^ 62 }
     requires output_room { O.failed output.old < 2 ^ 62 }
     ensures input { I.files input.new ≡ I.files input.old }
-    ensures served { IfOk result (λ served. (lists : List (List (List Record))) × (reads : List (List (List Reads))) × (answers : List (List (ℕ × Outcome)))
+    ensures served { IfOk result (λ served. (lists : List (List (List Record))) × (reads : List (List (List Reads)))
+        × (answers : List (List (ℕ × Outcome)))
         × (I.failed input.new ≡ I.failed input.old + all_failures reads)
         × (served.racks ≡ length lists)
         × (served.answers ≡ sum_by (λ a. length a) answers)
@@ -61,8 +62,10 @@ pub fn serve<R: Threads + Wait + Sync, I: Shelf, O: Shelf, P: Pause>(
     ensures calm { IfOk result (λ served. O.failed output.new ≡ O.failed output.old) }
     ensures reads { (I.failed input.old ≤ I.failed input.new) × (I.failed input.new ≤ I.failed input.old + all_survivors) }
     ensures why { IfErr result (λ f. IfSome (I.files input.old) (λ there. Explains f there)) }
-    ensures output { IfErr result (λ f. LeavesOutput f (I.files input.old) (O.files output.old) (O.files output.new) (O.failed output.old) (O.failed output.new)) }
-    ensures failures { IfErr result (λ f. CountsServing f (I.failed input.old) (I.failed input.new) (O.failed output.old) (O.failed output.new)) }
+    ensures output { IfErr result (λ f. LeavesOutput f (I.files input.old) (O.files output.old) (O.files output.new) (O.failed output.old)
+        (O.failed output.new)) }
+    ensures failures { IfErr result (λ f. CountsServing f (I.failed input.old) (I.failed input.new) (O.failed output.old)
+        (O.failed output.new)) }
 {
     let lists = read_lists(alloc, input)?;
     let Answered { answers, requests } = answer_lists(

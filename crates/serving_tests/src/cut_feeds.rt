@@ -126,8 +126,8 @@ fn answered_of(answers: &[(usize, Outcome)], feed: usize, orders: &[u8]) -> Opti
     Some(count)
 }
 
-// Whether these are the answers to a lawful merge: the first requests of each feed before its close; of a feed with a close all of them, where
-// one has a close, and otherwise of every feed.
+// Whether these are the answers to a lawful merge: the first requests of each feed before its close; of a feed with a close all of them,
+// where one has a close, and otherwise of every feed.
 fn are_lawful(feeds: &[&str], answers: &[(usize, Outcome)]) -> bool {
     let mut all = true;
     let mut closes = false;

@@ -108,7 +108,8 @@ const RACKS: &[(&str, &[u8])] = &[
 const FILES_OF_RACKS: &[(&str, &[u8])] = &[
     (
         "rack0.report.csv",
-        b"number,stripe,target,length,outcome,digest,unread\n0,a,x0,1,contradiction,,\n1,a,x0,1,rebuilt,4bf5122f344554c53bde2ebb8cd2b7e3d1600ad631c385a5d7cce23c7785459a,\n",
+        b"number,stripe,target,length,outcome,digest,unread\n0,a,x0,1,contradiction,,\n\
+        1,a,x0,1,rebuilt,4bf5122f344554c53bde2ebb8cd2b7e3d1600ad631c385a5d7cce23c7785459a,\n",
     ),
     ("rack0-1.a.x0", &[1]),
     (

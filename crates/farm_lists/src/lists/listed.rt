@@ -29,9 +29,21 @@ impl Model for Listed {
 
     ghost Value = { ListedRequest };
 
-    ghost view = { λ r. record { code = r.code; stripe = string_bytes r.stripe; target = r.target; len = r.length; survivors = r.survivors.items } };
+    ghost view = { λ r. record {
+      code = r.code;
+      stripe = string_bytes r.stripe;
+      target = r.target;
+      len = r.length;
+      survivors = r.survivors.items;
+    } };
 
-    ghost invariant = { λ r. listed_refusal (record { code = r.code; stripe = string_bytes r.stripe; target = r.target; len = r.length; survivors = r.survivors.items }) ≡ None };
+    ghost invariant = { λ r. listed_refusal (record {
+      code = r.code;
+      stripe = string_bytes r.stripe;
+      target = r.target;
+      len = r.length;
+      survivors = r.survivors.items;
+    }) ≡ None };
 }
 
 // Whether a place is among others.
@@ -72,7 +84,13 @@ fn refusal(
     length: u32,
     survivors: &[Place],
 ) -> Option<RequestFault>
-    ensures { result ≡ listed_refusal (record { code = code; stripe = stripe.now; target = target; len = length; survivors = survivors.now }) }
+    ensures { result ≡ listed_refusal (record {
+      code = code;
+      stripe = stripe.now;
+      target = target;
+      len = length;
+      survivors = survivors.now;
+    }) }
 {
     first_refusal(
         stripe,
@@ -94,8 +112,15 @@ impl Listed {
         survivors: Vec<Place>,
     ) -> Result<Listed, RequestFault>
         ensures { MatchResult result
-            (λ r. (r ≡ record { code = code; stripe = string_bytes stripe; target = target; len = length; survivors = survivors.items }) × (listed_refusal r ≡ None))
-            (λ e. listed_refusal (record { code = code; stripe = string_bytes stripe; target = target; len = length; survivors = survivors.items }) ≡ Some e) }
+            (λ r. (r ≡ record { code = code; stripe = string_bytes stripe; target = target; len = length; survivors = survivors.items })
+            × (listed_refusal r ≡ None))
+            (λ e. listed_refusal (record {
+              code = code;
+              stripe = string_bytes stripe;
+              target = target;
+              len = length;
+              survivors = survivors.items;
+            }) ≡ Some e) }
     {
         if let Some(fault) = refusal(code, &stripe, target, length, &survivors) {
             return Err(fault);

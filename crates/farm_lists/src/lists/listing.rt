@@ -1,12 +1,14 @@
 //! Request lists, by csv's own reading.
-ghost use Rattle.std.specs.Prelude.{◌≡◌, ◌==◌, ◌&&◌, ℕ, List, ◌<◌, ◌≤◌, Ok, Err, OnOk, ◌++◌, ◌∷◌, [], IfOk, IfErr, IfSome, IfNone, codes, length, map, option_map};
+ghost use Rattle.std.specs.Prelude.{◌≡◌, ◌==◌, ◌&&◌, ℕ, List, ◌<◌, ◌≤◌, Ok, Err, OnOk, ◌++◌, ◌∷◌, [], IfOk, IfErr, IfSome, IfNone, codes};
+ghost use Rattle.std.specs.Prelude.{length, map, option_map};
 ghost use Rattle.std.specs.List.{slice_split};
 ghost use Rattle.std.specs.Cmp.Lexicographic.{pointwise};
 ghost use Rattle.std.specs.Str.{bytes_eq};
 ghost use Rattle.csv.specs.Records.{fields_of};
 ghost use Rattle.lrc_code.specs.Text.{every, is_space, place_named};
 ghost use Rattle.lrc_code.specs.Codes.{tables_of};
-ghost use Rattle.farm_lists.specs.Listing.{IsFaultOf, IsNotFive, IsNotSix, IsRecordFault, SoFar, Stops, close_at, coded_header, header, list_of, listed, order_at, order_in, order_limit, places, rebuild_at};
+ghost use Rattle.farm_lists.specs.Listing.{IsFaultOf, IsNotFive, IsNotSix, IsRecordFault, SoFar, Stops, close_at, coded_header, header};
+ghost use Rattle.farm_lists.specs.Listing.{list_of, listed, order_at, order_in, order_limit, places, rebuild_at};
 ghost use Rattle.farm_lists.specs.Views.{IsOrderFault, IsRebuildFault, five, six};
 
 use crate::lists::listed::Listed;
@@ -92,8 +94,10 @@ fn take_row(
     coded: &mut bool,
     row: &ByteRecord,
 ) -> Result<(), ListFault>
-    ensures ok { OnOk result ((number ≤ order_limit) × ((rows : List (List (List ℕ))) → length rows ≡ number → SoFar coded.old rows list.old.items → SoFar coded.new (rows ++ fields_of row.now ∷ []) list.new.items)) }
-    ensures err { IfErr result (λ f. (rows : List (List (List ℕ))) → length rows ≡ number → SoFar coded.old rows list.old.items → Stops f (rows ++ fields_of row.now ∷ [])) }
+    ensures ok { OnOk result ((number ≤ order_limit) × ((rows : List (List (List ℕ))) → length rows ≡ number
+        → SoFar coded.old rows list.old.items → SoFar coded.new (rows ++ fields_of row.now ∷ []) list.new.items)) }
+    ensures err { IfErr result (λ f. (rows : List (List (List ℕ))) → length rows ≡ number → SoFar coded.old rows list.old.items
+        → Stops f (rows ++ fields_of row.now ∷ [])) }
 {
     if number == 0 {
         let short = is_header(row);
@@ -233,8 +237,11 @@ fn order_in(
     number: usize,
     fields: &Fields<'_>,
 ) -> Result<Record, ListFault>
-    ensures ok { IfOk result (λ o. order_in code blank number fields.now.order.now fields.now.stripe.now fields.now.target.now fields.now.length.now fields.now.survivors.now ≡ Ok o) }
-    ensures err { IfErr result (λ f. IsOrderFault f number (order_in code blank number fields.now.order.now fields.now.stripe.now fields.now.target.now fields.now.length.now fields.now.survivors.now)) }
+    ensures ok { IfOk result (λ o. order_in code blank number fields.now.order.now fields.now.stripe.now fields.now.target.now
+        fields.now.length.now fields.now.survivors.now ≡ Ok o) }
+    ensures err { IfErr result (λ f. IsOrderFault f number
+        (order_in code blank number fields.now.order.now fields.now.stripe.now fields.now.target.now fields.now.length.now
+        fields.now.survivors.now)) }
 {
     if fields.order == b"rebuild".as_slice() {
         let Some(code) = code else {
@@ -250,7 +257,9 @@ fn order_in(
 }
 
 fn is_close(blank: bool, fields: &Fields<'_>) -> bool
-    ensures { result ≡ (bytes_eq fields.now.order.now (codes "close") && (length fields.now.stripe.now == 0 && (length fields.now.target.now == 0 && (length fields.now.length.now == 0 && (length fields.now.survivors.now == 0 && blank))))) }
+    ensures { result ≡ (bytes_eq fields.now.order.now (codes "close") &&
+        (length fields.now.stripe.now == 0 && (length fields.now.target.now == 0 &&
+        (length fields.now.length.now == 0 && (length fields.now.survivors.now == 0 && blank))))) }
 {
     fields.order == b"close".as_slice()
         && fields.stripe.is_empty()
@@ -267,8 +276,10 @@ fn rebuild_of(
     number: usize,
     fields: &Fields<'_>,
 ) -> Result<Record, ListFault>
-    ensures ok { IfOk result (λ o. rebuild_at number (listed code fields.now.stripe.now fields.now.target.now fields.now.length.now fields.now.survivors.now) ≡ Ok o) }
-    ensures err { IfErr result (λ f. IsRebuildFault f number (listed code fields.now.stripe.now fields.now.target.now fields.now.length.now fields.now.survivors.now)) }
+    ensures ok { IfOk result (λ o. rebuild_at number (listed code fields.now.stripe.now fields.now.target.now fields.now.length.now
+        fields.now.survivors.now) ≡ Ok o) }
+    ensures err { IfErr result (λ f. IsRebuildFault f number
+        (listed code fields.now.stripe.now fields.now.target.now fields.now.length.now fields.now.survivors.now)) }
 {
     let Some(target) = code.named(fields.target) else {
         return Err(ListFault::BadRecord { number });

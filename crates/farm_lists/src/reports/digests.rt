@@ -118,7 +118,8 @@ fn make_digests<R: Threads + Sync>(
     let size = chunk_size(digests.len(), threads);
     let part = |start: usize, chunk: &mut [Digest]|
         requires { start + length chunk.now ≤ length fragments.now }
-        ensures { (k : ℕ) → k < length chunk.entry.now → slice_index_or chunk.exit.now k [] ≡ slice_index_or (map (λ f. sha256 f.now) fragments.entry.now) (start + k) [] }
+        ensures { (k : ℕ) → k < length chunk.entry.now → slice_index_or chunk.exit.now k []
+            ≡ slice_index_or (map (λ f. sha256 f.now) fragments.entry.now) (start + k) [] }
     { digests_from(fragments, start, chunk) };
     thread::for_each_chunk_mut(rt, digests, size, &part);
 }
@@ -126,7 +127,8 @@ fn make_digests<R: Threads + Sync>(
 // Makes the digests of the fragments from one on, as many as there are places.
 fn digests_from(fragments: &[&[u8]], start: usize, digests: &mut [Digest])
     requires { start + length digests.old ≤ length fragments.now }
-    ensures { (k : ℕ) → k < length digests.old → slice_index_or digests.new k [] ≡ slice_index_or (map (λ f. sha256 f.now) fragments.now) (start + k) [] }
+    ensures { (k : ℕ) → k < length digests.old → slice_index_or digests.new k []
+        ≡ slice_index_or (map (λ f. sha256 f.now) fragments.now) (start + k) [] }
 {
     sha256_lanes::digests(&fragments[start..start + digests.len()], digests);
 }
@@ -152,8 +154,10 @@ fn hand_out(
 
 // The digest of an outcome, the first of those left where it is a rebuilt fragment, and those left after it.
 fn first_digest<'a>(outcome: &Outcome, left: &'a [Digest]) -> (Option<Digest>, &'a [Digest])
-    ensures digest { (rest : List (List ℕ)) → left.now ≡ map sha256 (rebuilt_fragment outcome.now ++ rest) → result.0 ≡ fragment_digest outcome.now }
-    ensures behind { (rest : List (List ℕ)) → left.now ≡ map sha256 (rebuilt_fragment outcome.now ++ rest) → result.1.now ≡ map sha256 rest }
+    ensures digest { (rest : List (List ℕ)) → left.now ≡ map sha256 (rebuilt_fragment outcome.now ++ rest)
+        → result.0 ≡ fragment_digest outcome.now }
+    ensures behind { (rest : List (List ℕ)) → left.now ≡ map sha256 (rebuilt_fragment outcome.now ++ rest)
+        → result.1.now ≡ map sha256 rest }
 {
     match outcome {
         Outcome::Rebuilt(_) => match left {

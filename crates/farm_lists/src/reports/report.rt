@@ -3,7 +3,8 @@ ghost use Rattle.std.specs.Prelude.{◌≡◌, ◌++◌, ◌∷◌, [], IfOk, On
 ghost use Rattle.std.specs.List.{join_with_byte, list_any};
 ghost use Rattle.csv.specs.Writing.{default_writer, row_text};
 ghost use Rattle.lrc_code.specs.Places.{name_of};
-ghost use Rattle.farm_lists.specs.Report.{listed_before_close, digest_text, field_if, fragment_digest, is_wide, merged_report, outcome_name, report, report_fields, report_header, report_line, row_of, rows_of_list};
+ghost use Rattle.farm_lists.specs.Report.{listed_before_close, digest_text, field_if, fragment_digest, is_wide, merged_report};
+ghost use Rattle.farm_lists.specs.Report.{outcome_name, report, report_fields, report_header, report_line, row_of, rows_of_list};
 
 use crate::lists::listed::Listed;
 use crate::lists::listing::Record;
@@ -121,7 +122,8 @@ fn list_rows<'a>(
 ) -> Result<Vec<ReportRow<'a>>, AllocError>
     requires outcomes { length outcomes.now ≡ length requests.now }
     requires unread { length unread.now ≡ length requests.now }
-    ensures { IfOk result (λ v. map row_of v.items ≡ rows_of_list (map (λ r. r.now) requests.now) outcomes.now (map (λ u. u.items) unread.now)) }
+    ensures { IfOk result (λ v. map row_of v.items ≡ rows_of_list (map (λ r. r.now) requests.now) outcomes.now
+        (map (λ u. u.items) unread.now)) }
 {
     let mut rows = Vec::new(alloc);
     for index in 0..requests.len() {
@@ -202,7 +204,9 @@ fn row_line<'a>(
     unread: &'a [u8],
     code: &'a [u8],
 ) -> Result<Vec<u8>, AllocError>
-    ensures { IfOk result (λ v. v.items ≡ row_text default_writer (number.now ∷ (field_if shape.feeds feed.now ++ stripe.now ∷ target.now ∷ length.now ∷ outcome.now ∷ digest.now ∷ unread.now ∷ field_if shape.codes code.now))) }
+    ensures { IfOk result (λ v. v.items ≡ row_text default_writer
+        (number.now ∷ (field_if shape.feeds feed.now ++ stripe.now ∷ target.now ∷ length.now ∷ outcome.now ∷ digest.now ∷ unread.now
+        ∷ field_if shape.codes code.now))) }
 {
     let mut fields = vec![in alloc; number]?;
     push_if(&mut fields, shape.feeds, feed)?;

@@ -1,5 +1,6 @@
 //! Reading the fragments of the requests that are listed.
-ghost use Rattle.std.specs.Prelude.{◌≡◌, ◌+◌, ◌*◌, ◌++◌, ◌∷◌, [], OnOk, ◌<◌, ◌≤◌, ◌^◌, List, Bool, Option, Some, None, Ok, Err, IfOk, IfSome, if◌then◌else◌, length, map, option_map};
+ghost use Rattle.std.specs.Prelude.{◌≡◌, ◌+◌, ◌*◌, ◌++◌, ◌∷◌, [], OnOk, ◌<◌, ◌≤◌, ◌^◌, List, Bool, Option, Some, None, Ok, Err, IfOk};
+ghost use Rattle.std.specs.Prelude.{IfSome, if◌then◌else◌, length, map, option_map};
 ghost use Rattle.std.specs.List.{All, AllZip, filter_map, flat_map};
 ghost use Rattle.farm_core.specs.Limits.{feed_limit, order_limit, rack_limit};
 ghost use Rattle.farm_serving.specs.Limits.{rack_survivors};
@@ -13,7 +14,9 @@ ghost use Rattle.lrc_code.specs.Survivors.{survivors_of};
 ghost use Rattle.farm_lists.specs.declared.lists.listing.Record.{Record};
 ghost use Rattle.farm_shelves.specs.Files.{Files};
 ghost use Rattle.farm_serving.specs.Ahead.{fragment_reads, named_limit};
-ghost use Rattle.farm_serving.specs.Serving.{AreAllReads, AreRackReads, AreReads, Reads, all_failures, all_read, asked, asked_feed, failures, feed_failures, feed_read, fragment, orders_all, orders_feed, orders_rack, rack_failures, rack_read, request_read, survivor, unread};
+ghost use Rattle.farm_serving.specs.Serving.{AreAllReads, AreRackReads, AreReads, Reads, all_failures, all_read, asked, asked_feed};
+ghost use Rattle.farm_serving.specs.Serving.{failures, feed_failures, feed_read, fragment, orders_all, orders_feed, orders_rack};
+ghost use Rattle.farm_serving.specs.Serving.{rack_failures, rack_read, request_read, survivor, unread};
 ghost use Rattle.farm_lists.specs.Parts.{ArePart};
 
 use crate::cutting::lists_through_close;
@@ -63,8 +66,10 @@ fn read_survivors<I: Shelf>(
 ) -> Result<(Vec<Fragment>, Vec<Place>), AllocError>
     requires { I.failed input.old + survivor_limit < 2 ^ 63 }
     ensures same { I.files input.new ≡ I.files input.old }
-    ensures read { IfOk result (λ v. (reads : Reads) × AreReads listed.now reads × (I.failed input.new ≡ I.failed input.old + failures reads)
-        × ((there : Files) → I.files input.old ≡ Some there → (survivors_of v.0.items ≡ filter_map (survivor there listed.now) reads) × (v.1.items ≡ unread there listed.now reads))) }
+    ensures read { IfOk result (λ v. (reads : Reads) × AreReads listed.now reads
+        × (I.failed input.new ≡ I.failed input.old + failures reads)
+        × ((there : Files) → I.files input.old ≡ Some there → (survivors_of v.0.items ≡ filter_map (survivor there listed.now) reads)
+        × (v.1.items ≡ unread there listed.now reads))) }
     ensures part { IfOk result (λ v. ArePart listed.now.len listed.now.survivors (survivors_of v.0.items)) }
     ensures more { I.failed input.old ≤ I.failed input.new }
     ensures few { I.failed input.new ≤ I.failed input.old + survivor_limit }
@@ -90,8 +95,10 @@ fn read_request<'a, I: Shelf>(
 ) -> Result<(Request, ReadRequest<'a>), AllocError>
     requires { I.failed input.old + survivor_limit < 2 ^ 63 }
     ensures same { I.files input.new ≡ I.files input.old }
-    ensures read { IfOk result (λ v. (reads : Reads) × AreReads listed.now reads × (I.failed input.new ≡ I.failed input.old + failures reads)
-        × ((there : Files) → I.files input.old ≡ Some there → (v.0 ≡ asked there listed.now reads) × (read_of v.1 ≡ request_read there listed.now reads))) }
+    ensures read { IfOk result (λ v. (reads : Reads) × AreReads listed.now reads
+        × (I.failed input.new ≡ I.failed input.old + failures reads)
+        × ((there : Files) → I.files input.old ≡ Some there → (v.0 ≡ asked there listed.now reads)
+        × (read_of v.1 ≡ request_read there listed.now reads))) }
     ensures more { I.failed input.old ≤ I.failed input.new }
     ensures few { I.failed input.new ≤ I.failed input.old + survivor_limit }
 {
@@ -147,10 +154,13 @@ fn read_requests<'a, R: Threads + Sync, I: Shelf>(
     requires room { I.failed input.old + survivor_limit * length requests.now < 2 ^ 63 }
     requires orders { length requests.now + (if closes then 1 else 0) ≤ order_limit }
     ensures same { I.files input.new ≡ I.files input.old }
-    ensures read { IfOk result (λ v. (reads : List Reads) × AllZip AreReads (map (λ r. r.now) requests.now) reads × (I.failed input.new ≡ I.failed input.old + feed_failures reads)
-        × ((there : Files) → I.files input.old ≡ Some there → (v.0 ≡ map Rebuild (asked_feed there (map (λ r. r.now) requests.now) reads) ++ (if closes then Close ∷ [] else []))
+    ensures read { IfOk result (λ v. (reads : List Reads) × AllZip AreReads (map (λ r. r.now) requests.now) reads
+        × (I.failed input.new ≡ I.failed input.old + feed_failures reads)
+        × ((there : Files) → I.files input.old ≡ Some there
+        → (v.0 ≡ map Rebuild (asked_feed there (map (λ r. r.now) requests.now) reads) ++ (if closes then Close ∷ [] else []))
         × (map read_of v.1.items ≡ feed_read there (map (λ r. r.now) requests.now) reads))) }
-    ensures orders { IfOk result (λ v. (wanted : List Asked) × (length wanted ≡ length requests.now) × (v.0 ≡ map Rebuild wanted ++ (if closes then Close ∷ [] else []))) }
+    ensures orders { IfOk result (λ v. (wanted : List Asked) × (length wanted ≡ length requests.now)
+        × (v.0 ≡ map Rebuild wanted ++ (if closes then Close ∷ [] else []))) }
     ensures counted { IfOk result (λ v. length v.1.items ≡ length requests.now) }
     ensures more { I.failed input.old ≤ I.failed input.new }
     ensures few { I.failed input.new ≤ I.failed input.old + survivor_limit * length requests.now }
@@ -189,8 +199,10 @@ fn read_feed<'a, R: Threads + Sync, I: Shelf>(
     requires room { I.failed input.old + survivor_limit * length list.now < 2 ^ 63 }
     requires orders { length list.now ≤ order_limit }
     ensures same { I.files input.new ≡ I.files input.old }
-    ensures read { IfOk result (λ v. (reads : List Reads) × AllZip AreReads (listed_before_close list.now) reads × (I.failed input.new ≡ I.failed input.old + feed_failures reads)
-        × ((there : Files) → I.files input.old ≡ Some there → (v.0 ≡ orders_feed there list.now reads) × (map read_of v.1.items ≡ feed_read there (listed_before_close list.now) reads))) }
+    ensures read { IfOk result (λ v. (reads : List Reads) × AllZip AreReads (listed_before_close list.now) reads
+        × (I.failed input.new ≡ I.failed input.old + feed_failures reads)
+        × ((there : Files) → I.files input.old ≡ Some there → (v.0 ≡ orders_feed there list.now reads)
+        × (map read_of v.1.items ≡ feed_read there (listed_before_close list.now) reads))) }
     ensures orders { IfOk result (λ v. AreOrdersOf list.now v.0) }
     ensures counted { IfOk result (λ v. length v.1.items ≡ length (listed_before_close list.now)) }
     ensures more { I.failed input.old ≤ I.failed input.new }
@@ -215,7 +227,8 @@ pub(crate) fn read_piece<'a, R: Threads + Sync, I: Shelf>(
     requires room { I.failed input.old + survivor_limit * record_count (map (λ l. l.now) lists.now) < 2 ^ 63 }
     requires orders { All (λ l. length l.now ≤ order_limit) lists.now }
     ensures same { I.files input.new ≡ I.files input.old }
-    ensures read { IfOk result (λ v. (reads : List (List Reads)) × AreRackReads (map (λ l. l.now) lists.now) reads × (I.failed input.new ≡ I.failed input.old + rack_failures reads)
+    ensures read { IfOk result (λ v. (reads : List (List Reads)) × AreRackReads (map (λ l. l.now) lists.now) reads
+        × (I.failed input.new ≡ I.failed input.old + rack_failures reads)
         × ((there : Files) → I.files input.old ≡ Some there → (v.0.items ≡ orders_rack there (map (λ l. l.now) lists.now) reads)
         × (map (λ rs. map read_of rs.items) v.1.items ≡ rack_read there (map (λ l. l.now) lists.now) reads))) }
     ensures orders { IfOk result (λ v. AllZip AreOrdersOf (map (λ l. l.now) lists.now) v.0.items) }
@@ -245,10 +258,12 @@ fn read_rack<'a, R: Threads + Sync, I: Shelf>(
     requires feeds { length lists.now ≤ feed_limit }
     requires orders { All (λ l. length l.items ≤ order_limit) lists.now }
     ensures same { I.files input.new ≡ I.files input.old }
-    ensures read { IfOk result (λ v. (reads : List (List Reads)) × AreRackReads (map (λ l. l.items) lists.now) reads × (I.failed input.new ≡ I.failed input.old + rack_failures reads)
+    ensures read { IfOk result (λ v. (reads : List (List Reads)) × AreRackReads (map (λ l. l.items) lists.now) reads
+        × (I.failed input.new ≡ I.failed input.old + rack_failures reads)
         × ((there : Files) → I.files input.old ≡ Some there → (v.0.items ≡ orders_rack there (map (λ l. l.items) lists.now) reads)
         × (map (λ rs. map read_of rs.items) v.1.items ≡ rack_read there (map (λ l. l.items) lists.now) reads))) }
-    ensures orders { IfOk result (λ v. map (λ os. length (before_close os)) v.0.items ≡ map (λ l. length (listed_before_close l.items)) lists.now) }
+    ensures orders { IfOk result (λ v. map (λ os. length (before_close os)) v.0.items
+        ≡ map (λ l. length (listed_before_close l.items)) lists.now) }
     ensures counted { IfOk result (λ v. map (λ rs. length rs.items) v.1.items ≡ map (λ l. length (listed_before_close l.items)) lists.now) }
     ensures more { I.failed input.old ≤ I.failed input.new }
     ensures few { I.failed input.new ≤ I.failed input.old + rack_survivors }
@@ -271,11 +286,17 @@ pub(crate) fn read_feeds<'a, R: Threads + Sync, I: Shelf>(
     requires feeds { All (λ feeds. (0 < length feeds.items) × (length feeds.items ≤ feed_limit)) lists.now }
     requires orders { All (λ feeds. All (λ l. length l.items ≤ order_limit) feeds.items) lists.now }
     ensures same { I.files input.new ≡ I.files input.old }
-    ensures read { IfOk result (λ v. (reads : List (List (List Reads))) × AreAllReads (map (λ feeds. map (λ l. l.items) feeds.items) lists.now) reads × (I.failed input.new ≡ I.failed input.old + all_failures reads)
-        × ((there : Files) → I.files input.old ≡ Some there → (v.0 ≡ orders_all there (map (λ feeds. map (λ l. l.items) feeds.items) lists.now) reads)
-        × (map (λ fs. map (λ rs. map read_of rs.items) fs.items) v.1.items ≡ all_read there (map (λ feeds. map (λ l. l.items) feeds.items) lists.now) reads))) }
-    ensures orders { IfOk result (λ v. map (λ feeds. map (λ os. length (before_close os)) feeds) v.0 ≡ map (λ feeds. map (λ l. length (listed_before_close l.items)) feeds.items) lists.now) }
-    ensures counted { IfOk result (λ v. map (λ fs. map (λ rs. length rs.items) fs.items) v.1.items ≡ map (λ feeds. map (λ l. length (listed_before_close l.items)) feeds.items) lists.now) }
+    ensures read { IfOk result (λ v. (reads : List (List (List Reads)))
+        × AreAllReads (map (λ feeds. map (λ l. l.items) feeds.items) lists.now) reads
+        × (I.failed input.new ≡ I.failed input.old + all_failures reads)
+        × ((there : Files) → I.files input.old ≡ Some there
+        → (v.0 ≡ orders_all there (map (λ feeds. map (λ l. l.items) feeds.items) lists.now) reads)
+        × (map (λ fs. map (λ rs. map read_of rs.items) fs.items) v.1.items
+        ≡ all_read there (map (λ feeds. map (λ l. l.items) feeds.items) lists.now) reads))) }
+    ensures orders { IfOk result (λ v. map (λ feeds. map (λ os. length (before_close os)) feeds) v.0
+        ≡ map (λ feeds. map (λ l. length (listed_before_close l.items)) feeds.items) lists.now) }
+    ensures counted { IfOk result (λ v. map (λ fs. map (λ rs. length rs.items) fs.items) v.1.items
+        ≡ map (λ feeds. map (λ l. length (listed_before_close l.items)) feeds.items) lists.now) }
     ensures more { I.failed input.old ≤ I.failed input.new }
     ensures few { I.failed input.new ≤ I.failed input.old + rack_survivors * length lists.now }
 {

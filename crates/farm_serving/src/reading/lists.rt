@@ -1,5 +1,6 @@
 //! Reading the lists.
-ghost use Rattle.std.specs.Prelude.{◌≡◌, ◌+◌, ◌++◌, ◌∷◌, [], OnOk, ◌<◌, ◌≤◌, ◌^◌, List, Option, Some, None, Ok, Err, IfOk, IfErr, IfSome, is_some, length, map, option_map};
+ghost use Rattle.std.specs.Prelude.{◌≡◌, ◌+◌, ◌++◌, ◌∷◌, [], OnOk, ◌<◌, ◌≤◌, ◌^◌, List, Option, Some, None, Ok, Err, IfOk, IfErr, IfSome};
+ghost use Rattle.std.specs.Prelude.{is_some, length, map, option_map};
 ghost use Rattle.std.specs.List.{All};
 ghost use Rattle.farm_core.specs.Limits.{feed_limit, order_limit, rack_limit};
 ghost use Rattle.farm_lists.specs.Listing.{list_of};
@@ -29,7 +30,8 @@ fn read_feed_list<I: Shelf>(
     requires { I.failed input.old < 2 ^ 63 }
     ensures same { I.files input.new ≡ I.files input.old }
     ensures few { IfOk result (λ list. IfSome list (λ l. length l.items ≤ order_limit)) }
-    ensures list { IfOk result (λ list. (there : Files) → I.files input.old ≡ Some there → option_map list_of (there (list_name rack feed)) ≡ option_map (λ v. Ok v.items) list) }
+    ensures list { IfOk result (λ list. (there : Files) → I.files input.old ≡ Some there
+        → option_map list_of (there (list_name rack feed)) ≡ option_map (λ v. Ok v.items) list) }
     ensures calm { IfOk result (λ list. I.failed input.new ≡ I.failed input.old) }
     ensures fault { IfErr result (λ f. IsListFault f rack feed (I.files input.old) (I.failed input.old) (I.failed input.new)) }
 {
@@ -66,7 +68,8 @@ fn read_rack_lists<I: Shelf>(
 ) -> Result<Vec<Vec<Record>>, ServeFault>
     requires { I.failed input.old < 2 ^ 63 }
     ensures same { I.files input.new ≡ I.files input.old }
-    ensures lists { IfOk result (λ v. (there : Files) → I.files input.old ≡ Some there → HaveFeeds there rack 0 (map (λ l. l.items) v.items) × (there (list_name rack (length v.items)) ≡ None)) }
+    ensures lists { IfOk result (λ v. (there : Files) → I.files input.old ≡ Some there → HaveFeeds there rack 0 (map (λ l. l.items) v.items)
+        × (there (list_name rack (length v.items)) ≡ None)) }
     ensures feeds { IfOk result (λ v. length v.items ≤ feed_limit) }
     ensures orders { IfOk result (λ v. All (λ l. length l.items ≤ order_limit) v.items) }
     ensures calm { IfOk result (λ v. I.failed input.new ≡ I.failed input.old) }
@@ -93,7 +96,8 @@ pub fn read_lists<I: Shelf>(
 ) -> Result<Vec<Vec<Vec<Record>>>, ServeFault>
     requires { I.failed input.old < 2 ^ 62 }
     ensures same { I.files input.new ≡ I.files input.old }
-    ensures lists { IfOk result (λ v. (there : Files) → I.files input.old ≡ Some there → AreLists there (map (λ feeds. map (λ l. l.items) feeds.items) v.items)) }
+    ensures lists { IfOk result (λ v. (there : Files) → I.files input.old ≡ Some there
+        → AreLists there (map (λ feeds. map (λ l. l.items) feeds.items) v.items)) }
     ensures racks { IfOk result (λ v. length v.items ≤ rack_limit) }
     ensures feeds { IfOk result (λ v. All (λ feeds. (0 < length feeds.items) × (length feeds.items ≤ feed_limit)) v.items) }
     ensures orders { IfOk result (λ v. All (λ feeds. All (λ l. length l.items ≤ order_limit) feeds.items) v.items) }

@@ -39,18 +39,30 @@ loop-first-preserved g c =
     let i : ℕ = c.loop-first.first in
     let j : ℕ = c.end_of_racks-end.result in
     let part : List (Vec (Vec Record Global) Global) = slice_range lists i j in
-    let split : all_records (take j lists) ≡ all_records (take i lists) ++ all_records part = ap all_records (take_range lists i j (omega (arith, c.end_of_racks-end.ensures.within.0))) ∙ map-append records (take i lists) part in
-    let here = subst (λ t. AreAnswered t (all_records part) qs (all_answers c.in_ok-part.part.answers.items) (all_requests c.in_ok-part.part.requests.items)) same now in
-    let answers_are : all_answers c.append.new.self.items ≡ all_answers c.loop-first.answers.items ++ all_answers c.in_ok-part.part.answers.items =
+    let split : all_records (take j lists) ≡ all_records (take i lists) ++ all_records part =
+    ap all_records (take_range lists i j (omega (arith, c.end_of_racks-end.ensures.within.0))) ∙ map-append records (take i lists) part in
+    let here = subst (λ t. AreAnswered t (all_records part) qs (all_answers c.in_ok-part.part.answers.items)
+    (all_requests c.in_ok-part.part.requests.items)) same now in
+    let answers_are : all_answers c.append.new.self.items
+    ≡ all_answers c.loop-first.answers.items ++ all_answers c.in_ok-part.part.answers.items =
     ap all_answers c.in_ok-append.ensures.items ∙ map-append outcomes c.loop-first.answers.items c.in_ok-part.part.answers.items in
-    let requests_are : all_requests c.append-in-loop-first.new.self.items ≡ all_requests c.loop-first.requests.items ++ all_requests c.in_ok-part.part.requests.items =
+    let requests_are : all_requests c.append-in-loop-first.new.self.items
+    ≡ all_requests c.loop-first.requests.items ++ all_requests c.in_ok-part.part.requests.items =
     ap all_requests c.in_ok-append-2.ensures.items ∙ map-append requests c.loop-first.requests.items c.in_ok-part.part.requests.items in (
       reads ++ qs,
       rw (split, answers_are, requests_are)
-          (answered_append told (all_records (take i lists)) (all_records part) reads qs (all_answers c.loop-first.answers.items) (all_answers c.in_ok-part.part.answers.items)
+          (answered_append told (all_records (take i lists)) (all_records part) reads qs (all_answers c.loop-first.answers.items)
+          (all_answers c.in_ok-part.part.answers.items)
           (all_requests c.loop-first.requests.items) (all_requests c.in_ok-part.part.requests.items) so here),
       omega (arith, c.end_of_racks-end.ensures.within.1),
       c.in_ok-part.ensures.same ∙ same,
       omega (arith, rose, failed, sum_by-append rack_failures reads qs),
-      omega (arith, few, c.in_ok-part.ensures.few, range_length lists i j (omega (arith, c.end_of_racks-end.ensures.within.0)) c.end_of_racks-end.ensures.within.1, c.end_of_racks-end.ensures.within.0),
+      omega (
+        arith,
+        few,
+        c.in_ok-part.ensures.few,
+        range_length lists i j
+            (omega (arith, c.end_of_racks-end.ensures.within.0)) c.end_of_racks-end.ensures.within.1,
+        c.end_of_racks-end.ensures.within.0,
+      ),
     )

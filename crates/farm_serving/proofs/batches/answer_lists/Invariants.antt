@@ -6,7 +6,8 @@ use Rattle.farm_serving.proofs.batches.answer_lists.Given as goal
 abbrev pub invariant-loop-first : goal.invariant-loop-first
 invariant-loop-first g l =
     (reads : List (List (List Reads)))
-    × AreAnswered (g.I.Shelf.files l.fn.input) (all_records (take l.first l.lists)) reads (all_answers l.answers.items) (all_requests l.requests.items)
+    × AreAnswered (g.I.Shelf.files l.fn.input) (all_records (take l.first l.lists)) reads (all_answers l.answers.items)
+    (all_requests l.requests.items)
     × (l.first ≤ length l.lists)
     × (g.I.Shelf.files l.input ≡ g.I.Shelf.files l.fn.input)
     × (g.I.Shelf.failed l.input ≡ g.I.Shelf.failed l.fn.input + all_failures reads)

@@ -6,7 +6,8 @@ use Rattle.farm_serving.proofs.batches.append_each.Given as goal
 abbrev pub invariant-loop-requests : goal.invariant-loop-requests
 invariant-loop-requests l = record {
   same : length l.requests.items ≡ length l.later.items;
-  so_far : rack_requests l.all.items ++ joined (rack_requests l.requests.items) (rack_requests l.later.items) ≡ joined (rack_requests l.fn.requests.items) (rack_requests l.fn.later.items);
+  so_far : rack_requests l.all.items ++ joined (rack_requests l.requests.items) (rack_requests l.later.items)
+      ≡ joined (rack_requests l.fn.requests.items) (rack_requests l.fn.later.items);
 }
 
 abbrev pub decreases-loop-requests : goal.decreases-loop-requests

@@ -19,4 +19,5 @@ loop-index-preserved c =
     let list : List Order = c.index-lists-index.result in
     let size = ap (λ (os : List Order). length os) c.orders.ensures.all in
     let most : length list ≤ length (before_close list) = omega (arith, size, c.served.ensures.count, c.if-served-orders.false) in
-    open_more c.args.lists.now c.loop-index.index _ list refl c.index-lists-index.is c.loop-index.invariant (λ has. has_no_close list most has)
+    open_more c.args.lists.now c.loop-index.index _ list refl c.index-lists-index.is c.loop-index.invariant
+    (λ has. has_no_close list most has)

@@ -2,7 +2,8 @@ use Rattle.std.proofs.Common.{Bor, List, arith, map, sym}
 use Rattle.farm_lists.specs.declared.lists.listing.Record.{Record}
 use Rattle.farm_serving.proofs.PieceBytes.{bytes_more, bytes_none}
 use Rattle.farm_serving.proofs.cutting.end_of_positions.Goals as goal
-use Rattle.farm_serving.proofs.cutting.end_of_positions.Goals.{else-position-first-via-then-position-first+else-bytes-most, else-position-first-via-else-position-first}
+use Rattle.farm_serving.proofs.cutting.end_of_positions.Goals.{else-position-first-via-then-position-first+else-bytes-most}
+use Rattle.farm_serving.proofs.cutting.end_of_positions.Goals.{else-position-first-via-else-position-first}
 
 abbrev lent : Bor (List Record) → List Record
 lent l = l.now

@@ -3,7 +3,8 @@ use Rattle.farm_lists.specs.declared.lists.listing.Record.{Record}
 use Rattle.farm_serving.specs.Pieces.{rack_bytes}
 use Rattle.farm_serving.proofs.PieceBytes.{sum_further, sum_of_none}
 use Rattle.farm_serving.proofs.cutting.end_of_racks.Goals as goal
-use Rattle.farm_serving.proofs.cutting.end_of_racks.Goals.{else-rack-first-via-then-rack-first+else-bytes-most, else-rack-first-via-else-rack-first}
+use Rattle.farm_serving.proofs.cutting.end_of_racks.Goals.{else-rack-first-via-then-rack-first+else-bytes-most}
+use Rattle.farm_serving.proofs.cutting.end_of_racks.Goals.{else-rack-first-via-else-rack-first}
 
 abbrev bytes_of : Vec (Vec Record Global) Global → ℕ
 bytes_of feeds = rack_bytes feeds.items
@@ -18,8 +19,10 @@ loop-rack-init c = record {
 pub returns-then-bytes-most-clause-end : goal.returns-then-bytes-most-clause-end
 returns-then-bytes-most-clause-end c =
     let so = c.loop-rack.invariant in
-    let here : c.rack_bytes-bytes.result ≡ bytes_of c.index-lists-rack.result = c.rack_bytes-bytes.ensures.bytes ∙ ap rack_bytes c.as_slice.ensures.value in
-    let more = sum_further bytes_of c.args.lists.now c.args.first c.loop-rack.rack c.index-lists-rack.result c.loop-rack.auto.rack c.loop-rack-test.true c.index-lists-rack.is in (
+    let here : c.rack_bytes-bytes.result ≡ bytes_of c.index-lists-rack.result =
+    c.rack_bytes-bytes.ensures.bytes ∙ ap rack_bytes c.as_slice.ensures.value in
+    let more = sum_further bytes_of c.args.lists.now c.args.first c.loop-rack.rack c.index-lists-rack.result c.loop-rack.auto.rack
+    c.loop-rack-test.true c.index-lists-rack.is in (
       λ later. (let fits = so.fits later in omega (arith, fits, so.bytes)),
       λ less. omega (arith, more, so.bytes, here, c.if-bytes-most.true),
     )
@@ -27,8 +30,10 @@ returns-then-bytes-most-clause-end c =
 pub loop-rack-preserved : goal.loop-rack-preserved
 loop-rack-preserved c =
     let so = c.loop-rack.invariant in
-    let here : c.rack_bytes-bytes.result ≡ bytes_of c.index-lists-rack.result = c.rack_bytes-bytes.ensures.bytes ∙ ap rack_bytes c.as_slice.ensures.value in
-    let more = sum_further bytes_of c.args.lists.now c.args.first c.loop-rack.rack c.index-lists-rack.result c.loop-rack.auto.rack c.loop-rack-test.true c.index-lists-rack.is in
+    let here : c.rack_bytes-bytes.result ≡ bytes_of c.index-lists-rack.result =
+    c.rack_bytes-bytes.ensures.bytes ∙ ap rack_bytes c.as_slice.ensures.value in
+    let more = sum_further bytes_of c.args.lists.now c.args.first c.loop-rack.rack c.index-lists-rack.result c.loop-rack.auto.rack
+    c.loop-rack-test.true c.index-lists-rack.is in
     record {
       bytes = omega (arith, more, so.bytes, here);
       few = omega (arith, so.few, c.rack_bytes-bytes.ensures.few);

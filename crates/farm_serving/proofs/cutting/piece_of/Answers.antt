@@ -8,5 +8,7 @@ use Rattle.farm_serving.proofs.cutting.piece_of.Goals as goal
 pub returns : goal.returns
 returns c =
     c.loop-index.invariant
-    ∙ ap (map (λ (list : Bor (List Record)). slice_range list.now c.args.first c.args.end)) (take_all c.loop-index.index c.args.lists.now c.loop-index-test.false)
-    ∙ sym (map-map (λ (list : List Record). slice_range list c.args.first c.args.end) (λ (list : Bor (List Record)). list.now) c.args.lists.now)
+    ∙ ap (map (λ (list : Bor (List Record)). slice_range list.now c.args.first c.args.end))
+    (take_all c.loop-index.index c.args.lists.now c.loop-index-test.false)
+    ∙ sym (map-map (λ (list : List Record). slice_range list c.args.first c.args.end)
+    (λ (list : Bor (List Record)). list.now) c.args.lists.now)

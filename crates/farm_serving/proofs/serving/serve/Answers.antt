@@ -33,7 +33,8 @@ fit : (g : Over) (c : After-as_slice-3 g) → AllZip FitLists c.in_ok-lists.list
 fit g c =
     let (reads, so, rose) = c.in_ok-answers.ensures.answered in
     fit_counts listed_counts c.in_ok-lists.lists.items so.orders c.in_ok-answers.field-0.answers.items
-    (so.ordered ∙ counts_same c.as_slice.result.now ∙ ap (map (λ (l : Lists). map (λ (v : Vec Record Global). length (listed_before_close v.items)) l.items)) (same_lists g c))
+    (so.ordered ∙ counts_same c.as_slice.result.now ∙ ap (map
+    (λ (l : Lists). map (λ (v : Vec Record Global). length (listed_before_close v.items)) l.items)) (same_lists g c))
     (all_answers_fit so.orders (map (λ (a : Answers). a.items) c.in_ok-answers.field-0.answers.items) so.merged)
 
 -- how many requests each feed has
@@ -58,7 +59,8 @@ make_files-requires-clause-answers g c = λ _ _. lent g c
 
 -- where the input tells its files, they are served
 told_serves : (g : Over) (c : After-as_slice-3 g) (there : Files) → g.I.Shelf.files c.args.input.now ≡ Some there
-    → Serves there (map records c.in_ok-lists.lists.items) c.in_ok-answers.ensures.answered.0 (map (λ a. a.items) c.in_ok-answers.field-0.answers.items)
+    → Serves there (map records c.in_ok-lists.lists.items) c.in_ok-answers.ensures.answered.0
+    (map (λ a. a.items) c.in_ok-answers.field-0.answers.items)
 told_serves g c there e =
     let (reads, so, rose) = c.in_ok-answers.ensures.answered in
     let lists : List (List (List Record)) = map records c.in_ok-lists.lists.items in
@@ -68,17 +70,20 @@ told_serves g c there e =
     record {
       listed = c.in_ok-lists.ensures.lists there e;
       read = subst (λ (ls : List (List (List Record))). AreAllReads ls reads) same so.read;
-      answered = subst (λ (os : List (List (List Order))). AreAllMergedAnswers os answers) (t.0 ∙ ap (λ (ls : List (List (List Record))). orders_all there ls reads) same) so.merged;
+      answered = subst (λ (os : List (List (List Order))). AreAllMergedAnswers os answers)
+          (t.0 ∙ ap (λ (ls : List (List (List Record))). orders_all there ls reads) same) so.merged;
     }
 
 -- the files that are made are those that serving writes
 told_files : (g : Over) (c : After-as_slice-4 g) (there : Files) → g.I.Shelf.files c.args.input.now ≡ Some there
-    → map named c.as_slice-4.result.now ≡ written_files there (map records c.in_ok-lists.lists.items) c.in_ok-answers.ensures.answered.0 (map (λ a. a.items) c.in_ok-answers.field-0.answers.items)
+    → map named c.as_slice-4.result.now ≡ written_files there (map records c.in_ok-lists.lists.items) c.in_ok-answers.ensures.answered.0
+    (map (λ a. a.items) c.in_ok-answers.field-0.answers.items)
 told_files g c there e =
     let (reads, so, rose) = c.in_ok-answers.ensures.answered in
     let same : map records c.as_slice.result.now ≡ map records c.in_ok-lists.lists.items = ap (map records) c.as_slice.ensures.value in
     let t = so.given there (c.in_ok-lists.ensures.same ∙ e) in
-    written_is there c.in_ok-lists.lists.items c.in_ok-answers.field-0.requests.items c.as_slice-2.result.now c.in_ok-answers.field-0.answers.items c.as_slice-3.result.now reads (map named c.as_slice-4.result.now)
+    written_is there c.in_ok-lists.lists.items c.in_ok-answers.field-0.requests.items c.as_slice-2.result.now
+    c.in_ok-answers.field-0.answers.items c.as_slice-3.result.now reads (map named c.as_slice-4.result.now)
     c.as_slice-2.ensures.value c.as_slice-3.ensures.value (t.1 ∙ ap (λ (ls : List (List (List Record))). all_read there ls reads) same)
     (ap (map named) c.as_slice-4.ensures.value ∙ c.in_ok-files.ensures)
 
@@ -86,35 +91,42 @@ pub returns-in_err-answers-clause-why : goal.returns-in_err-answers-clause-why
 returns-in_err-answers-clause-why g c =
     let p = err_from_is_err_and c.from_residual-in_err-answers.result c.from_residual-in_err-answers.ensures.1 in
     rw (p.1, p.2)
-    (where_told (g.I.Shelf.files c.args.input.now) (λ t. Explains (of_farm c.in_err-answers.field-0.0) t) (λ t e. farm_explains c.in_err-answers.field-0.0 t _ (c.in_ok-lists.ensures.lists t e)))
+    (where_told (g.I.Shelf.files c.args.input.now) (λ t. Explains (of_farm c.in_err-answers.field-0.0) t)
+    (λ t e. farm_explains c.in_err-answers.field-0.0 t _ (c.in_ok-lists.ensures.lists t e)))
 
 pub returns-in_err-write_files-clause-output : goal.returns-in_err-write_files-clause-output
 returns-in_err-write_files-clause-output g c =
     let p = err_from_is_err_and c.from_residual-in_err-write_files.result c.from_residual-in_err-write_files.ensures.1 in
     let at = goal.at.returns-in_err-write_files-clause-output g c in
     rw (p.1, p.2)
-    (write_leaves c.in_err-write_files.field-0.0 (g.I.Shelf.files c.args.input.now) (g.O.Shelf.files c.args.output.now) (g.O.Shelf.files c.write_files.new.output) _ _ c.in_err-write_files.ensures.failure
+    (write_leaves c.in_err-write_files.field-0.0 (g.I.Shelf.files c.args.input.now) (g.O.Shelf.files c.args.output.now)
+    (g.O.Shelf.files c.write_files.new.output) _ _ c.in_err-write_files.ensures.failure
     (where_told (g.I.Shelf.files c.args.input.now)
-    (λ t. (lists : List (List (List Record))) × (reads : List (List (List Reads))) × (answers : List (List (ℕ × Outcome))) × Serves t lists reads answers
-    × StopsWriting c.in_err-write_files.field-0.0 (written_files t lists reads answers) (g.O.Shelf.files c.args.output.now) (g.O.Shelf.files c.write_files.new.output))
+    (λ t. (lists : List (List (List Record))) × (reads : List (List (List Reads))) × (answers : List (List (ℕ × Outcome)))
+    × Serves t lists reads answers
+    × StopsWriting c.in_err-write_files.field-0.0 (written_files t lists reads answers) (g.O.Shelf.files c.args.output.now)
+    (g.O.Shelf.files c.write_files.new.output))
     (λ t e. (
       map records c.in_ok-lists.lists.items,
       c.in_ok-answers.ensures.answered.0,
       map (λ (a : Answers). a.items) c.in_ok-answers.field-0.answers.items,
       told_serves g at.After-as_slice-3 t e,
-      subst (λ fs. StopsWriting c.in_err-write_files.field-0.0 fs (g.O.Shelf.files c.args.output.now) (g.O.Shelf.files c.write_files.new.output)) (told_files g at.After-as_slice-4 t e) c.in_err-write_files.ensures.fault,
+      subst (λ fs. StopsWriting c.in_err-write_files.field-0.0 fs (g.O.Shelf.files c.args.output.now)
+          (g.O.Shelf.files c.write_files.new.output)) (told_files g at.After-as_slice-4 t e) c.in_err-write_files.ensures.fault,
     ))))
 
 pub count_answers-requires-clause-racks : goal.count_answers-requires-clause-racks
 count_answers-requires-clause-racks g c =
-    let count = all_zip-length FitLists c.in_ok-lists.lists.items c.in_ok-answers.field-0.answers.items (fit g (goal.at.count_answers-requires-clause-racks g c).After-as_slice-3) in
+    let count = all_zip-length FitLists c.in_ok-lists.lists.items c.in_ok-answers.field-0.answers.items
+    (fit g (goal.at.count_answers-requires-clause-racks g c).After-as_slice-3) in
     let same = ap (λ (os : List Answers). length os) c.as_slice-5.ensures.value in
     omega (arith, count, same, c.in_ok-lists.ensures.racks)
 
 pub count_answers-requires-clause-few : goal.count_answers-requires-clause-few
 count_answers-requires-clause-few g c =
     subst (λ (os : List Answers). All (λ (a : Answers). length a.items ≤ 16384) os) (sym c.as_slice-5.ensures.value)
-    (all_few c.in_ok-lists.lists.items c.in_ok-answers.field-0.answers.items c.in_ok-lists.ensures.feeds c.in_ok-lists.ensures.orders (fit g (goal.at.count_answers-requires-clause-few g c).After-as_slice-3))
+    (all_few c.in_ok-lists.lists.items c.in_ok-answers.field-0.answers.items c.in_ok-lists.ensures.feeds c.in_ok-lists.ensures.orders
+    (fit g (goal.at.count_answers-requires-clause-few g c).After-as_slice-3))
 
 pub returns-clause-served : goal.returns-clause-served
 returns-clause-served g c =
@@ -127,11 +139,14 @@ returns-clause-served g c =
       answers,
       omega (arith, rose, c.in_ok-lists.ensures.calm),
       omega (arith, length-map c.in_ok-lists.lists.items records, c.len.ensures),
-      c.count_answers.ensures ∙ ap (sum_by (λ (a : Answers). length a.items)) c.as_slice-5.ensures.value ∙ total_is c.in_ok-answers.field-0.answers.items,
+      c.count_answers.ensures ∙ ap (sum_by (λ (a : Answers). length a.items)) c.as_slice-5.ensures.value
+          ∙ total_is c.in_ok-answers.field-0.answers.items,
       where_told (g.I.Shelf.files c.args.input.now)
-          (λ there. Serves there lists reads answers × (g.O.Shelf.files c.write_files.new.output ≡ option_map (λ old. put_all old (written_files there lists reads answers)) (g.O.Shelf.files c.args.output.now)))
+          (λ there. Serves there lists reads answers × (g.O.Shelf.files c.write_files.new.output
+          ≡ option_map (λ old. put_all old (written_files there lists reads answers)) (g.O.Shelf.files c.args.output.now)))
           (λ there e. (
             told_serves g at.After-as_slice-3 there e,
-            c.in_ok-write_files.ensures.ok ∙ ap (λ fs. option_map (λ old. put_all old fs) (g.O.Shelf.files c.args.output.now)) (told_files g at.After-as_slice-4 there e),
+            c.in_ok-write_files.ensures.ok ∙ ap (λ fs. option_map (λ old. put_all old fs) (g.O.Shelf.files c.args.output.now))
+                (told_files g at.After-as_slice-4 there e),
           )),
     )

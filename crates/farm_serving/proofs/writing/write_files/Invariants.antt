@@ -6,6 +6,7 @@ use Rattle.farm_serving.proofs.writing.write_files.Given as goal
 abbrev pub invariant-loop-file : goal.invariant-loop-file
 invariant-loop-file g l =
     record {
-      put : g.O.Shelf.files l.output ≡ option_map (λ old. put_all old (take l.file-index (map named l.files))) (g.O.Shelf.files l.fn.output);
+      put : g.O.Shelf.files l.output ≡ option_map (λ old. put_all old (take l.file-index (map named l.files)))
+          (g.O.Shelf.files l.fn.output);
       calm : g.O.Shelf.failed l.output ≡ g.O.Shelf.failed l.fn.output;
     }

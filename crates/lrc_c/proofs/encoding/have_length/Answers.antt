@@ -6,7 +6,8 @@ use Rattle.lrc_c.proofs.encoding.have_length.Goals as goal
 pub returns-then-one-len : goal.returns-then-one-len
 returns-then-one-len c = (
   λ t. absurd (cc t),
-  λ all. absurd (c.if-one-len.true (each_length (λ l. l.bytes.now) c.args.sources.now c.args.len all c.loop-one.one-index _ c.loop-one-test.true)),
+  λ all. absurd (c.if-one-len.true (each_length (λ l. l.bytes.now) c.args.sources.now c.args.len all c.loop-one.one-index _
+      c.loop-one-test.true)),
 )
 
 pub returns : goal.returns

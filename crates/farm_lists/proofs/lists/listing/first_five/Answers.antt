@@ -19,4 +19,5 @@ pub returns-in_err-get-5-clause-few : goal.returns-in_err-get-5-clause-few
 returns-in_err-get-5-clause-few c = none_or _ _ (few_at (fields_of c.args.row.now) 4 (search rules) c.in_err-get-5.ensures.value)
 
 pub returns-clause-first : goal.returns-clause-first
-returns-clause-first c = first_of (fields_of c.args.row.now) _ _ _ _ _ c.in_ok-get.ensures.value c.in_ok-get-2.ensures.value c.in_ok-get-3.ensures.value c.in_ok-get-4.ensures.value c.in_ok-get-5.ensures.value
+returns-clause-first c = first_of (fields_of c.args.row.now) _ _ _ _ _ c.in_ok-get.ensures.value c.in_ok-get-2.ensures.value
+    c.in_ok-get-3.ensures.value c.in_ok-get-4.ensures.value c.in_ok-get-5.ensures.value

@@ -37,7 +37,8 @@ pub loop-row-preserved : goal.loop-row-preserved
 loop-row-preserved c =
     let (plain, ready, left, config, y, source, rows, reached, number, so, small, few) = c.loop-row.invariant in
     let s = rw (c.in-Some.is, c.in-Ok.is) at ((c.next.ensures.steps left plain).0 ready) in
-    let m = rows-more (λ (s : Bor (List ℕ)). Some s.now) c.loop-row.row-iterator.rdr c.next.new.self.rdr (fields_of c.in-Ok.row) default_config st.StartRecord (strip_bom c.args.bytes.now) y rows config source reached s.0 in
+    let m = rows-more (λ (s : Bor (List ℕ)). Some s.now) c.loop-row.row-iterator.rdr c.next.new.self.rdr
+    (fields_of c.in-Ok.row) default_config st.StartRecord (strip_bom c.args.bytes.now) y rows config source reached s.0 in
     let took = c.in_ok-take_row.ensures.ok in (
       s.0.3 ∙ plain,
       inl s.1,
@@ -57,23 +58,38 @@ pub returns-in_err-take_row-clause-fault : goal.returns-in_err-take_row-clause-f
 returns-in_err-take_row-clause-fault c =
     let (plain, ready, left, config, y, source, rows, reached, number, so, small, few) = c.loop-row.invariant in
     let s = rw (c.in-Some.is, c.in-Ok.is) at ((c.next.ensures.steps left plain).0 ready) in
-    let m = rows-more (λ (s : Bor (List ℕ)). Some s.now) c.loop-row.row-iterator.rdr c.next.new.self.rdr (fields_of c.in-Ok.row) default_config st.StartRecord (strip_bom c.args.bytes.now) y rows config source reached s.0 in
+    let m = rows-more (λ (s : Bor (List ℕ)). Some s.now) c.loop-row.row-iterator.rdr c.next.new.self.rdr
+    (fields_of c.in-Ok.row) default_config st.StartRecord (strip_bom c.args.bytes.now) y rows config source reached s.0 in
     let p = err_from_is_err_and c.from_residual.result c.from_residual.ensures.1 in
     let some : 0 < length (rows ++ fields_of c.in-Ok.row ∷ []) = omega (arith, length-append rows (fields_of c.in-Ok.row ∷ [])) in
-    rw (p.1, p.2) (explain c.in_err-take_row.field-0.0 c.args.bytes.now (rows ++ fields_of c.in-Ok.row ∷ []) c.next.new.self.rdr.state m.0 small some m.2 (c.in_err-take_row.ensures.err rows (sym number) so))
+    rw (p.1, p.2) (explain c.in_err-take_row.field-0.0 c.args.bytes.now
+    (rows ++ fields_of c.in-Ok.row ∷ []) c.next.new.self.rdr.state m.0 small some m.2
+    (c.in_err-take_row.ensures.err rows (sym number) so))
 
 -- all records were read
 pub returns-then-number-eq0-clause-fault : goal.returns-then-number-eq0-clause-fault
 returns-then-number-eq0-clause-fault c =
     let (plain, ready, left, config, y, source, rows, reached, number, so, small, few) = c.loop-row.invariant in
     let s = rw c.in-None.is at ((c.next.ensures.steps left plain).0 ready) in
-    lists_all c.args.bytes.now rows small (c.loop-row.row-iterator.rdr.state, y, reached, rows-end (λ (s : Bor (List ℕ)). Some s.now) c.loop-row.row-iterator.rdr c.next.new.self.rdr [] default_config y config source s) ∙ ap list_of_rows (so_far_empty rows (omega (arith, number, c.if-number-eq0.true)))
+    lists_all c.args.bytes.now rows small (
+      c.loop-row.row-iterator.rdr.state,
+      y,
+      reached,
+      rows-end (λ (s : Bor (List ℕ)). Some s.now) c.loop-row.row-iterator.rdr c.next.new.self.rdr [] default_config y config source s,
+    )
+    ∙ ap list_of_rows (so_far_empty rows (omega (arith, number, c.if-number-eq0.true)))
 
 pub returns : goal.returns
 returns c =
     let (plain, ready, left, config, y, source, rows, reached, number, so, small, few) = c.loop-row.invariant in
     let s = rw c.in-None.is at ((c.next.ensures.steps left plain).0 ready) in
-    let read = lists_all c.args.bytes.now rows small (c.loop-row.row-iterator.rdr.state, y, reached, rows-end (λ (s : Bor (List ℕ)). Some s.now) c.loop-row.row-iterator.rdr c.next.new.self.rdr [] default_config y config source s) ∙ listed_all c.loop-row.coded rows c.loop-row.list.items c.loop-row.number (sym number) c.if-number-eq0.false so in
+    let read = lists_all c.args.bytes.now rows small (
+      c.loop-row.row-iterator.rdr.state,
+      y,
+      reached,
+      rows-end (λ (s : Bor (List ℕ)). Some s.now) c.loop-row.row-iterator.rdr c.next.new.self.rdr [] default_config y config source s,
+    )
+    ∙ listed_all c.loop-row.coded rows c.loop-row.list.items c.loop-row.number (sym number) c.if-number-eq0.false so in
     record { read = read; few = list_few c.args.bytes.now c.loop-row.list.items read; fault = tt }
 
 pub returns-then-bytes-gt-MOST_LIST_BYTES-clause-fault : goal.returns-then-bytes-gt-MOST_LIST_BYTES-clause-fault

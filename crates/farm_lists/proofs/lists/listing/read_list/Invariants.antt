@@ -6,7 +6,8 @@ use Rattle.farm_lists.specs.Listing.{SoFar, list_limit}
 use Rattle.farm_lists.proofs.lists.listing.read_list.Given as goal
 
 abbrev pub invariant-loop-row : goal.invariant-loop-row
-invariant-loop-row l = (l.row-iterator.rdr.trim ≡ trim.None) × Ready l.row-iterator.rdr × (0 < l.row-iterator.left) × (l.row-iterator.rdr.config ≡ default_config)
+invariant-loop-row l = (l.row-iterator.rdr.trim ≡ trim.None) × Ready l.row-iterator.rdr × (0 < l.row-iterator.left)
+    × (l.row-iterator.rdr.config ≡ default_config)
     × (y : List ℕ) × (source_of (λ s. Some s.now) l.row-iterator.rdr ≡ Some y)
     × (rows : List (List (List ℕ)))
     × Reached default_config st.StartRecord (strip_bom l.fn.bytes) rows l.row-iterator.rdr.state y

@@ -5,7 +5,8 @@ use Rattle.farm_lists.proofs.Five.{none_at, none_or, six_with}
 use Rattle.farm_lists.proofs.lists.listing.six_fields.Goals as goal
 
 pub returns-in_err-code-clause-other : goal.returns-in_err-code-clause-other
-returns-in_err-code-clause-other c = none_or _ (IsNotSix (fields_of c.args.row.now)) (λ six. none_at (fields_of c.args.row.now) 5 (omega (arith, six)) c.in_err-code.ensures.value)
+returns-in_err-code-clause-other c = none_or _ (IsNotSix (fields_of c.args.row.now))
+    (λ six. none_at (fields_of c.args.row.now) 5 (omega (arith, six)) c.in_err-code.ensures.value)
 
 pub returns-clause-six : goal.returns-clause-six
 returns-clause-six c =

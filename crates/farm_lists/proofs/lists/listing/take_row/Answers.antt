@@ -5,12 +5,14 @@ use Rattle.farm_lists.proofs.lists.listing.take_row.Goals as goal
 use Rattle.farm_lists.proofs.lists.listing.take_row.Goals.{in-Ok, in-Err}
 
 pub returns-then-number-gt-MOST_RECORDS-clause-err : goal.returns-then-number-gt-MOST_RECORDS-clause-err
-returns-then-number-gt-MOST_RECORDS-clause-err c = λ rows e so. push_many c.args.coded.now rows _ (fields_of c.args.row.now) c.args.number e c.if-number-gt-MOST_RECORDS.true so
+returns-then-number-gt-MOST_RECORDS-clause-err c = λ rows e so. push_many c.args.coded.now rows _
+    (fields_of c.args.row.now) c.args.number e c.if-number-gt-MOST_RECORDS.true so
 
 pub returns-in_err-order-clause-err : goal.returns-in_err-order-clause-err
 returns-in_err-order-clause-err c =
     let p = err_from_is_err_and c.from_residual.result c.from_residual.ensures.1 in
-    rw (p.1, p.2) (λ rows e so. push_fault c.in_err-order.field-0.0 c.args.coded.now rows _ (fields_of c.args.row.now) c.args.number e c.if-number-eq0.false c.if-number-gt-MOST_RECORDS.false so c.in_err-order.ensures.err)
+    rw (p.1, p.2) (λ rows e so. push_fault c.in_err-order.field-0.0 c.args.coded.now rows _
+    (fields_of c.args.row.now) c.args.number e c.if-number-eq0.false c.if-number-gt-MOST_RECORDS.false so c.in_err-order.ensures.err)
 
 pub returns-clause-ok : goal.returns-clause-ok
 returns-clause-ok c =
@@ -19,7 +21,8 @@ returns-clause-ok c =
         c.if-number-gt-MOST_RECORDS.false,
         λ rows e so.
             rw w.in-Ok.ensures.items
-            (push_order c.args.coded.now rows _ (fields_of c.args.row.now) c.args.number c.in_ok-order.order e c.if-number-eq0.false c.if-number-gt-MOST_RECORDS.false so c.in_ok-order.ensures.ok),
+            (push_order c.args.coded.now rows _ (fields_of c.args.row.now) c.args.number c.in_ok-order.order e c.if-number-eq0.false
+            c.if-number-gt-MOST_RECORDS.false so c.in_ok-order.ensures.ok),
       )
       | in-Err w ↦ rw w.result-is tt
     ]

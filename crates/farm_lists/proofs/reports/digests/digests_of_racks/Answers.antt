@@ -14,10 +14,12 @@ hand_out-requires g c =
     let count = c.in_ok-digests.digests.len in
     let whole : length made ≡ count = omega (arith, c.make_digests.auto.digests, c.as_mut_slice.ensures.len) in
     c.as_slice-4.ensures.value
-    ∙ take-append-le count made (drop (length made) c.in_ok-digests.digests.items) (omega (arith, whole)) ∙ take_all count made (omega (arith, whole))
+    ∙ take-append-le count made (drop (length made) c.in_ok-digests.digests.items) (omega (arith, whole))
+    ∙ take_all count made (omega (arith, whole))
     ∙ c.make_digests.ensures ∙ ap (map (λ (f : Bor (List ℕ)). sha256 f.now)) c.as_slice-2.ensures.value
     ∙ sym (map-map sha256 (λ (f : Bor (List ℕ)). f.now) c.in_ok-fragments.fragments.items)
-    ∙ ap (map sha256) (c.in_ok-fragments.ensures ∙ ap (flat_map (λ (o : Bor Outcome). rebuilt_fragment o.now)) (c.as_slice.ensures.value ∙ sym c.as_slice-3.ensures.value))
+    ∙ ap (map sha256) (c.in_ok-fragments.ensures ∙ ap (flat_map (λ (o : Bor Outcome). rebuilt_fragment o.now))
+    (c.as_slice.ensures.value ∙ sym c.as_slice-3.ensures.value))
 
 pub returns : goal.returns
 returns g c =

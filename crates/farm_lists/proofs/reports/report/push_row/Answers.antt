@@ -12,9 +12,11 @@ returns c =
     let feed : c.as_bytes-2.result.now ≡ decimal c.args.row.now.feed = c.as_bytes-2.ensures.value ∙ c.in_ok-feed.ensures in
     let stripe = c.as_bytes-3.ensures.value ∙ c.stripe.ensures.value in
     let target = c.as_bytes-4.ensures.value ∙ c.name.ensures ∙ ap name_of c.target.ensures in
-    let length : c.as_bytes-5.result.now ≡ decimal c.args.row.now.listed.now.len = c.as_bytes-5.ensures.value ∙ c.in_ok-length.ensures ∙ ap decimal (search rules) in
+    let length : c.as_bytes-5.result.now ≡ decimal c.args.row.now.listed.now.len =
+    c.as_bytes-5.ensures.value ∙ c.in_ok-length.ensures ∙ ap decimal (search rules) in
     let digest = c.as_bytes-6.ensures.value ∙ c.in_ok-digest.ensures ∙ ap digest_text c.requires in
     let unread = c.as_slice.ensures.value ∙ c.in_ok-unread.ensures in
     let code = c.as_bytes-7.ensures.value ∙ c.text.ensures ∙ ap code_text c.code.ensures in
     c.in_ok-extend_from_slice.ensures.items ∙ ap (λ t. c.args.text.now.items ++ t) (c.as_slice-2.ensures.value ∙ c.in_ok-line.ensures
-    ∙ row_fields c.args.shape c.args.number row _ _ _ _ _ _ _ _ _ (omega arith) (omega (arith, c.type_inv.row)) c.length.ensures.accepted number feed stripe target length c.outcome_word.ensures digest unread code)
+    ∙ row_fields c.args.shape c.args.number row _ _ _ _ _ _ _ _ _ (omega arith)
+    (omega (arith, c.type_inv.row)) c.length.ensures.accepted number feed stripe target length c.outcome_word.ensures digest unread code)

@@ -12,10 +12,12 @@ use Rattle.farm_serving.proofs.reading.fragments.read_feed.Goals as goal
 use Rattle.farm_serving.proofs.reading.fragments.read_feed.Goals.{After-as_slice}
 
 -- the slice that is read is the list's requests before its close
-the_listed : (g : Rattle.farm_serving.proofs.reading.fragments.read_feed.Given.Over) (c : After-as_slice g) → map (λ (r : Bor ListedRequest). r.now) c.as_slice.result.now ≡ listed_before_close c.args.list.now
+the_listed : (g : Rattle.farm_serving.proofs.reading.fragments.read_feed.Given.Over) (c : After-as_slice g)
+    → map (λ (r : Bor ListedRequest). r.now) c.as_slice.result.now ≡ listed_before_close c.args.list.now
 the_listed g c = ap (map (λ (r : Bor ListedRequest). r.now)) c.as_slice.ensures.value ∙ c.in_ok-requests.ensures
 
-few : (g : Rattle.farm_serving.proofs.reading.fragments.read_feed.Given.Over) (c : After-as_slice g) → length c.as_slice.result.now ≤ length c.args.list.now
+few : (g : Rattle.farm_serving.proofs.reading.fragments.read_feed.Given.Over) (c : After-as_slice g)
+    → length c.as_slice.result.now ≤ length c.args.list.now
 few g c =
     let len = ap (λ (rs : List ListedRequest). length rs) (the_listed g c) in
     omega (arith, len, length-map c.as_slice.result.now (λ (r : Bor ListedRequest). r.now), served_few c.args.list.now)
@@ -28,11 +30,16 @@ read_requests-requires-clause-orders g c κs within =
     let same = ap (λ (rs : List ListedRequest). length rs) (the_listed g c) in
     let size = length-map c.as_slice.result.now (λ (r : Bor ListedRequest). r.now) in
     let items = ap (λ (rs : List (Bor ListedRequest)). length rs) c.as_slice.ensures.value in
-    counted_few (length c.as_slice.result.now) c.len.result (length c.args.list.now) (omega (arith, c.len.ensures, items, c.in_ok-requests.requests.ok.0))
+    counted_few (length c.as_slice.result.now) c.len.result (length c.args.list.now)
+    (omega (arith, c.len.ensures, items, c.in_ok-requests.requests.ok.0))
     (omega (arith, same, size, served_few c.args.list.now)) c.requires.orders
 
 pub returns-in_err-read-clause-few : goal.returns-in_err-read-clause-few
-returns-in_err-read-clause-few g c = omega (arith, few g (goal.at.returns-in_err-read-clause-few g c).After-as_slice, c.in_err-read.ensures.few)
+returns-in_err-read-clause-few g c = omega (
+  arith,
+  few g (goal.at.returns-in_err-read-clause-few g c).After-as_slice,
+  c.in_err-read.ensures.few,
+)
 
 pub returns-clause-few : goal.returns-clause-few
 returns-clause-few g c = omega (arith, few g (goal.at.returns-clause-few g c).After-as_slice, c.in_ok-read.ensures.few)
@@ -43,7 +50,8 @@ returns-clause-read g c =
     let size = ap (λ (rs : List ListedRequest). length rs) same in
     let items = ap (λ (rs : List (Bor ListedRequest)). length rs) c.as_slice.ensures.value in
     let images = length-map c.as_slice.result.now (λ (r : Bor ListedRequest). r.now) in
-    let counted : c.len.result ≡ length (listed_before_close c.args.list.now) = omega (arith, c.len.ensures, items, images, size, c.in_ok-requests.requests.ok.0) in
+    let counted : c.len.result ≡ length (listed_before_close c.args.list.now) =
+    omega (arith, c.len.ensures, items, images, size, c.in_ok-requests.requests.ok.0) in
     let (reads, are, rose, told) = c.in_ok-read.ensures.read in (
       reads,
       subst (λ (rs : List ListedRequest). AllZip AreReads rs reads) same are,
@@ -51,14 +59,17 @@ returns-clause-read g c =
       λ there e.
           let t = told there e in (
             t.0
-                ∙ ap (λ (rs : List ListedRequest). map Rebuild (asked_feed there rs reads) ++ close_where (nat_lt c.len.result (length c.args.list.now))) same
-                ∙ ap (λ (tail : List Order). map Rebuild (asked_feed there (listed_before_close c.args.list.now) reads) ++ tail) (sym (close_counted c.args.list.now c.len.result counted)),
+                ∙ ap (λ (rs : List ListedRequest). map Rebuild (asked_feed there rs reads) ++ close_where
+                (nat_lt c.len.result (length c.args.list.now))) same
+                ∙ ap (λ (tail : List Order). map Rebuild (asked_feed there (listed_before_close c.args.list.now) reads) ++ tail)
+                (sym (close_counted c.args.list.now c.len.result counted)),
             t.1 ∙ ap (λ (rs : List ListedRequest). feed_read there rs reads) same,
           ),
     )
 
 -- the requests that are read are those of the list
-sized : (g : Rattle.farm_serving.proofs.reading.fragments.read_feed.Given.Over) (c : After-as_slice g) → length c.as_slice.result.now ≡ length (listed_before_close c.args.list.now)
+sized : (g : Rattle.farm_serving.proofs.reading.fragments.read_feed.Given.Over) (c : After-as_slice g)
+    → length c.as_slice.result.now ≡ length (listed_before_close c.args.list.now)
 sized g c =
     let size = ap (λ (rs : List ListedRequest). length rs) (the_listed g c) in
     omega (arith, size, length-map c.as_slice.result.now (λ (r : Bor ListedRequest). r.now))
@@ -67,7 +78,8 @@ pub returns-clause-orders : goal.returns-clause-orders
 returns-clause-orders g c =
     let at = goal.at.returns-clause-orders g c in
     let items = ap (λ (rs : List (Bor ListedRequest)). length rs) c.as_slice.ensures.value in
-    let counted : c.len.result ≡ length (listed_before_close c.args.list.now) = omega (arith, c.len.ensures, items, sized g at.After-as_slice, c.in_ok-requests.requests.ok.0) in
+    let counted : c.len.result ≡ length (listed_before_close c.args.list.now) =
+    omega (arith, c.len.ensures, items, sized g at.After-as_slice, c.in_ok-requests.requests.ok.0) in
     let (wanted, size, is) = c.in_ok-read.ensures.orders in (
       wanted,
       size ∙ sized g at.After-as_slice,

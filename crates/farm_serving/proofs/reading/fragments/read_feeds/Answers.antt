@@ -61,7 +61,8 @@ loop-rack-preserved g c =
     let here : Lists = c.index-lists-rack.result in
     let ls : List (List (List Record)) = map records (take i lists) in
     let rack : List (List Record) = map (λ (l : Vec Record Global). l.items) c.as_slice.result.now in
-    let slice_is : c.as_slice.result.now ≡ (get_or lists i here).items = c.as_slice.ensures.value ∙ ap (λ (v : Lists). v.items) c.index-lists-rack.is in
+    let slice_is : c.as_slice.result.now ≡ (get_or lists i here).items =
+    c.as_slice.ensures.value ∙ ap (λ (v : Lists). v.items) c.index-lists-rack.is in
     let rack_is : rack ≡ records (get_or lists i here) = ap (map (λ (l : Vec Record Global). l.items)) slice_is in
     let listed_is = ap (map (λ (l : Vec Record Global). length (listed_before_close l.items))) slice_is in
     rw (front_more records lists i here rack within rack_is) (
@@ -70,19 +71,24 @@ loop-rack-preserved g c =
       c.in_ok-feeds.ensures.same ∙ same,
       omega (arith, rose, failed, sum_push rack_failures reads q),
       omega (arith, few, c.in_ok-feeds.ensures.few),
-      front_images served listed c.loop-rack.racks.items c.push.new.self.items c.in_ok-feeds.feeds lists i here within c.in_ok-push.ensures.items orders_sized (c.in_ok-feeds.ensures.orders ∙ listed_is),
-      front_images counts listed c.loop-rack.read.items c.push-in-loop-rack.new.self.items c.in_ok-feeds.requests lists i here within c.in_ok-push-2.ensures.items requests_sized
+      front_images served listed c.loop-rack.racks.items c.push.new.self.items c.in_ok-feeds.feeds lists i here within
+          c.in_ok-push.ensures.items orders_sized (c.in_ok-feeds.ensures.orders ∙ listed_is),
+      front_images counts listed c.loop-rack.read.items c.push-in-loop-rack.new.self.items c.in_ok-feeds.requests lists i here within
+          c.in_ok-push-2.ensures.items requests_sized
           (c.in_ok-feeds.ensures.counted ∙ listed_is),
       λ there e.
           let before = told there e in
           let now = gives there (same ∙ e) in (
-            images_more (orders_rack there) orders AreRackReads ls reads rack q c.loop-rack.racks.items c.push.new.self.items c.in_ok-feeds.feeds are c.in_ok-push.ensures.items before.0 now.0,
-            images_more (rack_read there) requests AreRackReads ls reads rack q c.loop-rack.read.items c.push-in-loop-rack.new.self.items c.in_ok-feeds.requests are c.in_ok-push-2.ensures.items before.1 now.1,
+            images_more (orders_rack there) orders AreRackReads ls reads rack q c.loop-rack.racks.items c.push.new.self.items
+                c.in_ok-feeds.feeds are c.in_ok-push.ensures.items before.0 now.0,
+            images_more (rack_read there) requests AreRackReads ls reads rack q c.loop-rack.read.items c.push-in-loop-rack.new.self.items
+                c.in_ok-feeds.requests are c.in_ok-push-2.ensures.items before.1 now.1,
           ),
     )
 
 -- at the end all lists were read
-read_all : (racks : List (Vec RackList Global)) (lists : List Lists) (n : ℕ) → length lists ≤ n → map served racks ≡ map listed (take n lists) → map served racks ≡ map listed lists
+read_all : (racks : List (Vec RackList Global)) (lists : List Lists) (n : ℕ) → length lists ≤ n
+    → map served racks ≡ map listed (take n lists) → map served racks ≡ map listed lists
 read_all racks lists n past same = same ∙ ap (map listed) (take_all n lists past)
 
 pub from_checked-requires : goal.from_checked-requires

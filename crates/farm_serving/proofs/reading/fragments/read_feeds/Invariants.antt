@@ -12,8 +12,12 @@ invariant-loop-rack g l =
     × (g.I.Shelf.files l.input ≡ g.I.Shelf.files l.fn.input)
     × (g.I.Shelf.failed l.input ≡ g.I.Shelf.failed l.fn.input + all_failures reads)
     × (g.I.Shelf.failed l.input ≤ g.I.Shelf.failed l.fn.input + 245760 * l.rack)
-    × (map (λ rack. map (λ os. length (before_close os)) rack.items) l.racks.items ≡ map (λ feeds. map (λ list. length (listed_before_close list.items)) feeds.items) (take l.rack l.lists))
-    × (map (λ rack. map (λ rs. length rs.items) rack.items) l.read.items ≡ map (λ feeds. map (λ list. length (listed_before_close list.items)) feeds.items) (take l.rack l.lists))
+    × (map (λ rack. map (λ os. length (before_close os)) rack.items) l.racks.items
+    ≡ map (λ feeds. map (λ list. length (listed_before_close list.items)) feeds.items) (take l.rack l.lists))
+    × (map (λ rack. map (λ rs. length rs.items) rack.items) l.read.items
+    ≡ map (λ feeds. map (λ list. length (listed_before_close list.items)) feeds.items) (take l.rack l.lists))
     × ((there : Files) → g.I.Shelf.files l.fn.input ≡ Some there
-    → (map (λ rack. rack.items) l.racks.items ≡ orders_all there (map (λ feeds. map (λ list. list.items) feeds.items) (take l.rack l.lists)) reads)
-    × (map (λ rack. map (λ rs. map read_of rs.items) rack.items) l.read.items ≡ all_read there (map (λ feeds. map (λ list. list.items) feeds.items) (take l.rack l.lists)) reads))
+    → (map (λ rack. rack.items) l.racks.items ≡ orders_all there
+    (map (λ feeds. map (λ list. list.items) feeds.items) (take l.rack l.lists)) reads)
+    × (map (λ rack. map (λ rs. map read_of rs.items) rack.items) l.read.items
+    ≡ all_read there (map (λ feeds. map (λ list. list.items) feeds.items) (take l.rack l.lists)) reads))

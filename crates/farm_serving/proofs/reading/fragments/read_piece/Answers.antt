@@ -56,14 +56,18 @@ loop-feed-preserved g c =
       c.in_ok-list.ensures.same ∙ same,
       omega (arith, rose, failed, sum_push feed_failures reads q),
       omega (arith, few, c.in_ok-list.ensures.few, sum_push (λ (l : List Record). length l) ls list),
-      subst (λ (os : List (List Order)). AllZip AreOrdersOf (ls ++ list ∷ []) os) (sym c.in_ok-push.ensures.items) (all_zip_push AreOrdersOf ls c.loop-feed.feeds.items list c.in_ok-list.list ordered c.in_ok-list.ensures.orders),
-      front_images count listed c.loop-feed.read.items c.push-in-loop-feed.new.self.items c.in_ok-list.requests lists i here within c.in_ok-push-2.ensures.items requests_sized
+      subst (λ (os : List (List Order)). AllZip AreOrdersOf (ls ++ list ∷ []) os) (sym c.in_ok-push.ensures.items)
+          (all_zip_push AreOrdersOf ls c.loop-feed.feeds.items list c.in_ok-list.list ordered c.in_ok-list.ensures.orders),
+      front_images count listed c.loop-feed.read.items c.push-in-loop-feed.new.self.items c.in_ok-list.requests lists i here within
+          c.in_ok-push-2.ensures.items requests_sized
           (c.in_ok-list.ensures.counted ∙ listed_is),
       λ there e.
           let before = told there e in
           let now = gives there (same ∙ e) in (
-            values_more (orders_feed there) AreOf ls reads list q c.loop-feed.feeds.items c.push.new.self.items c.in_ok-list.list are c.in_ok-push.ensures.items before.0 now.0,
-            images_more (λ l feed. feed_read there (listed_before_close l) feed) requests AreOf ls reads list q c.loop-feed.read.items c.push-in-loop-feed.new.self.items c.in_ok-list.requests are
+            values_more (orders_feed there) AreOf ls reads list q c.loop-feed.feeds.items c.push.new.self.items c.in_ok-list.list are
+                c.in_ok-push.ensures.items before.0 now.0,
+            images_more (λ l feed. feed_read there (listed_before_close l) feed) requests AreOf ls reads list q c.loop-feed.read.items
+                c.push-in-loop-feed.new.self.items c.in_ok-list.requests are
                 c.in_ok-push-2.ensures.items before.1 now.1,
           ),
     )

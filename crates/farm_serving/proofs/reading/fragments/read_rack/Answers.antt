@@ -12,11 +12,13 @@ abbrev lent : Bor (List Record) → List Record
 lent l = l.now
 
 -- the lists that are read are the rack's up to their closes
-the_lists : (g : Rattle.farm_serving.proofs.reading.fragments.read_rack.Given.Over) (c : After-as_slice g) → map lent c.as_slice.result.now ≡ map (λ (l : Vec Record Global). through_close l.items) c.args.lists.now
+the_lists : (g : Rattle.farm_serving.proofs.reading.fragments.read_rack.Given.Over) (c : After-as_slice g)
+    → map lent c.as_slice.result.now ≡ map (λ (l : Vec Record Global). through_close l.items) c.args.lists.now
 the_lists g c = ap (map lent) c.as_slice.ensures.value ∙ c.in_ok-whole.ensures
 
 -- and their records are few
-few : (g : Rattle.farm_serving.proofs.reading.fragments.read_rack.Given.Over) (c : After-as_slice g) → record_count (map lent c.as_slice.result.now) ≤ 16384
+few : (g : Rattle.farm_serving.proofs.reading.fragments.read_rack.Given.Over) (c : After-as_slice g)
+    → record_count (map lent c.as_slice.result.now) ≤ 16384
 few g c =
     let same = ap record_count (the_lists g c) in
     omega (arith, same, count_few c.args.lists.now c.requires.orders, c.requires.feeds)
@@ -28,7 +30,11 @@ pub read_piece-requires-clause-orders : goal.read_piece-requires-clause-orders
 read_piece-requires-clause-orders g c κs within = each_few c.as_slice.result.now c.args.lists.now (the_lists g c) c.requires.orders
 
 pub returns-in_err-read-clause-few : goal.returns-in_err-read-clause-few
-returns-in_err-read-clause-few g c = omega (arith, few g (goal.at.returns-in_err-read-clause-few g c).After-as_slice, c.in_err-read.ensures.few)
+returns-in_err-read-clause-few g c = omega (
+  arith,
+  few g (goal.at.returns-in_err-read-clause-few g c).After-as_slice,
+  c.in_err-read.ensures.few,
+)
 
 pub returns-clause-few : goal.returns-clause-few
 returns-clause-few g c = omega (arith, few g (goal.at.returns-clause-few g c).After-as_slice, c.in_ok-read.ensures.few)

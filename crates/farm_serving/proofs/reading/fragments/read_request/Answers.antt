@@ -6,5 +6,7 @@ use Rattle.farm_serving.proofs.reading.fragments.read_request.Goals as goal
 
 pub from_checked-request-requires : goal.from_checked-request-requires
 from_checked-request-requires g c =
-    same_accepted c.args.listed.now c.code.result (string_bytes c.in_ok-stripe.stripe) c.target.result c.length.result (survivors_of c.in_ok-fragments.fragments.items) c.length.ensures.accepted
-    c.in_ok-fragments.ensures.part c.code.ensures (c.in_ok-stripe.ensures.ok ∙ c.stripe.ensures.value) c.target.ensures c.length.ensures.value
+    same_accepted c.args.listed.now c.code.result (string_bytes c.in_ok-stripe.stripe) c.target.result c.length.result
+    (survivors_of c.in_ok-fragments.fragments.items) c.length.ensures.accepted
+    c.in_ok-fragments.ensures.part c.code.ensures (c.in_ok-stripe.ensures.ok
+    ∙ c.stripe.ensures.value) c.target.ensures c.length.ensures.value

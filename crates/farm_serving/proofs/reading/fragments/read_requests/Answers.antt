@@ -33,7 +33,8 @@ loop-index-preserved g c =
     let (q, is, rose, gives) = c.in_ok-request.ensures.read in
     let rs : List ListedRequest = map (λ (x : Bor ListedRequest). x.now) (take c.loop-index.index c.args.requests.now) in
     let r : ListedRequest = c.index-requests-index.result.now in
-    let more = taken c.args.requests.now c.loop-index.index c.index-requests-index.result c.loop-index-test.true c.index-requests-index.is in
+    let more = taken c.args.requests.now c.loop-index.index c.index-requests-index.result c.loop-index-test.true c.index-requests-index.is
+    in
     rw more (
       reads ++ q ∷ [],
       reads_push rs reads r q are is,
@@ -45,12 +46,18 @@ loop-index-preserved g c =
         orders_push c.loop-index.orders.items c.push.new.self.items made.0 c.in_ok-request.request made.1 c.in_ok-push.ensures.items,
         omega (arith, made.2, length-append made.0 (c.in_ok-request.request ∷ [])),
       ),
-      ap length c.in_ok-push-2.ensures.items ∙ omega (arith, left, length-append c.loop-index.read.items (c.in_ok-request.with_unread ∷ [])),
+      ap length c.in_ok-push-2.ensures.items ∙ omega (
+        arith,
+        left,
+        length-append c.loop-index.read.items (c.in_ok-request.with_unread ∷ []),
+      ),
       λ there e.
           let before = told there e in
           let now = gives there (same ∙ e) in (
-            orders_more there rs reads r q c.loop-index.orders.items c.push.new.self.items c.in_ok-request.request are c.in_ok-push.ensures.items before.0 now.0,
-            images_more (request_read there) read_of AreReads rs reads r q c.loop-index.read.items c.push-in-loop-index.new.self.items c.in_ok-request.with_unread are c.in_ok-push-2.ensures.items before.1 now.1,
+            orders_more there rs reads r q c.loop-index.orders.items c.push.new.self.items c.in_ok-request.request are
+                c.in_ok-push.ensures.items before.0 now.0,
+            images_more (request_read there) read_of AreReads rs reads r q c.loop-index.read.items c.push-in-loop-index.new.self.items
+                c.in_ok-request.with_unread are c.in_ok-push-2.ensures.items before.1 now.1,
           ),
     )
 
@@ -75,7 +82,8 @@ pub from_checked-requires : goal.from_checked-requires
 from_checked-requires g c =
     let (reads, are, same, failed, few, made, left, told) = c.loop-index.invariant in
     let all : c.loop-index.index ≡ length c.args.requests.now = omega (arith, c.loop-index-test.false, c.loop-index.auto.index-end) in
-    orders_few c.push_close.new.orders.items c.loop-index.orders.items made.0 c.args.closes c.loop-index.index c.in_ok-push_close.ensures made.1 made.2 (omega (arith, all, c.requires.orders))
+    orders_few c.push_close.new.orders.items c.loop-index.orders.items made.0 c.args.closes c.loop-index.index c.in_ok-push_close.ensures
+    made.1 made.2 (omega (arith, all, c.requires.orders))
 
 pub returns-clause-orders : goal.returns-clause-orders
 returns-clause-orders g c =

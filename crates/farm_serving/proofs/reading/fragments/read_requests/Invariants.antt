@@ -16,4 +16,5 @@ invariant-loop-index g l =
     × (g.I.Shelf.failed l.input ≤ g.I.Shelf.failed l.fn.input + 15 * l.index)
     × ((requests : List Asked) × (l.orders.items ≡ map Rebuild requests) × (length requests ≡ l.index)) × (length l.read.items ≡ l.index)
     × ((there : Files) → g.I.Shelf.files l.fn.input ≡ Some there
-    → (l.orders.items ≡ map Rebuild (asked_feed there (map (λ r. r.now) (take l.index l.requests)) reads)) × (map read_of l.read.items ≡ feed_read there (map (λ r. r.now) (take l.index l.requests)) reads))
+    → (l.orders.items ≡ map Rebuild (asked_feed there (map (λ r. r.now) (take l.index l.requests)) reads))
+    × (map read_of l.read.items ≡ feed_read there (map (λ r. r.now) (take l.index l.requests)) reads))

@@ -21,23 +21,32 @@ loop-index-preserved g c =
       omega (arith, few, c.in_ok-bytes.ensures.few),
       elim c.match-branch-2.branch [
         | in-Some+in_ok-push-in-Some w ↦
-            part_taken c.args.listed.now.len c.survivors-places.result.now c.loop-index.index place.X0 (survivors_of c.loop-index.fragments.items) (survivors_of c.match-branch-2.fragments.items)
+            part_taken c.args.listed.now.len c.survivors-places.result.now c.loop-index.index place.X0
+            (survivors_of c.loop-index.fragments.items) (survivors_of c.match-branch-2.fragments.items)
             (record { place = p; bytes = w.in-Some.bytes.items }) c.loop-index-test.true
-            (ap (λ (v : Vec Fragment Global). survivors_of v.items) w.fragments-is ∙ ap survivors_of w.in_ok-push-in-Some.ensures.items ∙ map-append survivor_of c.loop-index.fragments.items _) refl (rw w.in-Some.is at c.in_ok-bytes.ensures.whole) part
+            (ap (λ (v : Vec Fragment Global). survivors_of v.items) w.fragments-is ∙ ap survivors_of w.in_ok-push-in-Some.ensures.items
+            ∙ map-append survivor_of c.loop-index.fragments.items _) refl (rw w.in-Some.is at c.in_ok-bytes.ensures.whole) part
         | in-None+in_ok-push-in-None w ↦
-            part_skipped c.args.listed.now.len c.survivors-places.result.now c.loop-index.index place.X0 (survivors_of c.loop-index.fragments.items) (survivors_of c.match-branch-2.fragments.items)
+            part_skipped c.args.listed.now.len c.survivors-places.result.now c.loop-index.index place.X0
+            (survivors_of c.loop-index.fragments.items) (survivors_of c.match-branch-2.fragments.items)
             c.loop-index-test.true (ap (λ (v : Vec Fragment Global). survivors_of v.items) w.fragments-is) part
       ],
       λ there e. elim c.match-branch-2.branch [
         | in-Some+in_ok-push-in-Some w ↦
             let got = rw w.in-Some.is at (gives there (same ∙ e)) in (
-              rw (w.fragments-is, w.in_ok-push-in-Some.ensures.items) (map-append survivor_of c.loop-index.fragments.items _ ∙ kept_some there c.args.listed.now reads p m w.in-Some.bytes.items (survivors_of c.loop-index.fragments.items) (told there e).0 got),
-              rw w.unread-is (unread_some there c.args.listed.now reads p m w.in-Some.bytes.items c.loop-index.unread.items (told there e).1 got),
+              rw (w.fragments-is, w.in_ok-push-in-Some.ensures.items)
+                  (map-append survivor_of c.loop-index.fragments.items _
+                  ∙ kept_some there c.args.listed.now reads p m w.in-Some.bytes.items (survivors_of c.loop-index.fragments.items)
+                  (told there e).0 got),
+              rw w.unread-is (unread_some there c.args.listed.now reads p m w.in-Some.bytes.items c.loop-index.unread.items
+                  (told there e).1 got),
             )
         | in-None+in_ok-push-in-None w ↦
             let got = rw w.in-None.is at (gives there (same ∙ e)) in (
-              rw w.fragments-is (kept_none there c.args.listed.now reads p m (survivors_of c.loop-index.fragments.items) (told there e).0 got),
-              rw (w.unread-is, w.in_ok-push-in-None.ensures.items) (unread_none there c.args.listed.now reads p m c.loop-index.unread.items (told there e).1 got),
+              rw w.fragments-is (kept_none there c.args.listed.now reads p m (survivors_of c.loop-index.fragments.items)
+                  (told there e).0 got),
+              rw (w.unread-is, w.in_ok-push-in-None.ensures.items)
+                  (unread_none there c.args.listed.now reads p m c.loop-index.unread.items (told there e).1 got),
             )
       ],
     )

@@ -1,4 +1,5 @@
-use Rattle.std.proofs.Common.{◌≡◌, ◌<◌, ◌≤◌, ◌∙◌, ◌∷◌, ◌==◌, [], ℕ, zero, suc, true, false, true≢false, List, arith, ap, sym, length, subst, All, Vec, Global}
+use Rattle.std.proofs.Common.{◌≡◌, ◌<◌, ◌≤◌, ◌∙◌, ◌∷◌, ◌==◌, [], ℕ, zero, suc, true, false, true≢false, List, arith, ap, sym, length, subst}
+use Rattle.std.proofs.Common.{All, Vec, Global}
 use Rattle.std.proofs.lemmas.Bool.Decides.{nat_tests}
 use Rattle.std.proofs.lemmas.List.{length-append}
 use Rattle.std.proofs.lemmas.List.Elements.{All-push}
@@ -22,7 +23,8 @@ pub returns-in_err-feeds-clause-why : goal.returns-in_err-feeds-clause-why
 returns-in_err-feeds-clause-why g c =
     let (same, calm, size, few, small, have) = c.loop-rack.invariant in
     let p = err_from_is_err_and c.from_residual.result c.from_residual.ensures.1 in
-    rw (p.1, p.2) (λ there e. rack_explains c.in_err-feeds.field-0.0 there c.loop-rack.racks.items c.loop-rack.rack size c.loop-rack-test.true (have there e) (c.in_err-feeds.ensures.why there (same ∙ e)))
+    rw (p.1, p.2) (λ there e. rack_explains c.in_err-feeds.field-0.0 there c.loop-rack.racks.items c.loop-rack.rack size
+    c.loop-rack-test.true (have there e) (c.in_err-feeds.ensures.why there (same ∙ e)))
 
 pub loop-rack-preserved : goal.loop-rack-preserved
 loop-rack-preserved g c =
@@ -34,35 +36,43 @@ loop-rack-preserved g c =
       c.in_ok-feeds.ensures.calm ∙ calm,
       ap length items ∙ omega (arith, size, length-append c.loop-rack.racks.items (here ∷ [])),
       (let P : Feeds → Type 0 = λ v. (0 < length v.items) × (length v.items ≤ 4) in
-          subst (λ (vs : List Feeds). All P vs) (sym items) (All-push P c.loop-rack.racks.items here few (some, c.in_ok-feeds.ensures.feeds))),
+          subst (λ (vs : List Feeds). All P vs) (sym items)
+          (All-push P c.loop-rack.racks.items here few (some, c.in_ok-feeds.ensures.feeds))),
       (let P : Feeds → Type 0 = λ f. All (λ (v : Vec Record Global). length v.items ≤ 4096) f.items in
           subst (λ (vs : List Feeds). All P vs) (sym items) (All-push P c.loop-rack.racks.items here small c.in_ok-feeds.ensures.orders)),
       λ there e.
           let (read, none) = c.in_ok-feeds.ensures.lists there (same ∙ e) in
-          rw items (racks_push there c.loop-rack.racks.items here c.loop-rack.rack size (have there e) (feeds_all there c.loop-rack.rack here read none some c.in_ok-feeds.ensures.feeds)),
+          rw items (racks_push there c.loop-rack.racks.items here c.loop-rack.rack size (have there e)
+          (feeds_all there c.loop-rack.rack here read none some c.in_ok-feeds.ensures.feeds)),
     )
 
 pub returns-then-rack-eq0-clause-why : goal.returns-then-rack-eq0-clause-why
 returns-then-rack-eq0-clause-why g c = λ there e.
     let (same, calm, size, few, small, have) = c.loop-rack.invariant in
-    let empty : length c.in_ok-feeds.feeds.items ≡ 0 = let none = none_of _ c.if-is_empty.ensures in omega (arith, none, c.in_ok-feeds.feeds.ok.0) in
-    ap (λ n. there (list_name n 0)) (sym c.if-rack-eq0.true) ∙ none_at there c.loop-rack.rack c.in_ok-feeds.feeds (c.in_ok-feeds.ensures.lists there (same ∙ e)).1 empty
+    let empty : length c.in_ok-feeds.feeds.items ≡ 0 = let none =
+    none_of _ c.if-is_empty.ensures in omega (arith, none, c.in_ok-feeds.feeds.ok.0) in
+    ap (λ n. there (list_name n 0)) (sym c.if-rack-eq0.true)
+    ∙ none_at there c.loop-rack.rack c.in_ok-feeds.feeds (c.in_ok-feeds.ensures.lists there (same ∙ e)).1 empty
 
 pub returns-then-is_empty-clause-lists : goal.returns-then-is_empty-clause-lists
 returns-then-is_empty-clause-lists g c = λ there e.
     let (same, calm, size, few, small, have) = c.loop-rack.invariant in
-    let empty : length c.in_ok-feeds.feeds.items ≡ 0 = let none = none_of _ c.if-is_empty.ensures in omega (arith, none, c.in_ok-feeds.feeds.ok.0) in
-    racks_all there c.loop-rack.racks.items c.loop-rack.rack size (omega (arith, c.if-rack-eq0.false)) (omega (arith, c.loop-rack-test.true)) (have there e)
+    let empty : length c.in_ok-feeds.feeds.items ≡ 0 = let none =
+    none_of _ c.if-is_empty.ensures in omega (arith, none, c.in_ok-feeds.feeds.ok.0) in
+    racks_all there c.loop-rack.racks.items c.loop-rack.rack size (omega (arith, c.if-rack-eq0.false))
+    (omega (arith, c.loop-rack-test.true)) (have there e)
     (none_at there c.loop-rack.rack c.in_ok-feeds.feeds (c.in_ok-feeds.ensures.lists there (same ∙ e)).1 empty)
 
 pub returns-then-branch-clause-why : goal.returns-then-branch-clause-why
 returns-then-branch-clause-why g c = λ there e.
     let (same, calm, size, few, small, have) = c.loop-rack.invariant in
-    many_explain there c.loop-rack.racks.items c.loop-rack.rack size (omega (arith, c.loop-rack-test.false, c.loop-rack.auto.rack-end)) (have there e) (c.in_ok-has_list.ensures.has there (same ∙ e) ∙ c.if-branch.true)
+    many_explain there c.loop-rack.racks.items c.loop-rack.rack size (omega (arith, c.loop-rack-test.false, c.loop-rack.auto.rack-end))
+    (have there e) (c.in_ok-has_list.ensures.has there (same ∙ e) ∙ c.if-branch.true)
 
 pub returns-clause-lists : goal.returns-clause-lists
 returns-clause-lists g c = λ there e.
     let (same, calm, size, few, small, have) = c.loop-rack.invariant in
     let all : c.loop-rack.rack ≡ 16 = omega (arith, c.loop-rack-test.false, c.loop-rack.auto.rack-end) in
     racks_all there c.loop-rack.racks.items c.loop-rack.rack size (omega (arith, all)) (omega (arith, all)) (have there e)
-    (ap (λ n. there (list_name n 0)) all ∙ not_some (there (list_name 16 0)) (c.in_ok-has_list.ensures.has there (same ∙ e) ∙ c.if-branch.false))
+    (ap (λ n. there (list_name n 0)) all ∙ not_some (there (list_name 16 0))
+    (c.in_ok-has_list.ensures.has there (same ∙ e) ∙ c.if-branch.false))

@@ -11,4 +11,5 @@ invariant-loop-rack g l =
     × (length l.racks.items ≡ l.rack)
     × All (λ (feeds : Vec (Vec Record Global) Global). (0 < length feeds.items) × (length feeds.items ≤ 4)) l.racks.items
     × All (λ (feeds : Vec (Vec Record Global) Global). All (λ (v : Vec Record Global). length v.items ≤ 4096) feeds.items) l.racks.items
-    × ((there : Files) → g.I.Shelf.files l.fn.input ≡ Some there → HaveLists there 0 (map (λ feeds. map (λ v. v.items) feeds.items) l.racks.items))
+    × ((there : Files) → g.I.Shelf.files l.fn.input ≡ Some there
+    → HaveLists there 0 (map (λ feeds. map (λ v. v.items) feeds.items) l.racks.items))
