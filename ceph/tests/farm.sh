@@ -39,7 +39,7 @@ rebuild_long() {
   {
     rebuild-lists cut "$RUN/long.csv" "$RUN/long" "$RUN/pieces"
     rebuild-lists split "$RUN/pieces/list.csv" "$RUN/pieces/store" "$RUN/work"
-    for folder in "$RUN"/work/in/*; do rebuild-lists serve "$RUN/work" "${folder##*/}" --program "$program"; done
+    for folder in "$RUN/work/in/"*; do rebuild-lists serve "$RUN/work" "${folder##*/}" --program "$program"; done
     rebuild-lists merge "$RUN/work" "$RUN/result"
     rebuild-lists join "$RUN/pieces" "$RUN/result" "$RUN/whole"
   } > "$RUN/said" 2>&1 || fail "$(tail -n 3 "$RUN/said")"
