@@ -18,7 +18,7 @@ TESTS = {
     "lrc_field": "lrc_tests",
     "lrc_code": "lrc_tests",
     "lrc_plan": "lrc_tests",
-    "farm_lanes": "farm_tests",
+    "farm_lanes": "lanes_tests",
     "farm_core": "farm_tests",
     "sha256_lanes": "sha256_tests",
     "farm_lists": "serving_tests",

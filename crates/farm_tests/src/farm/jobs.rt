@@ -3,9 +3,8 @@ ghost use Rattle.std.specs.Prelude.{IfOk};
 ghost use Rattle.farm_lanes.specs.LaneEnds.{IsUnusedPut, IsUnusedTake};
 
 use crate::farm::requests::{Entry, GLOBAL, LOCAL, SEVERAL, is_answer, list_of};
-use crate::gates::{Alone, open_alone};
-use farm_core::{Job, NoPause, RackList, Reply, ReplyResult, feed, work};
-use farm_lanes::{Item, Lane, LaneError, PutEnd, TakeEnd};
+use farm_core::{Fed, Job, NoPause, RackList, Reply, ReplyResult, feed, work};
+use farm_lanes::{Gate, GateError, Item, Lane, LaneError, PutEnd, TakeEnd};
 use std::alloc::{AllocError, Global};
 use std::process::Abort;
 use std::sync::Wait;
@@ -53,14 +52,29 @@ fn works<'a, R: Abort + Wait>(
     assert!(rt; worked.jobs.count() == taken && worked.replies.count() == put);
 }
 
-// Feeds this list through a gate of its own. It is closed at 2.
+// Feeds this list through a gate of its own.
+fn feed_alone<'a, R: Wait>(
+    rt: &R,
+    alloc: Global,
+    list: &'a RackList,
+    jobs: PutEnd<Job<'a>>,
+) -> Result<Fed<'a>, GateError>
+    requires { IsUnusedPut jobs }
+{
+    let (gate, mut seats, mut rights) = Gate::open(alloc, 1, 1)?;
+    let (Some(seat), Some(right)) = (seats.pop(), rights.pop()) else {
+        unreachable!();
+    };
+    Ok(feed(rt, &gate, seat, right, 0, 0, list, jobs, &NoPause))
+}
+
+// The list's gate is closed at 2.
 fn feeds_two<'a, R: Abort + Wait>(rt: &R, alloc: Global, list: &'a RackList, jobs: PutEnd<Job<'a>>)
     requires { IsUnusedPut jobs }
 {
-    let Ok(Alone { gate, seat, right }) = open_alone(alloc) else {
+    let Ok(fed) = feed_alone(rt, alloc, list, jobs) else {
         panic!(rt; "no gate");
     };
-    let fed = feed(rt, &gate, seat, right, 0, 0, list, jobs, &NoPause);
     assert!(rt; fed.close == Some(2) && fed.right.is_none() && fed.jobs.count() == 3);
 }
 
@@ -115,12 +129,11 @@ fn a_feeder_and_two_workers(rt: HostRuntime) -> Result<(), Fail> {
 // How a worker replies to one request, by two lanes and a stop.
 fn reply_to_one<R: Abort + Wait>(rt: &R, alloc: Global) -> Result<ReplyResult, Fail> {
     let list = list_of(rt, alloc, &[LOCAL])?;
-    let Ok(Alone { gate, seat, right }) = open_alone(alloc) else {
-        return Err(Fail::from(AllocError));
-    };
     let jobs = two_to_two(alloc)?;
     let replies = two_to_two(alloc)?;
-    let _fed = feed(rt, &gate, seat, right, 0, 0, &list, jobs.first, &NoPause);
+    let Ok(_fed) = feed_alone(rt, alloc, &list, jobs.first) else {
+        return Err(Fail::from(AllocError));
+    };
     stops_both(rt, jobs.second);
     works(rt, alloc, jobs.taker, replies.first, 3, 2);
     let mut taker = replies.taker;

@@ -1,7 +1,7 @@
 use Rattle.std.proofs.Common.{ap, sym, ◌∙◌}
 use Rattle.farm_lanes.specs.LaneEnds.{LaneName, PutView, new_put, new_take}
 use Rattle.farm_lanes.proofs.Opens.{popped_put, popped_take}
-use Rattle.farm_tests.proofs.lanes.four_to_two.Goals as goal
+use Rattle.lanes_tests.proofs.lanes.four_to_two.Goals as goal
 
 pub returns-clause-ends : goal.returns-clause-ends
 returns-clause-ends c =

@@ -8,15 +8,15 @@ use std::alloc::{AllocError, Global};
 use std::test::Fail;
 use std::thread::{Threads, join};
 
-/// A gate with one seat and one right.
+// A gate with one seat and one right.
 #[derive(Drop)]
-pub(crate) struct Alone {
-    pub(crate) gate: Gate,
-    pub(crate) seat: Seat,
-    pub(crate) right: Right,
+struct Alone {
+    gate: Gate,
+    seat: Seat,
+    right: Right,
 }
 
-pub(crate) fn open_alone(alloc: Global) -> Result<Alone, GateError>
+fn open_alone(alloc: Global) -> Result<Alone, GateError>
     ensures { IfOk result (λ a. (a.seat.gate ≡ a.gate.id) × (a.right ≡ a.gate.id) × (a.seat.has ≡ fresh 4294967296 0 false)) }
 {
     let (gate, mut seats, mut rights) = Gate::open(alloc, 1, 1)?;

@@ -1,7 +1,7 @@
 use Rattle.std.proofs.Common.{ℕ, List, sym, ap, ◌∙◌, subst}
 use Rattle.farm_lanes.specs.LaneEnds.{PutView, TakeView, AreAllEnds}
-use Rattle.farm_tests.proofs.SmallLanes.{four_and_two}
-use Rattle.farm_tests.proofs.lanes.run_lane.Goals as goal
+use Rattle.lanes_tests.proofs.SmallLanes.{four_and_two}
+use Rattle.lanes_tests.proofs.lanes.run_lane.Goals as goal
 
 pub settle-settled-requires : goal.settle-settled-requires
 settle-settled-requires g c =

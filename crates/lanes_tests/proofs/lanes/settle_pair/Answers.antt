@@ -1,7 +1,7 @@
 use Rattle.std.proofs.Common.{List, sym, subst, refl}
 use Rattle.farm_lanes.specs.LaneEnds.{PutView, TakeView, AreAllEnds}
-use Rattle.farm_tests.proofs.SmallLanes.{one_and_one}
-use Rattle.farm_tests.proofs.lanes.settle_pair.Goals as goal
+use Rattle.lanes_tests.proofs.SmallLanes.{one_and_one}
+use Rattle.lanes_tests.proofs.lanes.settle_pair.Goals as goal
 
 pub settle-settled-requires : goal.settle-settled-requires
 settle-settled-requires g c =
