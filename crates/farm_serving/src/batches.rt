@@ -3,10 +3,11 @@ ghost use Rattle.std.specs.Prelude.{◌≡◌, ◌∷◌, [], ◌+◌, ◌*◌, 
 ghost use Rattle.std.specs.List.{All};
 ghost use Rattle.farm_core.specs.Limits.{feed_limit, order_limit, rack_limit};
 ghost use Rattle.farm_serving.specs.Limits.{all_survivors, rack_survivors};
-ghost use Rattle.farm_core.specs.Merge.{AreMergedAnswers, AreOpen, HaveClose, joined};
+ghost use Rattle.farm_core.specs.Merge.{AreAllMergedAnswers, AreMergedAnswers, AreOpen, HaveClose, joined};
 ghost use Rattle.farm_serving.specs.AnsweredRacks.{AreAnswered, IsAnsweredOnce, all_answers, all_records, all_requests, rack_requests};
 ghost use Rattle.farm_serving.specs.Serving.{Reads, all_failures, rack_failures};
 
+use crate::ahead::{files_of_batch, files_of_piece, or_others};
 use crate::cutting::{end_of_positions, end_of_racks, lists_through_close, piece_of};
 use crate::reading::fragments::{read_feeds, read_piece};
 use farm_core::limits::MOST_ORDERS;
@@ -105,7 +106,17 @@ pub fn answer_lists<'a, R: Threads + Wait + Sync, I: Shelf, P: Pause>(
             number: 0,
             position: 0,
         };
-        let mut part = answer_racks(rt, alloc, input, &lists[first..end], settings, &batch, most)?;
+        let after = files_of_batch(alloc, lists, end, most)?;
+        let mut part = answer_racks(
+            rt,
+            alloc,
+            input,
+            &lists[first..end],
+            after.as_slice(),
+            settings,
+            &batch,
+            most,
+        )?;
         answers.append(&mut part.answers)?;
         requests.append(&mut part.requests)?;
         first = end;
@@ -113,12 +124,13 @@ pub fn answer_lists<'a, R: Threads + Wait + Sync, I: Shelf, P: Pause>(
     Ok(Answered { answers, requests })
 }
 
-// The same of the racks of one batch, or of one rack, which is cut.
+// The answers to the lists of the racks of one batch, or of one rack, which is cut. After it these files are read.
 fn answer_racks<'a, R: Threads + Wait + Sync, I: Shelf, P: Pause>(
     rt: &R,
     alloc: Global,
     input: &mut I,
     racks: &'a [Vec<Vec<Record>>],
+    after: &[(String, usize)],
     settings: Settings,
     pause: &P,
     most: u64,
@@ -135,11 +147,31 @@ fn answer_racks<'a, R: Threads + Wait + Sync, I: Shelf, P: Pause>(
     ensures few { I.failed input.new ≤ I.failed input.old + rack_survivors * length racks.now }
 {
     if let Some(lists) = only_rack(racks) {
-        return answer_rack(rt, alloc, input, lists, settings, pause, most);
+        return answer_rack(rt, alloc, input, lists, after, settings, pause, most);
     }
     let (feeds, requests) = read_feeds(rt, alloc, input, racks, settings.workers())?;
-    let answers = run_feeds(rt, alloc, &feeds, settings, pause)?;
+    let answers = answer_feeds(rt, alloc, input, after, feeds, settings, pause)?;
     Ok(Answered { answers, requests })
+}
+
+// The answers to feeds, which are dropped with their survivors. Beside it the files may be read ahead that are read after it.
+fn answer_feeds<R: Threads + Wait + Sync, I: Shelf, P: Pause>(
+    rt: &R,
+    alloc: Global,
+    input: &mut I,
+    after: &[(String, usize)],
+    feeds: Feeds,
+    settings: Settings,
+    pause: &P,
+) -> Result<Vec<Vec<(usize, Outcome)>>, FarmError>
+    ensures answers { IfOk result (λ v. AreAllMergedAnswers feeds (map (λ answers. answers.items) v.items)) }
+    ensures same { I.files input.new ≡ I.files input.old }
+    ensures calm { I.failed input.new ≡ I.failed input.old }
+{
+    let run = move || -> Result<Vec<Vec<(usize, Outcome)>>, FarmError>
+        ensures { IfOk result (λ v. AreAllMergedAnswers feeds (map (λ answers. answers.items) v.items)) }
+    { run_feeds(rt, alloc, &feeds, settings, pause) };
+    input.read_beside(rt, alloc, after, settings.workers(), run)?
 }
 
 // The lists of a single rack.
@@ -156,13 +188,14 @@ fn only_rack(racks: &[Vec<Vec<Record>>]) -> Option<&[Vec<Record>]>
     }
 }
 
-// The same of the lists of one rack, piece by piece. A piece that has a close ends the rack: of the pieces after it the survivors are read
-// alone, since the report names those that are left out of any request before its own list's close.
+// The answers to the lists of one rack, piece by piece. A piece that has a close ends the rack: of the pieces after it the survivors are
+// read alone, since the report names those that are left out of any request before its own list's close.
 fn answer_rack<'a, R: Threads + Wait + Sync, I: Shelf, P: Pause>(
     rt: &R,
     alloc: Global,
     input: &mut I,
     lists: &'a [Vec<Record>],
+    after: &[(String, usize)],
     settings: Settings,
     pause: &P,
     most: u64,
@@ -194,7 +227,19 @@ fn answer_rack<'a, R: Threads + Wait + Sync, I: Shelf, P: Pause>(
             number: answers.len(),
             position: first,
         };
-        ended = answer_piece(rt, alloc, orders, settings, &batch, ended, &mut answers)?;
+        let own = files_of_piece(alloc, served.as_slice(), end, most)?;
+        let files = or_others(own.as_slice(), after);
+        ended = answer_piece(
+            rt,
+            alloc,
+            input,
+            files,
+            orders,
+            settings,
+            &batch,
+            ended,
+            &mut answers,
+        )?;
         first = end;
     }
     Ok(one_rack(alloc, answers, requests)?)
@@ -235,9 +280,11 @@ fn append_each<'a>(
 
 // Adds the answers to a piece's orders, which are dropped with the survivors, unless a close ended the rack before. Whether one ended it
 // now.
-fn answer_piece<R: Threads + Wait + Sync, P: Pause>(
+fn answer_piece<R: Threads + Wait + Sync, I: Shelf, P: Pause>(
     rt: &R,
     alloc: Global,
+    input: &mut I,
+    after: &[(String, usize)],
     orders: Vec<RackList>,
     settings: Settings,
     pause: &P,
@@ -245,13 +292,15 @@ fn answer_piece<R: Threads + Wait + Sync, P: Pause>(
     answers: &mut Vec<(usize, Outcome)>,
 ) -> Result<bool, FarmError>
     requires { (0 < length orders.items) × (length orders.items ≤ feed_limit) }
-    ensures { IfOk result (IsAnsweredOnce orders.items ended answers.old.items answers.new.items) }
+    ensures answered { IfOk result (IsAnsweredOnce orders.items ended answers.old.items answers.new.items) }
+    ensures same { I.files input.new ≡ I.files input.old }
+    ensures calm { I.failed input.new ≡ I.failed input.old }
 {
     if ended {
         return Ok(true);
     }
     let closes = have_close(orders.as_slice());
-    let mut more = answer_orders(rt, alloc, orders, settings, pause)?;
+    let mut more = answer_orders(rt, alloc, input, after, orders, settings, pause)?;
     answers.append(&mut more)?;
     Ok(closes)
 }
@@ -272,18 +321,22 @@ fn have_close(lists: &[RackList]) -> bool
 }
 
 // The answers to the orders of one rack's feeds.
-fn answer_orders<R: Threads + Wait + Sync, P: Pause>(
+fn answer_orders<R: Threads + Wait + Sync, I: Shelf, P: Pause>(
     rt: &R,
     alloc: Global,
+    input: &mut I,
+    after: &[(String, usize)],
     orders: Vec<RackList>,
     settings: Settings,
     pause: &P,
 ) -> Result<Vec<(usize, Outcome)>, FarmError>
     requires { (0 < length orders.items) × (length orders.items ≤ feed_limit) }
-    ensures { IfOk result (λ v. AreMergedAnswers orders.items v.items) }
+    ensures answered { IfOk result (λ v. AreMergedAnswers orders.items v.items) }
+    ensures same { I.files input.new ≡ I.files input.old }
+    ensures calm { I.failed input.new ≡ I.failed input.old }
 {
     let feeds = feeds_of_rack(alloc, orders)?;
-    let mut answers = run_feeds(rt, alloc, &feeds, settings, pause)?;
+    let mut answers = answer_feeds(rt, alloc, input, after, feeds, settings, pause)?;
     let Some(outcomes) = answers.pop() else {
         unreachable!();
     };

@@ -17,6 +17,7 @@
 //! ```
 #![tactic(auto)]
 
+mod ahead;
 mod batches;
 mod cutting;
 mod faults;

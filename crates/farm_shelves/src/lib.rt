@@ -10,10 +10,13 @@
 //! ```
 #![tactic(auto)]
 
+mod ahead;
 mod folder;
 mod memory;
+mod regular_files;
 mod shelf;
 
-pub use folder::{FolderShelf, read_front};
+pub use folder::FolderShelf;
 pub use memory::MemoryShelf;
+pub use regular_files::read_front;
 pub use shelf::{Shelf, ShelfFault};

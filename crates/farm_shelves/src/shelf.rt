@@ -60,6 +60,26 @@ pub trait Shelf {
         Ok(())
     }
 
+    /// Does some work, and gives what it gives. The files are those that are read next, so that the shelf may read them ahead while
+    /// the work is done, in at most so many further threads. Only where memory is refused may it end without having worked. As
+    /// `read_ahead`, it answers no read and counts no failure. A shelf that doesn't say otherwise does the work alone.
+    fn read_beside<H: Threads + Sync, T: Drop, F: FnOnce() -> T>(
+        &mut self,
+        _rt: &H,
+        _alloc: Global,
+        _files: &[(String, usize)],
+        _threads: usize,
+        work: F,
+    ) -> Result<T, AllocError>
+        requires sync { IsSync H.row }
+        requires work { F.pre work }
+        ensures worked { IfOk result (F.post work) }
+        ensures same { files self.new ≡ files self.old }
+        ensures failure { failed self.new ≡ failed self.old }
+    {
+        Ok(work())
+    }
+
     /// Replaces a whole file. After a failure of the device nothing is known of this file, and the others are as they
     /// were; if memory is refused no file changes.
     fn write(&mut self, alloc: Global, name: &str, bytes: &[u8]) -> Result<(), ShelfFault>

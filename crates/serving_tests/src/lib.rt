@@ -7,6 +7,8 @@ mod ahead;
 #[cfg(test)]
 mod batches;
 #[cfg(test)]
+mod beside;
+#[cfg(test)]
 mod checked;
 #[cfg(test)]
 mod cut_feeds;

@@ -125,7 +125,8 @@ fn fragment_files(alloc: Global, requests: &[&Listed]) -> Result<Vec<(String, us
     Ok(files)
 }
 
-fn push_fragment_files(
+/// Adds the files of a request's listed survivors.
+pub(crate) fn push_fragment_files(
     alloc: Global,
     files: &mut Vec<(String, usize)>,
     listed: &Listed,

@@ -77,16 +77,22 @@ loop-first-preserved g c =
     (λ there e.
     let t = gives there (same ∙ e) in
     (t.0 ∙ ap (λ (ls : List (List Record)). orders_rack there ls qs) is, t.1 ∙ ap (λ (ls : List (List Record)). rack_read there ls qs) is))
-    c.in_ok-ended.ensures in (
+    c.in_ok-ended.ensures.answered in (
       joined reads qs,
       rw c.in_ok-requests-2.ensures
           (subst (λ (fs : List (List Record)). AreSoFar told fs (joined reads qs) c.answer_piece.new.answers.items
           (joined (rack_requests c.loop-first.requests.items) (rack_requests c.in_ok-orders.later.items)) c.in_ok-ended.ended)
           (fronts_further lists i j ordered) more),
       omega (arith, c.end_of_positions-end.ensures.within.1),
-      c.in_ok-orders.ensures.same ∙ same,
-      omega (arith, rose, failed, failures_more (fronts lists i) (pieces lists i j) reads qs split so.read read),
-      (fails g at _ c.in_ok-orders.ensures.few).0,
+      c.in_ok-ended.ensures.same ∙ c.in_ok-orders.ensures.same ∙ same,
+      omega (
+        arith,
+        c.in_ok-ended.ensures.calm,
+        rose,
+        failed,
+        failures_more (fronts lists i) (pieces lists i j) reads qs split so.read read,
+      ),
+      omega (arith, c.in_ok-ended.ensures.calm, (fails g at _ c.in_ok-orders.ensures.few).0),
     )
 
 pub read_piece-requires-clause-room : goal.read_piece-requires-clause-room
@@ -127,9 +133,17 @@ pub returns-in_err-requests-2-clause-few : goal.returns-in_err-requests-2-clause
 returns-in_err-requests-2-clause-few g c = (fails g (goal.at.returns-in_err-requests-2-clause-few g c).After-as_slice-in-loop-first-3 _
     c.in_ok-orders.ensures.few).1
 
-pub returns-in_err-ended-clause-few : goal.returns-in_err-ended-clause-few
-returns-in_err-ended-clause-few g c = (fails g (goal.at.returns-in_err-ended-clause-few g c).After-as_slice-in-loop-first-3 _
+pub returns-in_err-own-clause-few : goal.returns-in_err-own-clause-few
+returns-in_err-own-clause-few g c = (fails g (goal.at.returns-in_err-own-clause-few g c).After-as_slice-in-loop-first-3 _
     c.in_ok-orders.ensures.few).1
+
+pub returns-in_err-ended-clause-few : goal.returns-in_err-ended-clause-few
+returns-in_err-ended-clause-few g c = omega (
+  arith,
+  c.in_err-ended.ensures.calm,
+  (fails g (goal.at.returns-in_err-ended-clause-few g c).After-as_slice-in-loop-first-3 _
+      c.in_ok-orders.ensures.few).1,
+)
 
 pub returns-in_err-one_rack-clause-few : goal.returns-in_err-one_rack-clause-few
 returns-in_err-one_rack-clause-few g c =

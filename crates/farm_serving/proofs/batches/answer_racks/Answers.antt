@@ -10,9 +10,9 @@ returns-clause-answered g c =
         read = are;
         orders = c.in_ok-feeds.feeds;
         ordered = c.in_ok-feeds.ensures.orders ∙ sym (counts_same c.args.racks.now);
-        merged = c.in_ok-answers.ensures;
+        merged = c.in_ok-answers.ensures.answers;
         counted = requests_counted c.in_ok-feeds.requests.items ∙ c.in_ok-feeds.ensures.counted ∙ sym (counts_same c.args.racks.now);
         given = told;
       },
-      rose,
+      c.in_ok-answers.ensures.calm ∙ rose,
     )

@@ -1,8 +1,8 @@
 use Rattle.std.proofs.Common.{◌≡◌, ◌≤◌, ◌∙◌, List, ℕ, ap, arith, length, take, rules}
 use Rattle.std.proofs.lemmas.List.{with_items_is, places}
 use Rattle.farm_shelves.proofs.Fronts.{front_grows, front_stays}
-use Rattle.farm_shelves.proofs.folder.read_front.Goals as goal
-use Rattle.farm_shelves.proofs.folder.read_front.Goals.{in-Ok, in-Err+in-Interrupted}
+use Rattle.farm_shelves.proofs.regular_files.read_front.Goals as goal
+use Rattle.farm_shelves.proofs.regular_files.read_front.Goals.{in-Ok, in-Err+in-Interrupted}
 
 pub loop-turn-preserved : goal.loop-turn-preserved
 loop-turn-preserved g c =

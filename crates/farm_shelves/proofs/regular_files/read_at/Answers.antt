@@ -1,7 +1,7 @@
 use Rattle.std.proofs.Common.{arith, length-take-le}
 use borrow.Rule.Slice.PartMut.{take_put}
 use Rattle.farm_shelves.proofs.Fronts.{read_lands}
-use Rattle.farm_shelves.proofs.folder.read_at.Goals as goal
+use Rattle.farm_shelves.proofs.regular_files.read_at.Goals as goal
 
 pub returns-clause-front : goal.returns-clause-front
 returns-clause-front g c = take_put _ _ c.args.bytes.now _ (omega (arith, c.requires))

@@ -1,6 +1,6 @@
 use Rattle.std.proofs.Common.{◌≤◌, length, take}
 use Rattle.std.specs.Io.KnownBytes.{Consumes}
-use Rattle.farm_shelves.proofs.folder.read_front.Given as goal
+use Rattle.farm_shelves.proofs.regular_files.read_front.Given as goal
 
 abbrev pub invariant-loop-turn : goal.invariant-loop-turn
 invariant-loop-turn g l =

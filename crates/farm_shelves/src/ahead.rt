@@ -1,0 +1,199 @@
+//! Files that are read ahead in threads.
+ghost use Rattle.std.specs.Prelude.{◌<◌};
+
+use crate::regular_files::{FIRST_ROOM, open_regular, read_front};
+use std::alloc::{AllocError, Global};
+use std::sync::Mutex;
+use std::sync::atomic::{AtomicUsize, Ordering};
+use std::thread::Threads;
+use std::{mem, thread};
+
+// What a file takes to be opened and closed, as the bytes that are read in that time.
+const OPENING: u64 = 16_384;
+
+// The least number of bytes for which a thread is started, with what the opening takes.
+const LEAST_PART: u64 = 1_048_576;
+
+// How many parts of the files there are for each thread that reads them.
+const PARTS_PER_THREAD: usize = 8;
+
+/// A file that is read ahead: its path, its limit and how far it is.
+#[derive(Drop)]
+pub(crate) struct ReadAhead {
+    path: String,
+    limit: usize,
+    state: State,
+}
+
+// How far a file is that is read ahead.
+#[derive(Drop)]
+enum State {
+    // It is to be read into this room, or couldn't be opened.
+    Listed(Vec<u8>),
+    // Its first bytes.
+    Read(Vec<u8>),
+    // There is no such file. The room stays with it, since a thread that gives memory back takes some of its own.
+    Absent(Vec<u8>),
+    // It could not be read. The read that it was for reads it again, and says why.
+    Unread,
+}
+
+impl ReadAhead {
+    /// A file that is to be read ahead, with the room for it. The room is taken before the threads start, since the system's allocator
+    /// makes threads that take memory at once wait for each other.
+    pub(crate) fn listed(
+        alloc: Global,
+        path: String,
+        limit: usize,
+    ) -> Result<ReadAhead, AllocError> {
+        let room = Vec::with_capacity(alloc, FIRST_ROOM.min(limit))?;
+        Ok(ReadAhead {
+            path,
+            limit,
+            state: State::Listed(room),
+        })
+    }
+
+    // Whether it is the file of a name in a folder, up to this limit.
+    fn is_of(&self, folder: &str, name: &str, limit: usize) -> bool {
+        self.limit == limit && is_path_of(self.path.as_str(), folder, name)
+    }
+}
+
+// How many threads are worth their start for these files, of so many at most: each has the least part.
+fn worthwhile(files: &[ReadAhead], threads: usize) -> usize
+    ensures { 0 < result }
+{
+    let mut bytes = 0u64;
+    for file in files {
+        bytes = bytes
+            .saturating_add(OPENING)
+            .saturating_add(file.limit as u64);
+    }
+    let parts = usize::try_from(bytes / LEAST_PART).unwrap_or(usize::MAX);
+    parts.min(threads).max(1)
+}
+
+// Reads listed files in at most so many threads. Each takes a part of the files whenever it is free, so that a thread that comes late or
+// shares its processor leaves more to the others. A thread that is refused leaves all to them.
+fn read_listed<R: Threads + Sync>(
+    rt: &R,
+    alloc: Global,
+    system: &HostRuntime,
+    files: &mut [ReadAhead],
+    threads: usize,
+) -> Result<(), AllocError> {
+    let threads = worthwhile(files, threads);
+    if threads == 1 {
+        read_each(system, files);
+        return Ok(());
+    }
+    let parts = parts_of(alloc, files, threads.saturating_mul(PARTS_PER_THREAD))?;
+    let next = AtomicUsize::new(0);
+    let reader = |_thread: usize| read_parts(system, parts.as_slice(), &next);
+    thread::map_indices(rt, alloc, threads, &reader)?;
+    Ok(())
+}
+
+/// Reads listed files ahead in at most so many threads.
+pub(crate) fn read_all<R: Threads + Sync>(
+    rt: &R,
+    alloc: Global,
+    system: &HostRuntime,
+    files: Vec<ReadAhead>,
+    threads: usize,
+) -> Result<Vec<ReadAhead>, AllocError> {
+    let mut files = files;
+    read_listed(rt, alloc, system, files.as_mut_slice(), threads)?;
+    Ok(files)
+}
+
+// The files in so many parts at most, each for the thread that takes it.
+fn parts_of(
+    alloc: Global,
+    files: &mut [ReadAhead],
+    count: usize,
+) -> Result<Vec<Mutex<&mut [ReadAhead]>>, AllocError>
+    requires { 0 < count }
+{
+    let size = files.len().div_ceil(count).max(1);
+    let mut parts = Vec::new(alloc);
+    for part in files.chunks_mut(size) {
+        parts.push(Mutex::new(part))?;
+    }
+    Ok(parts)
+}
+
+// Reads the files of one part after the other, each the next that no thread has taken. Nobody else has a part's lock: if it is refused
+// all the same, its files are read in their turn.
+fn read_parts(system: &HostRuntime, parts: &[Mutex<&mut [ReadAhead]>], next: &AtomicUsize) {
+    for _turn in 0..parts.len() {
+        let Some(part) = parts.get(next.fetch_add(1, Ordering::SeqCst)) else {
+            return;
+        };
+        if let Some(mut files) = part.try_lock() {
+            read_each(system, &mut files);
+        }
+    }
+}
+
+// Opens, reads and closes listed files, one after the other, each into its room.
+fn read_each(system: &HostRuntime, files: &mut [ReadAhead]) {
+    for file in files.iter_mut() {
+        file.state = match mem::replace(&mut file.state, State::Unread) {
+            State::Listed(room) => read_into(system, room, file.path.as_str(), file.limit),
+            state => state,
+        };
+    }
+}
+
+// What is read ahead of a file into this room.
+fn read_into(system: &HostRuntime, room: Vec<u8>, path: &str, limit: usize) -> State {
+    match open_regular(system, path) {
+        Ok(Some(file)) => match read_front(room, file, limit) {
+            Ok(bytes) => State::Read(bytes),
+            Err(_) => State::Unread,
+        },
+        Ok(None) => State::Absent(room),
+        Err(_) => State::Listed(room),
+    }
+}
+
+/// Whether these files of a folder were read ahead as the next ones: the first of them was, and at least as many as they are.
+pub(crate) fn has_ahead(ahead: &[ReadAhead], folder: &str, files: &[(String, usize)]) -> bool {
+    let Some((name, limit)) = files.first() else {
+        return true;
+    };
+    match ahead.last() {
+        Some(next) => files.len() <= ahead.len() && next.is_of(folder, name.as_str(), *limit),
+        None => false,
+    }
+}
+
+/// What was read ahead of a folder's file, where it is the next one that was read ahead. A read of another file ends the reading ahead,
+/// since what comes then isn't known.
+pub(crate) fn take_ahead(
+    ahead: &mut Vec<ReadAhead>,
+    folder: &str,
+    name: &str,
+    limit: usize,
+) -> Option<Option<Vec<u8>>> {
+    let next = ahead.pop()?;
+    if !next.is_of(folder, name, limit) {
+        ahead.clear();
+        return None;
+    }
+    let ReadAhead { state, .. } = next;
+    match state {
+        State::Read(bytes) => Some(Some(bytes)),
+        State::Absent(_room) => Some(None),
+        State::Listed(_room) => None,
+        State::Unread => None,
+    }
+}
+
+// Whether a path in a folder is that of a name there. Takes no memory, as a path that is made to be compared would.
+fn is_path_of(path: &str, folder: &str, name: &str) -> bool {
+    path.len().checked_sub(name.len()) == folder.len().checked_add(1)
+        && path.as_bytes().ends_with(name.as_bytes())
+}
