@@ -36,9 +36,9 @@ scaled_at c (x ∷ xs) zero h = refl
 scaled_at c (x ∷ xs) (suc k) h = scaled_at c xs k (omega arith)
 
 -- one more block
-pub summed_block : (f : ℕ → ℕ) (xs ys zs after : List ℕ) (i : ℕ) → ((k : ℕ) → k < i + 32 → f k ≡ get_or ys k 0)
-    → IsSummed xs ys zs i → IsBlockAdded f zs after i → IsSummed xs ys after (i + 32)
-summed_block f xs ys zs after i is s b = record {
+pub summed_block : (f : ℕ → ℕ) (xs ys zs after : List ℕ) (i n : ℕ) → ((k : ℕ) → k < i + n → f k ≡ get_or ys k 0)
+    → IsSummed xs ys zs i → IsBlockAdded f zs after i n → IsSummed xs ys after (i + n)
+summed_block f xs ys zs after i n is s b = record {
   len = b.len ∙ s.len;
   done = λ k lt. elim (cases_lt k i) as (λ _. get_or after k 0 ≡ bit_xor (get_or xs k 0) (get_or ys k 0)) [
     | inl low_part ↦ b.below k low_part ∙ s.done k low_part
@@ -47,7 +47,7 @@ summed_block f xs ys zs after i is s b = record {
         let in_block : get_or after (i + (k - i)) 0 ≡ bit_xor (get_or zs (i + (k - i)) 0) (f (i + (k - i))) =
         b.inside (k - i) (omega arith) in
         let at_k : get_or after k 0 ≡ bit_xor (get_or zs k 0) (f k) =
-        subst (λ n. get_or after n 0 ≡ bit_xor (get_or zs n 0) (f n)) z in_block in
+        subst (λ m. get_or after m 0 ≡ bit_xor (get_or zs m 0) (f m)) z in_block in
         at_k ∙ ap₂ bit_xor (s.rest k from) (is k lt)
   ];
   rest = λ k above. b.above k above ∙ s.rest k (omega arith);

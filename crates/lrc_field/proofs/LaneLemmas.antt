@@ -63,3 +63,17 @@ lanes_twice lanes long = record {
       ∙ ap (λ j. get_or (lanes ++ lanes) j 0) (eqb-true _ _ (below_at (λ k. eqb (get_or twice_of k 0) (k % 16)) 32 k twice_at lt))
       ∙ get_or-append lanes lanes 0 (k % 16) (omega (arith, long));
 }
+
+-- the first sixteen of 32 lanes
+abbrev front_of : List ℕ
+front_of = 0 ∷ 1 ∷ 2 ∷ 3 ∷ 4 ∷ 5 ∷ 6 ∷ 7 ∷ 8 ∷ 9 ∷ 10 ∷ 11 ∷ 12 ∷ 13 ∷ 14 ∷ 15 ∷ []
+
+front_at : all_below (λ k. eqb (get_or front_of k 0) k) 16 ≡ true
+front_at = refl
+
+pub lanes_front : (lanes : List ℕ) (k : ℕ) → length lanes ≡ 32 → k < 16
+    → get_or (pick_l 0 (lanes ++ lanes) front_of) k 0 ≡ get_or lanes k 0
+lanes_front lanes k long lt =
+    get_or-map (λ j. get_or (lanes ++ lanes) j 0) front_of k 0 0 lt
+    ∙ ap (λ j. get_or (lanes ++ lanes) j 0) (eqb-true _ _ (below_at (λ n. eqb (get_or front_of n 0) n) 16 k front_at lt))
+    ∙ get_or-append lanes lanes 0 k (omega (arith, long))

@@ -18,12 +18,12 @@ pub record AreTables (c : ℕ) (low high : List ℕ) : Type 0 where
   pub low_is : (k : ℕ) → k < 32 → slice_index low k ≡ times c (k % 16)
   pub high_is : (k : ℕ) → k < 32 → slice_index high k ≡ times c (16 * (k % 16))
 
--- in the 32 bytes from a place on, f of the place is added
-pub record IsBlockAdded (f : ℕ → ℕ) (before after : List ℕ) (i : ℕ) : Type 0 where
+-- in the n bytes from a position on, f of the position is added
+pub record IsBlockAdded (f : ℕ → ℕ) (before after : List ℕ) (i n : ℕ) : Type 0 where
   pub len : length after ≡ length before
-  pub inside : (k : ℕ) → k < 32 → slice_index after (i + k) ≡ bit_xor (slice_index before (i + k)) (f (i + k))
+  pub inside : (k : ℕ) → k < n → slice_index after (i + k) ≡ bit_xor (slice_index before (i + k)) (f (i + k))
   pub below : (k : ℕ) → k < i → slice_index after k ≡ slice_index before k
-  pub above : (k : ℕ) → i + 32 ≤ k → slice_index after k ≡ slice_index before k
+  pub above : (k : ℕ) → i + n ≤ k → slice_index after k ≡ slice_index before k
 
 -- 128 lanes in four vectors, and lane k holds f k
 pub record HasQuad (q : Quad) (f : ℕ → ℕ) : Type 0 where

@@ -201,9 +201,9 @@ pub(crate) fn load_trio(bytes: &[u8], i: usize) -> Trio
     }
 }
 
-// The sums of two blocks of 96 bytes.
+/// The sums of two blocks of 96 bytes.
 #[inline(always)]
-fn added_trio(p: Trio, q: Trio) -> Trio
+pub(crate) fn added_trio(p: Trio, q: Trio) -> Trio
     ensures { (f g : ℕ → ℕ) → HasTrio p f → HasTrio q g → HasTrio result (λ k. bit_xor (f k) (g k)) }
 {
     Trio {
@@ -330,7 +330,7 @@ pub(crate) fn put_six(bytes: &mut [u8], i: usize, s: Six)
 pub(crate) fn add_block(dst: &mut [u8], i: usize, src: &[u8])
     requires to { i + 32 ≤ length dst.old }
     requires from { i + 32 ≤ length src.now }
-    ensures { IsBlockAdded (λ k. slice_index src.now k) dst.old dst.new i }
+    ensures { IsBlockAdded (λ k. slice_index src.now k) dst.old dst.new i 32 }
 {
     let bytes = load(src, i);
     let old = load(dst, i);
@@ -343,11 +343,47 @@ pub(crate) fn add_block(dst: &mut [u8], i: usize, src: &[u8])
 pub(crate) fn scale_add_block(dst: &mut [u8], i: usize, tables: Tables, src: &[u8])
     requires to { i + 32 ≤ length dst.old }
     requires from { i + 32 ≤ length src.now }
-    ensures { (c : ℕ) → AreTables c tables.low tables.high → IsBlockAdded (λ k. times c (slice_index src.now k)) dst.old dst.new i }
+    ensures { (c : ℕ) → AreTables c tables.low tables.high → IsBlockAdded (λ k. times c (slice_index src.now k)) dst.old dst.new i 32 }
 {
     let bytes = load(src, i);
     let products = tables.scaled(bytes);
     let old = load(dst, i);
     let sums = added(old, products);
     store(dst, i, sums);
+}
+
+// The first 16 of 32 bytes.
+#[inline(always)]
+fn front(v: u8x32) -> u8x16
+    requires { length v ≡ 32 }
+    ensures long { length result ≡ 16 }
+    ensures each { (k : ℕ) → k < 16 → slice_index result k ≡ slice_index v k }
+{
+    v.swizzle([0, 1, 2, 3, 4, 5, 6, 7, 8, 9, 10, 11, 12, 13, 14, 15])
+}
+
+// Writes the vector over the 16 bytes from position `i` on.
+#[inline(always)]
+fn store_sixteen(bytes: &mut [u8], i: usize, v: u8x16)
+    requires room { i + 16 ≤ length bytes.old }
+    requires whole { length v ≡ 16 }
+    ensures len { length bytes.new ≡ length bytes.old }
+    ensures below { (k : ℕ) → k < i → slice_index bytes.new k ≡ slice_index bytes.old k }
+    ensures inside { (k : ℕ) → k < 16 → slice_index bytes.new (i + k) ≡ slice_index v k }
+    ensures above { (k : ℕ) → i + 16 ≤ k → slice_index bytes.new k ≡ slice_index bytes.old k }
+{
+    v.copy_to_slice(&mut bytes[i..]);
+}
+
+/// Adds 16 products with bytes of `src`, from position `i` on.
+#[inline(always)]
+pub(crate) fn scale_add_half(dst: &mut [u8], i: usize, tables: Tables, src: &[u8])
+    requires to { i + 16 ≤ length dst.old }
+    requires from { i + 16 ≤ length src.now }
+    ensures { (c : ℕ) → AreTables c tables.low tables.high → IsBlockAdded (λ k. times c (slice_index src.now k)) dst.old dst.new i 16 }
+{
+    let bytes = twice(load_sixteen(src, i));
+    let products = tables.scaled(bytes);
+    let old = twice(load_sixteen(dst, i));
+    store_sixteen(dst, i, front(added(old, products)));
 }

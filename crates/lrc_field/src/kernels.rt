@@ -32,6 +32,10 @@ pub fn scale_add_into(dst: &mut [u8], c: Gf, src: &[u8])
         blocks::scale_add_block(dst, at, tables, src);
         at += 32;
     }
+    'halves: while dst.len() - at >= 16 {
+        blocks::scale_add_half(dst, at, tables, src);
+        at += 16;
+    }
     for i in at..dst.len() {
         dst[i] ^= c.mul(Gf::new(src[i])).byte();
     }

@@ -1,17 +1,36 @@
 //! Two sums over the same slices in one pass: each byte is read and halved once for both.
-ghost use Rattle.std.specs.Prelude.{◌≡◌, ◌<◌, ◌≤◌, ◌+◌, ◌^◌, ℕ, length};
-ghost use Rattle.lrc_field.specs.Blocks.{AreSet};
+ghost use Rattle.std.specs.Prelude.{◌≡◌, ◌<◌, ◌≤◌, ◌+◌, ◌^◌, ℕ, bit_xor, length, slice_index};
+ghost use Rattle.lrc_field.specs.Blocks.{AreSet, HasTrio};
+ghost use Rattle.lrc_field.specs.Field.{times};
 ghost use Rattle.lrc_field.specs.Pairs.{AllReach, first_sum_at, second_sum_at};
 
-use crate::blocks;
+use crate::blocks::{self, Trio};
 use crate::element::Gf;
 
-/// Two scalars, and the bytes that each of them scales.
+/// Two scalars, and the bytes that each of them scales. The bytes come first, as those of a term.
 #[derive(Clone, Copy)]
 pub struct Pair<'a> {
+    pub bytes: &'a [u8],
     pub first: Gf,
     pub second: Gf,
-    pub bytes: &'a [u8],
+}
+
+// Adds to two sums at 96 positions the products of the bytes from position `i` on, each with a scalar of its own. Where both scalars
+// are 01, no tables are needed.
+#[inline(always)]
+fn with_products(a: Trio, b: Trio, first: Gf, second: Gf, bytes: &[u8], i: usize) -> (Trio, Trio)
+    requires { i + 96 ≤ length bytes.now }
+    ensures first { (f : ℕ → ℕ) → HasTrio a f → HasTrio result.0 (λ k. bit_xor (f k) (times first (slice_index bytes.now (i + k)))) }
+    ensures second { (f : ℕ → ℕ) → HasTrio b f → HasTrio result.1 (λ k. bit_xor (f k) (times second (slice_index bytes.now (i + k)))) }
+{
+    let trio = blocks::load_trio(bytes, i);
+    if first.byte() == 1 && second.byte() == 1 {
+        return (blocks::added_trio(a, trio), blocks::added_trio(b, trio));
+    }
+    (
+        blocks::trio_with_products(a, first, trio),
+        blocks::trio_with_products(b, second, trio),
+    )
 }
 
 // Writes both sums at 96 places, from place `i` on.
@@ -32,9 +51,9 @@ fn put_sums(first: &mut [u8], second: &mut [u8], i: usize, from: usize, pairs: &
     let mut a = blocks::zero_trio();
     let mut b = blocks::zero_trio();
     for pair in pairs {
-        let bytes = blocks::load_trio(pair.bytes, at);
-        a = blocks::trio_with_products(a, pair.first, bytes);
-        b = blocks::trio_with_products(b, pair.second, bytes);
+        let sums = with_products(a, b, pair.first, pair.second, pair.bytes, at);
+        a = sums.0;
+        b = sums.1;
     }
     blocks::put_trio(first, i, a);
     blocks::put_trio(second, i, b);

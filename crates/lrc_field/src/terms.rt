@@ -3,11 +3,11 @@ ghost use Rattle.std.specs.Prelude.{◌≡◌, All};
 
 use crate::element::Gf;
 
-/// A scalar, and the bytes that it scales.
+/// A scalar, and the bytes that it scales. The bytes come first, so that nothing lies before them that a copy would have to wait for.
 #[derive(Clone, Copy)]
 pub struct Term<'a> {
-    pub scalar: Gf,
     pub bytes: &'a [u8],
+    pub scalar: Gf,
 }
 
 /// An array for terms, which has none yet: 00 times no bytes.
@@ -40,7 +40,7 @@ fn no_term<'a>() -> Term<'a>
     ensures { result.scalar ≡ 0 }
 {
     Term {
-        scalar: Gf::new(0),
         bytes: &[],
+        scalar: Gf::new(0),
     }
 }

@@ -7,7 +7,7 @@ use Rattle.lrc_field.proofs.kernels.add_into.Goals as goal
 pub lanes-preserved : goal.lanes-preserved
 lanes-preserved c = record {
   within = omega arith;
-  summed = summed_block (λ k. slice_index c.args.src.now k) c.args.dst.now c.args.src.now c.lanes.dst c.add_block.new.dst c.lanes.at
+  summed = summed_block (λ k. slice_index c.args.src.now k) c.args.dst.now c.args.src.now c.lanes.dst c.add_block.new.dst c.lanes.at 32
       (λ k lt. refl) c.lanes.invariant.summed c.add_block.ensures;
 }
 

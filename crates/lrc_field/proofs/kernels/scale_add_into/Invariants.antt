@@ -9,5 +9,11 @@ invariant-lanes l = record { within : l.at ≤ length l.dst; summed : IsSummed l
 abbrev pub decreases-lanes : goal.decreases-lanes
 decreases-lanes l = length l.dst - l.at
 
+abbrev pub invariant-halves : goal.invariant-halves
+invariant-halves l = record { within : l.at ≤ length l.dst; summed : IsSummed l.fn.dst (map (times l.c) l.src) l.dst l.at }
+
+abbrev pub decreases-halves : goal.decreases-halves
+decreases-halves l = length l.dst - l.at
+
 abbrev pub invariant-loop-i : goal.invariant-loop-i
 invariant-loop-i l = IsSummed l.fn.dst (map (times l.c) l.src) l.dst l.i

@@ -12,15 +12,14 @@ loop-pair-preserved c =
     let p = c.pair-item.result in
     let at = c.args.from + c.args.i in
     record {
-      first = trio_same c.trio_with_products-a.result (λ k. bit_xor (first_sum_at (take j ps) (at + k))
+      first = trio_same c.with_products-sums.result.0 (λ k. bit_xor (first_sum_at (take j ps) (at + k))
           (scaled_at (λ (q : Pair). q.first) p (at + k))) (λ k. first_sum_at (take (j + 1) ps) (at + k))
           (λ k lt. pair_with (λ (q : Pair). q.first) ps j (at + k) p c.loop-pair-test.true c.pair-item.is)
-          (c.trio_with_products-a.ensures (λ k. first_sum_at (take j ps) (at + k)) _ c.loop-pair.invariant.first c.load_trio-bytes.ensures);
-      second = trio_same c.trio_with_products-b.result (λ k. bit_xor (second_sum_at (take j ps) (at + k))
+          (c.with_products-sums.ensures.first (λ k. first_sum_at (take j ps) (at + k)) c.loop-pair.invariant.first);
+      second = trio_same c.with_products-sums.result.1 (λ k. bit_xor (second_sum_at (take j ps) (at + k))
           (scaled_at (λ (q : Pair). q.second) p (at + k))) (λ k. second_sum_at (take (j + 1) ps) (at + k))
           (λ k lt. pair_with (λ (q : Pair). q.second) ps j (at + k) p c.loop-pair-test.true c.pair-item.is)
-          (c.trio_with_products-b.ensures (λ k. second_sum_at (take j ps)
-          (at + k)) _ c.loop-pair.invariant.second c.load_trio-bytes.ensures);
+          (c.with_products-sums.ensures.second (λ k. second_sum_at (take j ps) (at + k)) c.loop-pair.invariant.second);
     }
 
 pub returns-clause-first_set : goal.returns-clause-first_set
