@@ -58,7 +58,7 @@ ends_full farm-help-full 3 '' farm --help
 ends no-folders 2 '' 'error: the following required arguments were not provided:' farm
 ends other-command 2 '' "error: unrecognized subcommand 'shelf'" shelf
 ends great-number 2 '' "error: invalid value '65536' for '--queue <Q>': 65536 is not in 0..=65535" farm in out --queue 65536
-ends no-text 2 '' 'error: a word is not text' $'\xff'
+ends no-text 2 '' 'error: an argument is not text' $'\xff'
 for workers in 0 17; do
   ends "workers-$workers" 2 '' 'refused E11' farm demo/farm "$scratch/out" --workers "$workers" --queue 0
 done

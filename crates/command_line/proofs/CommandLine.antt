@@ -1,4 +1,4 @@
--- Lemmas on the words of the command line.
+-- Lemmas on the arguments of the command line.
 use Rattle.std.proofs.Common.{◌≡◌, ◌∙◌, ◌<◌, ◌^◌, ◌⊎◌, ℕ, List, [], Option, Some, None, Result, Ok, Err, inl, inr, codes, refl, subst, sym}
 use Rattle.std.proofs.Common.{ap, option_map}
 use Rattle.std.specs.Option.{option_map_or}
@@ -77,7 +77,7 @@ no_farm met rows e lacks input output workers queue farm =
     let same : rows ≡ farm.rows = ap (λ (o : Option (Text × List Row)). option_map_or (λ p. p.1) o []) (sym e ∙ farm.is) in
     lacks input output workers queue (rw same farm.values)
 
--- what the matches ask for, the words ask for
+-- what the matches ask for, the arguments ask for
 pub asked_by_matches : (words : List Text) (met : Option (Text × List Row)) → met ≡ subcommand_of program words
     → fault_of program words ≡ []
     → (w : Words) → MatchesWords met w → Asks w words
@@ -91,7 +91,7 @@ pub refused_by_matches : (words : List Text) (met : Option (Text × List Row)) �
 refused_by_matches words met e faultless (Usage text) h = inr record { faultless = faultless; no_farm = rw (← e) h }
 refused_by_matches words met e faultless OutOfMemory h = tt
 
--- what a parse tells in place of matches, the words ask for
+-- what a parse gives in place of matches, the arguments ask for
 pub asked_by_kind : (words : List Text) (k : ErrorKind) → (k ≡ kind.OutOfMemory) ⊎ IsAmong k (fault_of program words)
     → (w : Words) → Shows k w → Asks w words
 asked_by_kind words k has Lines h = absurd h

@@ -12,7 +12,7 @@ use std::alloc::{AllocError, Global};
 use thiserror::Error;
 
 const NO_COMMAND: &str =
-    "error: rebuild takes the command farm, or no words at all\n\nFor more information, try '--help'.\n";
+    "error: rebuild takes the command farm, or no arguments at all\n\nFor more information, try '--help'.\n";
 
 /// What the program's arguments ask for.
 #[derive(Debug, Drop)]

@@ -26,17 +26,17 @@ use Rattle.farm_core.specs.declared.orders.Order.TheVariants.{Rebuild}
 use Rattle.farm_core.specs.declared.jobs.Job.{Job}
 use Rattle.farm_core.specs.declared.jobs.Job.TheVariants.{Solve, Stop}
 use Rattle.farm_core.specs.Orders.{before_close, HasClose}
-use Rattle.farm_core.specs.Jobs.{IsOfRack, numbers_of, requests_of}
+use Rattle.farm_core.specs.Jobs.{IsOfSlot, numbers_of, requests_of}
 use Rattle.farm_core.specs.Feed.{HasFed, CountUp, AreRising, IsMade, IsRightLeft, refused_draws}
 use Rattle.farm_core.proofs.Works.{put_more}
 
 -- a job was put for each of the first i requests
-pub record IsFeeding (total : ℕ) (seat : SeatView) (rack : ℕ) (requests : List Asked) (jobs : PutView Job) (i : ℕ) (seat' : SeatView)
+pub record IsFeeding (total : ℕ) (seat : SeatView) (slot : ℕ) (requests : List Asked) (jobs : PutView Job) (i : ℕ) (seat' : SeatView)
     (jobs' : PutView Job) : Type 0 where
   pub put : List (Item Job)
   pub only_values : Each (λ x. is_end x ≡ false) put
   pub jobs_is : jobs' ≡ put_end jobs.lane jobs.sender put
-  pub racks_are : All (IsOfRack rack) (values put)
+  pub slots_are : All (IsOfSlot slot) (values put)
   pub count : length (values put) ≡ i
   pub long : length put ≡ i
   pub requests_are : requests_of (values put) ≡ take i requests
@@ -94,16 +94,16 @@ next_here orders i r d low is along = sym along ∙ ap before_close (drop_more o
     ∙ ap (λ (x : Order). before_close (x ∷ drop (i + 1) orders)) is
 
 -- a number was drawn, and the job put
-pub feed_more : (total : ℕ) (seat : SeatView) (rack : ℕ) (orders : List Order) (jobs : PutView Job) (i : ℕ) (s s' : SeatView)
+pub feed_more : (total : ℕ) (seat : SeatView) (slot : ℕ) (orders : List Order) (jobs : PutView Job) (i : ℕ) (s s' : SeatView)
     (e e' : PutView Job) (number : ℕ) (job : Job) (r : Asked) (d : Order) (x : Item Job)
-    → IsFeeding total seat rack (before_close orders) jobs i s e → before_close (drop i orders) ≡ drop i (before_close orders)
+    → IsFeeding total seat slot (before_close orders) jobs i s e → before_close (drop i orders) ≡ drop i (before_close orders)
     → i < length orders → get_or orders i d ≡ Rebuild r
     → s'.gate ≡ s.gate → s'.has ≡ accepted s.has number → All (λ n. n < number) s.has.numbers
     → (s.has.share ≡ total → number ≡ length s.has.numbers)
-    → values (x ∷ []) ≡ job ∷ [] → is_end x ≡ false → IsOfRack rack job → numbers_of (job ∷ []) ≡ number ∷ []
+    → values (x ∷ []) ≡ job ∷ [] → is_end x ≡ false → IsOfSlot slot job → numbers_of (job ∷ []) ≡ number ∷ []
     → requests_of (job ∷ []) ≡ r ∷ [] → e' ≡ with_put e x
-    → IsFeeding total seat rack (before_close orders) jobs (i + 1) s' e'
-feed_more total seat rack orders jobs i s s' e e' number job r d x was along low is gate has above lone says value of_rack number_is
+    → IsFeeding total seat slot (before_close orders) jobs (i + 1) s' e'
+feed_more total seat slot orders jobs i s s' e e' number job r d x was along low is gate has above lone says value of_slot number_is
     request_is more =
     let vals : values (was.put ++ x ∷ []) ≡ values was.put ++ job ∷ [] =
     values-append was.put (x ∷ []) ∙ ap (λ l. values was.put ++ l) says in
@@ -115,7 +115,7 @@ feed_more total seat rack orders jobs i s s' e e' number job r d x was along low
       put = was.put ++ x ∷ [];
       only_values = each_snoc (λ x. is_end x ≡ false) was.put x was.only_values value;
       jobs_is = put_more e e' jobs.lane jobs.sender was.put x was.jobs_is more;
-      racks_are = subst (λ l. All (IsOfRack rack) l) (sym vals) (all_push (IsOfRack rack) (values was.put) job was.racks_are of_rack);
+      slots_are = subst (λ l. All (IsOfSlot slot) l) (sym vals) (all_push (IsOfSlot slot) (values was.put) job was.slots_are of_slot);
       count = ap (λ (l : List Job). length l) vals ∙ (length_push (values was.put) job ∙ ap (λ n. n + 1) was.count);
       long = length_push was.put x ∙ ap (λ n. n + 1) was.long;
       requests_are = reqs ∙ (ap (λ l. l ++ r ∷ []) was.requests_are
@@ -156,20 +156,20 @@ feed_more total seat rack orders jobs i s s' e e' number job r d x was along low
         (at_snoc_or ns n y k at)
 
 -- the feeder ends
-pub feed_ends : (gate : GateName) (seat : SeatView) (rack : ℕ) (list : List Order) (jobs : PutView Job) (i : ℕ) (s s' : SeatView)
+pub feed_ends : (gate : GateName) (seat : SeatView) (slot : ℕ) (list : List Order) (jobs : PutView Job) (i : ℕ) (s s' : SeatView)
     (e e' : PutView Job) (right : Option TableId) (close : Option ℕ)
-    → IsFeeding gate.size.total seat rack (before_close list) jobs i s e → s'.gate ≡ s.gate → s'.has.share ≡ s.has.share
+    → IsFeeding gate.size.total seat slot (before_close list) jobs i s e → s'.gate ≡ s.gate → s'.has.share ≡ s.has.share
     → s'.has.numbers ≡ s.has.numbers → s'.has.draws ≤ s'.has.share → s'.has.held ≡ s.has.held
     → s'.has.draws ≡ s.has.draws + refused_draws right s'.has.knows
     → e' ≡ with_put e (End e.sender (length e.put))
     → ((put : List (Item Job)) → length (values put) ≡ i → IsRightLeft gate.id seat.has list
     (length (values put) ≡ length (before_close list)) right close s'.has)
-    → HasFed gate seat rack list jobs s' right close e'
-feed_ends gate seat rack list jobs i s s' e e' right close was gate_is share numbers within held draws more left = record {
+    → HasFed gate seat slot list jobs s' right close e'
+feed_ends gate seat slot list jobs i s s' e e' right close was gate_is share numbers within held draws more left = record {
   put = was.put;
   only_values = was.only_values;
   jobs_is = more ∙ ap (λ (u : PutView Job). with_put u (End u.sender (length u.put))) was.jobs_is;
-  rack_is = was.racks_are;
+  slot_is = was.slots_are;
   requests_are = was.requests_are ∙ ap (λ n. take n (before_close list)) (sym was.count);
   numbers_are = numbers ∙ was.numbers_are;
   rising = was.rising;

@@ -19,7 +19,7 @@ held_there : (b : Held) (rack number : ℕ) (e : Entry) → held_at b rack numbe
     → held_at b r k ≡ Some e
 held_there b rack number e is r k same = ap (λ (i : ℕ). held_at b i k) same.0 ∙ ap (λ (i : ℕ). held_at b rack i) same.1 ∙ is
 
--- a reply counts at its place
+-- a reply counts at its rack and number
 at_place : (r k : ℕ) (x : Replied) → (r ≡ slot_rack x.rack) × (k ≡ x.number) → replies_to r k (x ∷ []) ≡ 1
 at_place r k x same = let a = same.0 in let b = same.1 in grind arith
 

@@ -1,4 +1,4 @@
--- The joined seat of a rack tells what its feeders drew.
+-- The joined seat of a rack says what its feeders drew.
 use Rattle.std.proofs.Common.{◌≡◌, ℕ, zero, suc, ◌+◌, ◌<◌, ◌||◌, ◌⊎◌, List, [], ◌∷◌, ◌++◌, length, take, map, Bool, true, false, refl, sym}
 use Rattle.std.proofs.Common.{ap, ◌∙◌, subst, inl, inr, ⊎_elim, arith, append-nil, length-append, Option, Some, None}
 use Rattle.std.specs.List.{sum_by, All}
@@ -30,7 +30,7 @@ use Rattle.farm_core.specs.declared.jobs.Job.{Job}
 use Rattle.farm_core.specs.declared.jobs.Job.TheVariants.{Solve, Stop}
 use Rattle.farm_core.specs.declared.threads.feeder.Fed.{Fed}
 use Rattle.farm_core.specs.Orders.{before_close, HasClose}
-use Rattle.farm_core.specs.Jobs.{IsOfRack, IsOfFeed, numbers_of, requests_of}
+use Rattle.farm_core.specs.Jobs.{IsOfSlot, IsOfFeed, numbers_of, requests_of}
 use Rattle.farm_core.specs.Feed.{HasFed, IsRightLeft, AreRising, Draws, drawn_numbers, drawn_requests, DrewAll, right_back, draws_of}
 use Rattle.farm_core.specs.Feed.{IsOfGate, IsJoint, AreFed, HasDrawn}
 use Rattle.farm_core.proofs.Settled.{there}
@@ -92,7 +92,7 @@ requests_drawn [] = refl
 requests_drawn (Solve a b q ∷ js) = ap (λ l. q.now ∷ l) (requests_drawn js)
 requests_drawn (Stop ∷ js) = requests_drawn js
 
-draws_length : (r : ℕ) (js : List Job) → All (IsOfRack r) js → length (draws_of js) ≡ length js
+draws_length : (r : ℕ) (js : List Job) → All (IsOfSlot r) js → length (draws_of js) ≡ length js
 draws_length r [] all = refl
 draws_length r (Solve a b q ∷ js) all = ap suc (draws_length r js (λ k d low. all (suc k) d (omega arith)))
 draws_length r (Stop ∷ js) all = absurd (all 0 Stop (omega arith))
@@ -149,7 +149,7 @@ module _ (gate : GateName) (rack : ℕ) (lists : List (List Order)) (feds : List
       ap (λ (e : PutView Job). values e.put) h.jobs_is
       ∙ (values-append h.put (End jobs.sender (length h.put) ∷ []) ∙ append-nil (values h.put))
 
-  -- what the feeder at a place left
+  -- what the feeder at an index left
   at_feed : (k : ℕ) (f : Fed) → get_elem? feds k ≡ some f
       → (list : List Order) × (get_elem? lists k ≡ some list) × (seat : SeatView) × (jobs : PutView Job) × (seat.has.used ≡ 0)
       × (seat.has.made ≡ []) × HasFed gate seat (slot_of rack k) list jobs f.seat f.right f.close f.jobs
@@ -163,7 +163,7 @@ module _ (gate : GateName) (rack : ℕ) (lists : List (List Order)) (feds : List
       let l = there lists k (let a = at_below feds k f at in let b = fed.count in omega arith) in
       (fed.each k l.0 f l.1 at).5
 
-  -- the feeder of a place of what was drawn
+  -- the feeder at an index of what was drawn
   from_drawn : (k : ℕ) (d : Draws) → get_elem? drawn k ≡ some d → (f : Fed) × (get_elem? feds k ≡ some f) × (draws_at f ≡ d)
   from_drawn k d at =
       let e = from_map (λ (e : PutView Job). draws_of (values e.put)) (map jobs_at feds) k d at in
@@ -182,7 +182,7 @@ module _ (gate : GateName) (rack : ℕ) (lists : List (List Order)) (feds : List
       let same : h.0 ≡ list = some-injective _ _ (sym h.1 ∙ at_list) in
       let vals = vals_are f h.2 k h.0 h.3 h.6 in
       let long : length (values h.6.put) ≡ length (draws_at f) =
-      sym (draws_length (slot_of rack k) (values h.6.put) h.6.rack_is) ∙ ap (λ (l : List Job). length (draws_of l)) (sym vals) in
+      sym (draws_length (slot_of rack k) (values h.6.put) h.6.slot_is) ∙ ap (λ (l : List Job). length (draws_of l)) (sym vals) in
       requests_drawn (values f.jobs.put) ∙ (ap requests_of vals
       ∙ (h.6.requests_are ∙ (ap (λ n. take n (before_close h.0)) long
       ∙ ap (λ (l : List Order). take (length (draws_at f)) (before_close l)) same)))
@@ -259,7 +259,7 @@ module _ (gate : GateName) (rack : ℕ) (lists : List (List Order)) (feds : List
             let h = at_feed k f.0 f.1 in
             subst (λ (u : PutView Job). All (IsOfFeed rack k) (values u.put)) f.2
             (subst (λ (l : List Job). All (IsOfFeed rack k) l) (sym (vals_are f.0 h.2 k h.0 h.3 h.6))
-            (jobs_of_feed rack k (few_at k f.0 f.1) (values h.6.put) h.6.rack_is));
+            (jobs_of_feed rack k (few_at k f.0 f.1) (values h.6.put) h.6.slot_is));
       }
 
 -- a seat that knows a closing and spends rights makes no close

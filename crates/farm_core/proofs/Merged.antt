@@ -124,7 +124,7 @@ filled_count (Some x ∷ row) (suc n) has lacks = ap suc (filled_count row n (λ
 
 module _ (racks : List (List (List Order))) (count : ℕ → ℕ) (drawn : ℕ → List Draws) (all_drawn : AreAllDrawn racks count drawn) (b : Held)
     (xs : List Replied) (held : HoldsAll b racks xs) (each : AreOneEach count xs) (right : Each (IsSoReply (IsDrawnAt drawn)) xs) where
-  -- the entry of a place is of a number that was drawn for its request
+  -- the entry at a number is of a request that the number was drawn for
   entry_drawn : (r k : ℕ) (e : Entry) → held_at b r k ≡ Some e → IsDrawnBy (drawn r) (slot_feed e.rack) k e.request
   entry_drawn r k e is =
       let a = held.among r k e is in

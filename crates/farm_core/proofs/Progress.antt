@@ -1,4 +1,4 @@
--- A list from an order on, and the replies of a place.
+-- A list from an order on, and the reply by a rack and a number.
 use Rattle.std.proofs.Common.{ℕ, zero, suc, ◌≡◌, ◌+◌, ◌-◌, ◌<◌, ◌≤◌, ◌⊎◌, List, [], ◌∷◌, length, get_or, drop, arith, sym, ap, ◌∙◌, inl}
 use Rattle.std.proofs.Common.{inr, Some, None}
 use Rattle.std.specs.Prelude.{IsSome}

@@ -52,7 +52,7 @@ share_enough (suc (suc (suc (suc zero)))) some_in few = omega arith
 share_enough (suc (suc (suc (suc (suc n))))) some_in few = absurd (omega arith)
 
 module _ {A : Type 0} where
-  -- what was read at a place is there
+  -- what was read at an index is there
   pub got : (xs : List A) (k : ℕ) (x : A) → x ≡ get_or xs k x → k < length xs → get_elem? xs k ≡ some x
   got xs k x is low = let t = there xs k low in subst (λ y. get_elem? xs k ≡ some y) (sym (is ∙ place_is xs k t.0 x t.1)) t.1
 
@@ -60,7 +60,7 @@ module _ {A : Type 0} where
   each_back P all front rest is each k x at = each (length front + k) x
       (subst (λ l. get_elem? l (length front + k) ≡ some x) (sym is) (at_back front rest k x at (length front + k) refl))
 
--- the feeds of a rack, and those of the racks from a place on
+-- the feeds of a rack, and those of the racks from an index on
 pub feeds_at : (lists : List (List (List Order))) (k : ℕ) (feeds : List (List Order)) → k < length lists → feeds ≡ get_or lists k []
     → get_elem? lists k ≡ some feeds
 feeds_at lists k feeds low is = let t = there lists k low in subst (λ y. get_elem? lists k ≡ some y)

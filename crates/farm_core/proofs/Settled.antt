@@ -41,7 +41,7 @@ weigh_replies r k (Value s i x ∷ xs) = let a' = sum_by-cons (reply_weight r k)
     let b' = weigh_replies r k xs in omega arith
 weigh_replies r k (End s i ∷ xs) = let a' = sum_by-cons (reply_weight r k) (End s i) xs in let b' = weigh_replies r k xs in omega arith
 
--- as many replies as jobs, at each place
+-- as many replies as jobs, for each rack and number
 pub replied : (r k : ℕ) (js : List Job) (rs : List Replied) → AreReplies js rs → jobs_to r k js ≡ replies_to r k rs
 replied r k [] [] all = refl
 replied r k [] (y ∷ ys) all = absurd all

@@ -33,7 +33,7 @@ worked_answered jobs replies j r w =
 
 module _ (L : LaneName Job) (M : LaneName Replied) (hs : List Handle) (js : List (TakeView Job)) (rs : List (PutView Replied))
     (ends : List WorkerEnds) (joined : WorkersJoined hs js rs) (given : ends_of hs ≡ ends) (are : AreWorkerEnds L M ends) where
-  -- the ends of the worker at a place
+  -- the ends of the worker at an index
   given_at : (k : ℕ) (h : Handle) → get_elem? hs k ≡ some h → (h.promise.0.value.jobs ≡ new_take L)
       × (h.promise.0.value.replies ≡ new_put M k)
   given_at k h at = are.each k h.promise.0.value (subst (λ (l : List WorkerEnds). get_elem? l k ≡ some h.promise.0.value) given

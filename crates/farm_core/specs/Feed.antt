@@ -15,7 +15,7 @@ use Rattle.farm_lanes.specs.GateView.{GateName, SeatView}
 use Rattle.farm_core.specs.declared.orders.Order.{Order}
 use Rattle.farm_core.specs.declared.jobs.Job.{Job}
 use Rattle.farm_core.specs.Orders.{before_close, HasClose}
-use Rattle.farm_core.specs.Jobs.{IsOfRack, numbers_of, requests_of, IsOfFeed}
+use Rattle.farm_core.specs.Jobs.{IsOfSlot, numbers_of, requests_of, IsOfFeed}
 use Rattle.lrc_code.specs.Requests.{Asked}
 use Rattle.farm_lanes.specs.Counting.{times, once_below}
 use Rattle.farm_core.specs.declared.jobs.Job.TheVariants.{Solve, Stop}
@@ -37,12 +37,12 @@ abbrev pub IsMade : List ℕ → Option ℕ → List ℕ → Type 0
 IsMade was (Some n) made = made ≡ was ++ n ∷ []
 IsMade was None made = made ≡ was
 
--- how many of a feeder's draws were refused: one, where the right is back and the seat was told of a closing
+-- how many of a feeder's draws were refused: one, if the right is back and the seat knows of a closing
 abbrev pub refused_draws : Option TableId → Bool → ℕ
 refused_draws (Some right) knows = if knows then 1 else 0
 refused_draws None knows = 0
 
--- the right is back, and unless the seat was told of a closing everything was put, of a list without a close; or the right was
+-- the right is back, and unless the seat knows of a closing everything was put, of a list without a close; or the right was
 -- spent on the close of the list, of which the seat knows, and everything before it was put
 abbrev pub IsRightLeft : TableId → SeatRecord → List Order → Type 0 → Option TableId → Option ℕ → SeatRecord → Type 0
 IsRightLeft gate was list All_put (Some right) close left =
@@ -50,14 +50,14 @@ IsRightLeft gate was list All_put (Some right) close left =
 IsRightLeft gate was list All_put None close left = (left.used ≡ was.used + 1) × IsMade was.made close left.made × All_put × HasClose list
     × (left.knows ≡ true)
 
--- With this seat and this end, unused at first, a feeder put a job for each of the first requests of its list, with the
--- numbers that it drew, which rise, and then its end mark.
-pub record HasFed (gate : GateName) (seat : SeatView) (rack : ℕ) (list : List Order) (jobs : PutView Job) (seat_left : SeatView)
+-- With this seat and this end, unused at first, a feeder put a job for each of the first requests of its list, with its slot and
+-- the numbers that it drew, which rise, and then its end mark.
+pub record HasFed (gate : GateName) (seat : SeatView) (slot : ℕ) (list : List Order) (jobs : PutView Job) (seat_left : SeatView)
     (right_left : Option TableId) (close : Option ℕ) (jobs_left : PutView Job) : Type 0 where
   pub put : List (Item Job)
   pub only_values : Each (λ x. is_end x ≡ false) put
   pub jobs_is : jobs_left ≡ put_end jobs.lane jobs.sender (put ++ End jobs.sender (length put) ∷ [])
-  pub rack_is : All (IsOfRack rack) (values put)
+  pub slot_is : All (IsOfSlot slot) (values put)
   pub requests_are : requests_of (values put) ≡ take (length (values put)) (before_close list)
   pub numbers_are : seat_left.has.numbers ≡ numbers_of (values put)
   pub rising : AreRising (numbers_of (values put))
@@ -105,7 +105,7 @@ IsDrawnBy drawn feed number request = (draws : Draws) × (i : ℕ) × (get_elem?
 -- the numbers and the requests of jobs
 abbrev pub draws_of : List Job → Draws
 draws_of [] = []
-draws_of (Solve rack number request ∷ jobs) = (number, request.now) ∷ draws_of jobs
+draws_of (Solve slot number request ∷ jobs) = (number, request.now) ∷ draws_of jobs
 draws_of (Stop ∷ jobs) = draws_of jobs
 
 -- a seat that came of these: shares, numbers, rights and closes add up, and it knows a closing where one of them does

@@ -15,22 +15,22 @@ use Rattle.farm_lanes.specs.LaneEnds.{PutView, TakeView, put_end, take_end}
 -- the jobs that ask for a reply
 abbrev pub solves : List Job → List Job
 solves [] = []
-solves (Solve rack number request ∷ jobs) = Solve rack number request ∷ solves jobs
+solves (Solve slot number request ∷ jobs) = Solve slot number request ∷ solves jobs
 solves (Stop ∷ jobs) = solves jobs
 
 -- the reply is to this job
 abbrev pub IsReplyTo : Job → Replied → Type 0
-IsReplyTo (Solve rack number request) reply = (reply.rack ≡ rack) × (reply.number ≡ number) × (reply.request ≡ request.now)
+IsReplyTo (Solve slot number request) reply = (reply.rack ≡ slot) × (reply.number ≡ number) × (reply.request ≡ request.now)
 IsReplyTo Stop reply = ⊥
 
 -- one reply to each job that asks for one, in order
 abbrev pub AreReplies : List Job → List Replied → Type 0
 AreReplies jobs replies = AllZip IsReplyTo (solves jobs) replies
 
--- the job asks for a reply to a request of this rack
-abbrev pub IsOfRack : ℕ → Job → Type 0
-IsOfRack rack (Solve r number request) = r ≡ rack
-IsOfRack rack Stop = ⊥
+-- the job asks for a reply to a request of this slot
+abbrev pub IsOfSlot : ℕ → Job → Type 0
+IsOfSlot slot (Solve s number request) = s ≡ slot
+IsOfSlot slot Stop = ⊥
 
 -- the job's slot is that of this feed of this rack
 abbrev pub IsOfFeed : ℕ → ℕ → Job → Type 0
@@ -40,12 +40,12 @@ IsOfFeed rack feed Stop = ⊥
 -- the numbers of these jobs, and their requests
 abbrev pub numbers_of : List Job → List ℕ
 numbers_of [] = []
-numbers_of (Solve rack number request ∷ jobs) = number ∷ numbers_of jobs
+numbers_of (Solve slot number request ∷ jobs) = number ∷ numbers_of jobs
 numbers_of (Stop ∷ jobs) = numbers_of jobs
 
 abbrev pub requests_of : List Job → List Asked
 requests_of [] = []
-requests_of (Solve rack number request ∷ jobs) = request.now ∷ requests_of jobs
+requests_of (Solve slot number request ∷ jobs) = request.now ∷ requests_of jobs
 requests_of (Stop ∷ jobs) = requests_of jobs
 
 -- With these ends, unused at first, a worker took some items, and put one reply to each job that it took, in that order, and
@@ -61,7 +61,7 @@ pub record HasWorked (jobs : TakeView Job) (replies : PutView Replied) (jobs_lef
 
 -- the item says to stop
 abbrev pub SaysStop : Item Job → Type 0
-SaysStop (Value s i (Solve rack number request)) = ⊥
+SaysStop (Value s i (Solve slot number request)) = ⊥
 SaysStop (Value s i Stop) = ⊤
 SaysStop (End s i) = ⊥
 
@@ -73,7 +73,7 @@ HasStopped taken put =
 
 -- the item asks for no reply
 abbrev pub AsksNothing : Item Job → Type 0
-AsksNothing (Value s i (Solve rack number request)) = ⊥
+AsksNothing (Value s i (Solve slot number request)) = ⊥
 AsksNothing (Value s i Stop) = ⊤
 AsksNothing (End s i) = ⊤
 
@@ -83,13 +83,13 @@ pub record HasPutStops (stops stops_left : PutView Job) : Type 0 where
   pub stops_is : stops_left ≡ put_end stops.lane stops.sender put
   pub nothing : Each AsksNothing put
 
--- 1 where the item asks for a reply by this number of this rack
+-- 1 where the item asks for a reply by this number, for a slot of this rack
 abbrev pub job_weight : ℕ → ℕ → Item Job → ℕ
-job_weight rack number (Value s i (Solve r k request)) = if (slot_rack r == rack) && (k == number) then 1 else 0
+job_weight rack number (Value s i (Solve slot k request)) = if (slot_rack slot == rack) && (k == number) then 1 else 0
 job_weight rack number (Value s i Stop) = 0
 job_weight rack number (End s i) = 0
 
--- 1 where the item replies by this number of this rack
+-- 1 where the item replies by this number, for a slot of this rack
 abbrev pub reply_weight : ℕ → ℕ → Item Replied → ℕ
 reply_weight rack number (Value s i x) = if (slot_rack x.rack == rack) && (x.number == number) then 1 else 0
 reply_weight rack number (End s i) = 0

@@ -34,8 +34,8 @@ IsEnded feeds merge =
     EachAt (λ feed list. ¬ HasClose list × IsWhole merge feed list) feeds
     ⊎ ((feed : ℕ) × (list : List Order) × (get_elem? feeds feed ≡ some list) × HasClose list × IsWhole merge feed list)
 
--- A lawful merge of a rack's feeds: a list of requests, each with its feed's number. Those of one feed are the first requests in
--- front of that feed's close, in order. Without a close in any feed it has each feed whole; otherwise some feed that has a close.
+-- A lawful merge of a rack's feeds: a list of requests, each with its feed's number. Those of one feed are the first requests
+-- before that feed's close, in order. Without a close in any feed it has each feed whole; otherwise some feed that has a close.
 pub record IsLawfulMerge (feeds : List (List Order)) (merge : List (ℕ × Asked)) : Type 0 where
   pub known : All (λ x. x.0 < length feeds) merge
   pub prefixes : EachAt (λ feed list. of_feed feed merge ≡ take (length (of_feed feed merge)) (before_close list)) feeds

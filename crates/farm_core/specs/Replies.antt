@@ -8,19 +8,19 @@ use Rattle.farm_core.specs.declared.replies.ReplyResult.TheVariants.{Done, Starv
 use Rattle.farm_core.specs.Orders.{served, IsServed, before_close}
 use Rattle.lrc_code.specs.declared.outcomes.Outcome.{Outcome}
 
--- what a reply may say of a request: its answer, or that memory was wanting
+-- what a reply may say of a request: its answer, or that memory was refused
 abbrev pub IsRight : Asked → ReplyResult → Type 0
 IsRight request (Done outcome) = IsAnswer request outcome
 IsRight request Starved = ⊤
 
--- a reply: to the request of a rack and a number, and what became of it
+-- a reply: to the request of a rack, or of a slot in a run, and a number, and what became of it
 pub record Replied : Type 0 where
   pub rack : ℕ
   pub number : ℕ
   pub request : Asked
   pub result : ReplyResult
 
--- a request with the rack that the reply to it names, and that reply
+-- a request with the rack, or the slot in a run, that the reply to it names, and what became of it
 pub record Entry : Type 0 where
   pub rack : ℕ
   pub request : Asked
@@ -69,12 +69,12 @@ abbrev pub IsLeastMissing : Collected → ℕ → ℕ → Type 0
 IsLeastMissing c rack number =
     IsMissing c rack number × ((r k : ℕ) → IsBefore r k rack number → IsMissing c r k → ⊥)
 
--- each reply that came answers the request of its place
+-- each reply that came answers the request of its rack and number
 abbrev pub IsInPlace : Collected → Type 0
 IsInPlace c = (rack number : ℕ) (e : Entry) (d : Asked) → reply_at c rack number ≡ Some e
     → e.request ≡ slice_index_or (served c.racks rack) number d
 
--- no reply said that memory was missing
+-- no reply said that memory was refused
 abbrev pub NoneStarved : Collected → Type 0
 NoneStarved c = (rack number : ℕ) (e : Entry) → reply_at c rack number ≡ Some e → e.result ≡ Starved → ⊥
 
@@ -101,7 +101,7 @@ IsFirstGap row k = IsGap row k × ((j : ℕ) → j < k → IsGap row j → ⊥)
 abbrev pub HasNoGap : List (Option Entry) → Type 0
 HasNoGap row = (j : ℕ) → IsGap row j → ⊥
 
--- the first gap of all rows, in the order of rows and places
+-- the first gap of all rows, in the order of rows and numbers
 abbrev pub IsLeastGap : List (List (Option Entry)) → ℕ → ℕ → Type 0
 IsLeastGap table rack number =
     (rack < length table)

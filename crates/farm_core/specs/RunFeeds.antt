@@ -1,5 +1,5 @@
--- How a run names the feeds of all racks: it counts them through, four slots to a rack, and its jobs and replies name a feed's slot as
--- their rack.
+-- How a run names the feeds of all racks: it counts them through, four slots to a rack. The field `rack` of its jobs and replies is a
+-- feed's slot.
 use Rattle.std.specs.Prelude.{ℕ, ◌+◌, ◌*◌, ◌/◌, ◌%◌, List}
 use Rattle.farm_core.specs.declared.orders.Order.{Order}
 use Rattle.farm_core.specs.declared.feeds.lists.Lists.{Lists}

@@ -28,7 +28,7 @@ ends_of handles = map (λ h. h.promise.0.value) handles
 abbrev pub feeders_of : List (PromisedHandle (Option Fed) FeedOf) → List Feeder
 feeders_of handles = map (λ h. h.promise.0.value) handles
 
--- the ends at each place are what the worker of that place left
+-- the ends at each index are what the worker of that index left
 pub record WorkersJoined (handles : List (PromisedHandle Worked WorkOf)) (jobs : List (TakeView Job))
     (replies : List (PutView Replied)) : Type 0 where
   pub jobs_count : length jobs ≡ length handles
@@ -36,11 +36,11 @@ pub record WorkersJoined (handles : List (PromisedHandle Worked WorkOf)) (jobs :
   pub each : (k : ℕ) (h : PromisedHandle Worked WorkOf) (j : TakeView Job) (r : PutView Replied) → get_elem? handles k ≡ some h
       → get_elem? jobs k ≡ some j → get_elem? replies k ≡ some r → HasWorked h.promise.0.value.jobs h.promise.0.value.replies j r
 
--- the workers' ends as they were given: unused ends of two lanes, in the order of the places
+-- the workers' ends as they were given: unused ends of two lanes, in order
 pub record AreWorkerEnds (jobs_lane : LaneName Job) (replies_lane : LaneName Replied) (ends : List WorkerEnds) : Type 0 where
   pub each : (k : ℕ) (e : WorkerEnds) → get_elem? ends k ≡ some e → (e.jobs ≡ new_take jobs_lane) × (e.replies ≡ new_put replies_lane k)
 
--- what each feeder left is at its place
+-- what each feeder left is at its index
 pub record FeedersJoined (handles : List (PromisedHandle (Option Fed) FeedOf)) (feds : List Fed) : Type 0 where
   pub count : length feds ≡ length handles
   pub each : (k : ℕ) (h : PromisedHandle (Option Fed) FeedOf) (f : Fed) → get_elem? handles k ≡ some h → get_elem? feds k ≡ some f
@@ -50,7 +50,7 @@ pub record FeedersJoined (handles : List (PromisedHandle (Option Fed) FeedOf)) (
 abbrev pub AreOfGate : GateName → List (PromisedHandle (Option Fed) FeedOf) → Type 0
 AreOfGate gate handles = Each (λ h. h.promise.0.value.gate.now ≡ gate) handles
 
--- the feeders of a rack: each at its place, with its list, and all seats and rights of their gate
+-- the feeders of a rack: each at the index of its feed, with its list, and all seats and rights of their gate
 pub record AreRackFeeders (gate : GateName) (rack : ℕ) (lists : List (List Order)) (feeders : List Feeder) : Type 0 where
   pub count : length feeders ≡ length lists
   pub rights : gate.size.rights ≡ length feeders

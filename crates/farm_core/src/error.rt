@@ -8,7 +8,7 @@ use thiserror::Error;
 /// Why a farm gives no answers.
 #[derive(Debug, Drop, Error)]
 pub enum FarmError {
-    /// E16: memory was wanting.
+    /// E16: memory was refused.
     #[error("out of memory")]
     OutOfMemory,
     /// E17: a thread was refused.

@@ -111,28 +111,6 @@ fn run_lists<'a, R: Threads + Wait + Sync, P: Pause>(
     )
 }
 
-// The answers of racks with one list each.
-fn answer_racks(alloc: Global, racks: &Racks, board: Board) -> Result<Vec<Vec<Outcome>>, FarmError>
-    requires { (board.racks ≡ one_each racks.now) × AreMergedRows board.racks board.table }
-    ensures { IfOk result (λ v. AreExpected racks.now (map (λ answers. answers.items) v.items)) }
-{
-    let _racks = racks;
-    Ok(board.answers(alloc)?)
-}
-
-// The answers of racks with several feeds.
-fn answer_feeds(
-    alloc: Global,
-    feeds: &Feeds,
-    board: Board,
-) -> Result<Vec<Vec<(usize, Outcome)>>, FarmError>
-    requires { (board.racks ≡ feeds.now) × AreMergedRows board.racks board.table }
-    ensures { IfOk result (λ v. AreAllMergedAnswers feeds.now (map (λ answers. answers.items) v.items)) }
-{
-    let _feeds = feeds;
-    Ok(board.by_feed(alloc)?)
-}
-
 /// Each rack's answers, in the order of its requests: for each request before the close of its rack's list, the
 /// answer that the code's equations leave. Fails only if memory or a thread is refused.
 ///
@@ -152,7 +130,7 @@ pub fn run<R: Threads + Wait + Sync, P: Pause>(
     let lists = Lists::One(racks);
     let (gates, seats) = gates_for(alloc, lists)?;
     let board = run_lists(rt, alloc, lists, gates.as_slice(), seats, settings, pause)?;
-    answer_racks(alloc, racks, board)
+    Ok(board.answers(alloc)?)
 }
 
 /// Each rack's answers, in the order of the numbers that its feeds drew, each with its feed's number: the answers to a lawful merge of
@@ -169,5 +147,5 @@ pub fn run_feeds<R: Threads + Wait + Sync, P: Pause>(
     let lists = Lists::Several(feeds);
     let (gates, seats) = gates_for(alloc, lists)?;
     let board = run_lists(rt, alloc, lists, gates.as_slice(), seats, settings, pause)?;
-    answer_feeds(alloc, feeds, board)
+    Ok(board.by_feed(alloc)?)
 }

@@ -2,13 +2,13 @@
 
 /// What a worker calls around each request, and a feeder around each draw and close. Racks, feeds, positions and numbers count from 0.
 pub trait Pause: Sync {
-    /// Ahead of solving a request.
+    /// Before a request is solved.
     fn before(&self, rack: usize, number: u64);
 
     /// When the reply to a request is ready.
     fn after(&self, rack: usize, number: u64);
 
-    /// Ahead of a feeder's draw or close, for the order at this position of its list.
+    /// Before a feeder's draw or close, for the order at this position of its list.
     fn ahead(&self, _rack: usize, _feed: usize, _position: usize) {}
 
     /// After that draw or close.

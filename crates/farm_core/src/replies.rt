@@ -18,11 +18,12 @@ use thiserror::Error;
 pub enum ReplyResult {
     /// Its answer.
     Done(Outcome),
-    /// Memory was wanting for its answer.
+    /// Memory for its answer was refused.
     Starved,
 }
 
-/// What became of the request of a rack and a number. Its type keeps that a `Done` outcome is the request's answer.
+/// What became of the request of a rack and a number; in a run the field `rack` is the slot of the request's feed. Its type keeps that a
+/// `Done` outcome is the request's answer.
 #[derive(Debug, Drop)]
 pub struct Reply<'a> {
     pub rack: usize,
@@ -55,7 +56,7 @@ impl<'a> Reply<'a> {
         }
     }
 
-    /// Memory was wanting for the answer. Takes none itself.
+    /// The reply that memory for the answer was refused. Takes none itself.
     pub fn starved(rack: usize, number: u64, request: &'a Request) -> Reply<'a>
         ensures { result ≡ record { rack = rack; number = number; request = request.now; result = Starved } }
     {
@@ -67,7 +68,7 @@ impl<'a> Reply<'a> {
         }
     }
 
-    /// The rack of the request.
+    /// The rack of the request, or its slot in a run.
     pub(crate) fn rack(&self) -> usize
         ensures { result ≡ self.now.rack }
     {
@@ -116,7 +117,7 @@ pub enum FinishFault {
     /// E15: a reply that is expected hasn't come: the one of the least rack, and in it of the least number.
     #[error("the reply to request {number} of rack {rack} has not come")]
     Missing { rack: usize, number: u64 },
-    /// E16: memory was wanting, for a reply or for the lists of answers.
+    /// E16: memory was refused, for a reply or for the lists of answers.
     #[error("out of memory")]
     OutOfMemory,
 }

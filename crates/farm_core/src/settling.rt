@@ -31,13 +31,13 @@ fn take_left<'a, R: Wait, P: Pause>(
         match jobs.take(rt) {
             Item::Value {
                 value: Job::Solve {
-                    rack,
+                    rack: slot,
                     number,
                     request,
                 },
                 ..
             } => {
-                let reply = reply_to(alloc, rack, number, request, pause);
+                let reply = reply_to(alloc, slot, number, request, pause);
                 fault = hand_in(&mut board, fault, reply);
             }
             Item::Value {

@@ -20,7 +20,7 @@ pub(crate) struct Shared<'s, R, P> {
     pub refused: Refusals,
 }
 
-/// Which thread was refused. What a thread was to do is then called where it was to be started, and reads it here.
+/// Which thread was refused. The work of that thread is then called by the thread that was to start it, and reads it here.
 #[derive(Drop)]
 pub(crate) struct Refusals {
     pub collector: AtomicBool,

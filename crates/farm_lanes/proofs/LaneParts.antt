@@ -285,7 +285,7 @@ module _ {T : Type 0} where
             × (get_elem? (h.sent (sender_of x)) (number_of x) ≡ some x)) v.taken u.taken mine.taken theirs.taken;
       }
 
-  -- with all parts, the whole is told
+  -- with all parts, the whole is known
   pub tells : (id : ℕ) (v : EndRecord T) → Learns KeepsLane id v (Tells v)
   tells id v items views h at some_part all = record {
     prefix = h.prefix;

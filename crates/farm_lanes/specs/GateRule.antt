@@ -1,4 +1,4 @@
--- The rule of a gate's word, and what each step tells its seat.
+-- The rule of a gate's word, and what its seat learns from each step.
 use Rattle.std.specs.Prelude.{◌≡◌, ℕ, ◌+◌, ◌-◌, ◌<◌, ◌≤◌, [], ◌∷◌, ◌++◌, length, Bool, true, false, All, if◌then◌else◌}
 use Rattle.std.specs.List.{sum_by}
 use Rattle.atomic_table.specs.Table.{State, Me, Step}
@@ -11,7 +11,7 @@ use Rattle.farm_lanes.specs.SeatChanges.{accepted, refused}
 abbrev pub word_of : Bool → ℕ → ℕ
 word_of closed draws = if closed then draws + 9223372036854775808 else draws
 
--- between any two steps the record is lawful, and the word tells of it
+-- between any two steps the record is lawful, and the word agrees with it
 pub record KeepsGate (size : GateSize) (t : State ℕ SeatRecord) : Type 0 where
   pub closed : Bool
   pub n : ℕ

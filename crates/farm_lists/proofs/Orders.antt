@@ -8,7 +8,7 @@ use Rattle.std.specs.Str.{bytes_eq}
 use Rattle.farm_lists.specs.declared.lists.listing.ListFault.{ListFault}
 use Rattle.farm_lists.specs.declared.lists.listing.ListFault.TheVariants as fault
 use Rattle.farm_lists.specs.Listing.{IsFaultOf, IsRecordFault, SoFar, Stops, and_then, coded_header, header, list_limit, list_of}
-use Rattle.farm_lists.specs.Listing.{list_of_rows, order_at, order_limit, orders}
+use Rattle.farm_lists.specs.Listing.{list_of_rows, order_at, record_limit, orders}
 use Rattle.farm_lists.specs.declared.lists.listing.Record.{Record}
 use Rattle.csv.specs.Reading.{AreRecords, Reached, default_config, records, strip_bom}
 use Rattle.csv.specs.declared.parser.State.{State}
@@ -24,7 +24,7 @@ then_one os (Ok o) = Ok (os ++ o ∷ [])
 then_one os (Err e) = Err e
 
 abbrev after : Bool → ℕ → List Record → List (List ℕ) → Result (List Record) ListFault
-after coded n os row = cond (nat_lt order_limit n) (Err fault.TooManyOrders) (then_one os (order_at coded n row))
+after coded n os row = cond (nat_lt record_limit n) (Err fault.TooManyOrders) (then_one os (order_at coded n row))
 
 first_one : (b : Bool) (x : Result Record ListFault) → cond b (Err fault.TooManyOrders) (and_then x (Ok []))
     ≡ cond b (Err fault.TooManyOrders) (then_one [] x)
@@ -65,13 +65,13 @@ pub orders_push : (coded : Bool) (n : ℕ) (rows : Rows) (os : List Record) (row
 orders_push coded n [] os row e =
     let none : os ≡ [] = cc in
     let same : n + 0 ≡ n = omega arith in
-    rw (none, same) (first_one (nat_lt order_limit n) (order_at coded n row))
+    rw (none, same) (first_one (nat_lt record_limit n) (order_at coded n row))
 orders_push coded n (r ∷ rows) os row e =
-    let p = parts (nat_lt order_limit n) (order_at coded n r) (orders coded (n + 1) rows) os e in
+    let p = parts (nat_lt record_limit n) (order_at coded n r) (orders coded (n + 1) rows) os e in
     let more = orders_push coded (n + 1) rows p.rest row p.others in
     let same : n + length (r ∷ rows) ≡ (n + 1) + length rows = omega arith in
-    rw same (over (nat_lt order_limit n) (order_at coded n r) (orders coded (n + 1) (rows ++ row ∷ [])) p.one p.rest os
-    (nat_lt order_limit ((n + 1) + length rows)) (order_at coded ((n + 1) + length rows) row) p.within p.first more p.whole)
+    rw same (over (nat_lt record_limit n) (order_at coded n r) (orders coded (n + 1) (rows ++ row ∷ [])) p.one p.rest os
+    (nat_lt record_limit ((n + 1) + length rows)) (order_at coded ((n + 1) + length rows) row) p.within p.first more p.whole)
 
 -- one more record after a header and the orders so far
 pub push_any : (coded : Bool) (rows : Rows) (os : List Record) (row : List (List ℕ)) (number : ℕ) → length rows ≡ number → (number ≡ 0 → ⊥)
@@ -100,7 +100,7 @@ pub push_order : (coded : Bool) (rows : Rows) (os : List Record) (row : List (Li
     → (number ≡ 0 → ⊥) → number ≤ 4096 → SoFar coded rows os
     → order_at coded number row ≡ Ok o → SoFar coded (rows ++ row ∷ []) (os ++ o ∷ [])
 push_order coded rows os row number o e some few so is =
-    let low : nat_lt order_limit number ≡ false = le-ltb 4096 number few in
+    let low : nat_lt record_limit number ≡ false = le-ltb 4096 number few in
     so_far_of coded rows row os (os ++ o ∷ []) number e some so (push_any coded rows os row number e some so ∙ rw (low, is) refl)
 
 pub push_many : (coded : Bool) (rows : Rows) (os : List Record) (row : List (List ℕ)) (number : ℕ) → length rows ≡ number → 4096 < number
@@ -108,7 +108,7 @@ pub push_many : (coded : Bool) (rows : Rows) (os : List Record) (row : List (Lis
     → list_of_rows (rows ++ row ∷ []) ≡ Err fault.TooManyOrders
 push_many coded rows os row number e many so =
     let some : number ≡ 0 → ⊥ = omega arith in
-    let high : nat_lt order_limit number ≡ true = lt-ltb 4096 number many in
+    let high : nat_lt record_limit number ≡ true = lt-ltb 4096 number many in
     push_any coded rows os row number e some so ∙ rw high refl
 
 pub push_fault : (f : ListFault) (coded : Bool) (rows : Rows) (os : List Record) (row : List (List ℕ)) (number : ℕ) → length rows ≡ number
@@ -119,9 +119,9 @@ push_fault fault.InputTooLong coded rows os row number e some few so is = is
 push_fault fault.BadHeader coded rows os row number e some few so is = absurd is
 push_fault fault.TooManyOrders coded rows os row number e some few so is = absurd is
 push_fault (fault.BadRecord n) coded rows os row number e some few so is =
-    let low : nat_lt order_limit number ≡ false = le-ltb 4096 number few in push_any coded rows os row number e some so ∙ rw (low, is) refl
+    let low : nat_lt record_limit number ≡ false = le-ltb 4096 number few in push_any coded rows os row number e some so ∙ rw (low, is) refl
 push_fault (fault.Refused n k) coded rows os row number e some few so is =
-    let low : nat_lt order_limit number ≡ false = le-ltb 4096 number few in push_any coded rows os row number e some so ∙ rw (low, is) refl
+    let low : nat_lt record_limit number ≡ false = le-ltb 4096 number few in push_any coded rows os row number e some so ∙ rw (low, is) refl
 
 -- the orders of all records, where there are some
 pub listed_all : (coded : Bool) (rows : Rows) (os : List Record) (number : ℕ) → length rows ≡ number → (number ≡ 0 → ⊥)
@@ -137,7 +137,7 @@ so_far_empty (row ∷ rows) e = absurd (omega arith)
 failed_more : (coded : Bool) (n : ℕ) (rows more : Rows) (f : ListFault) → orders coded n rows ≡ Err f
     → orders coded n (rows ++ more) ≡ Err f
 failed_more coded n [] more f e = cc
-failed_more coded n (row ∷ rows) more f e = by (nat_lt order_limit n) (order_at coded n row) (orders coded (n + 1) rows)
+failed_more coded n (row ∷ rows) more f e = by (nat_lt record_limit n) (order_at coded n row) (orders coded (n + 1) rows)
     (failed_more coded (n + 1) rows more f) e
   where
     by : (b : Bool) (x : Result Record ListFault) (y : Result (List Record) ListFault)
@@ -199,8 +199,8 @@ orders_few : (coded : Bool) (n : ℕ) (rows : List (List (List ℕ))) (os : List
     → n + length os ≤ 4097
 orders_few coded n [] os small e = let none : os ≡ [] = cc in let l = ap (λ (x : List Record). length x) none in omega (arith, l)
 orders_few coded n (row ∷ rows) os small e =
-    let p = parts (nat_lt order_limit n) (order_at coded n row) (orders coded (n + 1) rows) os e in
-    let low = ltb-false order_limit n p.within in
+    let p = parts (nat_lt record_limit n) (order_at coded n row) (orders coded (n + 1) rows) os e in
+    let low = ltb-false record_limit n p.within in
     let l = ap (λ (x : List Record). length x) p.whole in
     let later = orders_few coded (n + 1) rows p.rest (omega (arith, low)) p.others in
     omega (arith, l, later)

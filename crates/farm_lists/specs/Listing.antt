@@ -22,8 +22,8 @@ use Rattle.farm_lists.specs.declared.lists.listing.ListFault.TheVariants as faul
 abbrev pub list_limit : ℕ
 list_limit = 1048576
 
-abbrev pub order_limit : ℕ
-order_limit = 4096
+abbrev pub record_limit : ℕ
+record_limit = 4096
 
 -- ---- one record
 
@@ -79,7 +79,7 @@ and_then (Ok o) (Ok os) = Ok (o ∷ os)
 -- the orders of the records from the n-th on
 abbrev pub orders : Bool → ℕ → List (List (List ℕ)) → Result (List Record) ListFault
 orders coded n [] = Ok []
-orders coded n (row ∷ rows) = if nat_lt order_limit n then Err fault.TooManyOrders else and_then (order_at coded n row)
+orders coded n (row ∷ rows) = if nat_lt record_limit n then Err fault.TooManyOrders else and_then (order_at coded n row)
     (orders coded (n + 1) rows)
 
 -- the orders of a header and the records after it
@@ -94,7 +94,7 @@ list_of_rows (row ∷ rows) = if pointwise bytes_eq row header then orders false
 unfoldable pub list_of : List ℕ → Result (List Record) ListFault
 list_of bytes = if nat_lt list_limit (length bytes) then Err fault.InputTooLong else list_of_rows (records default_config (strip_bom bytes))
 
--- the fault is the list's; want of memory is nobody's
+-- the fault is the list's; a refusal of memory says nothing of it
 abbrev pub IsFaultOf : ListFault → Result (List Record) ListFault → Type 0
 IsFaultOf fault.OutOfMemory r = Unit {0}
 IsFaultOf fault.InputTooLong r = r ≡ Err fault.InputTooLong
@@ -111,12 +111,6 @@ IsRecordFault fault.BadHeader coded n fields = ⊥
 IsRecordFault fault.TooManyOrders coded n fields = ⊥
 IsRecordFault (fault.BadRecord m) coded n fields = order_at coded n fields ≡ Err (fault.BadRecord m)
 IsRecordFault (fault.Refused m e) coded n fields = order_at coded n fields ≡ Err (fault.Refused m e)
-
-abbrev pub IsNotFive : List (List ℕ) → Type 0
-IsNotFive fields = length fields ≡ 5 → ⊥
-
-abbrev pub IsNotSix : List (List ℕ) → Type 0
-IsNotSix fields = length fields ≡ 6 → ⊥
 
 -- the orders of the records so far, and whether the header has the field for codes
 abbrev pub SoFar : Bool → List (List (List ℕ)) → List Record → Type 0

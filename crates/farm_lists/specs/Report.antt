@@ -123,7 +123,7 @@ rows_of_list (r ∷ rs) (o ∷ os) (u ∷ us) = record { feed = 0; listed = r; o
 abbrev pub is_wide_read : RequestRead → Bool
 is_wide_read r = is_wide r.listed
 
--- the shape of the report on one list: it tells the codes where a request is of the (12,2,2) code
+-- the shape of the report on one list: it says the codes where a request is of the (12,2,2) code
 abbrev pub shape_of_list : List ListedRequest → ReportShape
 shape_of_list rs = record { feeds = false; codes = list_any is_wide rs }
 

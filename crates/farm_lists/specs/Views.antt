@@ -1,18 +1,26 @@
--- A record of five fields, and why one that is to list a request is refused.
-use Rattle.std.specs.Prelude.{◌≡◌, ℕ, List, [], ◌∷◌, Option, Result, Err}
+-- The fields of a record, and why one that is to list a request is refused.
+use Rattle.std.specs.Prelude.{◌≡◌, ℕ, List, [], ◌∷◌, Bool, Option, Some, None, Result, Err, if◌then◌else◌, is_some, option_map}
 use Rattle.farm_lists.specs.declared.lists.listing.Fields.{Fields}
-use Rattle.farm_lists.specs.declared.lists.listing.CodedFields.{CodedFields}
 use Rattle.farm_lists.specs.declared.lists.listing.Record.{Record}
 use Rattle.farm_lists.specs.declared.lists.listing.ListFault.{ListFault}
 use Rattle.farm_lists.specs.declared.lists.listing.ListFault.TheVariants as fault
 use Rattle.farm_lists.specs.Listed.{ListedRequest}
 use Rattle.farm_lists.specs.Listing.{rebuild_at}
 
-abbrev pub five : Fields → List (List ℕ)
-five f = f.order.now ∷ f.stripe.now ∷ f.target.now ∷ f.length.now ∷ f.survivors.now ∷ []
+-- how many fields a record has, in a list with codes or without
+abbrev pub field_count : Bool → ℕ
+field_count coded = if coded then 6 else 5
 
-abbrev pub six : CodedFields → List (List ℕ)
-six f = f.fields.order.now ∷ f.fields.stripe.now ∷ f.fields.target.now ∷ f.fields.length.now ∷ f.fields.survivors.now ∷ f.code.now ∷ []
+-- a field that a record may lack
+abbrev pub last_field : Option (List ℕ) → List (List ℕ)
+last_field None = []
+last_field (Some code) = code ∷ []
+
+-- these are the fields of a record, in a list with codes or without
+abbrev pub HasFields : Bool → List (List ℕ) → Fields → Type 0
+HasFields coded fields f =
+    (fields ≡ f.order.now ∷ f.stripe.now ∷ f.target.now ∷ f.length.now ∷ f.survivors.now ∷ last_field (option_map (λ c. c.now) f.code))
+    × (is_some f.code ≡ coded)
 
 -- why an order is refused
 abbrev pub IsOrderFault : ListFault → ℕ → Result Record ListFault → Type 0

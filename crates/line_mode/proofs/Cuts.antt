@@ -1,4 +1,4 @@
--- The first place of a byte, and the lines of a text, taken off from its front.
+-- The first index of a byte, and the lines of a text, taken off from its front.
 use Rattle.std.proofs.Common.{◌≡◌, ◌<◌, ◌-◌, ◌+◌, ◌∙◌, ◌==◌, ℕ, Bool, true, false, List, [], ◌∷◌, length, take, drop, refl, ap, arith, Some}
 use Rattle.std.proofs.Common.{None, cond, position, not, inl, inr}
 use Rattle.std.specs.Prelude.{nat_lt, unwrap_or}
@@ -36,7 +36,7 @@ unwrap_or-position p xs = by (nat_lt (position_or_len p xs) (length xs)) refl
     by true t = refl
     by false t = omega (arith, ltb-false _ _ t, prefix_len-le-length (λ x. not (p x)) xs)
 
--- what is after a place, as a slice up to the end gives it
+-- what is after an index, as a slice up to the end gives it
 pub take-drop_all : {X : Type 0} (xs : List X) (i : ℕ) → take (length xs - i) (drop i xs) ≡ drop i xs
 take-drop_all xs i = take_all _ _ (omega (arith, length-drop i xs))
 

@@ -7,7 +7,7 @@ use Rattle.std.proofs.lemmas.List.Sums.{position_or_len_is}
 use Rattle.memchr.specs.Find.{IsFirstByte}
 use Rattle.line_mode.specs.Line.{is_printable}
 
--- the first place of a byte that passes
+-- the first index of a byte that passes
 pub position-first : (test : ℕ → Bool) (bytes : List ℕ) (r : Option ℕ) → IsFirstByte test bytes r → r ≡ position test bytes
 position-first test bytes r h = by r h
   where
@@ -29,7 +29,7 @@ position-first test bytes r h = by r h
         let within : nat_lt (position_or_len test bytes) (length bytes) ≡ true = grind (arith, place, first.high) in
         ap Some (sym place) ∙ ap (λ b. cond b (Some (position_or_len test bytes)) None) (sym within)
 
--- whether all bytes are printable, told by the greatest distance of the first i from a space
+-- whether all bytes are printable, by the greatest distance of the first i from a space
 abbrev pub ArePrintable : List ℕ → ℕ → ℕ → Type 0
 ArePrintable bytes i greatest = list_all is_printable bytes ≡ (nat_le greatest 94 && list_all is_printable (drop i bytes))
 

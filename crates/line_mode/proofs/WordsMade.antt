@@ -39,11 +39,11 @@ words-first xs e is some = elim (leb_tells (length xs) e) [ inl p ↦ whole p.1 
     inside l =
         let parts = slice_split_first is_space xs 0 (rw is l) in
         let first : is_word (take e xs) ≡ true = is_word_some (take e xs) (omega (arith, length-take e xs, l, some)) in
-        let behind : words (drop e xs) ≡ words (drop (e + 1) xs) =
+        let after : words (drop e xs) ≡ words (drop (e + 1) xs) =
         ap words (drop_more xs e 0 l) ∙ words-space (get_or xs e 0) (drop (e + 1) xs)
         (rw is at (passes_at_first is_space xs 0 (rw is l))) in
         ap (filter is_word) (rw is at parts) ∙ ap (λ b. cond b (take e xs ∷ words (drop (e + 1) xs)) (words (drop (e + 1) xs))) first
-        ∙ ap (λ ws. take e xs ∷ ws) (sym behind)
+        ∙ ap (λ ws. take e xs ∷ ws) (sym after)
 
     whole : length xs ≤ e → words xs ≡ take e xs ∷ words (drop e xs)
     whole l =

@@ -25,9 +25,9 @@ IsReply line (Ok outcome) = (asked : Asked) × (request_of line ≡ Some asked) 
 IsReply line (Err e) = refusal_of line ≡ Some e
 
 -- a refusal's number
-abbrev pub number_of : LineRefusal → ℕ
-number_of BadLine = 22
-number_of (Refused fault) = code_of fault
+abbrev pub fault_number : LineRefusal → ℕ
+fault_number BadLine = 22
+fault_number (Refused fault) = code_of fault
 
 -- ---- texts
 
@@ -38,7 +38,7 @@ outcome_text Several = codes "several"
 
 abbrev pub reply_text : LineReply → List ℕ
 reply_text (Ok outcome) = outcome_text outcome
-reply_text (Err e) = codes "refused E" ++ decimal (number_of e)
+reply_text (Err e) = codes "refused E" ++ decimal (fault_number e)
 
 -- the text of a reply, ended by a line feed
 abbrev pub reply_line : LineReply → List ℕ

@@ -18,7 +18,7 @@ pub record Answers (input : List ℕ) (r : Replies) : Type 0 where
   pub holds : Holds r replies
   pub few : length replies ≤ length input
 
--- a place within an input, just after a line feed
+-- a position within an input, just after a line feed
 pub record IsCut (input : List ℕ) (cut : ℕ) : Type 0 where
   pub some : 0 < cut
   pub within : cut ≤ length input

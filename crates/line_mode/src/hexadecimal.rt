@@ -126,7 +126,7 @@ pub(crate) fn append_upper(text: &mut Vec<u8>, bytes: &[u8]) -> Result<(), Alloc
     Ok(())
 }
 
-// Writes the digits of bytes, in upper case.
+// Writes the digits of bytes into their room, in upper case.
 fn encode_into(bytes: &[u8], digits: &mut [u8])
     requires { length digits.old ≡ 2 * length bytes.now }
     ensures { digits.new ≡ encode_upper bytes.now }

@@ -1,11 +1,13 @@
 //! Line mode: each line of the input is a request for a fragment, and each line of the output the reply to one.
 ghost use Rattle.std.specs.Prelude.{◌≡◌, IfOk, IfErr};
+ghost use Rattle.std.specs.Io.KnownBytes.{Appends};
 ghost use Rattle.line_mode.specs.LineMode.{Explains, Replied, status_of};
+ghost use Rattle.line_mode.specs.declared.outcomes.LineFault.TheVariants.{Device};
 
 use crate::input::read_input;
 use crate::outcomes::{LineCount, LineFault};
 use crate::pieces::reply_in_pieces;
-use crate::replies::reply_to_lines;
+use crate::replies::{Replies, reply_to_lines};
 use crate::statuses::{DEVICE, DONE, NO_RESOURCES, REFUSED};
 use std::alloc::Global;
 use std::io::{Read, Write};
@@ -37,10 +39,7 @@ pub fn line_mode<R: Read, W: Write>(
 {
     let bytes = read_input(alloc, input)?;
     let replies = reply_to_lines(alloc, &bytes)?;
-    if output.write_all(&replies.text).is_err() || output.flush().is_err() {
-        return Err(LineFault::Device);
-    }
-    Ok(replies.count)
+    write_replies(output, &replies)
 }
 
 /// Replies to each line of the whole input as `line_mode`. An input of 262,144 bytes or more is replied to in up to four threads; where
@@ -58,6 +57,15 @@ pub fn line_mode_in<T: Threads + Sync, R: Read, W: Write>(
 {
     let bytes = read_input(alloc, input)?;
     let replies = reply_in_pieces(rt, alloc, &bytes)?;
+    write_replies(output, &replies)
+}
+
+// Writes the text of replies, and gives their counts.
+fn write_replies<W: Write>(output: &mut W, replies: &Replies) -> Result<LineCount, LineFault>
+    ensures written { IfOk result (λ count. Appends (W.contents output.old) (W.contents output.new) replies.now.text.items
+        × (count ≡ replies.now.count)) }
+    ensures fault { IfErr result (λ fault. fault ≡ Device) }
+{
     if output.write_all(&replies.text).is_err() || output.flush().is_err() {
         return Err(LineFault::Device);
     }

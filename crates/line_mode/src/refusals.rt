@@ -1,6 +1,6 @@
 //! Why a line is refused, and the refusals' numbers.
 ghost use Rattle.std.specs.Prelude.{◌≡◌};
-ghost use Rattle.line_mode.specs.LineReply.{number_of};
+ghost use Rattle.line_mode.specs.LineReply.{fault_number};
 
 use lrc_code::RequestFault;
 use thiserror::Error;
@@ -19,7 +19,7 @@ pub(crate) enum LineRefusal {
 impl LineRefusal {
     /// The refusal's number in the table of refusals.
     pub(crate) fn code(self) -> u8
-        ensures { result ≡ number_of self }
+        ensures { result ≡ fault_number self }
     {
         match self {
             LineRefusal::BadLine => 22,

@@ -4,7 +4,7 @@ ghost use Rattle.std.specs.List.{list_all};
 ghost use Rattle.lrc_code.specs.Text.{is_space};
 ghost use Rattle.line_mode.specs.LineMode.{input_limit, text_of};
 ghost use Rattle.line_mode.specs.Replies.{Answers, Holds};
-ghost use Rattle.line_mode.specs.LineReply.{IsReply, LineReply, number_of, reply_text};
+ghost use Rattle.line_mode.specs.LineReply.{IsReply, LineReply, fault_number, reply_text};
 
 use crate::hexadecimal::append_upper;
 use crate::lines::Lines;
@@ -15,7 +15,7 @@ use lrc_code::Outcome;
 use lrc_plan::RememberedPlans;
 use std::alloc::{AllocError, Global};
 
-// What a line is replied.
+// The reply to a line.
 type LineReply = Result<Outcome, LineRefusal>;
 
 /// Replies one after the other: their text, and how many there are of each kind.

@@ -5,14 +5,14 @@ ghost use Rattle.line_mode.specs.Line.{is_printable};
 
 use memchr::memchr;
 
-/// The first place of a byte.
+/// The first index of a byte.
 pub(crate) fn find_byte(bytes: &[u8], byte: u8) -> Option<usize>
     ensures { result ≡ position (λ b. b == byte) bytes.now }
 {
     memchr(byte, bytes)
 }
 
-/// The first place of a byte that is near the front: one byte is looked at after the other.
+/// The first index of a byte that is near the front: one byte is looked at after the other.
 pub(crate) fn find_near_byte(bytes: &[u8], byte: u8) -> Option<usize>
     ensures { result ≡ position (λ b. b == byte) bytes.now }
 {

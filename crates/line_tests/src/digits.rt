@@ -40,7 +40,7 @@ fn digits_of_many_lengths(rt: HostRuntime) -> Result<(), AllocError> {
     Ok(())
 }
 
-// A character that is no digit is found at each place.
+// A character that is no digit is found at each index.
 #[test]
 fn bad_digit_at_each_place(rt: HostRuntime) -> Result<(), AllocError> {
     let digits = cycled(rt.alloc(), GIVEN, 80)?;

@@ -103,7 +103,7 @@ static REFUSED: [(&[u8], &[u8]); 47] = [
     (b"a x0 0 x0=01 x0=02", b"refused E2"),
     (b"a x0 1 x0=01 x0=02 x1=0000", b"refused E3"),
     (b"a x0 1 x0=01 x1=0000", b"refused E4"),
-    // Words that are missing or aren't what they stand for.
+    // Words that are missing or of another form.
     (b"a", b"refused E22"),
     (b"a X0 1", b"refused E22"),
     (b"a x0x0 1", b"refused E22"),

@@ -5,7 +5,7 @@ use std::fmt::Write;
 use std::process::Abort;
 use std::thread::Threads;
 
-// So many lines, of which every third is refused, and their replies. The replies tell one line from the next.
+// So many lines, of which every third is refused, and their replies. The reply to each line differs from that to the next.
 fn numbered(alloc: Global, count: u32) -> Result<(String, String), AllocError> {
     let mut lines = String::new(alloc);
     let mut replies = String::new(alloc);

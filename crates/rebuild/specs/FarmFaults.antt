@@ -9,25 +9,25 @@ use Rattle.farm_serving.specs.declared.faults.ServeFault.TheVariants.{List as Of
 use Rattle.farm_serving.specs.declared.faults.ServeFault.TheVariants.{OutOfMemory}
 use Rattle.farm_serving.specs.declared.serving.Served.{Served}
 
--- the exit status of a list's fault
-abbrev pub list_status : ListFault → ℕ
-list_status list_fault.OutOfMemory = 4
-list_status list_fault.BadHeader = 1
-list_status (list_fault.BadRecord number) = 1
-list_status (list_fault.Refused number refusal) = 1
-list_status list_fault.InputTooLong = 1
-list_status list_fault.TooManyOrders = 1
+-- the fault as it is reported: memory that was refused while a list was read is no fault of that list
+abbrev pub reported : ServeFault → ServeFault
+reported (OfList rack feed list_fault.OutOfMemory) = OutOfMemory
+reported fault = fault
+
+-- the exit status of a reported fault
+abbrev pub fault_status : ServeFault → ℕ
+fault_status (OfList rack feed reason) = 1
+fault_status BadFeeds = 1
+fault_status TooManyRacks = 1
+fault_status NoRacks = 1
+fault_status Device = 3
+fault_status OutOfMemory = 4
+fault_status NoThread = 4
 
 -- the exit status
 abbrev pub status_of : Result Served ServeFault → ℕ
 status_of (Ok served) = 0
-status_of (Err (OfList rack feed reason)) = list_status reason
-status_of (Err BadFeeds) = 1
-status_of (Err TooManyRacks) = 1
-status_of (Err NoRacks) = 1
-status_of (Err Device) = 3
-status_of (Err OutOfMemory) = 4
-status_of (Err NoThread) = 4
+status_of (Err fault) = fault_status (reported fault)
 
 -- the start of a line on a record
 abbrev pub record_text : ℕ → List ℕ
@@ -42,25 +42,20 @@ reason_text (list_fault.Refused number refusal) = record_text number ++ codes ":
 reason_text list_fault.InputTooLong = codes "E25"
 reason_text list_fault.TooManyOrders = codes "E26"
 
--- a list's fault after the file of the rack's feed
-abbrev pub listed_reason : ℕ → ℕ → ListFault → List ℕ
-listed_reason rack feed reason = list_name rack feed ++ codes ": " ++ reason_text reason
-
--- the line of a list's fault: the file of the rack's feed, and what is wrong with it; out of memory is reported as everywhere
+-- the line of a list's fault: the file of the rack's feed, and what is wrong with the list
 abbrev pub list_fault_text : ℕ → ℕ → ListFault → List ℕ
-list_fault_text rack feed list_fault.OutOfMemory = codes "E16"
-list_fault_text rack feed list_fault.BadHeader = listed_reason rack feed list_fault.BadHeader
-list_fault_text rack feed (list_fault.BadRecord number) = listed_reason rack feed (list_fault.BadRecord number)
-list_fault_text rack feed (list_fault.Refused number refusal) = listed_reason rack feed (list_fault.Refused number refusal)
-list_fault_text rack feed list_fault.InputTooLong = listed_reason rack feed list_fault.InputTooLong
-list_fault_text rack feed list_fault.TooManyOrders = listed_reason rack feed list_fault.TooManyOrders
+list_fault_text rack feed reason = list_name rack feed ++ codes ": " ++ reason_text reason
+
+-- the line of a reported fault
+abbrev pub reported_text : ServeFault → List ℕ
+reported_text (OfList rack feed reason) = list_fault_text rack feed reason
+reported_text BadFeeds = codes "E28"
+reported_text TooManyRacks = codes "E18"
+reported_text NoRacks = codes "E23"
+reported_text Device = codes "E24"
+reported_text NoThread = codes "E17"
+reported_text OutOfMemory = codes "E16"
 
 -- the line of a fault
 abbrev pub fault_text : ServeFault → List ℕ
-fault_text (OfList rack feed reason) = list_fault_text rack feed reason
-fault_text BadFeeds = codes "E28"
-fault_text TooManyRacks = codes "E18"
-fault_text NoRacks = codes "E23"
-fault_text Device = codes "E24"
-fault_text NoThread = codes "E17"
-fault_text OutOfMemory = codes "E16"
+fault_text fault = reported_text (reported fault)

@@ -1,32 +1,40 @@
 //! How the command `farm` ends: its exit statuses, and the lines that report its faults.
 ghost use Rattle.std.specs.Prelude.{◌≡◌, ◌++◌, IfOk, OnOk, string_bytes};
-ghost use Rattle.rebuild.specs.FarmFaults.{fault_text, list_fault_text, list_status, listed_reason, reason_text, status_of};
+ghost use Rattle.rebuild.specs.FarmFaults.{fault_text, list_fault_text, reason_text, reported, status_of};
 
 use farm_serving::{ListFault, ServeFault, Served, list_file};
 use line_mode::statuses::{DEVICE, DONE, NO_RESOURCES, REFUSED};
 use std::alloc::{AllocError, Global};
 use std::fmt::Write;
 
+// The fault as it is reported: memory that was refused while a list was read is no fault of that list.
+fn reported(fault: ServeFault) -> ServeFault
+    ensures { result ≡ reported fault }
+{
+    match fault {
+        ServeFault::List {
+            fault: ListFault::OutOfMemory,
+            ..
+        } => ServeFault::OutOfMemory,
+        other => other,
+    }
+}
+
 /// The exit status of the command `farm`: 0 where the folder was served, 1 where a list was refused, there was none or
 /// there were too many racks or feeds, 3 for a failed device and 4 where memory or a thread was refused.
 pub fn farm_status(outcome: &Result<Served, ServeFault>) -> u8
     ensures { result ≡ status_of outcome.now }
 {
-    match outcome {
-        Ok(_) => DONE,
-        Err(ServeFault::List { fault, .. }) => list_status(*fault),
-        Err(ServeFault::BadFeeds | ServeFault::TooManyRacks | ServeFault::NoRacks) => REFUSED,
-        Err(ServeFault::Device) => DEVICE,
-        Err(ServeFault::OutOfMemory | ServeFault::NoThread) => NO_RESOURCES,
-    }
-}
-
-fn list_status(fault: ListFault) -> u8
-    ensures { result ≡ list_status fault }
-{
-    match fault {
-        ListFault::OutOfMemory => NO_RESOURCES,
-        _ => REFUSED,
+    let Err(fault) = outcome else {
+        return DONE;
+    };
+    match reported(*fault) {
+        ServeFault::List { .. }
+        | ServeFault::BadFeeds
+        | ServeFault::TooManyRacks
+        | ServeFault::NoRacks => REFUSED,
+        ServeFault::Device => DEVICE,
+        ServeFault::OutOfMemory | ServeFault::NoThread => NO_RESOURCES,
     }
 }
 
@@ -34,7 +42,7 @@ fn list_status(fault: ListFault) -> u8
 pub fn fault_line(alloc: Global, fault: &ServeFault) -> Result<String, AllocError>
     ensures { IfOk result (λ line. string_bytes line ≡ fault_text fault.now) }
 {
-    match *fault {
+    match reported(*fault) {
         ServeFault::List { rack, feed, fault } => list_fault_line(alloc, rack, feed, fault),
         ServeFault::BadFeeds => String::from_str(alloc, "E28"),
         ServeFault::TooManyRacks => String::from_str(alloc, "E18"),
@@ -45,7 +53,7 @@ pub fn fault_line(alloc: Global, fault: &ServeFault) -> Result<String, AllocErro
     }
 }
 
-// The line that reports the fault of the list of a rack's feed. A refusal of memory is no fault of the list.
+// The line that reports the fault of the list of a rack's feed: the file's name, and what is wrong with the list.
 fn list_fault_line(
     alloc: Global,
     rack: usize,
@@ -53,21 +61,6 @@ fn list_fault_line(
     fault: ListFault,
 ) -> Result<String, AllocError>
     ensures { IfOk result (λ line. string_bytes line ≡ list_fault_text rack feed fault) }
-{
-    match fault {
-        ListFault::OutOfMemory => String::from_str(alloc, "E16"),
-        _ => listed_line(alloc, rack, feed, fault),
-    }
-}
-
-// What is wrong with a list, after its file's name.
-fn listed_line(
-    alloc: Global,
-    rack: usize,
-    feed: usize,
-    fault: ListFault,
-) -> Result<String, AllocError>
-    ensures { IfOk result (λ line. string_bytes line ≡ listed_reason rack feed fault) }
 {
     let mut line = list_file(alloc, rack, feed)?;
     line.push_str(": ")?;

@@ -56,7 +56,7 @@ fn asked(rt: &HostRuntime) -> Result<Words, WordsFault> {
         Ok(arguments) => arguments,
         Err(e) if e.kind() == ErrorKind::OutOfMemory => return Err(WordsFault::OutOfMemory),
         Err(_) => {
-            let text = String::from_str(rt.alloc(), "error: a word is not text\n")?;
+            let text = String::from_str(rt.alloc(), "error: an argument is not text\n")?;
             return Err(WordsFault::Usage(text));
         }
     };

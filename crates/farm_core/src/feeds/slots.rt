@@ -1,4 +1,4 @@
-//! Slots: a run counts the feeds of all racks through, four to a rack, and names a feed's slot as the rack of its jobs and replies.
+//! Slots: a run counts the feeds of all racks through, four to a rack. The field `rack` of its jobs and replies is a feed's slot.
 ghost use Rattle.std.specs.Prelude.{◌≡◌, ◌<◌};
 ghost use Rattle.farm_core.specs.Limits.{feed_limit, rack_limit};
 ghost use Rattle.farm_core.specs.RunFeeds.{slot_of, slot_rack, slot_feed};

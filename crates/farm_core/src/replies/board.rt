@@ -86,7 +86,7 @@ impl<'a> Board<'a> {
         all_by_feed(alloc, rows)
     }
 
-    /// The same, without the feeds' numbers.
+    /// Of each rack the answers to the requests of a lawful merge of its feeds, in order.
     pub(crate) fn answers(self, alloc: Global) -> Result<Vec<Vec<Outcome>>, AllocError>
         ensures { IfOk result (λ v. AllZip (λ row answers. AllZip (λ e o. IsOutcomeOf e (slot_feed e.rack, o))
             (filled row) answers.items) self.entry.table v.items) }

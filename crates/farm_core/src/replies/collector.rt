@@ -59,8 +59,8 @@ impl<'a> Collector<'a> {
         enter(self.rows.as_mut_slice(), reply.rack(), reply)
     }
 
-    /// The answers, rack by rack in the order of the requests, where each expected reply has come and none of them
-    /// wanted memory. Each accepted reply must be to the request at its rack and number.
+    /// The answers, rack by rack in the order of the requests, if each expected reply has come and none of them says that memory was
+    /// refused. Each accepted reply must be to the request at its rack and number.
     pub fn finish(self) -> Result<Vec<Vec<Outcome>>, FinishFault>
         requires { IsInPlace self }
         ensures all { IfOk result (λ v. AreExpected self.entry.racks (map (λ answers. answers.items) v.items)) }

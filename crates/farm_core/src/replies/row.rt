@@ -56,7 +56,7 @@ impl<'a> Row<'a> {
         self.cells[number].is_some()
     }
 
-    /// Puts a reply.
+    /// Puts a reply into the cell of a number.
     pub(crate) fn put(&mut self, number: usize, reply: Reply<'a>)
         requires { number < length self.old }
         ensures { self.new ≡ slice_set self.old number (Some (entry_of reply.entry)) }
@@ -77,7 +77,7 @@ impl<'a> Row<'a> {
         None
     }
 
-    /// The answers, in order, where no reply says that memory was missing.
+    /// The answers, in order, if no reply says that memory was refused.
     pub(crate) fn outcomes(self, alloc: Global) -> Result<Vec<Outcome>, FinishFault>
         requires { HasNoGap self }
         ensures { MatchResult result (λ v. AllZip Answers self.entry v.items) (λ e. e ≡ OutOfMemory) }
@@ -96,7 +96,7 @@ impl<'a> Row<'a> {
         Ok(all)
     }
 
-    /// The answers before the first gap, where none of the replies says that memory was missing.
+    /// The answers before the first gap, if none of these replies says that memory was refused.
     pub(crate) fn filled(self, alloc: Global) -> Result<Vec<Outcome>, AllocError>
         ensures { IfOk result (λ v. AllZip (λ e o. IsOutcomeOf e (slot_feed e.rack, o)) (filled self.entry) v.items) }
     {
@@ -114,7 +114,7 @@ impl<'a> Row<'a> {
         Ok(all)
     }
 
-    /// The same, each with the feed of its slot.
+    /// The answers before the first gap, each with the feed of its slot, if none of these replies says that memory was refused.
     pub(crate) fn filled_by_feed(self, alloc: Global) -> Result<Vec<(usize, Outcome)>, AllocError>
         ensures { IfOk result (λ v. AllZip IsOutcomeOf (filled self.entry) v.items) }
     {

@@ -24,7 +24,7 @@ use farm_lanes::{EndedPut, PutEnd, TakeEnd};
 use std::sync::Wait;
 use std::thread::{Scope, Threads};
 
-/// The threads that were started, the end for the stops, and an end to take by where no worker was started.
+/// The threads that were started, the put end for the stops, and a take end if no worker was started.
 #[derive(Drop)]
 pub(crate) struct Started<'a> {
     pub all: bool,
@@ -46,7 +46,7 @@ pub(crate) struct Starts<'a> {
 }
 
 // Starts the feeders rack by rack. After a refusal no further one is started, and the ends of the others are ended here: the workers
-// take their marks. Gives nothing where none was refused, else the threads of the rack in which one was.
+// take their marks. Gives nothing if none was refused, else the threads of the rack in which one was.
 fn start_racks<'s, 'a: 's, E, R: Threads + Wait + Sync, P: Pause>(
     shared: &'s Shared<'s, R, P>,
     scope: &Scope<'s, E>,

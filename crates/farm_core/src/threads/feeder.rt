@@ -18,10 +18,11 @@ use std::sync::Wait;
 use std::sync::atomic::Ordering;
 use std::thread::{Promise, PromisedHandle, Scope, Threads};
 
-/// What a feeder gives back: its rack, its feed and list, its seat, the right unless it was spent on closing, what the close was
+/// What a feeder gives back: its slot, its feed and list, its seat, the right unless it was spent on closing, what the close was
 /// answered if it made it, and its end.
 #[derive(Drop)]
 pub struct Fed<'a> {
+    /// The slot that the feeder's jobs name.
     pub rack: usize,
     pub feed: usize,
     pub list: &'a RackList,
@@ -31,14 +32,14 @@ pub struct Fed<'a> {
     pub jobs: EndedPut<Job<'a>>,
 }
 
-/// Puts a job for each request before the list's close, with a number that it draws, closes the gate there, and
+/// Puts a job for each request before the list's close, with its slot and a number that it draws, closes the gate there, and
 /// puts its end mark. It stops early only where a draw is refused since the gate is closed.
 pub fn feed<'a, R: Wait, P: Pause>(
     rt: &R,
     gate: &Gate,
     seat: Seat,
     right: Right,
-    rack: usize,
+    slot: usize,
     feed: usize,
     list: &'a RackList,
     jobs: PutEnd<Job<'a>>,
@@ -48,19 +49,19 @@ pub fn feed<'a, R: Wait, P: Pause>(
     requires fresh { (seat.has.numbers ≡ []) × (seat.has.knows ≡ false) }
     requires budget { seat.has.draws + order_limit ≤ seat.has.share }
     requires unused { IsUnusedPut jobs }
-    ensures place { (result.rack ≡ rack) × (result.feed ≡ feed) × (result.list.now ≡ list.now) }
-    ensures fed { HasFed gate.now seat rack list.now jobs.entry result.seat result.right result.close result.jobs }
+    ensures given { (result.rack ≡ slot) × (result.feed ≡ feed) × (result.list.now ≡ list.now) }
+    ensures fed { HasFed gate.now seat slot list.now jobs.entry result.seat result.right result.close result.jobs }
 {
     let mut seat = seat;
     let mut jobs = jobs;
     let mut position = 0;
     for order in list.orders() {
-        pause.ahead(rack, feed, position);
+        pause.ahead(slot, feed, position);
         let Order::Rebuild(request) = order else {
             let close = gate.close(&mut seat, right).ok();
-            pause.behind(rack, feed, position);
+            pause.behind(slot, feed, position);
             return Fed {
-                rack,
+                rack: slot,
                 feed,
                 list,
                 seat,
@@ -70,14 +71,14 @@ pub fn feed<'a, R: Wait, P: Pause>(
             };
         };
         let drawn = gate.draw(&mut seat);
-        pause.behind(rack, feed, position);
+        pause.behind(slot, feed, position);
         let Ok(number) = drawn else {
             break;
         };
         jobs.put(
             rt,
             Job::Solve {
-                rack,
+                rack: slot,
                 number,
                 request,
             },
@@ -85,7 +86,7 @@ pub fn feed<'a, R: Wait, P: Pause>(
         position += 1;
     }
     Fed {
-        rack,
+        rack: slot,
         feed,
         list,
         seat,

@@ -36,28 +36,28 @@ fn answer_in_arena(alloc: Global, request: &Request) -> Result<Outcome, AllocErr
     solve(alloc, &arena, request)
 }
 
-/// The reply to a request.
+/// The reply to the request of a slot and a number.
 pub(crate) fn reply_to<'a, P: Pause>(
     alloc: Global,
-    rack: usize,
+    slot: usize,
     number: u64,
     request: &'a Request,
     pause: &P,
 ) -> Reply<'a>
-    ensures { (result.rack ≡ rack) × (result.number ≡ number) × (result.request ≡ request.now) }
+    ensures { (result.rack ≡ slot) × (result.number ≡ number) × (result.request ≡ request.now) }
 {
-    pause.before(rack, number);
+    pause.before(slot, number);
     let reply = match answer_in_arena(alloc, request) {
-        Ok(outcome) => Reply::done(rack, number, request, outcome),
-        Err(_) => Reply::starved(rack, number, request),
+        Ok(outcome) => Reply::done(slot, number, request, outcome),
+        Err(_) => Reply::starved(slot, number, request),
     };
-    pause.after(rack, number);
+    pause.after(slot, number);
     reply
 }
 
 /// Takes jobs until one says to stop, or until the reply end has no room for another put; puts a reply for each that
 /// asks for one, in the order in which they were taken, and then its end mark. End marks that it takes are passed
-/// over. Where memory is wanting the reply says so.
+/// over. If memory for an answer is refused, the reply says so.
 pub fn work<'a, R: Wait, P: Pause>(
     rt: &R,
     alloc: Global,
@@ -78,12 +78,12 @@ pub fn work<'a, R: Wait, P: Pause>(
         match jobs.take(rt) {
             Item::Value {
                 value: Job::Solve {
-                    rack,
+                    rack: slot,
                     number,
                     request,
                 },
                 ..
-            } => replies.put(rt, reply_to(alloc, rack, number, request, pause)),
+            } => replies.put(rt, reply_to(alloc, slot, number, request, pause)),
             Item::Value {
                 value: Job::Stop,
                 ..
@@ -97,7 +97,7 @@ pub fn work<'a, R: Wait, P: Pause>(
     }
 }
 
-// Takes nothing and puts the end mark: what a worker does that no thread was made for.
+// Takes nothing and puts the end mark: what a worker does if no thread was made for it.
 fn idle<'a, R: Wait>(rt: &R, jobs: TakeEnd<Job<'a>>, replies: PutEnd<Reply<'a>>) -> Worked<'a>
     requires unused { IsUnusedTake jobs × IsUnusedPut replies }
     ensures { HasWorked jobs.entry replies.entry result.jobs result.replies }
@@ -160,8 +160,8 @@ fn start_worker<'s, 'a: 's, E, R: Threads + Wait + Sync, P: Pause>(
     }
 }
 
-/// Starts a worker for each pair of ends, in order. After a refusal no further one is started, and the others end here; of the
-/// last of these the end is given back by which it was to take.
+/// Starts a worker for each pair of ends, in order. After a refusal no further one is started: the ends of the others are ended here,
+/// and the take end of the last of them is given back.
 pub(crate) fn start_workers<'s, 'a: 's, E, R: Threads + Wait + Sync, P: Pause>(
     shared: &'s Shared<'s, R, P>,
     scope: &Scope<'s, E>,

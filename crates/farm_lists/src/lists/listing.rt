@@ -1,15 +1,15 @@
 //! Request lists, by csv's own reading.
 ghost use Rattle.std.specs.Prelude.{◌≡◌, ◌==◌, ◌&&◌, ℕ, List, ◌<◌, ◌≤◌, Ok, Err, OnOk, ◌++◌, ◌∷◌, [], IfOk, IfErr, IfSome, IfNone, codes};
-ghost use Rattle.std.specs.Prelude.{length, map, option_map};
+ghost use Rattle.std.specs.Prelude.{length, map, option_map, if◌then◌else◌};
 ghost use Rattle.std.specs.List.{slice_split};
 ghost use Rattle.std.specs.Cmp.Lexicographic.{pointwise};
 ghost use Rattle.std.specs.Str.{bytes_eq};
 ghost use Rattle.csv.specs.Records.{fields_of};
 ghost use Rattle.lrc_code.specs.Text.{every, is_space, place_named};
 ghost use Rattle.lrc_code.specs.Codes.{tables_of};
-ghost use Rattle.farm_lists.specs.Listing.{IsFaultOf, IsNotFive, IsNotSix, IsRecordFault, SoFar, Stops, close_at, coded_header, header};
-ghost use Rattle.farm_lists.specs.Listing.{list_of, listed, order_at, order_in, order_limit, places, rebuild_at};
-ghost use Rattle.farm_lists.specs.Views.{IsOrderFault, IsRebuildFault, five, six};
+ghost use Rattle.farm_lists.specs.Listing.{IsFaultOf, IsRecordFault, SoFar, Stops, close_at, coded_header, header};
+ghost use Rattle.farm_lists.specs.Listing.{list_of, listed, order_at, order_in, record_limit, places, rebuild_at};
+ghost use Rattle.farm_lists.specs.Views.{HasFields, IsOrderFault, IsRebuildFault, field_count};
 
 use crate::lists::listed::Listed;
 use csv::{ByteRecord, ReaderBuilder};
@@ -45,7 +45,7 @@ pub enum ListFault {
     /// E26: there are more than 4,096 records.
     #[error("the list has more than 4096 orders")]
     TooManyOrders,
-    /// E16: memory was wanting.
+    /// E16: memory was refused.
     #[error("out of memory")]
     OutOfMemory,
 }
@@ -60,7 +60,7 @@ pub const MOST_RECORDS: usize = 4096;
 /// taken as a header and records may differ in their number of fields.
 pub fn read_list(alloc: Global, bytes: &[u8]) -> Result<Vec<Record>, ListFault>
     ensures read { IfOk result (λ v. list_of bytes.now ≡ Ok v.items) }
-    ensures few { IfOk result (λ v. length v.items ≤ order_limit) }
+    ensures few { IfOk result (λ v. length v.items ≤ record_limit) }
     ensures fault { IfErr result (λ f. IsFaultOf f (list_of bytes.now)) }
 {
     if bytes.len() > MOST_LIST_BYTES {
@@ -94,15 +94,15 @@ fn take_row(
     coded: &mut bool,
     row: &ByteRecord,
 ) -> Result<(), ListFault>
-    ensures ok { OnOk result ((number ≤ order_limit) × ((rows : List (List (List ℕ))) → length rows ≡ number
+    ensures ok { OnOk result ((number ≤ record_limit) × ((rows : List (List (List ℕ))) → length rows ≡ number
         → SoFar coded.old rows list.old.items → SoFar coded.new (rows ++ fields_of row.now ∷ []) list.new.items)) }
     ensures err { IfErr result (λ f. (rows : List (List (List ℕ))) → length rows ≡ number → SoFar coded.old rows list.old.items
         → Stops f (rows ++ fields_of row.now ∷ [])) }
 {
     if number == 0 {
-        let short = is_header(row);
+        let short = is_header(false, row);
         *coded = !short;
-        return if short || (!short && is_coded_header(row)) {
+        return if short || (!short && is_header(true, row)) {
             Ok(())
         } else {
             Err(ListFault::BadHeader)
@@ -118,7 +118,7 @@ fn take_row(
     }
 }
 
-// The first five fields of a record.
+// The fields of a record. Only a list whose header names it has the last.
 #[derive(Clone, Copy)]
 struct Fields<'a> {
     order: &'a [u8],
@@ -126,78 +126,49 @@ struct Fields<'a> {
     target: &'a [u8],
     length: &'a [u8],
     survivors: &'a [u8],
+    code: Option<&'a [u8]>,
 }
 
-fn first_five(row: &ByteRecord) -> Option<Fields<'_>>
-    ensures first { IfSome result (λ f. (rest : List (List ℕ)) × (fields_of row.now ≡ five f ++ rest)) }
-    ensures few { IfNone result (length (fields_of row.now) < 5) }
+// How many fields a record has, in a list with codes or without.
+fn field_count(coded: bool) -> usize
+    ensures { result ≡ field_count coded }
 {
+    if coded { 6 } else { 5 }
+}
+
+// The fields of a record, where it has as many as a list with codes, or without, asks for.
+fn fields_in(coded: bool, row: &ByteRecord) -> Option<Fields<'_>>
+    ensures fields { IfSome result (HasFields coded (fields_of row.now)) }
+    ensures other { IfNone result (length (fields_of row.now) ≡ field_count coded → ⊥) }
+{
+    if row.len() != field_count(coded) {
+        return None;
+    }
     Some(Fields {
         order: row.get(0)?,
         stripe: row.get(1)?,
         target: row.get(2)?,
         length: row.get(3)?,
         survivors: row.get(4)?,
+        code: row.get(5),
     })
 }
 
-fn five_fields(row: &ByteRecord) -> Option<Fields<'_>>
-    ensures five { IfSome result (λ f. fields_of row.now ≡ five f) }
-    ensures other { IfNone result (IsNotFive (fields_of row.now)) }
+// Whether a record is the header of a list with codes, or without.
+fn is_header(coded: bool, row: &ByteRecord) -> bool
+    ensures { result ≡ pointwise bytes_eq (fields_of row.now) (if coded then coded_header else header) }
 {
-    if row.len() != 5 {
-        return None;
-    }
-    first_five(row)
-}
-
-// A record of six fields: the first five, and the last.
-#[derive(Clone, Copy)]
-struct CodedFields<'a> {
-    fields: Fields<'a>,
-    code: &'a [u8],
-}
-
-fn six_fields(row: &ByteRecord) -> Option<CodedFields<'_>>
-    ensures six { IfSome result (λ f. fields_of row.now ≡ six f) }
-    ensures other { IfNone result (IsNotSix (fields_of row.now)) }
-{
-    if row.len() != 6 {
-        return None;
-    }
-    let fields = first_five(row)?;
-    let code = row.get(5)?;
-    Some(CodedFields { fields, code })
-}
-
-fn is_coded_header(row: &ByteRecord) -> bool
-    ensures { result ≡ pointwise bytes_eq (fields_of row.now) coded_header }
-{
-    match six_fields(row) {
-        Some(f) => {
-            f.fields.order == b"order".as_slice()
-                && f.fields.stripe == b"stripe".as_slice()
-                && f.fields.target == b"target".as_slice()
-                && f.fields.length == b"length".as_slice()
-                && f.fields.survivors == b"survivors".as_slice()
-                && f.code == b"code".as_slice()
-        }
-        None => false,
-    }
-}
-
-fn is_header(row: &ByteRecord) -> bool
-    ensures { result ≡ pointwise bytes_eq (fields_of row.now) header }
-{
-    match five_fields(row) {
-        Some(f) => {
-            f.order == b"order".as_slice()
-                && f.stripe == b"stripe".as_slice()
-                && f.target == b"target".as_slice()
-                && f.length == b"length".as_slice()
-                && f.survivors == b"survivors".as_slice()
-        }
-        None => false,
+    let Some(f) = fields_in(coded, row) else {
+        return false;
+    };
+    let named = f.order == b"order".as_slice()
+        && f.stripe == b"stripe".as_slice()
+        && f.target == b"target".as_slice()
+        && f.length == b"length".as_slice()
+        && f.survivors == b"survivors".as_slice();
+    match f.code {
+        Some(code) => named && code == b"code".as_slice(),
+        None => named,
     }
 }
 
@@ -211,25 +182,16 @@ fn order_of(
     ensures ok { IfOk result (λ o. order_at coded number (fields_of row.now) ≡ Ok o) }
     ensures err { IfErr result (λ f. IsRecordFault f coded number (fields_of row.now)) }
 {
-    if coded {
-        let Some(f) = six_fields(row) else {
-            return Err(ListFault::BadRecord { number });
-        };
-        return order_in(
-            alloc,
-            Code::parse(f.code),
-            f.code.is_empty(),
-            number,
-            &f.fields,
-        );
-    }
-    let Some(fields) = five_fields(row) else {
+    let Some(fields) = fields_in(coded, row) else {
         return Err(ListFault::BadRecord { number });
     };
-    order_in(alloc, Some(Code::Narrow), true, number, &fields)
+    match fields.code {
+        Some(name) => order_in(alloc, Code::parse(name), name.is_empty(), number, &fields),
+        None => order_in(alloc, Some(Code::Narrow), true, number, &fields),
+    }
 }
 
-// The order of record `number`, by five fields, over this code, where one is named, with or without something after.
+// The order of record `number`, by its first five fields, over this code, where one is named, with or without something after.
 fn order_in(
     alloc: Global,
     code: Option<Code>,

@@ -21,7 +21,7 @@ loop-preserved g c =
           (let h = w.in-Value-default-default-Solve in
           subst P (λ i. (sym w.board-is i, sym w.fault-is i))
           (left_next c.args.jobs.now c.loop.jobs c.take.new.self c.loop.counter c.args.all.board c.loop.board w.hand_in-fault.new.board
-          c.args.all.fault c.loop.fault w.hand_in-fault.result (Value h.sender h.number' (Solve h.rack h.number h.request))
+          c.args.all.fault c.loop.fault w.hand_in-fault.result (Value h.sender h.number' (Solve h.slot h.number h.request))
           (w.reply_to-reply.result ∷ [])
           c.loop.invariant (c.take.ensures.taken ∙ ap (with_taken c.loop.jobs) (h.is ∙ ap (λ v. Value h.sender h.number' v) h.value-is))
           (w.reply_to-reply.ensures, tt) w.hand_in-fault.ensures))

@@ -16,9 +16,9 @@ returns-in_default-clause-fed g c =
     let past : length (before_close orders) ≤ i = close_here orders i c.order-item.result (omega arith)
     (sym c.order-item.is ∙ c.in_default.is) was.1 in
     let all : length (before_close orders) ≡ i = (let w = was.0.within in omega arith) in
-    feed_ends c.args.gate.now c.args.seat c.args.rack c.args.list.now c.args.jobs i c.loop-order.seat c.close.new.seat c.loop-order.jobs
+    feed_ends c.args.gate.now c.args.seat c.args.slot c.args.list.now c.args.jobs i c.loop-order.seat c.close.new.seat c.loop-order.jobs
     c.end.result None c.ok-close.result
-    (subst (λ (l : List Order). IsFeeding c.args.gate.now.size.total c.args.seat c.args.rack
+    (subst (λ (l : List Order). IsFeeding c.args.gate.now.size.total c.args.seat c.args.slot
     (before_close l) c.args.jobs i c.loop-order.seat c.loop-order.jobs) list_is was.0)
     c.close.ensures.gate c.close.ensures.kept.0 c.close.ensures.kept.2
     (let a = c.close.ensures.kept.0 in let b = c.close.ensures.kept.1 in let e = was.0.draws_are in let f = was.0.share_is in
@@ -37,9 +37,9 @@ loop-order-preserved g c =
     let was = c.loop-order.invariant in let i = c.loop-order.order-index in let orders = c.orders-order-items.result.now in
     let here = sym c.order-item.is ∙ c.in-Rebuild.is in
     let one = one_request orders i c.in-Rebuild.request c.order-item.result (omega arith) here was.1 in (
-      feed_more c.args.gate.now.size.total c.args.seat c.args.rack orders c.args.jobs i c.loop-order.seat c.draw-drawn.new.seat
-          c.loop-order.jobs c.put.new.self c.in-Ok.number (Solve c.args.rack c.in-Ok.number _) c.in-Rebuild.request c.order-item.result
-          (Value (c.loop-order.jobs.sender) (length (c.loop-order.jobs.put)) (Solve c.args.rack c.in-Ok.number _))
+      feed_more c.args.gate.now.size.total c.args.seat c.args.slot orders c.args.jobs i c.loop-order.seat c.draw-drawn.new.seat
+          c.loop-order.jobs c.put.new.self c.in-Ok.number (Solve c.args.slot c.in-Ok.number _) c.in-Rebuild.request c.order-item.result
+          (Value (c.loop-order.jobs.sender) (length (c.loop-order.jobs.put)) (Solve c.args.slot c.in-Ok.number _))
           was.0 was.1 (omega arith) here c.draw-drawn.ensures.gate c.in-Ok.ensures.number.0 c.in-Ok.ensures.rises c.in-Ok.ensures.whole refl
           refl refl refl refl c.put.ensures,
       one.1,
@@ -50,9 +50,9 @@ pub returns-clause-fed : goal.returns-clause-fed
 returns-clause-fed g c =
     let was = c.loop-order.invariant in let i = c.loop-order.order-index in let orders = c.orders-order-items.result.now in
     let list_is : orders ≡ c.args.list.now = c.orders-order-items.ensures.all in
-    let inv = subst (λ (l : List Order). IsFeeding c.args.gate.now.size.total c.args.seat c.args.rack
+    let inv = subst (λ (l : List Order). IsFeeding c.args.gate.now.size.total c.args.seat c.args.slot
     (before_close l) c.args.jobs i c.loop-order.seat c.loop-order.jobs) list_is was.0 in
-    let ends = feed_ends c.args.gate.now c.args.seat c.args.rack c.args.list.now c.args.jobs i c.loop-order.seat c.loop-order-test.seat
+    let ends = feed_ends c.args.gate.now c.args.seat c.args.slot c.args.list.now c.args.jobs i c.loop-order.seat c.loop-order-test.seat
     c.loop-order.jobs c.end-2.result (Some c.args.right) None in
     elim c.loop-order-test.branch [
       | else-loop-order-test w ↦

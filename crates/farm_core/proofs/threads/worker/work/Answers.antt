@@ -24,7 +24,7 @@ pub loop-preserved-in-Value-default-default-Solve :
     goal.loop-preserved-in-Value-default-default-Solve
 loop-preserved-in-Value-default-default-Solve g c =
     let h = c.in-Value-default-default-Solve in let was = c.loop.invariant in
-    let x : Item Job = Value h.sender h.number' (Solve h.rack h.number h.request) in
+    let x : Item Job = Value h.sender h.number' (Solve h.slot h.number h.request) in
     let took = c.take.ensures.taken ∙ ap (with_taken c.loop.jobs) (h.is ∙ ap (λ v. Value h.sender h.number' v) h.value-is) in
     let longer = ap (λ (u : PutView Replied). length u.put) c.put.ensures
     ∙ length_push c.loop.replies.put (Value c.loop.replies.sender (length c.loop.replies.put) c.reply_to.result) in (

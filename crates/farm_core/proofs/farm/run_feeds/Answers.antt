@@ -5,12 +5,12 @@ use Rattle.farm_core.specs.declared.orders.Order.{Order}
 use Rattle.farm_core.specs.Replies.{Entry}
 use Rattle.farm_core.specs.Boards.{filled, IsOutcomeOf, AreMergedRows}
 use Rattle.farm_core.proofs.Merged.{merged_answers, zip_map}
-use Rattle.farm_core.proofs.farm.answer_feeds.Goals as goal
+use Rattle.farm_core.proofs.farm.run_feeds.Goals as goal
 
 pub returns : goal.returns
-returns c =
-    let told = c.requires in let b = c.args.board in let v = c.in_ok-by_feed.field-0 in
+returns g c =
+    let is = c.in_ok-board.ensures in let b = c.in_ok-board.board in let v = c.in_ok-by_feed.field-0 in
     merged_answers c.args.feeds.now b.table (map (λ (a : Vec (ℕ × Outcome) Global). a.items) v.items)
-    (subst (λ (l : List (List (List Order))). AreMergedRows l b.table) told.0 told.1)
+    (subst (λ (l : List (List (List Order))). AreMergedRows l b.table) is.0 is.1)
     (zip_map (λ (row : List (Option Entry)) (outs : List (ℕ × Outcome)). AllZip IsOutcomeOf (filled row) outs)
     (λ (a : Vec (ℕ × Outcome) Global). a.items) b.table v.items c.in_ok-by_feed.ensures)
