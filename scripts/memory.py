@@ -1,5 +1,5 @@
 #!/usr/bin/env python3
-"""The program's memory is that of one batch, of what is rebuilt, and of the lists, whatever a folder or an input holds. Each run
+"""The program's memory is that of two batches, of what is rebuilt, and of the lists, whatever a folder or an input holds. Each run
 has a bound that it stays below, which is well above what it was seen to take and well below what it takes where survivors of
 earlier batches are kept, lists or feeds aren't cut, or room is taken for files that aren't there. It runs what was built
 last: crates/rebuild/out/rebuild."""

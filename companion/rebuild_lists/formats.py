@@ -25,8 +25,8 @@ LIST_BYTES = 1048576
 LONGEST = 65536
 NAME = 32
 WORKERS = 16
-# A run holds the survivors of one batch of requests at once, which list this many bytes together.
-BATCH = 16 * 2**20
+# A run holds the survivors of two batches of requests at once, which list this many bytes together.
+BATCHES = 2 * 16 * 2**20
 
 STRIPE_NAME = re.compile(f"[a-z0-9-]{{1,{NAME}}}")
 LIST_NAME = re.compile(r"rack(0|[1-9][0-9]*)(?:\.feed([1-9][0-9]*))?\.csv")

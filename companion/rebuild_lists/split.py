@@ -8,7 +8,7 @@ import shutil
 from collections.abc import Iterable, Iterator
 
 from .files import folder_named, new_folder
-from .formats import BATCH, counted, list_name
+from .formats import BATCHES, counted, list_name
 from .lists import requests, survivors_of
 from .progress import Progress
 from .records import write_records
@@ -37,7 +37,7 @@ def fill_folder(made: Split, folder: pathlib.Path, racks: list[list[list[str]]],
     rebuilt = sum(int(row[3]) for row in rows)
     listed = sum(int(row[3]) * len(survivors_of(row)) for row in rows)
     made.folders += 1
-    made.held = max(made.held, rebuilt + min(listed, BATCH))
+    made.held = max(made.held, rebuilt + min(listed, BATCHES))
 
 
 def brought_from(store: pathlib.Path, copy: bool):

@@ -72,10 +72,10 @@ class Split(SplitStore):
         self.assertEqual(ended.stdout.splitlines()[1], "the run of a folder holds at most 2 MiB of fragments in memory")
 
     def test_memory_of_a_run_in_batches(self):
-        # 64 requests of 64 KiB rebuild 4 MiB; of the 36 MiB that they list no more than 16 are held at once.
+        # 64 requests of 64 KiB rebuild 4 MiB; of the 36 MiB that they list no more than 32 are held at once.
         nine = "x0 x1 x2 y0 y1 y2 py p0 p1"
         ended = self.split(FIVE + f"rebuild,abc,px,65536,{nine}\n" * 64)
-        self.assertEqual(ended.stdout.splitlines()[1], "the run of a folder holds at most 20 MiB of fragments in memory")
+        self.assertEqual(ended.stdout.splitlines()[1], "the run of a folder holds at most 36 MiB of fragments in memory")
 
     def test_quotes_crlf_and_byte_order_mark(self):
         self.split('\ufefforder,stripe,target,length,survivors\r\n\r\n"rebuild","abc",x0,"3","x1 x2"\r\nrebuild,"a",x0,1,'.encode())
