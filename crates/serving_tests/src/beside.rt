@@ -7,6 +7,7 @@ use farm_serving::{FolderShelf, MemoryShelf, Shelf, ShelfFault, answer_lists, re
 use std::alloc::{AllocError, Global};
 use std::fs;
 use std::rt::Files;
+use std::sync::Wait;
 use std::thread::Threads;
 
 // Two files in a folder.
@@ -136,8 +137,11 @@ impl Shelf for NamedShelf {
 }
 
 // How many files are named beside a batch and read after it, where three racks with that list are cut into batches of so many bytes.
-fn named_and_read(rt: &HostRuntime, most: u64) -> Result<usize, AllocError> {
-    let alloc = rt.alloc();
+fn named_and_read<R: Threads + Wait + Sync>(
+    rt: &R,
+    alloc: Global,
+    most: u64,
+) -> Result<usize, AllocError> {
     let lists = [
         ("rack0.csv", LIST),
         ("rack1.csv", LIST),
@@ -170,9 +174,9 @@ fn named_and_read(rt: &HostRuntime, most: u64) -> Result<usize, AllocError> {
 // of one, and none.
 #[test]
 fn the_files_of_the_next_batch(rt: HostRuntime) -> Result<(), AllocError> {
-    assert_eq!(&rt; named_and_read(&rt, 1)?, 33);
-    assert_eq!(&rt; named_and_read(&rt, 15)?, 24);
-    assert_eq!(&rt; named_and_read(&rt, 30)?, 12);
-    assert_eq!(&rt; named_and_read(&rt, 45)?, 0);
+    assert_eq!(&rt; named_and_read(&rt, rt.alloc(), 1)?, 33);
+    assert_eq!(&rt; named_and_read(&rt, rt.alloc(), 15)?, 24);
+    assert_eq!(&rt; named_and_read(&rt, rt.alloc(), 30)?, 12);
+    assert_eq!(&rt; named_and_read(&rt, rt.alloc(), 45)?, 0);
     Ok(())
 }
