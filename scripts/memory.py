@@ -87,8 +87,8 @@ def main():
     farm("small fragments", [rows(MOST_RECORDS, 1, WIDE, "12-2-2")] * 4, 1, WIDE, 60 * MEGABYTE)
     # No room is taken for what isn't there.
     absent = rows(MOST_RECORDS, GREATEST, WIDE, "12-2-2")
-    farm("absent survivors", [absent], 1, "", 60 * MEGABYTE, limit=300_000)
-    farm("absent survivors beside an empty feed", [absent, HEADER], 1, "", 60 * MEGABYTE, limit=300_000)
+    farm("absent survivors", [absent], 1, "", 60 * MEGABYTE, limit=400_000)
+    farm("absent survivors beside an empty feed", [absent, HEADER], 1, "", 60 * MEGABYTE, limit=400_000)
     # Line mode has its input, what it replies, and one line.
     lines("short lines", b"a x0 1 x1=02 x2=03 px=00\n" * 100_000, b"rebuilt 01\n" * 100_000, 30 * MEGABYTE)
     count = 100
