@@ -17,12 +17,13 @@ fn make_files<R: Files>(rt: &R, folder: &str, first: &str, second: &str) -> bool
         && fs::write(rt, second, b"two").is_ok()
 }
 
-// The names of both, each with a limit of 4 bytes.
-fn names(alloc: Global) -> Result<Vec<(String, usize)>, AllocError> {
-    let mut names = Vec::new(alloc);
-    names.push((String::from_str(alloc, "a")?, 4))?;
-    names.push((String::from_str(alloc, "b")?, 4))?;
-    Ok(names)
+// These names, each with a limit of 4 bytes.
+fn limited(alloc: Global, names: &[&str]) -> Result<Vec<(String, usize)>, AllocError> {
+    let mut limited = Vec::new(alloc);
+    for name in names {
+        limited.push((String::from_str(alloc, name)?, 4))?;
+    }
+    Ok(limited)
 }
 
 // What was read beside the work is what the reads after it give, also where it is asked for once more: the file has changed since.
@@ -30,7 +31,7 @@ fn names(alloc: Global) -> Result<Vec<(String, usize)>, AllocError> {
 fn files_read_beside_work(rt: HostRuntime) -> Result<(), AllocError> {
     let alloc = rt.alloc();
     assert!(&rt; make_files(&rt, "beside/work", "beside/work/a", "beside/work/b"));
-    let names = names(alloc)?;
+    let names = limited(alloc, &["a", "b"])?;
     let mut shelf = FolderShelf::open(&rt, alloc, "beside/work")?;
     assert!(&rt; shelf.read_beside(&rt, alloc, names.as_slice(), 4, || 7)? == 7);
     assert!(&rt; fs::write(&rt, "beside/work/a", b"new").is_ok());
@@ -49,12 +50,13 @@ fn files_read_beside_work(rt: HostRuntime) -> Result<(), AllocError> {
 fn other_files_after_work(rt: HostRuntime) -> Result<(), AllocError> {
     let alloc = rt.alloc();
     assert!(&rt; make_files(&rt, "beside/other", "beside/other/a", "beside/other/b"));
-    let names = names(alloc)?;
+    let names = limited(alloc, &["a", "b"])?;
     let mut shelf = FolderShelf::open(&rt, alloc, "beside/other")?;
     assert!(&rt; shelf.read_beside(&rt, alloc, names.as_slice(), 1, || 7)? == 7);
     assert!(&rt; written(&mut shelf, alloc, "a", b"new") == Ok(()));
     assert!(&rt; reads(&mut shelf, alloc, "a", 4, b"new"));
-    assert!(&rt; shelf.read_beside(&rt, alloc, &names[..1], 1, || 7)? == 7);
+    let first = limited(alloc, &["a"])?;
+    assert!(&rt; shelf.read_beside(&rt, alloc, first.as_slice(), 1, || 7)? == 7);
     assert!(&rt; fs::write(&rt, "beside/other/a", b"newer").is_ok());
     shelf.read_ahead(&rt, alloc, names.as_slice(), 1)?;
     assert!(&rt; reads(&mut shelf, alloc, "a", 4, b"newe"));
