@@ -94,7 +94,7 @@ def limits():
             f"| records in a list; bytes of a list | {records:,}; {list_bytes:,} |",
             f"| bytes of a fragment | 1 to {length:,} |",
             f"| bytes of line mode's input | {lines:,} |",
-            f"| 1 to {workers} (else 4), 1 to {queue:,} (else 16) |",
+            f"| 1 to {workers} (4 if not given), 1 to {queue:,} (16) |",
             f"A fragment has at most {length:,} bytes.",
             f"{batch // 2**20} MiB",
         ],
