@@ -25,6 +25,7 @@ from concurrent.futures import ThreadPoolExecutor
 ROOT = pathlib.Path(__file__).resolve().parent.parent
 PROGRAM = ROOT / "crates/rebuild/out/rebuild"
 DEMO = ROOT / "demo"
+DEMO_ANSWERED = b"served 4 racks, 14 answers\n"
 
 # Tests that end with want of memory where an allocation is refused, and else pass; and how many threads each starts at least.
 TESTS = [
@@ -56,6 +57,14 @@ ROOMS += [80_000, 100_000, 120_000, 150_000, 200_000, 250_000, 300_000, 400_000]
 COUNTED = 256
 OPENING = 16_384
 PART = 1_048_576
+
+# A folder whose survivors are read in two batches, the second beside the answering of the first: as many requests of the (12,2,2) code
+# for the longest fragments, each with all other places as survivors. 17 of them fit into a batch. The survivors of these are absent, and
+# of the last two they are there, of zeros.
+BATCHED = 19
+THERE = range(17, BATCHED)
+LONGEST = 65_536
+SURVIVORS = "x1 x2 x3 x4 x5 y0 y1 y2 y3 y4 y5 px py p0 p1"
 
 # The greatest queue. A lane of it takes two allocations of LARGE bytes or more, its items and their records, and one of the least queue
 # none.
@@ -235,17 +244,38 @@ def served_files():
     return served
 
 
+def batched_folder(folder):
+    """Makes the folder of two batches, and gives it with what serving it may write."""
+    folder.mkdir()
+    zeros = bytes(LONGEST)
+    digest = hashlib.sha256(zeros).hexdigest()
+    listed, rows = ["order,stripe,target,length,survivors,code"], []
+    for number in range(BATCHED):
+        is_there = number in THERE
+        if is_there:
+            for place in SURVIVORS.split():
+                (folder / f"s{number}.{place}").write_bytes(zeros)
+        listed.append(f"rebuild,s{number},x0,{LONGEST},{SURVIVORS},12-2-2")
+        row = {"number": number, "stripe": f"s{number}", "target": "x0", "length": str(LONGEST)}
+        if is_there:
+            row |= {"outcome": "rebuilt", "digest": digest, "unread": ""}
+        else:
+            row |= {"outcome": "several", "digest": "", "unread": SURVIVORS}
+        rows.append(row | {"code": "12-2-2"})
+    (folder / "rack0.csv").write_text("".join(line + "\n" for line in listed))
+    return folder, [rack_files(0, list(rows[0]), rows)], b"served 1 racks, %d answers\n" % BATCHED
+
+
 class Farm:
-    """The command farm on the demo's folder: all of its files, or E16 or E17 with none.
+    """The command farm on a folder: all of its files, or E16 or E17 with none.
 
-    Where memory is refused behind the first write, the files in front of it stand whole."""
+    Where memory is refused after the first write, the files before it are whole."""
 
-    answered = b"served 4 racks, 14 answers\n"
-
-    def __init__(self, library, workers, queue):
+    def __init__(self, library, workers, queue, folder=DEMO / "farm", served=None, answered=DEMO_ANSWERED):
         self.library = library
         self.settings = ["--workers", str(workers), "--queue", str(queue)]
-        self.served = served_files()
+        self.folder, self.answered = folder, answered
+        self.served = served_files() if served is None else served
 
     def __call__(self, refusal):
         with tempfile.TemporaryDirectory(dir=self.library.folder) as out:
@@ -253,7 +283,7 @@ class Farm:
             return ran, self.judged(ran, refusal, out)
 
     def words(self, out):
-        return [str(it) for it in [PROGRAM, "farm", DEMO / "farm", out, *self.settings]]
+        return [str(it) for it in [PROGRAM, "farm", self.folder, out, *self.settings]]
 
     def judged(self, ran, refusal, out):
         there = {it.name: hashlib.sha256(it.read_bytes()).hexdigest() for it in pathlib.Path(out).iterdir()}
@@ -404,6 +434,11 @@ def farm_walks(library):
     for workers, queue in [(1, 1), (4, 16), (16, 1)]:
         for rest in [False, True]:
             yield Walk(f"farm-{workers}-{queue}", "thread", rest, Farm(library, workers, queue), {"E17"})
+    batched = Farm(library, 4, 16, *batched_folder(library.folder / "batched"))
+    yield Walk("farm-batches", "allocation", False, batched, {"E16", "E16 between two writes"})
+    yield Walk("farm-batches", "allocation", True, batched, {"E16"})
+    for rest in [False, True]:
+        yield Walk("farm-batches", "thread", rest, batched, {"E17"})
 
 
 def test_walks(library):
@@ -466,7 +501,7 @@ def compare_queues(library):
         with tempfile.TemporaryDirectory(dir=library.folder) as out:
             words = [PROGRAM, "farm", DEMO / "farm", out, "--workers", "2", "--queue", str(queue)]
             ran = library.run([str(it) for it in words], large=LARGE)
-            if (ran.status, ran.out) != (0, Farm.answered):
+            if (ran.status, ran.out) != (0, DEMO_ANSWERED):
                 raise Fault(f"a queue of {queue}: {ran.told()}")
             counts[queue] = ran.large
     if counts[MOST_QUEUE] != counts[1] + 2 * LARGE_IN_LANE:
