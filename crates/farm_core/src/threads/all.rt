@@ -214,8 +214,9 @@ pub(crate) fn join_all<'a, R: Threads + Wait>(
     join_left(rt, left);
     put_ends.push_reserved(put_stops(rt, stops, working.len()));
     take_mark(rt, &mut taker);
-    join_workers(rt, working, &mut job_ends, &mut reply_ends);
+    // The collector ends after the workers have put their last replies, so they needn't be waited for one by one.
     let Cleared { all, replies: desk } = collecting.join(rt);
+    join_workers(rt, working, &mut job_ends, &mut reply_ends);
     if !started_all || !fed_all {
         return None;
     }
