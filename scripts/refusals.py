@@ -52,10 +52,13 @@ EXACT = {"evaluate_both_at_two_forks", "digests_in_three_threads"}
 ROOMS = [6_000, 8_000, 10_000, 12_000, 16_000, 20_000, 30_000, 40_000, 60_000]
 ROOMS += [80_000, 100_000, 120_000, 150_000, 200_000, 250_000, 300_000, 400_000]
 
-# How many requests are listed where threads are counted; what a file is worth that is read ahead, beside its bytes and one more; and
-# how much a thread reads ahead at least.
+# How many requests are listed where threads are counted, and how long fragments are of which several threads make the digests; what a
+# file is worth that is read ahead, beside its bytes and one more, and a fragment that is digested, beside its bytes; and how much a
+# thread reads ahead or digests at least.
 COUNTED = 256
+DIGESTED = 16_384
 OPENING = 16_384
+BLOCK = 64
 PART = 1_048_576
 
 # A folder whose survivors are read in two batches, the second beside the answering of the first: as many requests of the (12,2,2) code
@@ -459,34 +462,34 @@ def worker_walk(library):
     return Walk("a_worker_without_memory", "allocation", False, test, {"AllocError", "starved"}, least=2)
 
 
-def rack_of(folder, survivors):
-    """A rack of as many requests as COUNTED, with these survivors of each and no others."""
+def rack_of(folder, survivors, length):
+    """A rack of as many requests as COUNTED, with these survivors of each and no others, all of this length."""
     rows = ["order,stripe,target,length,survivors"]
     for number in range(COUNTED):
-        rows.append(f"rebuild,s{number},x0,1,x1 x2 px")
+        rows.append(f"rebuild,s{number},x0,{length},x1 x2 px")
         for place in survivors:
-            (folder / f"s{number}.{place}").write_bytes(bytes([number % 256]))
+            (folder / f"s{number}.{place}").write_bytes(bytes([number % 256]) * length)
     (folder / "rack0.csv").write_text("\n".join(rows) + "\n")
 
 
 def count_threads(library):
     """The program starts as many threads as `--workers` says: for the farm the collector's, one for each worker and one for the
-    feeder; for the digests one fewer than workers, since the thread that waits takes a share; and so for the survivors, of which each
-    thread has the least part.
+    feeder; for the survivors one fewer than workers, since the thread that waits takes a share, and as many as have the least part
+    each; and so for the digests.
     """
     with tempfile.TemporaryDirectory(dir=library.folder) as folder:
         folder = pathlib.Path(folder)
         (folder / "out").mkdir()
-        for name, survivors in [("several", ["x1", "x2"]), ("rebuilt", ["x1", "x2", "px"])]:
+        for name, survivors, length in [("several", ["x1", "x2"], 1), ("rebuilt", ["x1", "x2", "px"], DIGESTED)]:
             (folder / name).mkdir()
-            rack_of(folder / name, survivors)
+            rack_of(folder / name, survivors, length)
             for workers in [1, 2, 3, 4, 5, 7, 16]:
                 words = [PROGRAM, "farm", folder / name, folder / "out", "--workers", str(workers), "--queue", "6"]
                 ran = library.run([str(it) for it in words])
                 if (ran.status, ran.out) != (0, b"served 1 racks, %d answers\n" % COUNTED):
                     raise Fault(f"threads of {name}: {ran.told()}")
-                reading = min(workers, 3 * COUNTED * (OPENING + 2) // PART)
-                digesting = workers if name == "rebuilt" else 1
+                reading = min(workers, 3 * COUNTED * (OPENING + length + 1) // PART)
+                digesting = min(workers, COUNTED * (BLOCK + length) // PART) if name == "rebuilt" else 1
                 wanted = 2 + workers + (reading - 1) + (digesting - 1)
                 if ran.threads != wanted:
                     raise Fault(f"threads of {name}: {workers} workers started {ran.threads} threads, and not {wanted}")

@@ -7,9 +7,9 @@ use sha2::{Digest, Sha256};
 use std::alloc::{AllocError, Global};
 use std::thread::Threads;
 
-// The digest of `abc` in FIPS 180-2.
-const ABC: [u8; 32] =
-    *b"\xba\x78\x16\xbf\x8f\x01\xcf\xea\x41\x41\x40\xde\x5d\xae\x22\x23\xb0\x03\x61\xa3\x96\x17\x7a\x9c\xb4\x10\xff\x61\xf2\x00\x15\xad";
+// The digest of a million times `a` in FIPS 180-2.
+const MILLION: [u8; 32] =
+    *b"\xcd\xc7\x6e\x5c\x99\x14\xfb\x92\x81\xa1\xc7\xe2\x84\xd7\x3e\x67\xf1\x80\x9a\x48\xa4\x97\x20\x0e\x04\x6d\x39\xcc\xc7\x11\x2c\xd0";
 
 // How long the fragments are.
 #[derive(Clone, Copy)]
@@ -34,9 +34,18 @@ fn length_of(lengths: Lengths, number: u8) -> usize {
     }
 }
 
+// 64 fragments that are so much longer are worth three threads.
+const LONGER: usize = 50_000;
+
 // A fragment of bytes that all are its number.
-fn fragment(alloc: Global, lengths: Lengths, number: u8) -> Result<Outcome, AllocError> {
-    let bytes = vec![in alloc; number; length_of(lengths, number)]?;
+fn fragment(
+    alloc: Global,
+    lengths: Lengths,
+    longer: usize,
+    number: u8,
+) -> Result<Outcome, AllocError> {
+    let length = length_of(lengths, number).saturating_add(longer);
+    let bytes = vec![in alloc; number; length]?;
     Ok(Outcome::Rebuilt(Bytes::new(bytes)))
 }
 
@@ -44,6 +53,7 @@ fn fragment(alloc: Global, lengths: Lengths, number: u8) -> Result<Outcome, Allo
 fn racks_of(
     alloc: Global,
     lengths: Lengths,
+    longer: usize,
     fragments: u8,
 ) -> Result<Vec<Vec<(usize, Outcome)>>, AllocError> {
     let mut racks = Vec::new(alloc);
@@ -52,7 +62,7 @@ fn racks_of(
         if number % 3 == 0 {
             rack.push((0, Outcome::Several))?;
         }
-        rack.push((1, fragment(alloc, lengths, number)?))?;
+        rack.push((1, fragment(alloc, lengths, longer, number)?))?;
         if number % 5 == 1 {
             rack.push((0, Outcome::Contradiction))?;
         }
@@ -85,19 +95,25 @@ fn plain_digests(
     Ok(digests)
 }
 
-// How many fragments there are: around one and two groups of eight.
-const FRAGMENTS: &[u8] = &[0, 1, 7, 8, 9, 16, 17];
+// How many fragments there are: around one and two groups of eight, and around the grains that threads take.
+const FRAGMENTS: &[u8] = &[0, 1, 7, 8, 9, 16, 17, 33, 64];
 
 const LENGTHS: &[Lengths] = &[Lengths::Equal, Lengths::Broken, Lengths::Mixed];
 
-// Whether the digests are the plain ones, for each number of fragments and all of their lengths.
-fn agree<R: Threads + Sync>(rt: &R, alloc: Global, threads: usize) -> Result<bool, AllocError>
+// Whether the digests are the plain ones, for each of these numbers of fragments and all of their lengths.
+fn agree<R: Threads + Sync>(
+    rt: &R,
+    alloc: Global,
+    numbers: &[u8],
+    longer: usize,
+    threads: usize,
+) -> Result<bool, AllocError>
     requires { 0 < threads }
 {
     let mut agree = true;
     for lengths in LENGTHS {
-        for fragments in FRAGMENTS {
-            let racks = racks_of(alloc, *lengths, *fragments)?;
+        for fragments in numbers {
+            let racks = racks_of(alloc, *lengths, longer, *fragments)?;
             let made = digests_of_racks(rt, alloc, racks.as_slice(), threads)?;
             let plain = plain_digests(alloc, racks.as_slice())?;
             agree = agree && made.as_slice() == plain.as_slice();
@@ -108,36 +124,37 @@ fn agree<R: Threads + Sync>(rt: &R, alloc: Global, threads: usize) -> Result<boo
 
 #[test]
 fn digests_of_several_lengths(rt: HostRuntime) -> Result<(), AllocError> {
-    assert!(&rt; agree(&rt, rt.alloc(), 1)?);
-    assert!(&rt; agree(&rt, rt.alloc(), 3)?);
-    assert!(&rt; agree(&rt, rt.alloc(), 16)?);
+    assert!(&rt; agree(&rt, rt.alloc(), FRAGMENTS, 0, 1)?);
+    assert!(&rt; agree(&rt, rt.alloc(), FRAGMENTS, 0, 16)?);
+    assert!(&rt; agree(&rt, rt.alloc(), &[64], LONGER, 2)?);
+    assert!(&rt; agree(&rt, rt.alloc(), &[64], LONGER, 16)?);
     Ok(())
 }
 
-// Whether every other digest, from the first on, is that of `abc`, and there are no others.
-fn are_of_abc(digests: &[Option<[u8; 32]>]) -> bool {
+// Whether every other digest, from the first on, is that of a million times `a`, and there are no others.
+fn are_of_million(digests: &[Option<[u8; 32]>]) -> bool {
     let mut index = 0usize;
     for digest in digests {
-        let expected = if index % 2 == 0 { Some(ABC) } else { None };
+        let expected = if index % 2 == 0 { Some(MILLION) } else { None };
         if *digest != expected {
             return false;
         }
         index = index.saturating_add(1);
     }
-    index == 34
+    index == 66
 }
 
-// Two groups of eight and one alone, each in a thread of its own where one can be made.
+// Two grains and one alone, for as many threads as can be made.
 #[test]
 fn digests_in_three_threads(rt: HostRuntime) -> Result<(), AllocError> {
     let mut rack = Vec::new(rt.alloc());
-    for _ in 0..17 {
-        let bytes = Bytes::new(Vec::from_slice(rt.alloc(), b"abc")?);
+    for _ in 0..33 {
+        let bytes = Bytes::new(vec![in rt.alloc(); b'a'; 1_000_000]?);
         rack.push((0, Outcome::Rebuilt(bytes)))?;
         rack.push((0, Outcome::Several))?;
     }
     let racks = vec![in rt.alloc(); rack]?;
     let made = digests_of_racks(&rt, rt.alloc(), racks.as_slice(), 3)?;
-    assert!(&rt; are_of_abc(made.as_slice()));
+    assert!(&rt; are_of_million(made.as_slice()));
     Ok(())
 }

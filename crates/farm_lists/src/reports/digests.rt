@@ -1,14 +1,14 @@
-//! The digests of rebuilt fragments: of one, or of all racks, eight at once in several threads.
-ghost use Rattle.std.specs.Prelude.{◌≡◌, ◌+◌, ◌++◌, ◌*◌, ◌%◌, ◌^◌, ◌<◌, ◌≤◌, ℕ, List, [], IfOk, OnOk, length, map, slice_index_or};
+//! The digests of rebuilt fragments: of one, or of all racks in several threads.
+ghost use Rattle.std.specs.Prelude.{◌≡◌, ◌++◌, ◌<◌, ℕ, List, IfOk, OnOk, map};
 ghost use Rattle.std.specs.List.{flat_map};
 ghost use Rattle.sha2.specs.Sha256.{sha256};
 ghost use Rattle.farm_lists.specs.Report.{fragment_digest, rebuilt_fragment};
 
+use crate::reports::grains;
 use lrc_code::Outcome;
 use sha2::{Digest as _, Sha256};
 use sha256_lanes::Digest;
 use std::alloc::{AllocError, Global};
-use std::thread;
 use std::thread::Threads;
 
 /// The SHA-256 digest of an outcome's fragment, where it was rebuilt. Takes no memory.
@@ -22,8 +22,8 @@ pub(crate) fn digest_of(outcome: &Outcome) -> Option<Digest>
     }
 }
 
-/// The digests of the outcomes of all racks, rack after rack, made in at most this many threads. A thread that is
-/// refused leaves its part to the others.
+/// The digests of the outcomes of all racks, rack after rack, made in at most this many threads, and in one where there is little to do.
+/// A thread that is refused leaves its part to the others.
 pub fn digests_of_racks<R: Threads + Sync>(
     rt: &R,
     alloc: Global,
@@ -35,8 +35,7 @@ pub fn digests_of_racks<R: Threads + Sync>(
 {
     let outcomes = outcomes_of_racks(alloc, racks)?;
     let fragments = rebuilt_fragments(alloc, outcomes.as_slice())?;
-    let mut digests = vec![in alloc; [0u8; 32]; fragments.len()]?;
-    make_digests(rt, fragments.as_slice(), digests.as_mut_slice(), threads);
+    let digests = grains::digests_of(rt, alloc, fragments.as_slice(), threads)?;
     hand_out(alloc, outcomes.as_slice(), digests.as_slice())
 }
 
@@ -91,46 +90,6 @@ fn push_fragment<'a>(fragments: &mut Vec<&'a [u8]>, outcome: &'a Outcome) -> Res
         Outcome::Contradiction => Ok(()),
         Outcome::Several => Ok(()),
     }
-}
-
-// The least multiple of eight by which so many digests are cut into at most so many chunks, and eight where there are none.
-fn chunk_size(count: usize, threads: usize) -> usize
-    requires threads { 0 < threads }
-    requires count { count + 8 < 2 ^ 64 }
-    ensures positive { 0 < result }
-    ensures eights { result % 8 ≡ 0 }
-    ensures chunks { count ≤ threads * result }
-{
-    8 * count.div_ceil(8).div_ceil(threads).max(1)
-}
-
-// Makes the digest of each fragment, at its place. The threads take no memory.
-fn make_digests<R: Threads + Sync>(
-    rt: &R,
-    fragments: &[&[u8]],
-    digests: &mut [Digest],
-    threads: usize,
-)
-    requires threads { 0 < threads }
-    requires places { length digests.old ≡ length fragments.now }
-    ensures { digests.new ≡ map (λ f. sha256 f.now) fragments.now }
-{
-    let size = chunk_size(digests.len(), threads);
-    let part = |start: usize, chunk: &mut [Digest]|
-        requires { start + length chunk.now ≤ length fragments.now }
-        ensures { (k : ℕ) → k < length chunk.entry.now → slice_index_or chunk.exit.now k []
-            ≡ slice_index_or (map (λ f. sha256 f.now) fragments.entry.now) (start + k) [] }
-    { digests_from(fragments, start, chunk) };
-    thread::for_each_chunk_mut(rt, digests, size, &part);
-}
-
-// Makes the digests of the fragments from one on, as many as there are places.
-fn digests_from(fragments: &[&[u8]], start: usize, digests: &mut [Digest])
-    requires { start + length digests.old ≤ length fragments.now }
-    ensures { (k : ℕ) → k < length digests.old → slice_index_or digests.new k []
-        ≡ slice_index_or (map (λ f. sha256 f.now) fragments.now) (start + k) [] }
-{
-    sha256_lanes::digests(&fragments[start..start + digests.len()], digests);
 }
 
 // The digest of each outcome, from those of the rebuilt fragments among them in order.

@@ -1,5 +1,4 @@
-use Rattle.std.proofs.Common.{◌≡◌, ◌∙◌, Bor, ℕ, List, sym, ap, arith, length, map, drop, flat_map}
-use Rattle.std.proofs.lemmas.List.{take-append-le, take_all}
+use Rattle.std.proofs.Common.{◌∙◌, Bor, ℕ, List, sym, ap, map, flat_map}
 use Rattle.std.proofs.lemmas.Result.{IfOk-weaker}
 use Rattle.std.proofs.lemmas.Simd.{map-map}
 use Rattle.lrc_code.specs.declared.outcomes.Outcome.{Outcome}
@@ -10,13 +9,8 @@ use Rattle.farm_lists.proofs.reports.digests.digests_of_racks.Goals as goal
 
 pub hand_out-requires : goal.hand_out-requires
 hand_out-requires g c =
-    let made = c.make_digests.new.digests in
-    let count = c.in_ok-digests.digests.len in
-    let whole : length made ≡ count = omega (arith, c.make_digests.auto.digests, c.as_mut_slice.ensures.len) in
     c.as_slice-4.ensures.value
-    ∙ take-append-le count made (drop (length made) c.in_ok-digests.digests.items) (omega (arith, whole))
-    ∙ take_all count made (omega (arith, whole))
-    ∙ c.make_digests.ensures ∙ ap (map (λ (f : Bor (List ℕ)). sha256 f.now)) c.as_slice-2.ensures.value
+    ∙ c.in_ok-digests.ensures ∙ ap (map (λ (f : Bor (List ℕ)). sha256 f.now)) c.as_slice-2.ensures.value
     ∙ sym (map-map sha256 (λ (f : Bor (List ℕ)). f.now) c.in_ok-fragments.fragments.items)
     ∙ ap (map sha256) (c.in_ok-fragments.ensures ∙ ap (flat_map (λ (o : Bor Outcome). rebuilt_fragment o.now))
     (c.as_slice.ensures.value ∙ sym c.as_slice-3.ensures.value))

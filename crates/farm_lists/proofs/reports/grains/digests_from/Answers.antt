@@ -1,7 +1,7 @@
 use Rattle.std.proofs.Common.{◌≡◌, ◌+◌, ◌-◌, ◌∙◌, ℕ, List, [], Bor, ap, arith, length, map, take, drop, get_or}
 use Rattle.sha2.specs.Sha256.{sha256}
 use Rattle.farm_lists.proofs.FragmentDigests.{digest_at}
-use Rattle.farm_lists.proofs.reports.digests.digests_from.Goals as goal
+use Rattle.farm_lists.proofs.reports.grains.digests_from.Goals as goal
 
 pub returns : goal.returns
 returns c k within =
