@@ -1,24 +1,37 @@
 -- Parities of lent bytes.
-use Rattle.std.proofs.Common.{◌≡◌, ℕ, suc, ◌<◌, ◌≤◌, List, [], ◌∷◌, ◌++◌, All, length, refl, ap, sym, subst, ◌∙◌, lit<, lit≤, arith}
+use Rattle.std.proofs.Common.{◌≡◌, ℕ, suc, List, [], ◌∷◌, ◌++◌, All, length, map, take, refl, ap, subst, ◌∙◌, arith}
 use Rattle.lrc_code.specs.declared.codes.Code.{Code as CodeName}
-use Rattle.lrc_code.specs.Code.{AreBytes}
-use Rattle.lrc_code.specs.Codes.{data_count, parities_of, tables_of}
+use Rattle.lrc_code.specs.Code.{AreBytes, narrow_equations, wide_equations}
+use Rattle.lrc_code.specs.Codes.{data_count, padded_parities_of, parities_of, tables_of}
 use Rattle.lrc_code.specs.declared.codes.Code.TheVariants.{Narrow, Wide}
-use Rattle.lrc_code.specs.declared.codes.ParityRows.{ParityRows}
 use Rattle.lrc_code.specs.Encoding.{HaveLength, IsParity, IsEncoding}
 use Rattle.lrc_code.specs.Reduction.{row_at}
 use Rattle.lrc_code.proofs.Encodings.{parities_by_row, parity_rows, data_of, encoding}
-use Rattle.lrc_code.proofs.CodeLaws.{four_cases}
-use Rattle.lrc_c.specs.Encoded.{AreShort}
 use Rattle.lrc_field.specs.declared.terms.Term.{Term}
+use Rattle.lrc_field.specs.Terms.{AreTermsOf, HaveLengthWhereUsed}
 use Rattle.lrc_c.specs.Lent.{AreUsed}
-use Rattle.lrc_c.specs.Combined.{AreTermsOf, IsWritten}
+use Rattle.lrc_c.specs.Combined.{IsWritten}
+use Rattle.lrc_c.proofs.Combinations.{where_used}
 
 -- lists of one length
 pub all_used : (row : List ℕ) (xss : List (List ℕ)) (len : ℕ) → HaveLength len xss → AreUsed row xss len
 all_used [] xss len h = tt
 all_used (c ∷ row) [] len h = tt
 all_used (c ∷ row) (xs ∷ xss) len h = (λ n. h 0 [] (omega arith), all_used row xss len (λ k d lt. h (suc k) d (omega arith)))
+
+pub all_where_used : (row : List ℕ) (xss : List (List ℕ)) (len : ℕ) → HaveLength len xss → HaveLengthWhereUsed row xss len
+all_where_used row xss len h = where_used row xss len (all_used row xss len h)
+
+-- a code's parities without the 00 after their coefficients
+unpadded : (code : CodeName) → map (take (data_count code)) (padded_parities_of code) ≡ parities_of code
+unfolding narrow_equations wide_equations
+unpadded Narrow = refl
+unpadded Wide = refl
+
+pub own_rows : (code : CodeName) (n : ℕ) (rx ry r0 r1 : List ℕ) → (rx ∷ ry ∷ r0 ∷ r1 ∷ []) ≡ padded_parities_of code → n ≡ data_count code
+    → (take n rx ∷ take n ry ∷ take n r0 ∷ take n r1 ∷ []) ≡ parities_of code
+own_rows code n rx ry r0 r1 are e =
+    ap (λ m. take m rx ∷ take m ry ∷ take m r0 ∷ take m r1 ∷ []) e ∙ ap (map (take (data_count code))) are ∙ unpadded code
 
 data_is : (code : CodeName) → data_count code ≡ length (data_of code)
 data_is Narrow = refl
@@ -40,27 +53,6 @@ module _ (code : CodeName) (rx ry r0 r1 : List ℕ) (are : (rx ∷ ry ∷ r0 ∷
         i0 = subst (λ row. IsParity row sources len p0) (row_is 2) h0;
         i1 = subst (λ row. IsParity row sources len p1) (row_is 3) h1;
       })
-
-short : (code : CodeName) (i : ℕ) → i < 4 → length (row_at (parity_rows code) i) ≤ 16
-short Narrow = four_cases _ (lit≤ tt) (lit≤ tt) (lit≤ tt) (lit≤ tt)
-short Wide = four_cases _ (lit≤ tt) (lit≤ tt) (lit≤ tt) (lit≤ tt)
-
-same_length : (code : CodeName) → length (row_at (parity_rows code) 3) ≡ length (row_at (parity_rows code) 2)
-same_length Narrow = refl
-same_length Wide = refl
-
-pub short_rows : (code : CodeName) (rows : ParityRows)
-    → (rows.px.now ∷ rows.py.now ∷ rows.p0.now ∷ rows.p1.now ∷ []) ≡ parities_of code → AreShort rows
-short_rows code rows are =
-    let row_is : (i : ℕ) → row_at (rows.px.now ∷ rows.py.now ∷ rows.p0.now ∷ rows.p1.now ∷ []) i ≡ row_at (parity_rows code) i
-    = λ i. ap (λ rs. row_at rs i) (are ∙ parities_by_row code) in
-    record {
-      px = subst (λ row. length row ≤ 16) (sym (row_is 0)) (short code 0 (lit< tt));
-      py = subst (λ row. length row ≤ 16) (sym (row_is 1)) (short code 1 (lit< tt));
-      p0 = subst (λ row. length row ≤ 16) (sym (row_is 2)) (short code 2 (lit< tt));
-      p1 = subst (λ row. length row ≤ 16) (sym (row_is 3)) (short code 3 (lit< tt));
-      same = ap length (row_is 3) ∙ same_length code ∙ sym (ap length (row_is 2));
-    }
 
 -- what is in a room whose terms are a row's
 pub parity : (row : List ℕ) (xss : List (List ℕ)) (len : ℕ) (ts : List Term) (out : List ℕ) → AreTermsOf row xss len ts → length out ≡ len

@@ -1,20 +1,13 @@
--- Two coefficients and lent bytes, one place after another, and what their pairs are wanted for.
-use Rattle.std.proofs.Common.{◌≡◌, ℕ, Bool, zero, suc, ◌+◌, ◌<◌, List, [], ◌∷◌, length, get_or, set, take, ap, ap₂, sym, subst, ◌∙◌, arith}
-use Rattle.std.specs.Int.Bits.{bit_xor}
-use Rattle.std.proofs.lemmas.List.{take_more_set}
-use Rattle.std.proofs.lemmas.List.Elements.{All-append}
+-- Pairs of two rows, and what they are wanted for.
+use Rattle.std.proofs.Common.{◌≡◌, ℕ, Bool, List, ap, sym, subst, ◌∙◌}
 use Rattle.lrc_field.specs.Combined.{sum_at}
 use Rattle.lrc_field.specs.declared.terms.Term.{Term}
 use Rattle.lrc_field.specs.declared.pairs.Pair.{Pair}
-use Rattle.lrc_field.specs.Pairs.{scaled_sum_at, first_sum_at, second_sum_at}
-use Rattle.lrc_field.proofs.PairSums.{scaled_at, pair_snoc}
-use Rattle.lrc_code.specs.Code.{combination}
+use Rattle.lrc_field.specs.Pairs.{first_sum_at, second_sum_at, ArePairsOf}
+use Rattle.lrc_field.specs.Sums.{combination, column}
+use Rattle.lrc_field.specs.Terms.{AreTermsOf}
 use Rattle.lrc_code.specs.declared.codes.Code.{Code as CodeName}
 use Rattle.lrc_code.specs.declared.places.Place.{Place}
-use Rattle.lrc_c.specs.Combined.{column, AreTermsOf}
-use Rattle.lrc_c.specs.Paired.{ArePairsOf, HavePairsRoom, IsPairOf}
-use Rattle.lrc_field.specs.Field.{times}
-use Rattle.lrc_c.proofs.Combinations.{column_at}
 use Rattle.lrc_c.specs.Windows.{AreCouple, AreSums}
 use Rattle.lrc_c.specs.declared.windows.Wanted.{Wanted}
 use Rattle.lrc_c.specs.declared.windows.Wanted.TheVariants as wanted
@@ -23,32 +16,6 @@ use Rattle.lrc_c.specs.declared.rebuilding_many.Target.TheVariants as target
 use Rattle.lrc_c.specs.declared.rebuilding_many.Aim.{Aim}
 use Rattle.lrc_c.specs.declared.rebuilding_many.Aim.TheVariants as aim
 use Rattle.lrc_c.specs.RebuiltMany.{AreBothSums, IsAimed, IsReady, IsTermRow, IsWantedOf}
-
--- one pair more
-pub pairs-more : (g : Pair → ℕ) (ps : List Pair) (n i : ℕ) (p : Pair) → n < length ps
-    → scaled_sum_at g (take (n + 1) (set ps n p)) i ≡ bit_xor (scaled_sum_at g (take n ps) i) (scaled_at g p i)
-pairs-more g ps n i p h = ap (λ qs. scaled_sum_at g qs i) (take_more_set ps n p h) ∙ pair_snoc g (take n ps) p i
-
-pub rooms-more : (len : ℕ) (ps : List Pair) (n : ℕ) (p : Pair) → n < length ps → HavePairsRoom len (take n ps) → length p.bytes.now ≡ len
-    → HavePairsRoom len (take (n + 1) (set ps n p))
-rooms-more len ps n p h all l = subst (HavePairsRoom len) (sym (take_more_set ps n p h))
-    (All-append (λ (q : Pair). length q.bytes.now ≡ len) (take n ps) (p ∷ []) all one)
-  where
-    one : HavePairsRoom len (p ∷ [])
-    one zero d lt = l
-    one (suc k) d lt = absurd (omega arith)
-
--- the pair at an index
-pub pair_is : (firsts seconds : List ℕ) (xss : List (List ℕ)) (len k : ℕ) (p : Pair) → k < length xss → length (get_or xss k []) ≡ len
-    → p.first ≡ get_or firsts k 0 → p.second ≡ get_or seconds k 0 → p.bytes.now ≡ get_or xss k [] → IsPairOf firsts seconds xss len k p
-pair_is firsts seconds xss len k p lt long first second bytes = record {
-  long = ap length bytes ∙ long;
-  first = λ i. ap₂ times first (byte i);
-  second = λ i. ap₂ times second (byte i);
-}
-  where
-    byte : (i : ℕ) → get_or p.bytes.now i 0 ≡ get_or (column xss i) k 0
-    byte i = ap (λ bs. get_or bs i 0) bytes ∙ sym (column_at xss k i lt)
 
 -- the sums of a row's terms
 pub sums_of : (w : Wanted) (ts : List Term) (row : List ℕ) (xss : List (List ℕ)) (len : ℕ) (f : ℕ → ℕ) → IsWantedOf aim.Sums ts w

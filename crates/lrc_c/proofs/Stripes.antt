@@ -13,7 +13,8 @@ use Rattle.lrc_code.specs.declared.places.Place.{Place}
 use Rattle.lrc_code.specs.declared.places.Place.TheVariants.{X0}
 use Rattle.lrc_code.specs.declared.codes.Code.{Code as CodeName}
 use Rattle.lrc_code.specs.Places.{index_of, same_place, all_places}
-use Rattle.lrc_code.specs.Code.{Code, AreBytes, has_place, combination, Solves, bytes_at}
+use Rattle.lrc_field.specs.Sums.{combination, column}
+use Rattle.lrc_code.specs.Code.{Code, AreBytes, has_place, Solves, bytes_at}
 use Rattle.lrc_code.specs.Codes.{tables_of}
 use Rattle.lrc_code.specs.Encoding.{IsParity}
 use Rattle.lrc_code.specs.Sums.{GivesBytes}
@@ -24,7 +25,6 @@ use Rattle.lrc_plan.specs.Planned.{Extends, ExtensionsDiffer}
 use Rattle.lrc_plan.specs.RowPlans.{IsRowValue, IsValueRow, AreCheckRows, ReadsSurvivors}
 use Rattle.lrc_c.specs.Lent.{at_place, AreUsed}
 use Rattle.lrc_c.specs.Arguments.{AreWhole}
-use Rattle.lrc_c.specs.Combined.{column}
 use Rattle.lrc_c.proofs.Combinations.{used_from}
 use Rattle.lrc_c.specs.Stripes.{Keeps, IsPossible, IsContradiction, IsRebuilt, AreSeveral, AreZeroRows}
 

@@ -1,25 +1,25 @@
 -- Parities after a data fragment changed.
 use Rattle.std.proofs.Common.{◌≡◌, ◌≢◌, ℕ, zero, suc, ◌+◌, ◌<◌, ◌≤◌, ◌^◌, Bool, true, false, cond, List, [], ◌∷◌, length, map, take, get_or}
-use Rattle.std.proofs.Common.{refl, ap, ap₂, sym, ◌∙◌, subst, arith, lit<, lit≤, All}
+use Rattle.std.proofs.Common.{refl, ap, ap₂, sym, ◌∙◌, subst, arith, lit<, All}
 use Rattle.std.specs.Prelude.{◌&&◌, not, if◌then◌else◌}
 use Rattle.std.specs.Int.Bits.{bit_xor, xor_assoc, xor_zero_l, xor_zero_r}
 use Rattle.std.proofs.lemmas.List.{ext_get_or, get_or-map, length-map, take_all}
 use Rattle.lrc_field.specs.Field.{times}
-use Rattle.lrc_field.specs.Sums.{sums}
+use Rattle.lrc_field.specs.Sums.{combination, sums}
 use Rattle.lrc_field.proofs.FieldLaws.{times-zero_r}
 use Rattle.lrc_code.specs.declared.places.Place.{Place}
 use Rattle.lrc_code.specs.declared.places.Place.TheVariants.{Px, Py, P0, P1}
 use Rattle.lrc_code.specs.declared.codes.Code.{Code as CodeName}
 use Rattle.lrc_code.specs.declared.codes.Code.TheVariants.{Narrow, Wide}
 use Rattle.lrc_code.specs.Places.{all_places, same_place}
-use Rattle.lrc_code.specs.Code.{Code, combination, has_place, bytes_at, AreBytes}
-use Rattle.lrc_code.specs.Codes.{parities_of, tables_of}
+use Rattle.lrc_code.specs.Code.{Code, has_place, bytes_at, AreBytes}
+use Rattle.lrc_code.specs.Codes.{tables_of}
 use Rattle.lrc_code.specs.Reduction.{coefficient_at, row_at}
 use Rattle.lrc_code.proofs.CodeLaws.{four_cases}
 use Rattle.lrc_code.proofs.Clearing.{get_or-sums}
 use Rattle.lrc_code.proofs.CodeTables.{combination-at}
 use Rattle.lrc_code.proofs.Combinations.{combination-sum}
-use Rattle.lrc_code.proofs.Encodings.{code_says, data_of, fourth_of, parities_by_row, parity_rows}
+use Rattle.lrc_code.proofs.Encodings.{code_says, data_of, fourth_of, parity_rows}
 use Rattle.lrc_code.proofs.PlaceSums.{same_place-eq, sum_over-same, sum_over-single}
 use Rattle.lrc_code.proofs.RowOps.{length-sums}
 use Rattle.lrc_c.specs.Updated.{is_parity, AreCoefficients, AreSolution, DifferAt, IsCoefficient, IsUpdated, SameOthers}
@@ -141,14 +141,6 @@ same_row : (code : CodeName) (place : Place) (i : ℕ) → i < 4
     ≡ coefficient_at (data_of code) (row_at (parity_rows code) i) place
 same_row Narrow place = four_cases _ refl refl refl refl
 same_row Wide place = four_cases _ refl refl refl refl
-
-row_length : (code : CodeName) (i : ℕ) → i < 4 → length (row_at (parity_rows code) i) ≤ length (tables_of code).places
-row_length Narrow = four_cases _ (lit≤ tt) (lit≤ tt) (lit≤ tt) (lit≤ tt)
-row_length Wide = four_cases _ (lit≤ tt) (lit≤ tt) (lit≤ tt) (lit≤ tt)
-
-pub row_fits : (code : CodeName) (rows : List (List ℕ)) (ps : List Place) → rows ≡ parities_of code → ps ≡ (tables_of code).places
-    → (i : ℕ) → i < 4 → length (row_at rows i) ≤ length ps
-row_fits code rows ps e f i h = omega (arith, row_length code i h, ap (λ rs. length (row_at rs i)) (e ∙ parities_by_row code), ap length f)
 
 pub coefficients : (code : CodeName) (place : Place) (px py p0 p1 : ℕ)
     → px ≡ coefficient_at (tables_of code).places (row_at (parity_rows code) 0) place

@@ -1,7 +1,6 @@
 -- Sources that can be encoded.
-use Rattle.std.specs.Prelude.{◌≡◌, ◌≤◌, ℕ, List, length, Some}
+use Rattle.std.specs.Prelude.{◌≡◌, ℕ, List, length, Some}
 use Rattle.lrc_code.specs.declared.codes.Code.{Code as CodeName}
-use Rattle.lrc_code.specs.declared.codes.ParityRows.{ParityRows}
 use Rattle.lrc_code.specs.Codes.{data_count}
 use Rattle.lrc_code.specs.Encoding.{HaveLength}
 use Rattle.lrc_c.specs.Arguments.{code_numbered}
@@ -14,11 +13,3 @@ pub record AreSources (number : ℕ) (sources : List (List ℕ)) (x y z w : ℕ)
   pub py : y ≡ x
   pub p0 : z ≡ x
   pub p1 : w ≡ x
-
--- rows of at most sixteen coefficients, the last two of one length
-pub record AreShort (rows : ParityRows) : Type 0 where
-  pub px : length rows.px.now ≤ 16
-  pub py : length rows.py.now ≤ 16
-  pub p0 : length rows.p0.now ≤ 16
-  pub p1 : length rows.p1.now ≤ 16
-  pub same : length rows.p1.now ≡ length rows.p0.now

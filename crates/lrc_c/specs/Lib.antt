@@ -8,4 +8,3 @@ pub mod RebuiltMany
 pub mod Encoded
 pub mod Reads
 pub mod Updated
-pub mod Paired

@@ -16,7 +16,7 @@ use Rattle.lrc_c.specs.declared.rebuilding_many.Aim.TheVariants as aim
 use Rattle.lrc_c.specs.declared.windows.Wanted.{Wanted}
 use Rattle.lrc_c.specs.declared.windows.Wanted.TheVariants as wanted
 use Rattle.lrc_c.specs.Arguments.{AreWhole, code_numbered, is_set}
-use Rattle.lrc_c.specs.Combined.{AreTermsOf}
+use Rattle.lrc_field.specs.Terms.{AreTermsOf}
 use Rattle.lrc_c.specs.Lent.{at_place, AreUsed}
 use Rattle.lrc_c.specs.Rebuilt.{status_of, IsAnswerAt}
 

@@ -1,8 +1,8 @@
 -- Stripes that keep lent bytes, and what is said of them.
 use Rattle.std.specs.Prelude.{◌≡◌, ◌≢◌, ℕ, ◌<◌, List, Bool, true, All}
 use Rattle.lrc_code.specs.declared.places.Place.{Place}
-use Rattle.lrc_code.specs.Code.{Code, combination, IsInCode}
-use Rattle.lrc_c.specs.Combined.{column}
+use Rattle.lrc_field.specs.Sums.{combination, column}
+use Rattle.lrc_code.specs.Code.{Code, IsInCode}
 
 -- a stripe of a length in the code that keeps the bytes at the places of a set
 pub record Keeps (code : Code) (survives : Place → Bool) (at : Place → List ℕ) (len : ℕ) (s : Place → List ℕ) : Type 0 where

@@ -8,9 +8,9 @@ use Rattle.lrc_c.specs.declared.windows.Checks.{Checks}
 use Rattle.lrc_c.specs.declared.windows.Couples.{Couples}
 use Rattle.lrc_field.specs.declared.pairs.Pair.{Pair}
 use Rattle.lrc_field.specs.Combined.{sum_at}
-use Rattle.lrc_field.specs.Pairs.{first_sum_at, second_sum_at}
-use Rattle.lrc_c.specs.Paired.{HavePairsRoom}
-use Rattle.lrc_c.specs.Combined.{HaveRoom, IsWritten}
+use Rattle.lrc_field.specs.Terms.{HaveRoom}
+use Rattle.lrc_field.specs.Pairs.{first_sum_at, second_sum_at, HavePairsRoom}
+use Rattle.lrc_c.specs.Combined.{IsWritten}
 
 -- sums of a length have a room of that length
 abbrev pub HasRoom : ℕ → Wanted → ℕ → Type 0

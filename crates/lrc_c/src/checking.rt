@@ -10,23 +10,14 @@ ghost use Rattle.lrc_c.specs.Stripes.{AreZeroRows, IsContradiction, IsPossible};
 ghost use Rattle.lrc_c.specs.Windows.{AreCoupled, AreRooms, AreWritten};
 
 use crate::arguments::{are_whole, code_numbered, set_of};
-use crate::combining::fill_terms;
 use crate::lent::Lent;
 use crate::windows::{Checks, Couples, Wanted, Wants, write_checked};
-use lrc_code::{Code, PlaceSet};
-use lrc_field::{Gf, no_terms};
+use lrc_code::{Code, PlaceSet, are_bytes};
+use lrc_field::{Gf, no_terms, terms_in};
 use lrc_plan::check_rows;
 
-/// The coefficients as bytes.
-pub(crate) fn bytes_of(row: &[Gf; 16]) -> [u8; 16]
-    ensures { result ≡ row.now }
-{
-    row.map(|c| c.byte())
-}
-
-/// Tests whether four combinations of lent bytes are 00 at every place, and writes what is wanted, in one pass, by pairs where
-/// there are any. Where
-/// some combination isn't 00 the rooms are written up to some place, and the answer is false.
+/// Tests whether four combinations of lent bytes are 00 at every position, and writes what is wanted, in one pass, by pairs where there
+/// are any. Where some combination isn't 00 the rooms are written up to some position, and the answer is false.
 pub(crate) fn write_coupled_if_zero(
     rows: [[Gf; 16]; 4],
     at: &[Lent; 16],
@@ -45,26 +36,21 @@ pub(crate) fn write_coupled_if_zero(
     ensures written { result ≡ true → AreWritten wants.entry len a.new b.new c.new d.new }
     ensures no { result ≡ false → ¬ AreZeroRows rows (lent at.now) len }
 {
-    let [first, second, third, fourth] = rows;
-    let mut first_terms = no_terms();
-    let first_count = fill_terms(&mut first_terms, &bytes_of(&first), at, len);
-    let mut second_terms = no_terms();
-    let second_count = fill_terms(&mut second_terms, &bytes_of(&second), at, len);
-    let mut third_terms = no_terms();
-    let third_count = fill_terms(&mut third_terms, &bytes_of(&third), at, len);
-    let mut fourth_terms = no_terms();
-    let fourth_count = fill_terms(&mut fourth_terms, &bytes_of(&fourth), at, len);
+    let mut first_room = no_terms();
+    let mut second_room = no_terms();
+    let mut third_room = no_terms();
+    let mut fourth_room = no_terms();
     let checks = Checks {
-        first: &first_terms[..first_count],
-        second: &second_terms[..second_count],
-        third: &third_terms[..third_count],
-        fourth: &fourth_terms[..fourth_count],
+        first: terms_in(&mut first_room, &rows[0], at),
+        second: terms_in(&mut second_room, &rows[1], at),
+        third: terms_in(&mut third_room, &rows[2], at),
+        fourth: terms_in(&mut fourth_room, &rows[3], at),
     };
     write_checked(checks, wants, couples, len, a, b, c, d)
 }
 
-/// The same without pairs: tests whether four combinations of lent bytes are 00 at every place, and writes what is wanted, in one pass.
-/// Where some combination isn't 00 the rooms are written up to some place, and the answer is false.
+/// Tests whether four combinations of lent bytes are 00 at every position, and writes what is wanted, in one pass and without pairs.
+/// Where some combination isn't 00 the rooms are written up to some position, and the answer is false.
 pub(crate) fn write_if_zero(
     rows: [[Gf; 16]; 4],
     at: &[Lent; 16],
@@ -130,10 +116,6 @@ pub(crate) fn are_sixteen(at: &[Lent; 16])
 {
     lent_are_bytes(at);
 }
-
-fn are_bytes(bytes: &[u8])
-    ensures { AreBytes bytes.now }
-{}
 
 /// Tests the survivors, whose bits are set; their bytes are in `at` by the places' indexes, and have the length. 0:
 /// they are those of a stripe. 1: they are not. 3: the arguments are not of that kind.

@@ -1,21 +1,19 @@
 //! Encoding for C.
-ghost use Rattle.std.specs.Prelude.{◌↔◌, ◌≡◌, ◌∷◌, [], ◌++◌, length, true, false};
+ghost use Rattle.std.specs.Prelude.{◌↔◌, ◌≡◌, ◌≤◌, ◌∷◌, [], ◌++◌, length, take, true, false};
 ghost use Rattle.std.specs.Bool.{IsTrue};
 ghost use Rattle.lrc_code.specs.declared.codes.Code.{Code};
 ghost use Rattle.lrc_code.specs.Codes.{data_count, tables_of};
 ghost use Rattle.lrc_code.specs.Encoding.{HaveLength, IsEncoding, IsParity};
 ghost use Rattle.lrc_c.specs.Lent.{lent};
 ghost use Rattle.lrc_c.specs.Windows.{AreCoupled, AreRooms, AreWritten};
-ghost use Rattle.lrc_c.specs.Encoded.{AreShort, AreSources};
+ghost use Rattle.lrc_c.specs.Encoded.{AreSources};
 
 use crate::arguments::code_numbered;
 use crate::checking::lent_are_bytes;
-use crate::combining::fill_terms;
 use crate::lent::Lent;
-use crate::pairing::{fill_pairs, no_pairs};
 use crate::windows::{Checks, Couples, Wanted, Wants, write_checked};
 use lrc_code::{Code, ParityRows};
-use lrc_field::no_terms;
+use lrc_field::{no_pairs, no_terms, pairs_in, terms_in};
 
 // Whether each slice has so many bytes.
 fn have_length(sources: &[Lent], len: usize) -> bool
@@ -45,46 +43,42 @@ fn encode_parities(
         (lent sources.now ++ (px.new ∷ py.new ∷ p0.new ∷ p1.new ∷ [])) }
 {
     lent_are_bytes(sources);
-    write_parities(code.parities(), sources, px, py, p0, p1);
+    write_parities(&code.parities(), sources, px, py, p0, p1);
 }
 
-// The four parities of data fragments, in one pass.
+// The four parities of data fragments, in one pass, with as many coefficients of each row as there are fragments.
 fn write_parities(
-    rows: ParityRows,
+    rows: &ParityRows,
     sources: &[Lent],
     px: &mut [u8],
     py: &mut [u8],
     p0: &mut [u8],
     p1: &mut [u8],
 )
-    requires few { AreShort rows }
+    requires few { length sources.now ≤ 12 }
     requires lengths { HaveLength (length px.old) (lent sources.now) }
     requires rooms { (length py.old ≡ length px.old) × (length p0.old ≡ length px.old) × (length p1.old ≡ length px.old) }
-    ensures px { IsParity rows.px.now (lent sources.now) (length px.old) px.new }
-    ensures py { IsParity rows.py.now (lent sources.now) (length px.old) py.new }
-    ensures p0 { IsParity rows.p0.now (lent sources.now) (length px.old) p0.new }
-    ensures p1 { IsParity rows.p1.now (lent sources.now) (length px.old) p1.new }
+    ensures px { IsParity (take (length sources.now) rows.now.px) (lent sources.now) (length px.old) px.new }
+    ensures py { IsParity (take (length sources.now) rows.now.py) (lent sources.now) (length px.old) py.new }
+    ensures p0 { IsParity (take (length sources.now) rows.now.p0) (lent sources.now) (length px.old) p0.new }
+    ensures p1 { IsParity (take (length sources.now) rows.now.p1) (lent sources.now) (length px.old) p1.new }
 {
     let len = px.len();
-    let mut px_terms = no_terms();
-    let px_count = fill_terms(&mut px_terms, rows.px, sources, len);
-    let mut py_terms = no_terms();
-    let py_count = fill_terms(&mut py_terms, rows.py, sources, len);
-    let mut p0_terms = no_terms();
-    let p0_count = fill_terms(&mut p0_terms, rows.p0, sources, len);
-    let mut p1_terms = no_terms();
-    let p1_count = fill_terms(&mut p1_terms, rows.p1, sources, len);
+    let count = sources.len();
+    let mut px_room = no_terms();
+    let mut py_room = no_terms();
+    let mut p0_room = no_terms();
+    let mut p1_room = no_terms();
     let wants = Wants {
-        first: Wanted::Sums(&px_terms[..px_count]),
-        second: Wanted::Sums(&py_terms[..py_count]),
-        third: Wanted::Sums(&p0_terms[..p0_count]),
-        fourth: Wanted::Sums(&p1_terms[..p1_count]),
+        first: Wanted::Sums(terms_in(&mut px_room, &rows.px[..count], sources)),
+        second: Wanted::Sums(terms_in(&mut py_room, &rows.py[..count], sources)),
+        third: Wanted::Sums(terms_in(&mut p0_room, &rows.p0[..count], sources)),
+        fourth: Wanted::Sums(terms_in(&mut p1_room, &rows.p1[..count], sources)),
     };
-    let mut pairs = no_pairs();
-    let pair_count = fill_pairs(&mut pairs, rows.p0, rows.p1, sources, len);
+    let mut room = no_pairs();
     let couples = Couples {
         front: &[],
-        back: &pairs[..pair_count],
+        back: pairs_in(&mut room, &rows.p0[..count], &rows.p1[..count], sources),
     };
     write_all(wants, couples, len, px, py, p0, p1);
 }

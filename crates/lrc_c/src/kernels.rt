@@ -40,7 +40,7 @@ pub extern "C" fn lrc_scale_add(dst: &mut [u8], scalar: u8, src: &[u8]) -> u32
 /// have its length. 0: done; 3: there are more sources, another number of coefficients or another length, and nothing is
 /// written.
 #[unsafe(no_mangle)]
-pub extern "C" fn lrc_combine(coefficients: &[u8], sources: &[Lent], out: &mut [u8]) -> u32
+pub extern "C" fn lrc_combine(coefficients: &[Gf], sources: &[Lent], out: &mut [u8]) -> u32
     ensures done { CanCombine coefficients.now (lent sources.now) (length out.old)
         → (result ≡ 0) × IsParity coefficients.now (lent sources.now) (length out.old) out.new }
     ensures refused { ¬ CanCombine coefficients.now (lent sources.now) (length out.old) → (result ≡ 3) × (out.new ≡ out.old) }

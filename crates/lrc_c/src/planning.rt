@@ -11,7 +11,7 @@ ghost use Rattle.lrc_c.specs.Lent.{lent, at_place, AreUsed};
 ghost use Rattle.lrc_c.specs.Stripes.{Keeps};
 
 use crate::arguments::{lost_place, set_of};
-use crate::checking::{are_sixteen, bytes_of};
+use crate::checking::are_sixteen;
 use crate::combining::{are_used, combine};
 use crate::lent::Lent;
 use lrc_field::Gf;
@@ -22,16 +22,8 @@ use lrc_plan::plan_rows;
 #[repr(C)]
 #[derive(Drop)]
 pub struct Plan {
-    pub value: [u8; 16],
-    pub checks: [[u8; 16]; 4],
-}
-
-// The coefficients of four rows as bytes.
-fn all_bytes_of(rows: [[Gf; 16]; 4]) -> [[u8; 16]; 4]
-    ensures { result ≡ rows }
-{
-    let [a, b, c, d] = rows;
-    [bytes_of(&a), bytes_of(&b), bytes_of(&c), bytes_of(&d)]
+    pub value: [Gf; 16],
+    pub checks: [[Gf; 16]; 4],
 }
 
 /// The plan for a lost place from the survivors, whose bits are set. 0: the target is determined. 2: it is not; the
@@ -49,10 +41,11 @@ pub extern "C" fn lrc_plan_into(code: u8, survivors: u32, target: u8, plan: &mut
         return 3;
     };
     let rows = plan_rows(lost.code, set_of(survivors), lost.place);
-    plan.checks = all_bytes_of(rows.checks);
+    let checks = rows.checks;
+    plan.checks = checks;
     match rows.value {
         Some(value) => {
-            plan.value = bytes_of(&value);
+            plan.value = value;
             0
         }
         None => 2,
@@ -63,7 +56,7 @@ pub extern "C" fn lrc_plan_into(code: u8, survivors: u32, target: u8, plan: &mut
 /// coefficient is 00 are not read. 0: done; with the row of a target it has the bytes that each stripe with these survivors has
 /// there. 3: bytes whose coefficient is not 00 have another length than `out`, and nothing is written.
 #[unsafe(no_mangle)]
-pub extern "C" fn lrc_apply(row: &[u8; 16], at: &[Lent; 16], out: &mut [u8]) -> u32
+pub extern "C" fn lrc_apply(row: &[Gf; 16], at: &[Lent; 16], out: &mut [u8]) -> u32
     ensures done { AreUsed row.now (lent at.now) (length out.old)
         → (result ≡ 0) × IsParity row.now (lent at.now) (length out.old) out.new }
     ensures planned { (c : Code) (survives : Place → Bool) (p : Place) → has_place (tables_of c) p ≡ true

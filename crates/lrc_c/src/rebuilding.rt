@@ -13,12 +13,11 @@ ghost use Rattle.lrc_c.specs.Stripes.{AreZeroRows};
 ghost use Rattle.lrc_c.specs.Rebuilt.{status_of, IsAnswerAt};
 
 use crate::arguments::{are_whole, lost_place, set_of};
-use crate::checking::{are_sixteen, are_zero, bytes_of, write_if_zero};
-use crate::combining::fill_terms;
+use crate::checking::{are_sixteen, are_zero, write_if_zero};
 use crate::lent::Lent;
 use crate::windows::{Wanted, Wants};
 use lrc_code::{Code, Place, PlaceSet};
-use lrc_field::{Gf, no_terms};
+use lrc_field::{Gf, no_terms, terms_in};
 use lrc_plan::plan_rows;
 
 /// What is told of a lost fragment.
@@ -61,10 +60,9 @@ fn write_value(checks: [[Gf; 16]; 4], row: &[Gf; 16], at: &[Lent; 16], out: &mut
     ensures no { result ≡ false → ¬ AreZeroRows checks (lent at.now) (length out.old) }
 {
     let len = out.len();
-    let mut terms = no_terms();
-    let count = fill_terms(&mut terms, &bytes_of(row), at, len);
+    let mut room = no_terms();
     let wants = Wants {
-        first: Wanted::Sums(&terms[..count]),
+        first: Wanted::Sums(terms_in(&mut room, row, at)),
         second: Wanted::Nothing,
         third: Wanted::Nothing,
         fourth: Wanted::Nothing,

@@ -1,23 +1,22 @@
 //! Rebuilding up to four lost fragments of a stripe in one pass.
-ghost use Rattle.std.specs.Prelude.{◌≡◌, ◌<◌, ◌≤◌, not, length, take, max, MatchOption, slice_index};
+ghost use Rattle.std.specs.Prelude.{◌≡◌, ◌<◌, not, length, max, MatchOption, slice_index};
 ghost use Rattle.lrc_code.specs.declared.codes.Code.{Code};
 ghost use Rattle.lrc_code.specs.Codes.{tables_of};
 ghost use Rattle.lrc_code.specs.Reduction.{IsReduction};
 ghost use Rattle.lrc_code.specs.Sets.{is_in};
 ghost use Rattle.lrc_c.specs.Arguments.{AreWhole, is_set};
 ghost use Rattle.lrc_c.specs.Lent.{lent};
-ghost use Rattle.lrc_c.specs.Paired.{ArePairsOf};
+ghost use Rattle.lrc_field.specs.Pairs.{ArePairsOf};
 ghost use Rattle.lrc_c.specs.RebuiltMany.{AreAllAsked, AreAnswered, AreBothSums, IsAimed, IsAsked, IsLostOf, IsReady, IsTargetOf};
 ghost use Rattle.lrc_c.specs.RebuiltMany.{IsTermRow, IsTold, IsUsedRow, IsWantedOf, status_at};
 
 use crate::arguments::{are_whole, code_numbered, set_of};
-use crate::checking::{are_sixteen, bytes_of, write_coupled_if_zero};
-use crate::combining::fill_terms;
+use crate::checking::{are_sixteen, write_coupled_if_zero};
 use crate::lent::Lent;
-use crate::pairing::{are_worth_pairing, fill_pairs, no_pairs};
+use crate::pairing::are_worth_pairing;
 use crate::windows::{Couples, Wanted, Wants};
 use lrc_code::{Code, Place, PlaceSet, Reduced};
-use lrc_field::{Pair, Term, no_terms};
+use lrc_field::{Gf, Pair, Term, no_pairs, no_terms, pairs_in, terms_in};
 use lrc_plan::{checks_from, reduce_by_lost, value_from};
 
 /// The number that stands where no target is asked for.
@@ -80,66 +79,61 @@ fn target_of(code: Code, set: PlaceSet, number: u8, room: usize, len: usize) -> 
     Some(Target::Lost(place))
 }
 
-// What the plan of a target asks for, with the number of the terms of its combination, which are written to the front.
-fn aim_of<'a>(
+// What the plan of a target asks for, with the row of its combination, and this one's terms, which are written over the first of the room.
+fn aim_of<'s, 'a>(
     code: Code,
     reduced: &Reduced,
     set: PlaceSet,
     at: &[Lent<'a>; 16],
     len: usize,
     target: Target,
-    terms: &mut [Term<'a>; 16],
-    row: &mut [u8; 16],
-) -> (Aim, usize)
+    room: &'s mut [Term<'a>; 16],
+    row: &mut [Gf; 16],
+) -> (Aim, &'s [Term<'a>])
     requires whole { AreWhole code (is_in set) (lent at.now) len }
     requires target { IsLostOf code (is_in set) target }
     requires reduced { IsReduction (tables_of code) (λ p. not (is_in set p)) reduced.now }
-    requires many { length terms.old ≡ 16 }
-    ensures len { length terms.new ≡ 16 }
-    ensures few { result.1 ≤ 16 }
-    ensures aim { IsAimed code (is_in set) (lent at.now) len target result.0 (take result.1 terms.new) }
+    requires many { length room.old ≡ 16 }
+    ensures aim { IsAimed code (is_in set) (lent at.now) len target result.0 result.1.now }
     ensures used { IsUsedRow result.0 row.new (lent at.now) len }
-    ensures row { IsTermRow result.0 row.new (lent at.now) len (take result.1 terms.new) }
+    ensures row { IsTermRow result.0 row.new (lent at.now) len result.1.now }
 {
     are_sixteen(at);
     let Target::Lost(place) = target else {
-        return (Aim::Nothing, 0);
+        return (Aim::Nothing, &[]);
     };
     let Some(found) = value_from(code, reduced, set, place) else {
-        return (Aim::Several, 0);
+        return (Aim::Several, &[]);
     };
-    *row = bytes_of(&found);
-    let count = fill_terms(terms, row, at, len);
-    (Aim::Sums, count)
+    *row = found;
+    (Aim::Sums, terms_in(room, &found, at))
 }
 
-// Writes the pairs of two targets' combinations to the front, and says how many there are: none where a target has no combination,
-// or where the two have so little in common that each is faster alone.
-fn fill_couple<'a>(
-    pairs: &mut [Pair<'a>; 16],
+// The pairs of two targets' combinations, which are written over the first of the room: none where a target has no combination, or where
+// the two have so little in common that each is faster alone.
+fn couple_in<'s, 'a>(
+    room: &'s mut [Pair<'a>; 16],
     one: Aim,
     other: Aim,
-    firsts: &[u8; 16],
-    seconds: &[u8; 16],
+    firsts: &[Gf; 16],
+    seconds: &[Gf; 16],
     at: &[Lent<'a>; 16],
     len: usize,
-) -> usize
-    requires many { length pairs.old ≡ 16 }
+) -> &'s [Pair<'a>]
+    requires many { length room.old ≡ 16 }
     requires first { IsUsedRow one firsts.now (lent at.now) len }
     requires second { IsUsedRow other seconds.now (lent at.now) len }
-    ensures len { length pairs.new ≡ 16 }
-    ensures count { result ≤ 16 }
-    ensures both { 0 < result → AreBothSums one other }
-    ensures pairs { 0 < result → ArePairsOf firsts.now seconds.now (lent at.now) len (take result pairs.new) }
+    ensures both { 0 < length result.now → AreBothSums one other }
+    ensures pairs { 0 < length result.now → ArePairsOf firsts.now seconds.now (lent at.now) len result.now }
 {
     match (one, other) {
         (Aim::Sums, Aim::Sums) => {
             if !are_worth_pairing(firsts, seconds) {
-                return 0;
+                return &[];
             }
-            fill_pairs(pairs, firsts, seconds, at, len)
+            pairs_in(room, firsts, seconds, at)
         }
-        _ => 0,
+        _ => &[],
     }
 }
 
@@ -189,63 +183,63 @@ fn rebuild_four(
     are_sixteen(at);
     let reduced = reduce_by_lost(code, set);
     let checks = checks_from(code, &reduced, set);
-    let mut first_terms = no_terms();
-    let mut first_row = [0; 16];
-    let (first_aim, first_count) = aim_of(
+    let mut first_room = no_terms();
+    let mut first_row = [Gf::new(0); 16];
+    let (first_aim, first_terms) = aim_of(
         code,
         &reduced,
         set,
         at,
         len,
         targets.first,
-        &mut first_terms,
+        &mut first_room,
         &mut first_row,
     );
-    let mut second_terms = no_terms();
-    let mut second_row = [0; 16];
-    let (second_aim, second_count) = aim_of(
+    let mut second_room = no_terms();
+    let mut second_row = [Gf::new(0); 16];
+    let (second_aim, second_terms) = aim_of(
         code,
         &reduced,
         set,
         at,
         len,
         targets.second,
-        &mut second_terms,
+        &mut second_room,
         &mut second_row,
     );
-    let mut third_terms = no_terms();
-    let mut third_row = [0; 16];
-    let (third_aim, third_count) = aim_of(
+    let mut third_room = no_terms();
+    let mut third_row = [Gf::new(0); 16];
+    let (third_aim, third_terms) = aim_of(
         code,
         &reduced,
         set,
         at,
         len,
         targets.third,
-        &mut third_terms,
+        &mut third_room,
         &mut third_row,
     );
-    let mut fourth_terms = no_terms();
-    let mut fourth_row = [0; 16];
-    let (fourth_aim, fourth_count) = aim_of(
+    let mut fourth_room = no_terms();
+    let mut fourth_row = [Gf::new(0); 16];
+    let (fourth_aim, fourth_terms) = aim_of(
         code,
         &reduced,
         set,
         at,
         len,
         targets.fourth,
-        &mut fourth_terms,
+        &mut fourth_room,
         &mut fourth_row,
     );
     let wants = Wants {
-        first: wanted_of(first_aim, &first_terms[..first_count]),
-        second: wanted_of(second_aim, &second_terms[..second_count]),
-        third: wanted_of(third_aim, &third_terms[..third_count]),
-        fourth: wanted_of(fourth_aim, &fourth_terms[..fourth_count]),
+        first: wanted_of(first_aim, first_terms),
+        second: wanted_of(second_aim, second_terms),
+        third: wanted_of(third_aim, third_terms),
+        fourth: wanted_of(fourth_aim, fourth_terms),
     };
-    let mut front = no_pairs();
-    let front_count = fill_couple(
-        &mut front,
+    let mut front_room = no_pairs();
+    let front = couple_in(
+        &mut front_room,
         first_aim,
         second_aim,
         &first_row,
@@ -253,9 +247,9 @@ fn rebuild_four(
         at,
         len,
     );
-    let mut back = no_pairs();
-    let back_count = fill_couple(
-        &mut back,
+    let mut back_room = no_pairs();
+    let back = couple_in(
+        &mut back_room,
         third_aim,
         fourth_aim,
         &third_row,
@@ -263,10 +257,7 @@ fn rebuild_four(
         at,
         len,
     );
-    let couples = Couples {
-        front: &front[..front_count],
-        back: &back[..back_count],
-    };
+    let couples = Couples { front, back };
     let possible = write_coupled_if_zero(checks, at, wants, couples, len, a, b, c, d);
     Statuses {
         first: status_at(first_aim, possible),

@@ -9,11 +9,20 @@ use crate::rebuilding::lrc_rebuild_into;
 use crate::rebuilding_many::lrc_rebuild_many_into;
 use crate::updating::lrc_update_into;
 use crate::version::lrc_version;
+use lrc_field::Gf;
 
 mod stripes;
 
 fn one(bytes: &[u8]) -> Lent<'_> {
     Lent { bytes }
+}
+
+fn elements(row: [u8; 16]) -> [Gf; 16] {
+    row.map(|c| Gf::new(c))
+}
+
+fn bytes_of(row: [Gf; 16]) -> [u8; 16] {
+    row.map(|c| c.byte())
 }
 
 #[test]
@@ -61,7 +70,7 @@ fn a_stripe(rt: HostRuntime) {
     assert_eq!(&rt; lrc_rebuild_into(0, 0x3fe, &at, 0, &mut out), 0);
     assert_eq!(&rt; out[0], 1);
     assert_eq!(&rt; lrc_rebuild_into(0, 0x102, &at, 0, &mut out), 2);
-    let group = [0u8, 1, 1, 0, 0, 0, 1, 0, 0, 0, 0, 0, 0, 0, 0, 0];
+    let group = elements([0, 1, 1, 0, 0, 0, 1, 0, 0, 0, 0, 0, 0, 0, 0, 0]);
     out[0] = 9;
     assert_eq!(&rt; lrc_apply(&group, &at, &mut out), 0);
     assert_eq!(&rt; out[0], 1);
@@ -87,20 +96,20 @@ fn a_stripe(rt: HostRuntime) {
 #[test]
 fn a_plan(rt: HostRuntime) {
     let mut plan = Plan {
-        value: [9; 16],
-        checks: [[9; 16]; 4],
+        value: [Gf::new(9); 16],
+        checks: [[Gf::new(9); 16]; 4],
     };
     assert_eq!(&rt; lrc_plan_into(0, 0x46, 0, &mut plan), 0);
     assert_eq!(&rt;
-        plan.value,
+        bytes_of(plan.value),
         [0, 1, 1, 0, 0, 0, 1, 0, 0, 0, 0, 0, 0, 0, 0, 0]
     );
     let mut kept = Plan {
-        value: [7; 16],
-        checks: [[9; 16]; 4],
+        value: [Gf::new(7); 16],
+        checks: [[Gf::new(9); 16]; 4],
     };
     assert_eq!(&rt; lrc_plan_into(0, 0x02, 0, &mut kept), 2);
-    assert_eq!(&rt; kept.value, [7; 16]);
+    assert_eq!(&rt; bytes_of(kept.value), [7; 16]);
 }
 
 #[test]
@@ -112,7 +121,11 @@ fn sums(rt: HostRuntime) {
     assert_eq!(&rt; dst, [0, 1]);
     let mut out = [9u8];
     assert_eq!(&rt;
-        lrc_combine(&[2, 0], &[one(&[0x80]), one(&[])], &mut out),
+        lrc_combine(
+            &[Gf::new(2), Gf::new(0)],
+            &[one(&[0x80]), one(&[])],
+            &mut out
+        ),
         0
     );
     assert_eq!(&rt; out[0], 0x1d);

@@ -50,14 +50,14 @@ fn is_room(room: usize, len: usize) -> bool
 }
 
 // A place's coefficient in a row that goes along the first of some places; 00 where it is none of these.
-fn coefficient_of(row: &[u8], places: &[Place], place: Place) -> u8
+fn coefficient_of(row: &[Gf], places: &[Place], place: Place) -> Gf
     requires { length row.now ≤ length places.now }
     ensures { result ≡ coefficient_at places.now row.now place }
 {
-    let mut sum = 0;
+    let mut sum = Gf::new(0);
     for i in 0..row.len() {
         if places[i].index() == place.index() {
-            sum ^= row[i];
+            sum = sum.add(row[i]);
         }
     }
     sum
@@ -66,10 +66,10 @@ fn coefficient_of(row: &[u8], places: &[Place], place: Place) -> u8
 // A data place's coefficients in the four parities.
 #[derive(Clone, Copy)]
 struct Coefficients {
-    px: u8,
-    py: u8,
-    p0: u8,
-    p1: u8,
+    px: Gf,
+    py: Gf,
+    p0: Gf,
+    p1: Gf,
 }
 
 fn coefficients_of(code: Code, place: Place) -> Coefficients
@@ -77,16 +77,17 @@ fn coefficients_of(code: Code, place: Place) -> Coefficients
 {
     let places = code.places();
     let rows = code.parities();
+    let count = code.data_count();
     Coefficients {
-        px: coefficient_of(rows.px, places, place),
-        py: coefficient_of(rows.py, places, place),
-        p0: coefficient_of(rows.p0, places, place),
-        p1: coefficient_of(rows.p1, places, place),
+        px: coefficient_of(&rows.px[..count], places, place),
+        py: coefficient_of(&rows.py[..count], places, place),
+        p0: coefficient_of(&rows.p0[..count], places, place),
+        p1: coefficient_of(&rows.p1[..count], places, place),
     }
 }
 
 // Adds a coefficient times the difference to a parity that has its length.
-fn update(coefficient: u8, difference: &[u8], parity: &mut [u8])
+fn update(coefficient: Gf, difference: &[u8], parity: &mut [u8])
     ensures given { length parity.old ≡ length difference.now
         → parity.new ≡ sums parity.old (map (times coefficient) difference.now) }
     ensures absent { length parity.old ≢ length difference.now → parity.new ≡ parity.old }
@@ -94,10 +95,10 @@ fn update(coefficient: u8, difference: &[u8], parity: &mut [u8])
     if parity.len() != difference.len() {
         return;
     }
-    if coefficient == 0 {
+    if coefficient.byte() == 0 {
         return;
     }
-    scale_add_into(parity, Gf::new(coefficient), difference);
+    scale_add_into(parity, coefficient, difference);
 }
 
 /// Brings parities up to date after the fragment at a data place changed: adds to each the place's coefficient in it times the

@@ -12,7 +12,8 @@ use Rattle.lrc_code.specs.declared.places.Place.TheVariants.{X0, X1, X2, Y0, Y1,
 use Rattle.lrc_code.specs.declared.codes.Code.{Code as CodeName}
 use Rattle.lrc_code.specs.declared.codes.Code.TheVariants.{Narrow, Wide}
 use Rattle.lrc_code.specs.Places.{index_of, same_place, all_places}
-use Rattle.lrc_code.specs.Code.{combination, narrow, narrow_places, wide_places, narrow_equations, wide_equations, has_place}
+use Rattle.lrc_field.specs.Sums.{combination}
+use Rattle.lrc_code.specs.Code.{narrow, narrow_places, wide_places, narrow_equations, wide_equations, has_place}
 use Rattle.lrc_code.specs.Codes.{tables_of}
 use Rattle.lrc_code.specs.Sums.{sum_over}
 use Rattle.lrc_code.specs.Reduction.{coefficient_at, row_at, rows_by_index}

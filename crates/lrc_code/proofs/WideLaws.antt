@@ -5,7 +5,7 @@ use Rattle.lrc_field.proofs.FieldLaws.{times-zero, times-one}
 use Rattle.lrc_code.specs.declared.places.Place.{Place}
 use Rattle.lrc_code.specs.declared.places.Place.TheVariants.{X0, X1, X2, X3, X4, X5, Y0, Y1, Y2, Y3, Y4, Y5, Px, Py, P0, P1}
 use Rattle.lrc_code.specs.declared.codes.Code.TheVariants.{Wide}
-use Rattle.lrc_code.specs.Code.{combination}
+use Rattle.lrc_field.specs.Sums.{combination}
 use Rattle.lrc_code.specs.Sums.{sum_over}
 use Rattle.lrc_code.specs.Laws.{WideEquationsSayParities}
 use Rattle.lrc_code.specs.Reduction.{row_at}

@@ -1,5 +1,5 @@
 -- The tables of each code, and its name.
-use Rattle.std.specs.Prelude.{ℕ, List, Option, Some, None, if◌then◌else◌, codes, map, take}
+use Rattle.std.specs.Prelude.{ℕ, ◌-◌, ◌++◌, List, replicate, Option, Some, None, if◌then◌else◌, codes, map, take}
 use Rattle.std.specs.Str.{bytes_eq}
 use Rattle.lrc_code.specs.declared.codes.Code.{Code as CodeName}
 use Rattle.lrc_code.specs.declared.codes.Code.TheVariants.{Narrow, Wide}
@@ -18,6 +18,10 @@ data_count Wide = 12
 -- the data fragments' coefficients in each parity: what the equations have at the data's places
 abbrev pub parities_of : CodeName → List (List ℕ)
 parities_of code = map (take (data_count code)) (tables_of code).equations
+
+-- and with 0 after them, twelve coefficients in each
+abbrev pub padded_parities_of : CodeName → List (List ℕ)
+padded_parities_of code = map (λ row. row ++ replicate (12 - data_count code) 0) (parities_of code)
 
 -- the codes' names
 abbrev pub code_text : CodeName → List ℕ

@@ -1,8 +1,8 @@
 //! The codes, and what is known of each. No other file of the crate asks which code it has.
-ghost use Rattle.std.specs.Prelude.{◌≡◌, ◌∷◌, [], ◌&&◌, not, Some};
+ghost use Rattle.std.specs.Prelude.{◌≡◌, ◌∷◌, [], ◌++◌, ◌&&◌, not, replicate, Some};
 ghost use Rattle.lrc_code.specs.declared.places.Place.{Place};
 ghost use Rattle.lrc_code.specs.Code.{has_place};
-ghost use Rattle.lrc_code.specs.Codes.{code_named, code_text, data_count, parities_of, tables_of};
+ghost use Rattle.lrc_code.specs.Codes.{code_named, code_text, data_count, padded_parities_of, tables_of};
 ghost use Rattle.lrc_code.specs.Groups.{group_row};
 ghost use Rattle.lrc_code.specs.Reduction.{rows_by_index};
 ghost use Rattle.lrc_code.specs.Sets.{is_in};
@@ -24,13 +24,13 @@ pub enum Code {
     Wide,
 }
 
-/// The coefficients of a code's data fragments, in its order, in each parity.
+/// The coefficients of a code's data fragments, in its order, in each parity, with 00 after those of the last fragment.
 #[derive(Clone, Copy)]
 pub struct ParityRows {
-    pub px: &'static [u8],
-    pub py: &'static [u8],
-    pub p0: &'static [u8],
-    pub p1: &'static [u8],
+    pub px: [Gf; 12],
+    pub py: [Gf; 12],
+    pub p0: [Gf; 12],
+    pub p1: [Gf; 12],
 }
 
 impl Code {
@@ -80,20 +80,20 @@ impl Code {
 
     /// The coefficients of the code's parities.
     pub fn parities(self) -> ParityRows
-        ensures { result.px.now ∷ result.py.now ∷ result.p0.now ∷ result.p1.now ∷ [] ≡ parities_of self }
+        ensures { (result.px ∷ result.py ∷ result.p0 ∷ result.p1 ∷ []) ≡ padded_parities_of self }
     {
         match self {
             Code::Narrow => ParityRows {
-                px: &NARROW_PARITIES[0],
-                py: &NARROW_PARITIES[1],
-                p0: &NARROW_PARITIES[2],
-                p1: &NARROW_PARITIES[3],
+                px: padded(&NARROW_PARITIES[0]),
+                py: padded(&NARROW_PARITIES[1]),
+                p0: padded(&NARROW_PARITIES[2]),
+                p1: padded(&NARROW_PARITIES[3]),
             },
             Code::Wide => ParityRows {
-                px: &WIDE_PARITIES[0],
-                py: &WIDE_PARITIES[1],
-                p0: &WIDE_PARITIES[2],
-                p1: &WIDE_PARITIES[3],
+                px: elements_of_twelve(&WIDE_PARITIES[0]),
+                py: elements_of_twelve(&WIDE_PARITIES[1]),
+                p0: elements_of_twelve(&WIDE_PARITIES[2]),
+                p1: elements_of_twelve(&WIDE_PARITIES[3]),
             },
         }
     }
@@ -153,4 +153,31 @@ pub(crate) fn elements_of(row: &[u8; 16]) -> [Gf; 16]
     ensures { result ≡ row.now }
 {
     row.map(|c| Gf::new(c))
+}
+
+// Twelve coefficients as elements of the field.
+fn elements_of_twelve(row: &[u8; 12]) -> [Gf; 12]
+    ensures { result ≡ row.now }
+{
+    row.map(|c| Gf::new(c))
+}
+
+// Six coefficients as elements of the field, with 00 after them.
+fn padded(row: &[u8; 6]) -> [Gf; 12]
+    ensures { result ≡ row.now ++ replicate 6 0 }
+{
+    [
+        Gf::new(row[0]),
+        Gf::new(row[1]),
+        Gf::new(row[2]),
+        Gf::new(row[3]),
+        Gf::new(row[4]),
+        Gf::new(row[5]),
+        Gf::new(0),
+        Gf::new(0),
+        Gf::new(0),
+        Gf::new(0),
+        Gf::new(0),
+        Gf::new(0),
+    ]
 }

@@ -78,8 +78,8 @@ pub(crate) fn lacks_length(long: u32, fragments: &[Fragment]) -> bool
     any_other_length(long, fragments)
 }
 
-// A slice holds bytes.
-fn are_bytes(bytes: &[u8])
+/// Lets a proof know that the items of a slice are bytes. Does nothing.
+pub fn are_bytes(bytes: &[u8])
     ensures { AreBytes bytes.now }
 {}
 

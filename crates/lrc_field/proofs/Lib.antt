@@ -9,4 +9,5 @@ pub mod ProductRows
 pub mod Scaled
 pub mod TermSums
 pub mod PairSums
+pub mod TermLists
 pub mod Tests

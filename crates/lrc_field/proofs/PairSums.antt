@@ -1,11 +1,12 @@
 -- Sums of pairs, one pair after another.
-use Rattle.std.proofs.Common.{◌≡◌, ℕ, ◌+◌, ◌<◌, ◌≤◌, List, [], ◌∷◌, ◌++◌, length, get_or, take, ap, sym, ◌∙◌}
+use Rattle.std.proofs.Common.{◌≡◌, ℕ, zero, suc, ◌+◌, ◌<◌, ◌≤◌, List, [], ◌∷◌, ◌++◌, length, get_or, set, take, ap, sym, subst, ◌∙◌, arith}
 use Rattle.std.specs.Int.Bits.{bit_xor, xor_assoc, xor_zero_l, xor_zero_r}
 use Rattle.std.proofs.lemmas.Grind.{take_at_read}
-use Rattle.std.proofs.lemmas.List.{take_all}
+use Rattle.std.proofs.lemmas.List.{take_all, take_more_set}
+use Rattle.std.proofs.lemmas.List.Elements.{All-append}
 use Rattle.lrc_field.specs.Field.{times}
 use Rattle.lrc_field.specs.declared.pairs.Pair.{Pair}
-use Rattle.lrc_field.specs.Pairs.{scaled_sum_at}
+use Rattle.lrc_field.specs.Pairs.{scaled_sum_at, HavePairsRoom}
 
 abbrev pub scaled_at : (Pair → ℕ) → Pair → ℕ → ℕ
 scaled_at g p i = times (g p) (get_or p.bytes.now i 0)
@@ -29,3 +30,17 @@ pair_with g ps j i p h e =
 -- all pairs
 pub pair_all : (g : Pair → ℕ) (ps : List Pair) (n i : ℕ) → length ps ≤ n → scaled_sum_at g (take n ps) i ≡ scaled_sum_at g ps i
 pair_all g ps n i h = ap (λ qs. scaled_sum_at g qs i) (take_all n ps h)
+
+-- one pair more, which is put at the end
+pub pairs-more : (g : Pair → ℕ) (ps : List Pair) (n i : ℕ) (p : Pair) → n < length ps
+    → scaled_sum_at g (take (n + 1) (set ps n p)) i ≡ bit_xor (scaled_sum_at g (take n ps) i) (scaled_at g p i)
+pairs-more g ps n i p h = ap (λ qs. scaled_sum_at g qs i) (take_more_set ps n p h) ∙ pair_snoc g (take n ps) p i
+
+pub rooms-more : (len : ℕ) (ps : List Pair) (n : ℕ) (p : Pair) → n < length ps → HavePairsRoom len (take n ps) → length p.bytes.now ≡ len
+    → HavePairsRoom len (take (n + 1) (set ps n p))
+rooms-more len ps n p h all l = subst (HavePairsRoom len) (sym (take_more_set ps n p h))
+    (All-append (λ (q : Pair). length q.bytes.now ≡ len) (take n ps) (p ∷ []) all one)
+  where
+    one : HavePairsRoom len (p ∷ [])
+    one zero d lt = l
+    one (suc k) d lt = absurd (omega arith)

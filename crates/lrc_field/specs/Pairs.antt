@@ -1,7 +1,8 @@
 -- Two sums over the same slices.
-use Rattle.std.specs.Prelude.{ℕ, ◌≤◌, List, [], ◌∷◌, All, length, slice_index}
+use Rattle.std.specs.Prelude.{ℕ, ◌≡◌, ◌≤◌, List, [], ◌∷◌, All, length, slice_index}
 use Rattle.std.specs.Int.Bits.{bit_xor}
 use Rattle.lrc_field.specs.Field.{times}
+use Rattle.lrc_field.specs.Sums.{column, combination}
 use Rattle.lrc_field.specs.declared.pairs.Pair.{Pair}
 
 -- the sum at a place of the pairs' bytes there, each times a scalar of its pair
@@ -19,3 +20,13 @@ second_sum_at ps i = scaled_sum_at (λ p. p.second) ps i
 -- each pair has at least so many bytes
 abbrev pub AllReach : ℕ → List Pair → Type 0
 AllReach n ps = All (λ p. n ≤ length p.bytes.now) ps
+
+-- each pair has so many bytes
+abbrev pub HavePairsRoom : ℕ → List Pair → Type 0
+HavePairsRoom len ps = All (λ p. length p.bytes.now ≡ len) ps
+
+-- and at each position they add up to the combinations of the sources' bytes there with the coefficients
+pub record ArePairsOf (firsts seconds : List ℕ) (sources : List (List ℕ)) (len : ℕ) (ps : List Pair) : Type 0 where
+  pub room : HavePairsRoom len ps
+  pub first_sums : (i : ℕ) → first_sum_at ps i ≡ combination firsts (column sources i)
+  pub second_sums : (i : ℕ) → second_sum_at ps i ≡ combination seconds (column sources i)

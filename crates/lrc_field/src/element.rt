@@ -5,7 +5,8 @@ ghost use Rattle.lrc_field.specs.Field.{times, IsProduct};
 use crate::tables;
 use std::marker::Model;
 
-/// An element of the field: a byte whose bit i is the coefficient of x^i. In contracts it is that number.
+/// An element of the field: a byte whose bit i is the coefficient of x^i. In contracts it is that number, and for C that byte.
+#[repr(C)]
 #[derive(Clone, Copy, Debug)]
 pub struct Gf {
     value: u8,

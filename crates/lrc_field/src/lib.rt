@@ -29,6 +29,6 @@ mod zero_sums;
 pub use combining::{combine_into, combined};
 pub use element::Gf;
 pub use kernels::{add_into, scale_add_into};
-pub use pairs::{Pair, combine_pairs_into};
-pub use terms::{Term, no_terms};
+pub use pairs::{Pair, combine_pairs_into, no_pairs, pairs_in};
+pub use terms::{Source, Term, no_terms, terms_in};
 pub use zero_sums::{sums_are_zero, sums_are_zero_between};

@@ -1,11 +1,13 @@
 //! Two sums over the same slices in one pass: each byte is read and halved once for both.
-ghost use Rattle.std.specs.Prelude.{◌≡◌, ◌<◌, ◌≤◌, ◌+◌, ◌^◌, ℕ, bit_xor, length, slice_index};
+ghost use Rattle.std.specs.Prelude.{◌≡◌, ◌≢◌, ◌⊎◌, ◌<◌, ◌≤◌, ◌+◌, ◌^◌, ℕ, true, false, bit_xor, length, map, slice_index, take};
 ghost use Rattle.lrc_field.specs.Blocks.{AreSet, HasTrio};
 ghost use Rattle.lrc_field.specs.Field.{times};
-ghost use Rattle.lrc_field.specs.Pairs.{AllReach, first_sum_at, second_sum_at};
+ghost use Rattle.lrc_field.specs.Pairs.{AllReach, ArePairsOf, first_sum_at, second_sum_at};
+ghost use Rattle.lrc_field.specs.Terms.{HaveLengthWhereUsed};
 
 use crate::blocks::{self, Trio};
 use crate::element::Gf;
+use crate::terms::{Source, bytes_at};
 
 /// Two scalars, and the bytes that each of them scales. The bytes come first, as those of a term.
 #[derive(Clone, Copy)]
@@ -13,6 +15,110 @@ pub struct Pair<'a> {
     pub bytes: &'a [u8],
     pub first: Gf,
     pub second: Gf,
+}
+
+/// Room for sixteen pairs, which has none yet.
+#[inline(always)]
+pub fn no_pairs<'a>() -> [Pair<'a>; 16]
+    ensures { length result ≡ 16 }
+{
+    [
+        no_pair(),
+        no_pair(),
+        no_pair(),
+        no_pair(),
+        no_pair(),
+        no_pair(),
+        no_pair(),
+        no_pair(),
+        no_pair(),
+        no_pair(),
+        no_pair(),
+        no_pair(),
+        no_pair(),
+        no_pair(),
+        no_pair(),
+        no_pair(),
+    ]
+}
+
+// 00 times no bytes, twice.
+fn no_pair<'a>() -> Pair<'a> {
+    Pair {
+        bytes: &[],
+        first: Gf::new(0),
+        second: Gf::new(0),
+    }
+}
+
+/// The pairs of sources with two coefficients for each, as `terms_in` for one: a pair for each source that has bytes, unless both its
+/// coefficients are 00.
+pub fn pairs_in<'s, 'a, S: Source<'a>>(
+    room: &'s mut [Pair<'a>; 16],
+    firsts: &[Gf],
+    seconds: &[Gf],
+    sources: &[S],
+) -> &'s [Pair<'a>]
+    requires many { length room.old ≡ 16 }
+    requires few { length firsts.now ≤ 16 }
+    requires same { length seconds.now ≡ length firsts.now }
+    ensures { (len : ℕ) → HaveLengthWhereUsed firsts.now (map S.bytes_of sources.now) len
+        → HaveLengthWhereUsed seconds.now (map S.bytes_of sources.now) len
+        → ArePairsOf firsts.now seconds.now (map S.bytes_of sources.now) len result.now }
+{
+    let count = fill_room(room, firsts, seconds, sources);
+    &room[..count]
+}
+
+// Writes the pairs over the first of the room, and returns how many there are.
+fn fill_room<'a, S: Source<'a>>(
+    room: &mut [Pair<'a>; 16],
+    firsts: &[Gf],
+    seconds: &[Gf],
+    sources: &[S],
+) -> usize
+    requires many { length room.old ≡ 16 }
+    requires few { length firsts.now ≤ 16 }
+    requires same { length seconds.now ≡ length firsts.now }
+    ensures len { length room.new ≡ 16 }
+    ensures count { result ≤ 16 }
+    ensures pairs { (len : ℕ) → HaveLengthWhereUsed firsts.now (map S.bytes_of sources.now) len
+        → HaveLengthWhereUsed seconds.now (map S.bytes_of sources.now) len
+        → ArePairsOf firsts.now seconds.now (map S.bytes_of sources.now) len (take result room.new) }
+{
+    let mut count = 0;
+    for k in 0..firsts.len() {
+        let first = firsts[k];
+        let second = seconds[k];
+        let bytes = bytes_at(sources, k);
+        if has_products(first, second, bytes) {
+            room[count] = Pair {
+                bytes,
+                first,
+                second,
+            };
+            count += 1;
+        }
+    }
+    count
+}
+
+// Whether the products of two scalars with bytes may be other than 00.
+#[inline(always)]
+fn has_products(first: Gf, second: Gf, bytes: &[u8]) -> bool
+    ensures yes { result ≡ true → ((first ≢ 0) ⊎ (second ≢ 0)) × (length bytes.now ≢ 0) }
+    ensures no { result ≡ false → (i : ℕ) → (times first (slice_index bytes.now i) ≡ 0) × (times second (slice_index bytes.now i) ≡ 0) }
+{
+    if bytes.is_empty() {
+        return false;
+    }
+    if first.byte() != 0 {
+        return true;
+    }
+    if second.byte() != 0 {
+        return true;
+    }
+    false
 }
 
 // Adds to two sums at 96 positions the products of the bytes from position `i` on, each with a scalar of its own. Where both scalars

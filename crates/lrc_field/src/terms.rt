@@ -1,5 +1,7 @@
-//! Scalars with the bytes that they scale.
-ghost use Rattle.std.specs.Prelude.{◌≡◌, All};
+//! Scalars with the bytes that they scale, and lists of them.
+ghost use Rattle.std.specs.Prelude.{◌≡◌, ◌≢◌, ◌≤◌, ℕ, List, [], length, map, take, slice_index, slice_index_or, true, false};
+ghost use Rattle.lrc_field.specs.Field.{times};
+ghost use Rattle.lrc_field.specs.Terms.{AreTermsOf, HaveLengthWhereUsed};
 
 use crate::element::Gf;
 
@@ -10,10 +12,28 @@ pub struct Term<'a> {
     pub scalar: Gf,
 }
 
-/// An array for terms, which has none yet: 00 times no bytes.
+/// Something with bytes that a scalar may scale.
+pub trait Source<'a> {
+    ghost bytes_of: { Self → List ℕ };
+
+    /// The bytes.
+    fn bytes(&self) -> &'a [u8]
+        ensures { result.now ≡ bytes_of self.now };
+}
+
+impl<'a> Source<'a> for &'a [u8] {
+    ghost bytes_of = { λ s. s.now };
+
+    #[inline(always)]
+    fn bytes(&self) -> &'a [u8] {
+        *self
+    }
+}
+
+/// Room for sixteen terms, which has none yet.
 #[inline(always)]
 pub fn no_terms<'a>() -> [Term<'a>; 16]
-    ensures { All (λ t. t.scalar ≡ 0) result }
+    ensures { length result ≡ 16 }
 {
     [
         no_term(),
@@ -36,11 +56,76 @@ pub fn no_terms<'a>() -> [Term<'a>; 16]
 }
 
 // 00 times no bytes. A call for each, since such a value isn't copied while its bytes are lent.
-fn no_term<'a>() -> Term<'a>
-    ensures { result.scalar ≡ 0 }
-{
+fn no_term<'a>() -> Term<'a> {
     Term {
         bytes: &[],
         scalar: Gf::new(0),
     }
+}
+
+/// The terms of sources: one for each coefficient that isn't 00, with the bytes of the source at its index, if that has any. They are
+/// written over the first of the room, which is the caller's, since it has hundreds of bytes, which would be copied on their way back.
+pub fn terms_in<'s, 'a, S: Source<'a>>(
+    room: &'s mut [Term<'a>; 16],
+    coefficients: &[Gf],
+    sources: &[S],
+) -> &'s [Term<'a>]
+    requires many { length room.old ≡ 16 }
+    requires few { length coefficients.now ≤ 16 }
+    ensures { (len : ℕ) → HaveLengthWhereUsed coefficients.now (map S.bytes_of sources.now) len
+        → AreTermsOf coefficients.now (map S.bytes_of sources.now) len result.now }
+{
+    let count = fill_room(room, coefficients, sources);
+    &room[..count]
+}
+
+// Writes the terms over the first of the room, and returns how many there are.
+fn fill_room<'a, S: Source<'a>>(
+    room: &mut [Term<'a>; 16],
+    coefficients: &[Gf],
+    sources: &[S],
+) -> usize
+    requires many { length room.old ≡ 16 }
+    requires few { length coefficients.now ≤ 16 }
+    ensures len { length room.new ≡ 16 }
+    ensures count { result ≤ 16 }
+    ensures terms { (len : ℕ) → HaveLengthWhereUsed coefficients.now (map S.bytes_of sources.now) len
+        → AreTermsOf coefficients.now (map S.bytes_of sources.now) len (take result room.new) }
+{
+    let mut count = 0;
+    for k in 0..coefficients.len() {
+        let scalar = coefficients[k];
+        let bytes = bytes_at(sources, k);
+        if has_products(scalar, bytes) {
+            room[count] = Term { bytes, scalar };
+            count += 1;
+        }
+    }
+    count
+}
+
+/// The bytes of the source at an index; none where there is no source.
+#[inline(always)]
+pub(crate) fn bytes_at<'a, S: Source<'a>>(sources: &[S], k: usize) -> &'a [u8]
+    ensures { result.now ≡ slice_index_or (map S.bytes_of sources.now) k [] }
+{
+    if k >= sources.len() {
+        return &[];
+    }
+    sources[k].bytes()
+}
+
+// Whether a scalar's products with bytes may be other than 00.
+#[inline(always)]
+fn has_products(scalar: Gf, bytes: &[u8]) -> bool
+    ensures yes { result ≡ true → (scalar ≢ 0) × (length bytes.now ≢ 0) }
+    ensures no { result ≡ false → (i : ℕ) → times scalar (slice_index bytes.now i) ≡ 0 }
+{
+    if scalar.byte() == 0 {
+        return false;
+    }
+    if bytes.is_empty() {
+        return false;
+    }
+    true
 }

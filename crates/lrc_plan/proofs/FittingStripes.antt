@@ -12,7 +12,8 @@ use Rattle.lrc_field.proofs.Shift.{cancel}
 use Rattle.lrc_code.specs.declared.places.Place.{Place}
 use Rattle.lrc_code.specs.declared.outcomes.Outcome.TheVariants.{Rebuilt, Contradiction, Several}
 use Rattle.lrc_code.specs.Places.{same_place}
-use Rattle.lrc_code.specs.Code.{Code, AreBytes, has_place, combination, Solves, bytes_at}
+use Rattle.lrc_field.specs.Sums.{combination}
+use Rattle.lrc_code.specs.Code.{Code, AreBytes, has_place, Solves, bytes_at}
 use Rattle.lrc_code.specs.Codes.{tables_of}
 use Rattle.lrc_code.proofs.CodeTables.{own_places}
 use Rattle.lrc_code.specs.Requests.{Asked, Survivor, is_among, bytes_of, refusal}

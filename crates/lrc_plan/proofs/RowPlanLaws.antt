@@ -6,7 +6,8 @@ use Rattle.std.proofs.lemmas.List.Elements.{All-from_recursion}
 use Rattle.lrc_field.specs.Field.{times}
 use Rattle.lrc_field.proofs.FieldLaws.{times-zero}
 use Rattle.lrc_code.specs.declared.places.Place.{Place}
-use Rattle.lrc_code.specs.Code.{Code, combination}
+use Rattle.lrc_field.specs.Sums.{combination}
+use Rattle.lrc_code.specs.Code.{Code}
 use Rattle.lrc_code.specs.Places.{index_of, same_place, all_places}
 use Rattle.lrc_code.proofs.PlaceSums.{sum_over-same, combination-sum_over}
 use Rattle.lrc_plan.specs.Rows.{AreReduced, row_sum}

@@ -13,7 +13,8 @@ use Rattle.lrc_code.specs.declared.codes.Code.{Code as CodeName}
 use Rattle.lrc_code.specs.declared.codes.Code.TheVariants.{Narrow, Wide}
 use Rattle.lrc_code.specs.Places.{index_of, same_place, group_of, all_places}
 use Rattle.lrc_code.specs.Sums.{GivesBytes}
-use Rattle.lrc_code.specs.Code.{Code, combination, has_place}
+use Rattle.lrc_field.specs.Sums.{combination}
+use Rattle.lrc_code.specs.Code.{Code, has_place}
 use Rattle.lrc_code.specs.Codes.{tables_of}
 use Rattle.lrc_code.proofs.PlaceSums.{same_place-comm, combination-sum_over}
 use Rattle.lrc_code.proofs.CodeTables.{own_places}

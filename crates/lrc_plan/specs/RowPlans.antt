@@ -2,7 +2,8 @@
 use Rattle.std.specs.Prelude.{◌≡◌, ℕ, ◌↔◌, ◌==◌, Bool, false, not, Option, Some, None, IsSomeAnd, List, map, slice_index, All, count_by}
 use Rattle.lrc_code.specs.declared.places.Place.{Place}
 use Rattle.lrc_code.specs.Places.{index_of, group_of, all_places}
-use Rattle.lrc_code.specs.Code.{Code, combination}
+use Rattle.lrc_field.specs.Sums.{combination}
+use Rattle.lrc_code.specs.Code.{Code}
 use Rattle.lrc_code.specs.Sums.{GivesBytes}
 use Rattle.lrc_plan.specs.Planned.{Extends, ExtensionsDiffer, HasCheckCount, IsLocal}
 use Rattle.lrc_plan.specs.PlanParts.{cut}

@@ -2,7 +2,7 @@
 use Rattle.std.specs.Prelude.{◌≡◌, ◌≢◌, ◌≤◌, ◌↔◌, ℕ, Bool, true, Option, Some, None, List, length, map, slice_index, All}
 use Rattle.lrc_code.specs.declared.places.Place.{Place}
 use Rattle.lrc_code.specs.Places.{index_of, all_places}
-use Rattle.lrc_code.specs.Code.{combination}
+use Rattle.lrc_field.specs.Sums.{combination}
 use Rattle.lrc_code.specs.Sums.{GivesBytes}
 use Rattle.lrc_plan.specs.Form.{AreCoefficients, Form, meaning}
 use Rattle.lrc_plan.specs.Planned.{IsShallow, LeavesSurvive}

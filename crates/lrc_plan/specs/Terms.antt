@@ -1,10 +1,9 @@
 -- Rows of coefficients as sums of scaled fragments.
-use Rattle.std.specs.Prelude.{◌≡◌, ◌<◌, ℕ, List, Option, MatchOption, length, map, slice_index, slice_index_or}
-use Rattle.lrc_field.specs.Field.{times}
+use Rattle.std.specs.Prelude.{◌≡◌, ◌<◌, ℕ, List, length, map, slice_index}
 use Rattle.lrc_field.specs.declared.terms.Term.{Term}
-use Rattle.lrc_field.specs.Combined.{product_at, sum_at, HaveLength}
-use Rattle.lrc_code.specs.declared.places.Place.TheVariants.{X0}
-use Rattle.lrc_code.specs.Code.{combination}
+use Rattle.lrc_field.specs.Combined.{sum_at}
+use Rattle.lrc_field.specs.Sums.{combination}
+use Rattle.lrc_field.specs.Terms.{HaveRoom}
 use Rattle.lrc_code.specs.Places.{all_places}
 use Rattle.lrc_code.specs.Requests.{Asked}
 use Rattle.lrc_plan.specs.Evaluation.{byte_at}
@@ -22,17 +21,7 @@ pub record AreRowSums (r : Asked) (row : List ℕ) (bytes : List ℕ) : Type 0 w
   pub len : length bytes ≡ r.len
   pub at : (i : ℕ) → i < r.len → slice_index bytes i ≡ row_at r row i
 
--- fragments of the request's length whose sums are the row's
-pub record AreTerms (r : Asked) (row : List ℕ) (ts : List Term) : Type 0 where
-  pub lengths : HaveLength r.len ts
+-- at most sixteen fragments of the request's length, with scalars, whose sums are the row's
+pub record AreRowTerms (r : Asked) (row : List ℕ) (ts : List Term) : Type 0 where
+  pub room : HaveRoom r.len ts
   pub sums : (i : ℕ) → sum_at ts i ≡ row_at r row i
-
--- a scalar's product with the survivor's byte at the place of an index
-abbrev pub survivor_product : Asked → ℕ → ℕ → ℕ → ℕ
-survivor_product r c k i = times c (byte_at r i (slice_index_or all_places k X0))
-
--- the term of these products; none only where they are 0
-abbrev pub IsTermAt : Asked → ℕ → ℕ → Option Term → Type 0
-IsTermAt r c k o =
-    MatchOption o ((i : ℕ) → survivor_product r c k i ≡ 0)
-    (λ t. (length t.bytes.now ≡ r.len) × ((i : ℕ) → product_at t i ≡ survivor_product r c k i))

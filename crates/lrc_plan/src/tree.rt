@@ -5,7 +5,7 @@ ghost use Rattle.lrc_field.specs.Field.{times};
 ghost use Rattle.lrc_code.specs.declared.places.Place.{Place};
 ghost use Rattle.lrc_code.specs.Places.{all_places};
 ghost use Rattle.lrc_code.specs.Sets.{is_in};
-ghost use Rattle.lrc_code.specs.Code.{combination};
+ghost use Rattle.lrc_field.specs.Sums.{combination};
 ghost use Rattle.lrc_plan.specs.Form.{leaf_total, has_leaf, meaning, AreCoefficients};
 ghost use Rattle.lrc_plan.specs.Tree.{form_of};
 

@@ -1,5 +1,5 @@
 //! Fragments of no stripe, targets that aren't determined, arguments that are refused, and fragments of several windows.
-use super::one;
+use super::{elements, one};
 use crate::checking::lrc_verify_at;
 use crate::encoding::lrc_encode_into;
 use crate::kernels::lrc_combine;
@@ -7,6 +7,7 @@ use crate::lent::Lent;
 use crate::planning::{Plan, lrc_plan_into};
 use crate::rebuilding::lrc_rebuild_into;
 use crate::rebuilding_many::lrc_rebuild_many_into;
+use lrc_field::Gf;
 
 // A stripe in which x5 alone isn't 00: its parities are the coefficients of x5.
 const STRIPE: [u8; 10] = [0x00, 0x00, 0x00, 0x00, 0x00, 0x01, 0x00, 0x01, 0x03, 0x05];
@@ -57,8 +58,8 @@ fn changed_fragments(rt: HostRuntime) {
 #[test]
 fn undetermined_targets(rt: HostRuntime) {
     let mut plan = Plan {
-        value: [9; 16],
-        checks: [[9; 16]; 4],
+        value: [Gf::new(9); 16],
+        checks: [[Gf::new(9); 16]; 4],
     };
     assert_eq!(&rt; lrc_plan_into(0, 0x102, 0, &mut plan), 2);
     let mut out = [9u8];
@@ -117,7 +118,7 @@ fn refused_parities(rt: HostRuntime) {
 
 #[test]
 fn sixteen_sources(rt: HostRuntime) {
-    let row = [0u8, 0, 0, 0, 0, 2, 0, 0, 0, 0, 0, 0, 0, 0, 0, 0];
+    let row = elements([0, 0, 0, 0, 0, 2, 0, 0, 0, 0, 0, 0, 0, 0, 0, 0]);
     let mut out = [9u8];
     assert_eq!(&rt; lrc_combine(&row, &fragments(&STRIPE), &mut out), 0);
     assert_eq!(&rt; out, [2]);

@@ -1,13 +1,13 @@
 //! Rows of coefficients as sums of scaled fragments, which are made in one pass.
-ghost use Rattle.std.specs.Prelude.{◌↔◌, ◌≡◌, ◌==◌, ◌<◌, ◌≤◌, true, length, take, IfOk};
+ghost use Rattle.std.specs.Prelude.{◌↔◌, ◌≡◌, ◌==◌, true, length, IfOk};
 ghost use Rattle.std.specs.Bool.{IsTrue};
 ghost use Rattle.std.specs.List.{list_all};
 ghost use Rattle.lrc_code.specs.Requests.{AreSources};
-ghost use Rattle.lrc_plan.specs.Terms.{AreRowSums, AreTerms, IsTermAt, IsZeroRow};
+ghost use Rattle.lrc_plan.specs.Terms.{AreRowSums, AreRowTerms, IsZeroRow};
 
 use crate::invariant::recall_invariant;
 use lrc_code::{Place, Request, Sources};
-use lrc_field::{Gf, Term, combined, no_terms, sums_are_zero};
+use lrc_field::{Gf, Term, combined, no_terms, sums_are_zero, terms_in};
 use std::alloc::{AllocError, Global};
 
 /// The row's sum at each position.
@@ -21,9 +21,9 @@ pub(crate) fn row_sums(
     ensures { IfOk result (λ v. AreRowSums request.now row.now v.items) }
 {
     let length = request.length() as usize;
-    let mut terms = no_terms();
-    let count = fill_terms(&mut terms, row, request, sources);
-    combined(alloc, length, &terms[..count])
+    let mut room = no_terms();
+    let terms = row_terms(&mut room, row, request, sources);
+    combined(alloc, length, terms)
 }
 
 /// Whether the row's sum is 00 at every position.
@@ -37,15 +37,16 @@ pub(crate) fn is_zero(row: &[Gf; 16], request: &Request, sources: &Sources<'_>) 
     is_zero_sum(row, request, sources)
 }
 
-// The same of a row that isn't blank. A call of its own, since its list of terms costs more than the look at a blank row.
+// Whether the sum of a row that isn't blank is 00 at every position. A call of its own, since the room for its terms costs more than the
+// look at a blank row.
 fn is_zero_sum(row: &[Gf; 16], request: &Request, sources: &Sources<'_>) -> bool
     requires { AreSources request.now.survivors sources.now }
     ensures { IsTrue result ↔ IsZeroRow request.now row.now }
 {
     let length = request.length() as usize;
-    let mut terms = no_terms();
-    let count = fill_terms(&mut terms, row, request, sources);
-    sums_are_zero(length, &terms[..count])
+    let mut room = no_terms();
+    let terms = row_terms(&mut room, row, request, sources);
+    sums_are_zero(length, terms)
 }
 
 /// Whether all coefficients are 00, as where a row of a reduction has a pivot.
@@ -55,42 +56,17 @@ pub(crate) fn is_blank(row: &[Gf; 16]) -> bool
     row.iter().all(|c| c.byte() == 0)
 }
 
-// Puts in the survivors' bytes with the row's coefficients that aren't 00, and says how many there are. They are put in their place,
-// since they are hundreds of bytes.
-fn fill_terms<'a>(
-    terms: &mut [Term<'a>; 16],
+// The terms of a row's products with the survivors' bytes, over the first of the room.
+fn row_terms<'s, 'a>(
+    room: &'s mut [Term<'a>; 16],
     row: &[Gf; 16],
     request: &Request,
     sources: &Sources<'a>,
-) -> usize
-    requires long { length terms.old ≡ 16 }
+) -> &'s [Term<'a>]
+    requires long { length room.old ≡ 16 }
     requires sources { AreSources request.now.survivors sources.now }
-    ensures count { result ≤ 16 }
-    ensures terms { AreTerms request.now row.now (take result terms.new) }
-{
-    let mut count = 0;
-    for k in 0..16 {
-        if let Some(term) = term_at(request, sources, k, row[k]) {
-            terms[count] = term;
-            count += 1;
-        }
-    }
-    count
-}
-
-// The survivor's bytes at the place of an index, with a scalar. None only where their products are 00.
-fn term_at<'a>(request: &Request, sources: &Sources<'a>, k: usize, scalar: Gf) -> Option<Term<'a>>
-    requires index { k < 16 }
-    requires sources { AreSources request.now.survivors sources.now }
-    ensures { IsTermAt request.now scalar k result }
+    ensures { AreRowTerms request.now row.now result.now }
 {
     recall_invariant(request);
-    if scalar.byte() == 0 {
-        return None;
-    }
-    let bytes = sources[k];
-    if bytes.is_empty() {
-        return None;
-    }
-    Some(Term { scalar, bytes })
+    terms_in(room, row, sources)
 }

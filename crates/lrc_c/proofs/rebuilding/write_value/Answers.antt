@@ -1,15 +1,23 @@
-use Rattle.std.proofs.Common.{length, sym, subst, arith}
-use Rattle.lrc_code.specs.Encoding.{IsParity}
-use Rattle.lrc_c.specs.Lent.{lent, AreUsed}
+use Rattle.std.proofs.Common.{length, refl, arith}
+use Rattle.lrc_c.specs.Lent.{lent}
+use Rattle.lrc_c.proofs.Combinations.{where_used}
 use Rattle.lrc_c.proofs.EncodeLemmas.{parity}
 use Rattle.lrc_c.proofs.rebuilding.write_value.Goals as goal
 
-pub fill_terms-count-requires-clause-used : goal.fill_terms-count-requires-clause-used
-fill_terms-count-requires-clause-used c = subst (λ row. AreUsed row (lent c.args.at.now) (length c.args.out.now))
-    (sym c.bytes_of.ensures) c.requires.row
+pub write_if_zero-requires-clause-rooms : goal.write_if_zero-requires-clause-rooms
+write_if_zero-requires-clause-rooms c =
+    let at = lent c.args.at.now in
+    let len = length c.args.out.now in
+    record {
+      first = ((c.terms_in.ensures len (where_used c.args.row.now at len c.requires.row)).room, refl);
+      second = tt;
+      third = tt;
+      fourth = tt;
+    }
 
 pub returns-clause-value : goal.returns-clause-value
-returns-clause-value c = λ t. subst (λ row. IsParity row (lent c.args.at.now)
-    (length c.args.out.now) c.write_if_zero.new.a) c.bytes_of.ensures
-    (parity c.bytes_of.result (lent c.args.at.now) (length c.args.out.now) _ c.write_if_zero.new.a c.fill_terms-count.ensures.terms
-    (omega arith) (c.write_if_zero.ensures.written t).first)
+returns-clause-value c = λ t.
+    let at = lent c.args.at.now in
+    let len = length c.args.out.now in
+    parity c.args.row.now at len _ c.write_if_zero.new.a (c.terms_in.ensures len (where_used c.args.row.now at len c.requires.row))
+    (omega arith) (c.write_if_zero.ensures.written t).first

@@ -2,7 +2,6 @@ use Rattle.std.proofs.Common.{length, arith}
 use Rattle.lrc_code.specs.Sets.{is_in}
 use Rattle.lrc_c.specs.Lent.{lent}
 use Rattle.lrc_c.proofs.Many.{told}
-use Rattle.std.proofs.lemmas.List.{length-take-le}
 use Rattle.lrc_c.proofs.PairRows.{couple_of}
 use Rattle.lrc_c.proofs.Stripes.{used}
 use Rattle.lrc_c.proofs.rebuilding_many.rebuild_four.Goals as goal
@@ -64,18 +63,7 @@ write_coupled_if_zero-possible-requires-clause-coupled c = record {
       c.requires.first c.requires.second c.aim_of-first_aim.ensures.aim c.aim_of-second_aim.ensures.aim c.wanted_of.ensures
       c.wanted_of-2.ensures
       c.aim_of-first_aim.ensures.row c.aim_of-second_aim.ensures.row
-      (c.fill_couple-front_count.ensures.both (omega (
-        arith,
-        some,
-        length-take-le c.fill_couple-front_count.result
-            c.fill_couple-front_count.new.pairs (omega arith),
-      )))
-      (c.fill_couple-front_count.ensures.pairs (omega (
-        arith,
-        some,
-        length-take-le c.fill_couple-front_count.result
-            c.fill_couple-front_count.new.pairs (omega arith),
-      )));
+      (c.couple_in-front.ensures.both some) (c.couple_in-front.ensures.pairs some);
   back = λ some.
       couple_of c.args.code (is_in c.args.set) (lent c.args.at.now) c.args.len (length c.args.c.now)
       (length c.args.d.now) c.args.targets.third c.args.targets.fourth
@@ -83,16 +71,5 @@ write_coupled_if_zero-possible-requires-clause-coupled c = record {
       c.requires.third c.requires.fourth c.aim_of-third_aim.ensures.aim c.aim_of-fourth_aim.ensures.aim c.wanted_of-3.ensures
       c.wanted_of-4.ensures
       c.aim_of-third_aim.ensures.row c.aim_of-fourth_aim.ensures.row
-      (c.fill_couple-back_count.ensures.both (omega (
-        arith,
-        some,
-        length-take-le c.fill_couple-back_count.result
-            c.fill_couple-back_count.new.pairs (omega arith),
-      )))
-      (c.fill_couple-back_count.ensures.pairs (omega (
-        arith,
-        some,
-        length-take-le c.fill_couple-back_count.result
-            c.fill_couple-back_count.new.pairs (omega arith),
-      )));
+      (c.couple_in-back.ensures.both some) (c.couple_in-back.ensures.pairs some);
 }

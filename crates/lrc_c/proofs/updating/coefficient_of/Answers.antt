@@ -2,6 +2,7 @@ use Rattle.std.proofs.Common.{Bool, get_or, take, ap, ap₂, sym, ◌∙◌}
 use Rattle.std.specs.Prelude.{if◌then◌else◌}
 use Rattle.std.specs.Int.Bits.{bit_xor, xor_zero_r}
 use Rattle.std.proofs.lemmas.Bool.{eq-eqb, ne_eqb}
+use Rattle.std.proofs.lemmas.List.{get_or_default}
 use Rattle.lrc_code.specs.declared.places.Place.TheVariants.{X0}
 use Rattle.lrc_code.specs.Places.{index_of}
 use Rattle.lrc_code.specs.Reduction.{coefficient_at}
@@ -20,8 +21,8 @@ loop-i-preserved c =
     let next = coefficient-next places row c.args.place X0 k c.loop-i-test.true c.requires in
     elim c.if-index.branch [
       | then-index w ↦
-          w.sum-is ∙ ap₂ bit_xor c.loop-i.invariant
-          (sym (ap term (eq-eqb (index_of here) (index_of c.args.place)
+          w.sum-is ∙ w.add-sum.ensures ∙ ap₂ bit_xor c.loop-i.invariant
+          (w.index-row-i.is ∙ get_or_default row k _ 0 c.loop-i-test.true ∙ sym (ap term (eq-eqb (index_of here) (index_of c.args.place)
           (sym c.index.ensures.value ∙ w.if-index.true ∙ c.index-in-loop-i.ensures.value))))
           ∙ sym next
       | else-index w ↦

@@ -4,7 +4,7 @@ use Rattle.lrc_code.specs.declared.places.Place.{Place}
 use Rattle.std.specs.Int.Bits.{bit_xor}
 use Rattle.lrc_field.specs.Field.{times}
 use Rattle.lrc_code.specs.Places.{index_of, all_places}
-use Rattle.lrc_code.specs.Code.{combination}
+use Rattle.lrc_field.specs.Sums.{combination}
 use Rattle.std.specs.Int.Bits.{xor_assoc}
 use Rattle.lrc_field.proofs.FieldLaws.{times-xor, times-assoc}
 use Rattle.lrc_code.proofs.PlaceSums.{combination-set}

@@ -4,7 +4,7 @@ use Rattle.lrc_field.specs.Field.{times}
 use Rattle.std.specs.Int.Bits.{xor_zero_l}
 use Rattle.lrc_field.proofs.FieldLaws.{times-one}
 use Rattle.lrc_code.proofs.Combinations.{combination-none}
-use Rattle.lrc_code.specs.Code.{combination}
+use Rattle.lrc_field.specs.Sums.{combination}
 use Rattle.lrc_code.specs.Places.{all_places}
 use Rattle.std.proofs.lemmas.Simd.{get_or-replicate}
 use Rattle.lrc_plan.proofs.FormLaws.{meaning-lt}
