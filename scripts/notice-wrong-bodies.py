@@ -13,19 +13,19 @@ import tempfile
 
 ROOT = pathlib.Path(__file__).resolve().parent.parent
 
-# Where the tests of a crate's calls stand, if not in the crate itself.
+# The crates in which the tests of a crate's calls stand, if not in the crate itself.
 TESTS = {
-    "lrc_field": "lrc_tests",
-    "lrc_code": "lrc_tests",
-    "lrc_plan": "lrc_tests",
-    "farm_lanes": "lanes_tests",
-    "farm_core": "farm_tests",
-    "sha256_lanes": "sha256_tests",
-    "farm_lists": "serving_tests",
-    "farm_shelves": "serving_tests",
-    "farm_serving": "serving_tests",
-    "line_mode": "line_tests",
-    "command_line": "line_tests",
+    "lrc_field": ["lrc_tests"],
+    "lrc_code": ["lrc_tests"],
+    "lrc_plan": ["lrc_tests"],
+    "farm_lanes": ["lanes_tests"],
+    "farm_core": ["farm_tests"],
+    "sha256_lanes": ["sha256_tests"],
+    "farm_lists": ["lists_tests", "serving_tests"],
+    "farm_shelves": ["serving_tests"],
+    "farm_serving": ["serving_tests"],
+    "line_mode": ["line_tests"],
+    "command_line": ["line_tests"],
 }
 
 # Tests that a wrong body keeps from ending are stopped after so many seconds, and have noticed it.
@@ -63,15 +63,18 @@ def failed(folder):
     return tests
 
 
-def ended(folder, without):
-    """How the tests of the crate in this folder end, beside those that fail without an edit."""
-    try:
-        tests = failed(folder) - without
-    except subprocess.TimeoutExpired:
-        return "noticed: the tests did not end"
-    except NotRun as why:
-        return f"NOT RUN: {why}"
-    return f"noticed: {' '.join(sorted(tests))}" if tests else "not noticed"
+def ended(folders, without):
+    """How the tests of the crates in these folders end, beside those that fail without an edit, up to the first crate that notices."""
+    for folder in folders:
+        try:
+            tests = failed(folder) - without[folder]
+        except subprocess.TimeoutExpired:
+            return "noticed: the tests did not end"
+        except NotRun as why:
+            return f"NOT RUN: {why}"
+        if tests:
+            return f"noticed: {' '.join(sorted(tests))}"
+    return "not noticed"
 
 
 def main():
@@ -86,14 +89,15 @@ def main():
                 shutil.copy2(ROOT / name, copy / name)
         without = {}
         for crate in crates:
-            tests = TESTS.get(crate, crate)
-            if tests not in without:
-                # A test of millions of steps may fail without an edit: here they are interpreted.
-                without[tests] = failed(copy / "crates" / tests)
+            folders = [copy / "crates" / it for it in TESTS.get(crate, [crate])]
+            for folder in folders:
+                if folder not in without:
+                    # A test of millions of steps may fail without an edit: here they are interpreted.
+                    without[folder] = failed(folder)
             edits = sorted([*ROOT.glob(f"crates/{crate}/must-fail/*.edit"), *ROOT.glob(f"crates/{crate}/wrong-bodies/*.edit")])
             for edit in edits:
                 kept = edited(edit, copy / "crates" / crate)
-                print(f"{crate}/{edit.stem}: {ended(copy / 'crates' / tests, without[tests])}", flush=True)
+                print(f"{crate}/{edit.stem}: {ended(folders, without)}", flush=True)
                 for path, text in kept.items():
                     path.write_text(text)
 

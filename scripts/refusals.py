@@ -35,10 +35,10 @@ TESTS = [
     ("farm_tests", "two_workers_and_a_queue_of_one", 4),
     ("farm_tests", "six_feeds_with_two_workers", 9),
     ("farm_tests", "collector_takes_its_room", 0),
+    ("lists_tests", "digests_in_three_threads", 2),
     ("serving_tests", "nothing_written_before_all_texts_are_made", 3),
     ("serving_tests", "nothing_written_with_two_workers", 4),
     ("serving_tests", "batches_of_one_request", 3),
-    ("serving_tests", "digests_in_three_threads", 2),
     ("serving_tests", "failed_write_without_memory", 0),
 ]
 

@@ -2,10 +2,11 @@
 ghost use Rattle.std.specs.Prelude.{None};
 
 use crate::shared::{
-    LIST, MOST_FAILURES, fails, has_none, input_of, reads, serve_with, shelf_of, written,
+    MOST_FAILURES, fails, has_none, input_of, reads, serve_with, shelf_of, written,
 };
 use farm_core::NoPause;
 use farm_serving::{FolderShelf, MemoryShelf, Shelf, ShelfFault};
+use lists_tests::samples::LIST;
 use std::alloc::{AllocError, Global};
 use std::fs;
 use std::rt::Files;

@@ -1,9 +1,10 @@
 //! Shelves whose calls fail, one at a time.
 use crate::shared::{
-    LIST, REPORT, REPORT_WITHOUT_PX, REPORT_WITHOUT_X1, REPORT_WITHOUT_X2, Run, fails, has_file,
-    has_none, input_of, reads, serve_failing, serve_onto, shelf_of, written,
+    REPORT_WITHOUT_X1, REPORT_WITHOUT_X2, Run, fails, has_file, has_none, input_of, reads,
+    serve_failing, serve_onto, shelf_of, written,
 };
 use farm_serving::{ListFault, MemoryShelf, ServeFault, Shelf, ShelfFault};
+use lists_tests::samples::{LIST, REPORT, REPORT_WITHOUT_PX};
 use std::alloc::{AllocError, Global};
 use std::sync::Wait;
 use std::thread::Threads;

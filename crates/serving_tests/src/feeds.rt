@@ -1,10 +1,11 @@
 //! Racks that are fed by several lists.
 use crate::shared::{
-    FRAGMENTS, LIST, REPORT, Run, has_file, has_served, input_of, input_with, serve_failing,
-    serve_shelf, serve_with, shelf_of,
+    FRAGMENTS, Run, has_file, has_served, input_of, input_with, serve_failing, serve_shelf,
+    serve_with, shelf_of,
 };
 use farm_core::Pause;
 use farm_serving::{ListFault, MemoryShelf, ServeFault};
+use lists_tests::samples::{LIST, REPORT};
 use std::alloc::{AllocError, Global};
 use std::sync::Wait;
 use std::sync::atomic::{AtomicBool, Ordering};

@@ -1,8 +1,9 @@
 //! One run over real folders, which the test makes where it runs.
-use crate::shared::{FRAGMENTS, LIST, REPORT, has_none, has_served, reads, serve_with, written};
+use crate::shared::{FRAGMENTS, has_none, has_served, reads, serve_with, written};
 use farm_core::NoPause;
 use farm_serving::{FolderShelf, ServeFault, Shelf, ShelfFault};
 use farm_shelves::read_front;
+use lists_tests::samples::{LIST, REPORT};
 use std::alloc::{AllocError, Global};
 use std::fs;
 use std::io::{self, ErrorKind, Read};

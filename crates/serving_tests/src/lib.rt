@@ -1,5 +1,5 @@
-//! Tests of the public calls of `farm_lists`, `farm_shelves` and `farm_serving`, with the bytes and digests of the formats. They are
-//! in a crate of their own, so that a check of those crates proves them once and not a second time with their tests.
+//! Tests of the public calls of `farm_shelves` and `farm_serving`, with the bytes and digests of the formats. They are in a crate of
+//! their own, so that a check of those crates proves them once and not a second time with their tests.
 #![tactic(auto)]
 
 #[cfg(test)]
@@ -15,22 +15,14 @@ mod cut_feeds;
 #[cfg(test)]
 mod devices;
 #[cfg(test)]
-mod digests;
-#[cfg(test)]
 mod feeds;
 #[cfg(test)]
 mod folders;
 #[cfg(test)]
 mod links;
 #[cfg(test)]
-mod lists;
-#[cfg(test)]
 mod refusals;
-#[cfg(test)]
-mod reports;
 #[cfg(test)]
 mod serving;
 #[cfg(test)]
 mod shared;
-#[cfg(test)]
-mod texts;

@@ -1,7 +1,8 @@
 //! Links in a folder, and what they lead to: files, folders, nothing, and each other.
-use crate::shared::{LIST, fails, has_none, has_served, reads, serve_with};
+use crate::shared::{fails, has_none, has_served, reads, serve_with};
 use farm_core::NoPause;
 use farm_serving::{FolderShelf, ServeFault, Shelf};
+use lists_tests::samples::LIST;
 use std::alloc::{AllocError, Global};
 use std::fs;
 use std::os::unix::fs::symlink;

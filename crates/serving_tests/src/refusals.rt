@@ -1,9 +1,10 @@
 //! Serving where memory or a thread is refused.
 ghost use Rattle.std.specs.Prelude.{None};
 
-use crate::shared::{LIST, has_file, input_of, serve_with, written};
+use crate::shared::{has_file, input_of, serve_with, written};
 use farm_core::NoPause;
 use farm_serving::{MemoryShelf, ServeFault, Shelf, ShelfFault};
+use lists_tests::samples::LIST;
 use std::alloc::{AllocError, Global};
 use std::process::Abort;
 use std::sync::Wait;

@@ -1,10 +1,11 @@
 //! Whole runs of `serve` over shelves in memory.
 use crate::shared::{
-    EMPTY_REPORT, LIST, REPORT, REPORT_WITHOUT_PX, has_file, has_served, input_of, input_with,
-    serve_files, serve_onto, serve_shelf, serve_with, shelf_of,
+    has_file, has_served, input_of, input_with, serve_files, serve_onto, serve_shelf, serve_with,
+    shelf_of,
 };
 use farm_core::Pause;
 use farm_serving::{ListFault, MemoryShelf, ServeFault, Shelf};
+use lists_tests::samples::{EMPTY_REPORT, LIST, REPORT, REPORT_WITHOUT_PX};
 use lrc_code::RequestFault;
 use std::alloc::{AllocError, Global};
 use std::sync::Wait;

@@ -1,17 +1,10 @@
-//! A list, its fragments and its reports, and a call of `serve` over shelves in memory.
+//! Lists, fragments and reports, and a call of `serve` over shelves in memory.
 use farm_core::{NoPause, Pause, Settings};
 use farm_serving::{MemoryShelf, ServeFault, Served, Shelf, ShelfFault, serve};
+use lists_tests::samples::LIST;
 use std::alloc::{AllocError, Global};
 use std::sync::Wait;
 use std::thread::Threads;
-
-/// Two requests and two closes, in turn.
-pub(crate) const LIST: &[u8] = b"order,stripe,target,length,survivors
-rebuild,abc,x0,3,x1 x2 px
-close,,,,
-rebuild,abc,x0,3,x1 x2 px
-close,,,,
-";
 
 /// The fragments that give 61 62 63 at x0.
 pub(crate) const FRAGMENTS: [(&str, &[u8]); 3] = [
@@ -19,16 +12,6 @@ pub(crate) const FRAGMENTS: [(&str, &[u8]); 3] = [
     ("abc.x2", &[0, 0, 0]),
     ("abc.px", b"abc"),
 ];
-
-/// The report where all three are there. The digest is that of `abc` in FIPS 180-2.
-pub(crate) const REPORT: &[u8] = b"number,stripe,target,length,outcome,digest,unread
-0,abc,x0,3,rebuilt,ba7816bf8f01cfea414140de5dae2223b00361a396177a9cb410ff61f20015ad,
-";
-
-/// The report where `abc.px` is left out.
-pub(crate) const REPORT_WITHOUT_PX: &[u8] = b"number,stripe,target,length,outcome,digest,unread
-0,abc,x0,3,several,,px
-";
 
 /// The report where `abc.x1` is left out.
 pub(crate) const REPORT_WITHOUT_X1: &[u8] = b"number,stripe,target,length,outcome,digest,unread
@@ -38,10 +21,6 @@ pub(crate) const REPORT_WITHOUT_X1: &[u8] = b"number,stripe,target,length,outcom
 /// The report where `abc.x2` is left out.
 pub(crate) const REPORT_WITHOUT_X2: &[u8] = b"number,stripe,target,length,outcome,digest,unread
 0,abc,x0,3,several,,x2
-";
-
-/// A report without requests.
-pub(crate) const EMPTY_REPORT: &[u8] = b"number,stripe,target,length,outcome,digest,unread
 ";
 
 /// More often than a device fails in a test: the calls ask that a shelf have room to count further failures.

@@ -1,8 +1,8 @@
 //! Reports, by the calls that make them alone.
-use crate::shared::{EMPTY_REPORT, LIST, REPORT, REPORT_WITHOUT_PX};
-use farm_lists::requests_before_close;
-use farm_serving::{
+use crate::samples::{EMPTY_REPORT, LIST, REPORT, REPORT_WITHOUT_PX};
+use farm_lists::{
     Listed, Record, ReportRow, ReportShape, merged_report_text, read_list, report_text,
+    requests_before_close,
 };
 use lrc_code::{Bytes, Code, Outcome, Place};
 use std::alloc::{AllocError, Global};

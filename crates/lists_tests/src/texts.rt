@@ -25,8 +25,8 @@ const REQUEST_FAULTS: &[(RequestFault, &str)] = &[
 #[test]
 fn texts_of_request_faults(rt: HostRuntime) -> Result<(), AllocError> {
     for (fault, text) in REQUEST_FAULTS {
-        let told = format!(in rt.alloc(); "{fault}")?;
-        assert!(&rt; told.as_str() == *text, "{told}");
+        let said = format!(in rt.alloc(); "{fault}")?;
+        assert!(&rt; said.as_str() == *text, "{said}");
     }
     Ok(())
 }
@@ -59,8 +59,8 @@ const LIST_FAULTS: &[(ListFault, &str)] = &[
 #[test]
 fn texts_of_list_faults(rt: HostRuntime) -> Result<(), AllocError> {
     for (fault, text) in LIST_FAULTS {
-        let told = format!(in rt.alloc(); "{fault}")?;
-        assert!(&rt; told.as_str() == *text, "{told}");
+        let said = format!(in rt.alloc(); "{fault}")?;
+        assert!(&rt; said.as_str() == *text, "{said}");
     }
     Ok(())
 }

@@ -1,6 +1,6 @@
 //! Lists, record by record and fault by fault.
-use crate::shared::LIST;
-use farm_serving::{ListFault, Listed, Record, read_list};
+use crate::samples::LIST;
+use farm_lists::{ListFault, Listed, Record, read_list};
 use lrc_code::{Code, Place, RequestFault};
 use std::alloc::{AllocError, Global};
 
