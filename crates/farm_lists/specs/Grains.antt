@@ -1,6 +1,10 @@
 -- Digests that are made in grains, in any order, beside the right ones.
-use Rattle.std.specs.Prelude.{◌≡◌, ◌+◌, ◌<◌, ℕ, List, [], Option, None, IfSome, length, get_or}
+use Rattle.std.specs.Prelude.{◌≡◌, ◌+◌, ◌<◌, ℕ, List, [], Option, None, IfSome, length, map, get_or}
 use Rattle.farm_lists.specs.declared.reports.grains.Grain.{Grain}
+
+-- the digests at these places
+abbrev pub at_each : List ℕ → List (List ℕ) → List (List ℕ)
+at_each places digests = map (λ place. get_or digests place []) places
 
 -- the digests of a grain are right as far as there are any
 abbrev pub IsGrain : List (List ℕ) → Grain → Type 0

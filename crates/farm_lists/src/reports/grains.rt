@@ -1,11 +1,12 @@
-//! The digests of fragments in grains of sixteen, each taken by the thread that is free next.
-ghost use Rattle.std.specs.Prelude.{◌≡◌, ◌+◌, ◌<◌, ◌≤◌, ℕ, List, [], None, IfOk, IfSome, length, map, slice_index_or};
+//! The digests of fragments, the longest first, in grains of sixteen, each taken by the thread that is free next.
+ghost use Rattle.std.specs.Prelude.{◌≡◌, ◌+◌, ◌<◌, ◌≤◌, ℕ, List, [], None, Some, IfOk, IfSome, length, map, set, slice_index_or, All};
 ghost use Rattle.sha2.specs.Sha256.{sha256};
-ghost use Rattle.farm_lists.specs.Grains.{AreGrains, AreRight, IsGrain};
+ghost use Rattle.farm_lists.specs.Grains.{AreGrains, AreRight, IsGrain, at_each};
 
 use sha2::{Digest as _, Sha256};
 use sha256_lanes::Digest;
 use std::alloc::{AllocError, Global};
+use std::cmp::Reverse;
 use std::sync::atomic::{AtomicUsize, Ordering};
 use std::thread;
 use std::thread::Threads;
@@ -43,7 +44,7 @@ pub(crate) fn digests_of<R: Threads + Sync>(
     complete(alloc, fragments, made.as_slice())
 }
 
-// The digests that threads make, each at the place of its fragment. The threads take no memory: each puts its grains into slots of its own.
+// The digests that threads make, each at the place of its fragment.
 fn made_in_threads<R: Threads + Sync>(
     rt: &R,
     alloc: Global,
@@ -52,6 +53,59 @@ fn made_in_threads<R: Threads + Sync>(
 ) -> Result<Vec<Option<Digest>>, AllocError>
     ensures places { IfOk result (λ v. length v.items ≡ length fragments.now) }
     ensures right { IfOk result (λ v. AreRight (map (λ f. sha256 f.now) fragments.now) v.items) }
+{
+    let places = places_by_length(alloc, fragments)?;
+    let ordered = at_places(alloc, fragments, places.as_slice())?;
+    let slots = grains_in_threads(rt, alloc, ordered.as_slice(), threads)?;
+    let mut digests = vec![in alloc; None; fragments.len()]?;
+    place_grains(slots.as_slice(), places.as_slice(), digests.as_mut_slice());
+    Ok(digests)
+}
+
+// The places of the fragments, those of the longest first: neighbours in this order mostly have one length, so that eight of them are
+// digested at once, and the last grains are the shortest.
+fn places_by_length(alloc: Global, fragments: &[&[u8]]) -> Result<Vec<usize>, AllocError>
+    ensures { IfOk result (λ v. All (λ place. place < length fragments.now) v.items) }
+{
+    let mut places = Vec::with_capacity(alloc, fragments.len())?;
+    for place in 0..fragments.len() {
+        places.push(place)?;
+    }
+    places.sort_unstable_by_key(|place| Reverse(length_at(fragments, *place)));
+    Ok(places)
+}
+
+fn length_at(fragments: &[&[u8]], place: usize) -> usize {
+    match fragments.get(place) {
+        Some(fragment) => fragment.len(),
+        None => 0,
+    }
+}
+
+// The fragments at places, in the order of these.
+fn at_places<'a>(
+    alloc: Global,
+    fragments: &[&'a [u8]],
+    places: &[usize],
+) -> Result<Vec<&'a [u8]>, AllocError>
+    requires { All (λ place. place < length fragments.now) places.now }
+    ensures { IfOk result (λ v. map (λ f. sha256 f.now) v.items ≡ at_each places.now (map (λ f. sha256 f.now) fragments.now)) }
+{
+    let mut chosen = Vec::with_capacity(alloc, places.len())?;
+    for index in 0..places.len() {
+        chosen.push(fragments[places[index]])?;
+    }
+    Ok(chosen)
+}
+
+// The grains of fragments, made in threads that take no memory: each puts its grains into slots of its own, and some slots stay empty.
+fn grains_in_threads<R: Threads + Sync>(
+    rt: &R,
+    alloc: Global,
+    fragments: &[&[u8]],
+    threads: usize,
+) -> Result<Vec<Option<Grain>>, AllocError>
+    ensures { IfOk result (λ v. AreGrains (map (λ f. sha256 f.now) fragments.now) v.items) }
 {
     let grains = fragments.len().div_ceil(GRAIN);
     let threads = worthwhile(fragments, threads.min(grains));
@@ -62,9 +116,7 @@ fn made_in_threads<R: Threads + Sync>(
         .max(1);
     let mut slots = vec![in alloc; None; threads.saturating_mul(room)]?;
     make_grains(rt, fragments, slots.as_mut_slice(), room);
-    let mut digests = vec![in alloc; None; fragments.len()]?;
-    place_grains(slots.as_slice(), digests.as_mut_slice());
-    Ok(digests)
+    Ok(slots)
 }
 
 // How many threads are worth their start for these fragments, of so many at most: each has the least part.
@@ -139,25 +191,35 @@ fn digests_from(fragments: &[&[u8]], start: usize, digests: &mut [Digest])
     sha256_lanes::digests(&fragments[start..start + digests.len()], digests);
 }
 
-// Puts the digests of grains at the places of their fragments.
-fn place_grains(slots: &[Option<Grain>], digests: &mut [Option<Digest>])
-    ensures { (right : List (List ℕ)) → length right ≡ length digests.old → AreGrains right slots.now
-        → AreRight right digests.old → AreRight right digests.new }
+// Puts the digests of the grains of fragments at these places.
+fn place_grains(slots: &[Option<Grain>], places: &[usize], digests: &mut [Option<Digest>])
+    ensures len { length digests.new ≡ length digests.old }
+    ensures right { (right : List (List ℕ)) → AreGrains (at_each places.now right) slots.now → AreRight right digests.old
+        → AreRight right digests.new }
 {
     for index in 0..slots.len() {
         if let Some(grain) = slots[index] {
-            place(&grain, digests);
+            place_grain(&grain, places, digests);
         }
     }
 }
 
-fn place(grain: &Grain, digests: &mut [Option<Digest>])
-    ensures { (right : List (List ℕ)) → length right ≡ length digests.old → IsGrain right grain.now
-        → AreRight right digests.old → AreRight right digests.new }
+fn place_grain(grain: &Grain, places: &[usize], digests: &mut [Option<Digest>])
+    ensures { (right : List (List ℕ)) → IsGrain (at_each places.now right) grain.now → AreRight right digests.old
+        → AreRight right digests.new }
 {
-    let count = GRAIN.min(digests.len().saturating_sub(grain.at));
+    let count = GRAIN.min(places.len().saturating_sub(grain.at));
     for k in 0..count {
-        digests[grain.at + k] = Some(grain.digests[k]);
+        put(digests, places[grain.at + k], grain.digests[k]);
+    }
+}
+
+// Puts a digest at its place, if there is such a place.
+fn put(digests: &mut [Option<Digest>], place: usize, digest: Digest)
+    ensures { digests.new ≡ set digests.old place (Some digest) }
+{
+    if place < digests.len() {
+        digests[place] = Some(digest);
     }
 }
 
