@@ -1,5 +1,5 @@
 //! Two sums over the same slices in one pass: each byte is read and halved once for both.
-ghost use Rattle.std.specs.Prelude.{◌≡◌, ◌≢◌, ◌⊎◌, ◌<◌, ◌≤◌, ◌+◌, ◌^◌, ℕ, true, false, bit_xor, length, map, slice_index, take};
+ghost use Rattle.std.specs.Prelude.{◌≡◌, ◌≢◌, ◌⊎◌, ◌<◌, ◌≤◌, ◌+◌, ◌^◌, ℕ, true, false, bit_xor, [], length, map, slice_index, slice_index_or, take};
 ghost use Rattle.lrc_field.specs.Blocks.{AreSet, HasTrio};
 ghost use Rattle.lrc_field.specs.Field.{times};
 ghost use Rattle.lrc_field.specs.Pairs.{AllReach, ArePairsOf, first_sum_at, second_sum_at};
@@ -90,8 +90,8 @@ fn fill_room<'a, S: Source<'a>>(
     for k in 0..firsts.len() {
         let first = firsts[k];
         let second = seconds[k];
-        let bytes = bytes_at(sources, k);
-        if has_products(first, second, bytes) {
+        if has_products(first, second, sources, k) {
+            let bytes = bytes_at(sources, k);
             room[count] = Pair {
                 bytes,
                 first,
@@ -103,22 +103,20 @@ fn fill_room<'a, S: Source<'a>>(
     count
 }
 
-// Whether the products of two scalars with bytes may be other than 00.
+// Whether the products of two scalars with the bytes of the source at an index may be other than 00.
 #[inline(always)]
-fn has_products(first: Gf, second: Gf, bytes: &[u8]) -> bool
-    ensures yes { result ≡ true → ((first ≢ 0) ⊎ (second ≢ 0)) × (length bytes.now ≢ 0) }
-    ensures no { result ≡ false → (i : ℕ) → (times first (slice_index bytes.now i) ≡ 0) × (times second (slice_index bytes.now i) ≡ 0) }
+fn has_products<'a, S: Source<'a>>(first: Gf, second: Gf, sources: &[S], k: usize) -> bool
+    ensures yes { result ≡ true → ((first ≢ 0) ⊎ (second ≢ 0)) × (length (slice_index_or (map S.bytes_of sources.now) k []) ≢ 0) }
+    ensures no { result ≡ false → (i : ℕ) → (times first (slice_index (slice_index_or (map S.bytes_of sources.now) k []) i) ≡ 0)
+        × (times second (slice_index (slice_index_or (map S.bytes_of sources.now) k []) i) ≡ 0) }
 {
-    if bytes.is_empty() {
+    if first.byte() == 0 && second.byte() == 0 {
         return false;
     }
-    if first.byte() != 0 {
-        return true;
+    if bytes_at(sources, k).is_empty() {
+        return false;
     }
-    if second.byte() != 0 {
-        return true;
-    }
-    false
+    true
 }
 
 // Adds to two sums at 96 positions the products of the bytes from position `i` on, each with a scalar of its own. Where both scalars

@@ -95,8 +95,8 @@ fn fill_room<'a, S: Source<'a>>(
     let mut count = 0;
     for k in 0..coefficients.len() {
         let scalar = coefficients[k];
-        let bytes = bytes_at(sources, k);
-        if has_products(scalar, bytes) {
+        if has_products(scalar, sources, k) {
+            let bytes = bytes_at(sources, k);
             room[count] = Term { bytes, scalar };
             count += 1;
         }
@@ -115,16 +115,17 @@ pub(crate) fn bytes_at<'a, S: Source<'a>>(sources: &[S], k: usize) -> &'a [u8]
     sources[k].bytes()
 }
 
-// Whether a scalar's products with bytes may be other than 00.
+// Whether a scalar's products with the bytes of the source at an index may be other than 00. Most scalars are 00, and then the source isn't
+// looked at.
 #[inline(always)]
-fn has_products(scalar: Gf, bytes: &[u8]) -> bool
-    ensures yes { result ≡ true → (scalar ≢ 0) × (length bytes.now ≢ 0) }
-    ensures no { result ≡ false → (i : ℕ) → times scalar (slice_index bytes.now i) ≡ 0 }
+fn has_products<'a, S: Source<'a>>(scalar: Gf, sources: &[S], k: usize) -> bool
+    ensures yes { result ≡ true → (scalar ≢ 0) × (length (slice_index_or (map S.bytes_of sources.now) k []) ≢ 0) }
+    ensures no { result ≡ false → (i : ℕ) → times scalar (slice_index (slice_index_or (map S.bytes_of sources.now) k []) i) ≡ 0 }
 {
     if scalar.byte() == 0 {
         return false;
     }
-    if bytes.is_empty() {
+    if bytes_at(sources, k).is_empty() {
         return false;
     }
     true

@@ -1,4 +1,4 @@
-use Rattle.std.proofs.Common.{refl, ◌<◌, ◌∙◌, ◌≡◌, ℕ, length, map, ap, ap₂, sym, arith, length-set, get_or, inl, inr}
+use Rattle.std.proofs.Common.{[], refl, ◌<◌, ◌∙◌, ◌≡◌, ℕ, length, map, ap, ap₂, sym, arith, length-set, get_or, inl, inr}
 use Rattle.std.specs.Int.Bits.{bit_xor, xor_zero_r}
 use Rattle.std.proofs.lemmas.List.{get_or_default}
 use Rattle.lrc_field.specs.Field.{times}
@@ -20,7 +20,7 @@ loop-k-preserved g c =
     let so_far = c.loop-k.invariant in
     let first = c.index-firsts-k.result in
     let second = c.index-seconds-k.result in
-    let bytes = c.bytes_at-bytes.result.now in
+    let bytes = get_or xss k [] in
     let fits : n < length ps = omega arith in
     let other : k < length ds = omega (arith, c.requires.same, c.loop-k-test.true) in
     let is_first : get_or cs k 0 ≡ first = get_or_default cs k 0 first c.loop-k-test.true ∙ sym c.index-firsts-k.is in
@@ -28,23 +28,24 @@ loop-k-preserved g c =
     let more_firsts = λ (i : ℕ). combination-more cs (column xss i) k c.loop-k-test.true in
     let more_seconds = λ (i : ℕ). combination-more ds (column xss i) k other in
     let is_byte : (i : ℕ) → get_or (column xss i) k 0 ≡ get_or bytes i 0 =
-    λ i. column_is xss k i ∙ ap (λ xs. get_or xs i 0) (sym c.bytes_at-bytes.ensures) in
-    let long = ap length c.bytes_at-bytes.ensures in
+    λ i. column_is xss k i in
     elim c.if-has_products.branch [
       | then-has_products w ↦
           let used = w.if-has_products.ensures.yes refl in
+          let same = w.bytes_at-bytes.ensures in
+          let as_read = λ (s i : ℕ). ap (λ xs. times s (get_or xs i 0)) same in
           rw (w.room-is, w.count-is) (record {
             long = length-set ps n _ ∙ so_far.long;
             few = omega arith;
             lengths = λ len h j. rooms-more len ps n _ fits (so_far.lengths len h j)
-                (long ∙ elim used.0 [
-                  | inl x ↦ h k (λ z. x (sym is_first ∙ z)) (λ z. used.1 (long ∙ z))
-                  | inr x ↦ j k (λ z. x (sym is_second ∙ z)) (λ z. used.1 (long ∙ z))
+                (ap length same ∙ elim used.0 [
+                  | inl x ↦ h k (λ z. x (sym is_first ∙ z)) used.1
+                  | inr x ↦ j k (λ z. x (sym is_second ∙ z)) used.1
                 ]);
             first_sums = λ i. pairs-more (λ (q : Pair). q.first) ps n i _ fits ∙ ap₂ bit_xor (so_far.first_sums i)
-                (sym (ap₂ times is_first (is_byte i))) ∙ sym (more_firsts i);
+                (as_read first i ∙ sym (ap₂ times is_first (is_byte i))) ∙ sym (more_firsts i);
             second_sums = λ i. pairs-more (λ (q : Pair). q.second) ps n i _ fits ∙ ap₂ bit_xor (so_far.second_sums i)
-                (sym (ap₂ times is_second (is_byte i))) ∙ sym (more_seconds i);
+                (as_read second i ∙ sym (ap₂ times is_second (is_byte i))) ∙ sym (more_seconds i);
           })
       | else-has_products w ↦
           let none = w.if-has_products.ensures.no refl in
