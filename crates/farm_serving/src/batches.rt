@@ -1,4 +1,4 @@
-//! Answering the lists batch by batch: the survivors of one batch alone are in memory.
+//! Answering the lists batch by batch: in memory are the survivors of a batch, and those of the next, which may be read beside it.
 ghost use Rattle.std.specs.Prelude.{◌≡◌, ◌∷◌, [], ◌+◌, ◌*◌, ◌<◌, ◌≤◌, ◌^◌, List, IfOk, IfSome, OnOk, length, map, true, false};
 ghost use Rattle.std.specs.List.{All};
 ghost use Rattle.farm_core.specs.Limits.{feed_limit, order_limit, rack_limit};

@@ -1,16 +1,12 @@
 //! Files that a folder's shelf reads ahead, in one thread to sixteen, and what a shelf is asked for.
-ghost use Rattle.std.specs.Prelude.{None};
-
-use crate::shared::{
-    MOST_FAILURES, fails, has_none, input_of, reads, serve_with, shelf_of, written,
-};
+use crate::shared::{fails, has_none, input_of, reads, serve_with, shelf_of, written};
+use crate::watched::WatchedShelf;
 use farm_core::NoPause;
-use farm_serving::{FolderShelf, MemoryShelf, Shelf, ShelfFault};
+use farm_serving::{FolderShelf, MemoryShelf, Shelf};
 use lists_tests::samples::LIST;
 use std::alloc::{AllocError, Global};
 use std::fs;
 use std::rt::Files;
-use std::thread::Threads;
 
 // A folder with files of 0 to 6 bytes, as many as are not open at once; number 7 of each ten is absent.
 fn make_files<R: Files>(rt: &R, alloc: Global, folder: &str) -> Result<bool, AllocError> {
@@ -50,8 +46,8 @@ fn names(alloc: Global, first: usize, end: usize) -> Result<Vec<(String, usize)>
     Ok(names)
 }
 
-// Whether a file's first bytes, four at most, are given, or that it isn't there.
-fn tells<S: Shelf>(shelf: &mut S, alloc: Global, number: usize) -> Result<bool, AllocError> {
+// Whether the shelf gives the first bytes of the file of a number, four at most, or says that there is no such file.
+fn gives<S: Shelf>(shelf: &mut S, alloc: Global, number: usize) -> Result<bool, AllocError> {
     let name = format!(in alloc; "{number}")?;
     if number % 10 == 7 {
         return Ok(has_none(shelf, alloc, name.as_str(), 4));
@@ -60,14 +56,14 @@ fn tells<S: Shelf>(shelf: &mut S, alloc: Global, number: usize) -> Result<bool, 
     Ok(reads(shelf, alloc, name.as_str(), 4, front))
 }
 
-// The same of several, in turn.
-fn tells_each<S: Shelf>(
+// Whether the shelf gives the files of these numbers so, read in turn.
+fn gives_each<S: Shelf>(
     shelf: &mut S,
     alloc: Global,
     numbers: &[usize],
 ) -> Result<bool, AllocError> {
     for number in numbers {
-        if !tells(shelf, alloc, *number)? {
+        if !gives(shelf, alloc, *number)? {
             return Ok(false);
         }
     }
@@ -86,7 +82,7 @@ fn files_read_ahead(rt: HostRuntime) -> Result<(), AllocError> {
         for count in COUNTS {
             shelf.read_ahead(&rt, alloc, names(alloc, 0, *count)?.as_slice(), threads)?;
             for number in 0..*count {
-                assert!(&rt; tells(&mut shelf, alloc, number)?);
+                assert!(&rt; gives(&mut shelf, alloc, number)?);
             }
         }
         assert!(&rt; shelf.failures() == 0);
@@ -103,7 +99,7 @@ fn another_read_or_a_write(rt: HostRuntime) -> Result<(), AllocError> {
     let second = names(alloc, 1, 2)?;
     let mut shelf = FolderShelf::open(&rt, alloc, "ahead/other")?;
     shelf.read_ahead(&rt, alloc, all.as_slice(), 4)?;
-    assert!(&rt; tells_each(&mut shelf, alloc, &[0, 2, 1, 1])?);
+    assert!(&rt; gives_each(&mut shelf, alloc, &[0, 2, 1, 1])?);
     shelf.read_ahead(&rt, alloc, all.as_slice(), 4)?;
     assert!(&rt; written(&mut shelf, alloc, "0", b"new") == Ok(()));
     assert!(&rt; reads(&mut shelf, alloc, "0", 4, b"new"));
@@ -128,7 +124,7 @@ fn failures_of_reads_ahead(rt: HostRuntime) -> Result<(), AllocError> {
         let mut shelf = FolderShelf::open(&rt, alloc, "ahead/failing")?;
         shelf.read_ahead(&rt, alloc, names.as_slice(), *threads)?;
         for number in 290..300usize {
-            assert!(&rt; tells(&mut shelf, alloc, number)?);
+            assert!(&rt; gives(&mut shelf, alloc, number)?);
         }
         assert!(&rt; shelf.failures() == 0);
         assert!(&rt; fails(&mut shelf, alloc, "300", 4) && shelf.failures() == 1);
@@ -144,81 +140,18 @@ fn memory_reads_nothing_ahead(rt: HostRuntime) -> Result<(), AllocError> {
     let mut shelf = shelf_of(alloc, &[("0", b""), ("1", b"a")])?;
     shelf.fail_at(1);
     shelf.read_ahead(&rt, alloc, names(alloc, 0, 300)?.as_slice(), 4)?;
-    assert!(&rt; tells(&mut shelf, alloc, 0)? && shelf.failures() == 0);
+    assert!(&rt; gives(&mut shelf, alloc, 0)? && shelf.failures() == 0);
     assert!(&rt; fails(&mut shelf, alloc, "1", 4));
-    assert!(&rt; tells(&mut shelf, alloc, 1)? && shelf.failures() == 1);
+    assert!(&rt; gives(&mut shelf, alloc, 1)? && shelf.failures() == 1);
     Ok(())
 }
 
-// A shelf that compares the files that are read with those that it was asked for ahead, and writes none. Its device never fails.
-#[derive(Drop)]
-struct ToldShelf {
-    shelf: MemoryShelf,
-    told: Vec<(String, usize)>,
-    // How many were read as they were asked for, in order.
-    read: usize,
-}
-
-impl Shelf for ToldShelf {
-    ghost files = { λ s. None };
-
-    ghost failed = { λ s. 0 };
-
-    fn failures(&self) -> u64 {
-        0
-    }
-
-    fn read(
-        &mut self,
-        alloc: Global,
-        name: &str,
-        limit: usize,
-    ) -> Result<Option<Vec<u8>>, ShelfFault> {
-        if let Some((told, most)) = self.told.get(self.read) {
-            if told.as_str() == name && *most == limit {
-                self.read = self.read.saturating_add(1);
-            }
-        }
-        if self.shelf.failures() > MOST_FAILURES {
-            return Ok(None);
-        }
-        match self.shelf.read(alloc, name, limit) {
-            Ok(read) => Ok(read),
-            Err(ShelfFault::Device) => Ok(None),
-            Err(ShelfFault::OutOfMemory) => Err(ShelfFault::OutOfMemory),
-        }
-    }
-
-    fn read_ahead<H: Threads + Sync>(
-        &mut self,
-        _rt: &H,
-        alloc: Global,
-        files: &[(String, usize)],
-        _threads: usize,
-    ) -> Result<(), AllocError> {
-        let mut told = Vec::new(alloc);
-        for (name, limit) in files {
-            told.push((String::from_str(alloc, name.as_str())?, *limit))?;
-        }
-        self.told = told;
-        self.read = 0;
-        Ok(())
-    }
-
-    fn write(&mut self, _alloc: Global, _name: &str, _bytes: &[u8]) -> Result<(), ShelfFault> {
-        Ok(())
-    }
-}
-
+// Before a feed's survivors are read, the shelf is asked to read ahead just these.
 #[test]
-fn a_shelf_is_told_what_is_read(rt: HostRuntime) -> Result<(), AllocError> {
-    let mut input = ToldShelf {
-        shelf: input_of(rt.alloc(), LIST)?,
-        told: Vec::new(rt.alloc()),
-        read: 0,
-    };
+fn what_is_read_is_named_ahead(rt: HostRuntime) -> Result<(), AllocError> {
+    let mut input = WatchedShelf::new(rt.alloc(), input_of(rt.alloc(), LIST)?);
     let mut output = MemoryShelf::new(rt.alloc());
     let served = serve_with(&rt, rt.alloc(), (2, 1), &mut input, &mut output, &NoPause);
-    assert!(&rt; served.is_ok() && input.told.len() == 3 && input.read == 3);
+    assert!(&rt; served.is_ok() && input.ahead.files.len() == 3 && input.ahead.next == 3);
     Ok(())
 }

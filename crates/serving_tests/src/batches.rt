@@ -1,25 +1,14 @@
 //! Answering lists in batches: of one request, of a part of a list, and of whole racks.
-use crate::shared::{MOST_FAILURES, serve_shelf, shelf_of};
-use farm_core::{NoPause, Pause, Settings};
-use farm_serving::{Answered, MemoryShelf, ReadRequest, Shelf, answer_lists, read_lists, serve};
+use crate::shared::{LIST_OF_FOUR, are_answered, serve_shelf, shelf_of};
+use farm_core::{NoPause, Pause};
+use farm_serving::{Answered, MemoryShelf, ReadRequest};
 use lrc_code::{Outcome, Place};
 use std::alloc::{AllocError, Global};
-use std::process::Abort;
 use std::sync::Wait;
 use std::sync::atomic::{AtomicU64, Ordering};
 use std::thread::Threads;
 
 const HEADER: &[u8] = b"order,stripe,target,length,survivors\n";
-
-// Requests of one byte, four of them before a close. Each lists three bytes of survivors.
-const LIST: &[u8] = b"order,stripe,target,length,survivors
-rebuild,a,x0,1,x1 x2 px
-rebuild,b,x0,1,x1 x2 px
-rebuild,c,x0,1,x1 x2 px
-rebuild,d,x0,1,x1 x2 px
-close,,,,
-rebuild,a,x0,1,x1 x2 px
-";
 
 // The fragments that give the name of each stripe at x0. Of stripe c one is absent.
 const FRAGMENTS: [(&str, &[u8]); 11] = [
@@ -39,15 +28,15 @@ const FRAGMENTS: [(&str, &[u8]); 11] = [
 // A rack with one list, one with two feeds, and one with one list.
 fn input_of(alloc: Global) -> Result<MemoryShelf, AllocError> {
     let mut input = shelf_of(alloc, &FRAGMENTS)?;
-    input.place(alloc, "rack0.csv", LIST)?;
-    input.place(alloc, "rack1.csv", LIST)?;
+    input.place(alloc, "rack0.csv", LIST_OF_FOUR)?;
+    input.place(alloc, "rack1.csv", LIST_OF_FOUR)?;
     input.place(alloc, "rack1.feed1.csv", HEADER)?;
-    input.place(alloc, "rack2.csv", LIST)?;
+    input.place(alloc, "rack2.csv", LIST_OF_FOUR)?;
     Ok(input)
 }
 
 // Whether the three racks get their answers, with so many workers and batches of so many bytes.
-fn are_answered<R: Threads + Wait + Sync, P: Pause>(
+fn are_racks_answered<R: Threads + Wait + Sync, P: Pause>(
     rt: &R,
     alloc: Global,
     workers: usize,
@@ -55,27 +44,7 @@ fn are_answered<R: Threads + Wait + Sync, P: Pause>(
     pause: &P,
 ) -> Result<bool, AllocError> {
     let mut input = input_of(alloc)?;
-    let Ok(settings) = Settings::new(workers, 1) else {
-        return Err(AllocError);
-    };
-    if input.failures() > MOST_FAILURES {
-        return Err(AllocError);
-    }
-    let Ok(lists) = read_lists(alloc, &mut input) else {
-        return Err(AllocError);
-    };
-    match answer_lists(
-        rt,
-        alloc,
-        &mut input,
-        lists.as_slice(),
-        settings,
-        pause,
-        most,
-    ) {
-        Ok(answered) => Ok(are_of_racks(&answered)),
-        Err(_) => Err(AllocError),
-    }
+    are_answered(rt, alloc, &mut input, (workers, most), pause, are_of_racks)
 }
 
 fn is_rebuilt(answer: &(usize, Outcome), bytes: &[u8]) -> bool {
@@ -133,7 +102,7 @@ fn are_of_racks(answered: &Answered) -> bool {
 // In a run that refuses an allocation or a thread this ends with the refusal.
 #[test]
 fn batches_of_one_request(rt: HostRuntime) -> Result<(), AllocError> {
-    assert!(&rt; are_answered(&rt, rt.alloc(), 2, 1, &NoPause)?);
+    assert!(&rt; are_racks_answered(&rt, rt.alloc(), 2, 1, &NoPause)?);
     Ok(())
 }
 
@@ -146,7 +115,7 @@ const MOST: &[u64] = &[0, 3, 6, 9, 11, 12, 24, 27, u64::MAX];
 fn batches_of_any_size(rt: HostRuntime) -> Result<(), AllocError> {
     for workers in WORKERS {
         for most in MOST {
-            assert!(&rt; are_answered(&rt, rt.alloc(), *workers, *most, &NoPause)?);
+            assert!(&rt; are_racks_answered(&rt, rt.alloc(), *workers, *most, &NoPause)?);
         }
     }
     Ok(())
@@ -223,7 +192,7 @@ const CUTS: &[u64] = &[1, 6, 12, u64::MAX];
 fn a_pause_is_told_the_numbers_of_all_lists(rt: HostRuntime) -> Result<(), AllocError> {
     for most in CUTS {
         let told = Told::new();
-        assert!(&rt; are_answered(&rt, rt.alloc(), 2, *most, &told)? && told.is_told_all());
+        assert!(&rt; are_racks_answered(&rt, rt.alloc(), 2, *most, &told)? && told.is_told_all());
     }
     Ok(())
 }
@@ -248,7 +217,7 @@ fn add_requests(list: &mut Vec<u8>, small: &[u8]) -> Result<(), AllocError> {
 fn a_list_of_several_batches(rt: HostRuntime) -> Result<(), AllocError> {
     let mut input = shelf_of(rt.alloc(), &FRAGMENTS)?;
     input.place(rt.alloc(), "rack0.csv", long_list(rt.alloc())?.as_slice())?;
-    input.place(rt.alloc(), "rack1.csv", LIST)?;
+    input.place(rt.alloc(), "rack1.csv", LIST_OF_FOUR)?;
     let run = serve_shelf(&rt, rt.alloc(), &mut input);
     let files: &[(&str, &[u8])] = &[
         ("rack0-100.a.x0", b"a"),

@@ -1,9 +1,8 @@
 //! Files that a shelf reads ahead while a batch is answered.
-ghost use Rattle.std.specs.Prelude.{None};
-
-use crate::shared::{MOST_FAILURES, reads, shelf_of, written};
-use farm_core::{NoPause, Settings};
-use farm_serving::{FolderShelf, MemoryShelf, Shelf, ShelfFault, answer_lists, read_lists};
+use crate::shared::{LIST_OF_FOUR, are_answered, reads, shelf_of, written};
+use crate::watched::WatchedShelf;
+use farm_core::NoPause;
+use farm_serving::{FolderShelf, Shelf};
 use std::alloc::{AllocError, Global};
 use std::fs;
 use std::rt::Files;
@@ -65,79 +64,6 @@ fn other_files_after_work(rt: HostRuntime) -> Result<(), AllocError> {
     Ok(())
 }
 
-// A list of four requests with three survivors of one byte each. The last record is after the close.
-const LIST: &[u8] = b"order,stripe,target,length,survivors
-rebuild,a,x0,1,x1 x2 px
-rebuild,b,x0,1,x1 x2 px
-rebuild,c,x0,1,x1 x2 px
-rebuild,d,x0,1,x1 x2 px
-close,,,,
-rebuild,a,x0,1,x1 x2 px
-";
-
-// A shelf that keeps which files are named beside the latest work, and counts those of them that are the next that are read. It writes
-// none, and its device never fails.
-#[derive(Drop)]
-struct NamedShelf {
-    shelf: MemoryShelf,
-    named: Vec<(String, usize)>,
-    next: usize,
-    read: usize,
-}
-
-impl Shelf for NamedShelf {
-    ghost files = { λ s. None };
-
-    ghost failed = { λ s. 0 };
-
-    fn failures(&self) -> u64 {
-        0
-    }
-
-    fn read(
-        &mut self,
-        alloc: Global,
-        name: &str,
-        limit: usize,
-    ) -> Result<Option<Vec<u8>>, ShelfFault> {
-        if let Some((named, most)) = self.named.get(self.next) {
-            if named.as_str() == name && *most == limit {
-                self.next = self.next.saturating_add(1);
-                self.read = self.read.saturating_add(1);
-            }
-        }
-        if self.shelf.failures() > MOST_FAILURES {
-            return Ok(None);
-        }
-        match self.shelf.read(alloc, name, limit) {
-            Ok(read) => Ok(read),
-            Err(ShelfFault::Device) => Ok(None),
-            Err(ShelfFault::OutOfMemory) => Err(ShelfFault::OutOfMemory),
-        }
-    }
-
-    fn read_beside<H: Threads + Sync, T: Drop, F: FnOnce() -> T>(
-        &mut self,
-        _rt: &H,
-        alloc: Global,
-        files: &[(String, usize)],
-        _threads: usize,
-        work: F,
-    ) -> Result<T, AllocError> {
-        let mut named = Vec::new(alloc);
-        for (name, limit) in files {
-            named.push((String::from_str(alloc, name.as_str())?, *limit))?;
-        }
-        self.named = named;
-        self.next = 0;
-        Ok(work())
-    }
-
-    fn write(&mut self, _alloc: Global, _name: &str, _bytes: &[u8]) -> Result<(), ShelfFault> {
-        Ok(())
-    }
-}
-
 // How many files are named beside a batch and read after it, where three racks with that list are cut into batches of so many bytes.
 fn named_and_read<R: Threads + Wait + Sync>(
     rt: &R,
@@ -145,31 +71,13 @@ fn named_and_read<R: Threads + Wait + Sync>(
     most: u64,
 ) -> Result<usize, AllocError> {
     let lists = [
-        ("rack0.csv", LIST),
-        ("rack1.csv", LIST),
-        ("rack2.csv", LIST),
+        ("rack0.csv", LIST_OF_FOUR),
+        ("rack1.csv", LIST_OF_FOUR),
+        ("rack2.csv", LIST_OF_FOUR),
     ];
-    let mut input = NamedShelf {
-        shelf: shelf_of(alloc, &lists)?,
-        named: Vec::new(alloc),
-        next: 0,
-        read: 0,
-    };
-    let (Ok(lists), Ok(settings)) = (read_lists(alloc, &mut input), Settings::new(2, 1)) else {
-        return Err(AllocError);
-    };
-    match answer_lists(
-        rt,
-        alloc,
-        &mut input,
-        lists.as_slice(),
-        settings,
-        &NoPause,
-        most,
-    ) {
-        Ok(_answered) => Ok(input.read),
-        Err(_) => Err(AllocError),
-    }
+    let mut input = WatchedShelf::new(alloc, shelf_of(alloc, &lists)?);
+    are_answered(rt, alloc, &mut input, (2, most), &NoPause, |_answered| true)?;
+    Ok(input.beside.read)
 }
 
 // Of all batches but the first the files are named beside the batch before: of 36 files those of all requests but one, of two racks,

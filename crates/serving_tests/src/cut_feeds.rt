@@ -1,10 +1,9 @@
 //! Racks with several feeds that are cut into batches: which requests of each feed are answered.
-use crate::shared::{MOST_FAILURES, shelf_of};
-use farm_core::{NoPause, Settings};
-use farm_serving::{Answered, MemoryShelf, ReadRequest, Shelf, answer_lists, read_lists};
+use crate::shared::{are_answered, shelf_of};
+use farm_core::NoPause;
+use farm_serving::{Answered, MemoryShelf, ReadRequest};
 use lrc_code::Outcome;
 use std::alloc::{AllocError, Global};
-use std::process::Abort;
 use std::sync::Wait;
 use std::thread::Threads;
 
@@ -60,42 +59,21 @@ fn list_of(alloc: Global, orders: &str) -> Result<Vec<u8>, AllocError> {
     Ok(list)
 }
 
-// The answers of each rack, and whether all requests were read.
-fn answer<R: Threads + Wait + Sync>(
+// Whether the answers to the one rack with these feeds are as asked, with so many workers and batches of so many bytes.
+fn is_answered<R: Threads + Wait + Sync, F: Fn(&Answered) -> bool>(
     rt: &R,
     alloc: Global,
     feeds: &[&str],
-    workers: usize,
-    most: u64,
-) -> Result<(Vec<Vec<(usize, Outcome)>>, bool), AllocError> {
+    settings: (usize, u64),
+    is_right: F,
+) -> Result<bool, AllocError>
+    requires { F.IsAlwaysCallable is_right }
+{
     let mut input: MemoryShelf = shelf_of(alloc, &FRAGMENTS)?;
     for (name, orders) in FEEDS.iter().zip(feeds.iter()) {
         input.place(alloc, name, list_of(alloc, orders)?.as_slice())?;
     }
-    let Ok(settings) = Settings::new(workers, 1) else {
-        return Err(AllocError);
-    };
-    if input.failures() > MOST_FAILURES {
-        return Err(AllocError);
-    }
-    let Ok(lists) = read_lists(alloc, &mut input) else {
-        return Err(AllocError);
-    };
-    match answer_lists(
-        rt,
-        alloc,
-        &mut input,
-        lists.as_slice(),
-        settings,
-        &NoPause,
-        most,
-    ) {
-        Ok(Answered { answers, requests }) => {
-            let all_read = are_read(feeds, requests.as_slice());
-            Ok((answers, all_read))
-        }
-        Err(_) => Err(AllocError),
-    }
+    are_answered(rt, alloc, &mut input, settings, &NoPause, is_right)
 }
 
 // The names before a feed's close.
@@ -169,6 +147,16 @@ fn are_read(feeds: &[&str], racks: &[Vec<Vec<ReadRequest>>]) -> bool {
     }
 }
 
+// Whether the one rack has lawful answers, and all of its requests with their survivors.
+fn is_whole(feeds: &[&str], answered: &Answered) -> bool {
+    match answered.answers.as_slice() {
+        [answers] => {
+            are_lawful(feeds, answers.as_slice()) && are_read(feeds, answered.requests.as_slice())
+        }
+        _ => false,
+    }
+}
+
 const WORKERS: &[usize] = &[1, 4];
 
 const MOST: &[u64] = &[0, 3, 6, 7, 12, 18, u64::MAX];
@@ -178,24 +166,27 @@ fn racks_of_several_feeds_in_batches_of_any_size(rt: HostRuntime) -> Result<(), 
     for workers in WORKERS {
         for most in MOST {
             for feeds in RACKS {
-                let (racks, all_read) = answer(&rt, rt.alloc(), feeds, *workers, *most)?;
-                match racks.as_slice() {
-                    [answers] => assert!(&rt; are_lawful(feeds, answers.as_slice()) && all_read),
-                    _ => assert!(&rt; false),
-                }
+                let settings = (*workers, *most);
+                let whole = |answered: &Answered| is_whole(feeds, answered);
+                assert!(&rt; is_answered(&rt, rt.alloc(), feeds, settings, whole)?);
             }
         }
     }
     Ok(())
 }
 
+// Whether the one rack has four answers or five.
+fn has_four_or_five(answered: &Answered) -> bool {
+    match answered.answers.as_slice() {
+        [answers] => answers.len() >= 4 && answers.len() <= 5,
+        _ => false,
+    }
+}
+
 // A close that a piece ends is not passed: with batches of one position each, no other feed goes on past it by more than that position.
 #[test]
 fn no_piece_is_run_behind_a_close(rt: HostRuntime) -> Result<(), AllocError> {
-    let (racks, _all_read) = answer(&rt, rt.alloc(), &["ab.", "abcdabcd"], 2, 0)?;
-    match racks.as_slice() {
-        [answers] => assert!(&rt; answers.len() >= 4 && answers.len() <= 5),
-        _ => assert!(&rt; false),
-    }
+    let feeds: &[&str] = &["ab.", "abcdabcd"];
+    assert!(&rt; is_answered(&rt, rt.alloc(), feeds, (2, 0), has_four_or_five)?);
     Ok(())
 }

@@ -26,3 +26,5 @@ mod refusals;
 mod serving;
 #[cfg(test)]
 mod shared;
+#[cfg(test)]
+mod watched;

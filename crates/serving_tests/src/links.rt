@@ -78,7 +78,7 @@ fn names_that_are_links(rt: HostRuntime) -> Result<(), AllocError> {
     Ok(())
 }
 
-// The same where they are read ahead first.
+// Each name is read as it must be, too, where all of them are read ahead first.
 #[test]
 fn links_read_ahead(rt: HostRuntime) -> Result<(), AllocError> {
     let alloc = rt.alloc();

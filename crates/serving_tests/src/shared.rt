@@ -1,10 +1,22 @@
-//! Lists, fragments and reports, and a call of `serve` over shelves in memory.
+//! Lists, fragments and reports, and calls of `serve` and `answer_lists`.
 use farm_core::{NoPause, Pause, Settings};
-use farm_serving::{MemoryShelf, ServeFault, Served, Shelf, ShelfFault, serve};
+use farm_serving::{
+    Answered, MemoryShelf, ServeFault, Served, Shelf, ShelfFault, answer_lists, read_lists, serve,
+};
 use lists_tests::samples::LIST;
 use std::alloc::{AllocError, Global};
 use std::sync::Wait;
 use std::thread::Threads;
+
+/// Requests of one byte, four of them before a close. Each lists three bytes of survivors.
+pub(crate) const LIST_OF_FOUR: &[u8] = b"order,stripe,target,length,survivors
+rebuild,a,x0,1,x1 x2 px
+rebuild,b,x0,1,x1 x2 px
+rebuild,c,x0,1,x1 x2 px
+rebuild,d,x0,1,x1 x2 px
+close,,,,
+rebuild,a,x0,1,x1 x2 px
+";
 
 /// The fragments that give 61 62 63 at x0.
 pub(crate) const FRAGMENTS: [(&str, &[u8]); 3] = [
@@ -194,7 +206,7 @@ pub(crate) fn serve_files<R: Threads + Wait + Sync>(
     Ok(serve_shelf(rt, alloc, &mut input))
 }
 
-/// The same from a shelf whose device failed a thousand times at most.
+/// Serves the files of a shelf with two workers and a queue of one. A device that failed more than a thousand times isn't called.
 pub(crate) fn serve_shelf<R: Threads + Wait + Sync>(
     rt: &R,
     alloc: Global,
@@ -203,7 +215,7 @@ pub(crate) fn serve_shelf<R: Threads + Wait + Sync>(
     serve_onto(rt, alloc, (2, 1), input, MemoryShelf::new(alloc))
 }
 
-/// The same onto a shelf of that kind too, with so many workers and a queue of that capacity, both within the limits.
+/// Serves the files of a shelf onto another, with so many workers and a queue of that capacity, both within the limits.
 pub(crate) fn serve_onto<R: Threads + Wait + Sync>(
     rt: &R,
     alloc: Global,
@@ -220,7 +232,7 @@ pub(crate) fn serve_onto<R: Threads + Wait + Sync>(
     }
 }
 
-/// The same from any shelf onto any other, with a pause. Where a device failed more than a thousand times it isn't called.
+/// Serves the files of any shelf onto any other, with a pause. A device that failed more than a thousand times isn't called.
 pub(crate) fn serve_with<R: Threads + Wait + Sync, I: Shelf, O: Shelf, P: Pause>(
     rt: &R,
     alloc: Global,
@@ -236,4 +248,31 @@ pub(crate) fn serve_with<R: Threads + Wait + Sync, I: Shelf, O: Shelf, P: Pause>
         return Err(ServeFault::Device);
     }
     serve(rt, alloc, input, output, settings, pause)
+}
+
+/// Whether the answers to the lists of a shelf are as asked, with so many workers, a queue of one and batches of so many bytes.
+pub(crate) fn are_answered<R: Threads + Wait + Sync, I: Shelf, P: Pause, F: Fn(&Answered) -> bool>(
+    rt: &R,
+    alloc: Global,
+    input: &mut I,
+    settings: (usize, u64),
+    pause: &P,
+    are_right: F,
+) -> Result<bool, AllocError>
+    requires { F.IsAlwaysCallable are_right }
+{
+    let (workers, most) = settings;
+    let Ok(settings) = Settings::new(workers, 1) else {
+        return Err(AllocError);
+    };
+    if input.failures() > MOST_FAILURES {
+        return Err(AllocError);
+    }
+    let Ok(lists) = read_lists(alloc, input) else {
+        return Err(AllocError);
+    };
+    match answer_lists(rt, alloc, input, lists.as_slice(), settings, pause, most) {
+        Ok(answered) => Ok(are_right(&answered)),
+        Err(_) => Err(AllocError),
+    }
 }

@@ -70,7 +70,7 @@ pub fn merged_report_text(
     merged_report_on(alloc, shape, rows, digests.as_slice())
 }
 
-/// The same, with the digests of the rows' outcomes.
+/// The report of a shape on rows, which are numbered in their order, with the digests of their outcomes, which are made already.
 pub(crate) fn merged_report_on(
     alloc: Global,
     shape: ReportShape,

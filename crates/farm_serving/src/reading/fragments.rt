@@ -212,12 +212,11 @@ fn read_feed<'a, R: Threads + Sync, I: Shelf>(
     let requests = requests_before_close(alloc, list)?;
     // A record that isn't among the requests before the close is the close or after it.
     let closes = requests.len() < list.len();
-    // Named, since the proof speaks of it.
-    let read = read_requests(rt, alloc, input, requests.as_slice(), closes, threads)?;
-    Ok(read)
+    read_requests(rt, alloc, input, requests.as_slice(), closes, threads)
 }
 
-/// The same of each feed of a rack's piece.
+/// The orders of each feed of a rack's piece up to its first close, with the survivors that were read, and each request with the places
+/// of the others.
 pub(crate) fn read_piece<'a, R: Threads + Sync, I: Shelf>(
     rt: &R,
     alloc: Global,
@@ -247,7 +246,8 @@ pub(crate) fn read_piece<'a, R: Threads + Sync, I: Shelf>(
     Ok((feeds, read))
 }
 
-// The same of a whole rack.
+// The orders of each feed of a whole rack up to its first close, with the survivors that were read, and each request with the places of
+// the others.
 fn read_rack<'a, R: Threads + Sync, I: Shelf>(
     rt: &R,
     alloc: Global,

@@ -4,6 +4,7 @@ use Rattle.farm_core.specs.declared.orders.Order.TheVariants.{Rebuild}
 use Rattle.std.proofs.Common.{◌≡◌, ◌∙◌, ◌≤◌, ◌++◌, Bor, sym, List, length, map, ap, subst, arith}
 use Rattle.std.specs.List.{AllZip}
 use Rattle.std.proofs.lemmas.List.{length-map}
+use Rattle.std.proofs.lemmas.Result.{IfOk-weaker}
 use Rattle.farm_lists.specs.Listed.{ListedRequest}
 use Rattle.farm_lists.specs.Report.{listed_before_close}
 use Rattle.farm_serving.specs.Serving.{AreReads, asked_feed, feed_read}
@@ -34,15 +35,8 @@ read_requests-requires-clause-orders g c κs within =
     (omega (arith, c.len.ensures, items, c.in_ok-requests.requests.ok.0))
     (omega (arith, same, size, served_few c.args.list.now)) c.requires.orders
 
-pub returns-in_err-read-clause-few : goal.returns-in_err-read-clause-few
-returns-in_err-read-clause-few g c = omega (
-  arith,
-  few g (goal.at.returns-in_err-read-clause-few g c).After-as_slice,
-  c.in_err-read.ensures.few,
-)
-
 pub returns-clause-few : goal.returns-clause-few
-returns-clause-few g c = omega (arith, few g (goal.at.returns-clause-few g c).After-as_slice, c.in_ok-read.ensures.few)
+returns-clause-few g c = omega (arith, few g (goal.at.returns-clause-few g c).After-as_slice, c.read_requests.ensures.few)
 
 pub returns-clause-read : goal.returns-clause-read
 returns-clause-read g c =
@@ -52,7 +46,8 @@ returns-clause-read g c =
     let images = length-map c.as_slice.result.now (λ (r : Bor ListedRequest). r.now) in
     let counted : c.len.result ≡ length (listed_before_close c.args.list.now) =
     omega (arith, c.len.ensures, items, images, size, c.in_ok-requests.requests.ok.0) in
-    let (reads, are, rose, told) = c.in_ok-read.ensures.read in (
+    IfOk-weaker c.read_requests.result _ _ (λ v it.
+    let (reads, are, rose, told) = it in (
       reads,
       subst (λ (rs : List ListedRequest). AllZip AreReads rs reads) same are,
       rose,
@@ -65,7 +60,7 @@ returns-clause-read g c =
                 (sym (close_counted c.args.list.now c.len.result counted)),
             t.1 ∙ ap (λ (rs : List ListedRequest). feed_read there rs reads) same,
           ),
-    )
+    )) c.read_requests.ensures.read
 
 -- the requests that are read are those of the list
 sized : (g : Rattle.farm_serving.proofs.reading.fragments.read_feed.Given.Over) (c : After-as_slice g)
@@ -80,11 +75,14 @@ returns-clause-orders g c =
     let items = ap (λ (rs : List (Bor ListedRequest)). length rs) c.as_slice.ensures.value in
     let counted : c.len.result ≡ length (listed_before_close c.args.list.now) =
     omega (arith, c.len.ensures, items, sized g at.After-as_slice, c.in_ok-requests.requests.ok.0) in
-    let (wanted, size, is) = c.in_ok-read.ensures.orders in (
+    IfOk-weaker c.read_requests.result _ _ (λ v it.
+    let (wanted, size, is) = it in (
       wanted,
       size ∙ sized g at.After-as_slice,
       is ∙ ap (λ (tail : List Order). map Rebuild wanted ++ tail) (sym (close_counted c.args.list.now c.len.result counted)),
-    )
+    )) c.read_requests.ensures.orders
 
 pub returns-clause-counted : goal.returns-clause-counted
-returns-clause-counted g c = c.in_ok-read.ensures.counted ∙ sized g (goal.at.returns-clause-counted g c).After-as_slice
+returns-clause-counted g c =
+    IfOk-weaker c.read_requests.result _ _
+    (λ v it. it ∙ sized g (goal.at.returns-clause-counted g c).After-as_slice) c.read_requests.ensures.counted

@@ -1,0 +1,123 @@
+//! A shelf that compares the files that are read with those that were named to be read ahead.
+ghost use Rattle.std.specs.Prelude.{None};
+
+use crate::shared::MOST_FAILURES;
+use farm_serving::{MemoryShelf, Shelf, ShelfFault};
+use std::alloc::{AllocError, Global};
+use std::thread::Threads;
+
+/// The files that one kind of call names, and those of them that were read.
+#[derive(Drop)]
+pub(crate) struct Named {
+    /// The files that the latest call named, each with its limit.
+    pub(crate) files: Vec<(String, usize)>,
+    /// How many of these were read so far, as they were named and in their order.
+    pub(crate) next: usize,
+    /// How many files of all calls were read so.
+    pub(crate) read: usize,
+}
+
+impl Named {
+    fn new(alloc: Global) -> Named {
+        Named {
+            files: Vec::new(alloc),
+            next: 0,
+            read: 0,
+        }
+    }
+
+    // Keeps the files of a call, in place of those of the call before it.
+    fn keep(&mut self, alloc: Global, files: &[(String, usize)]) -> Result<(), AllocError> {
+        let mut kept = Vec::new(alloc);
+        for (name, limit) in files {
+            kept.push((String::from_str(alloc, name.as_str())?, *limit))?;
+        }
+        self.files = kept;
+        self.next = 0;
+        Ok(())
+    }
+
+    // Counts a read, if it is of the file that was named next.
+    fn count(&mut self, name: &str, limit: usize) {
+        if let Some((named, most)) = self.files.get(self.next) {
+            if named.as_str() == name && *most == limit {
+                self.next = self.next.saturating_add(1);
+                self.read = self.read.saturating_add(1);
+            }
+        }
+    }
+}
+
+/// A shelf that keeps which files are named ahead of their reads, and which beside the latest work. It writes none, and its device
+/// never fails.
+#[derive(Drop)]
+pub(crate) struct WatchedShelf {
+    shelf: MemoryShelf,
+    pub(crate) ahead: Named,
+    pub(crate) beside: Named,
+}
+
+impl WatchedShelf {
+    /// A shelf with the files of that shelf, of which none were named.
+    pub(crate) fn new(alloc: Global, shelf: MemoryShelf) -> WatchedShelf {
+        WatchedShelf {
+            shelf,
+            ahead: Named::new(alloc),
+            beside: Named::new(alloc),
+        }
+    }
+}
+
+impl Shelf for WatchedShelf {
+    ghost files = { λ s. None };
+
+    ghost failed = { λ s. 0 };
+
+    fn failures(&self) -> u64 {
+        0
+    }
+
+    fn read(
+        &mut self,
+        alloc: Global,
+        name: &str,
+        limit: usize,
+    ) -> Result<Option<Vec<u8>>, ShelfFault> {
+        self.ahead.count(name, limit);
+        self.beside.count(name, limit);
+        if self.shelf.failures() > MOST_FAILURES {
+            return Ok(None);
+        }
+        match self.shelf.read(alloc, name, limit) {
+            Ok(read) => Ok(read),
+            Err(ShelfFault::Device) => Ok(None),
+            Err(ShelfFault::OutOfMemory) => Err(ShelfFault::OutOfMemory),
+        }
+    }
+
+    fn read_ahead<H: Threads + Sync>(
+        &mut self,
+        _rt: &H,
+        alloc: Global,
+        files: &[(String, usize)],
+        _threads: usize,
+    ) -> Result<(), AllocError> {
+        self.ahead.keep(alloc, files)
+    }
+
+    fn read_beside<H: Threads + Sync, T: Drop, F: FnOnce() -> T>(
+        &mut self,
+        _rt: &H,
+        alloc: Global,
+        files: &[(String, usize)],
+        _threads: usize,
+        work: F,
+    ) -> Result<T, AllocError> {
+        self.beside.keep(alloc, files)?;
+        Ok(work())
+    }
+
+    fn write(&mut self, _alloc: Global, _name: &str, _bytes: &[u8]) -> Result<(), ShelfFault> {
+        Ok(())
+    }
+}
