@@ -85,7 +85,7 @@ fn is_possible(code: Code, set: PlaceSet, at: &[Lent; 16], len: usize) -> bool
     are_zero(checks, at, len)
 }
 
-/// Whether four combinations of lent bytes are 00 at every place.
+/// Whether four combinations of lent bytes are 00 at every position.
 pub(crate) fn are_zero(rows: [[Gf; 16]; 4], at: &[Lent; 16], len: usize) -> bool
     requires { All (λ row. AreUsed row (lent at.now) len) rows }
     ensures yes { result ≡ true → AreZeroRows rows (lent at.now) len }

@@ -20,7 +20,7 @@ use lrc_code::{Code, Place, PlaceSet};
 use lrc_field::{Gf, no_terms, terms_in};
 use lrc_plan::plan_rows;
 
-/// What is told of a lost fragment.
+/// What is said of a lost fragment.
 #[derive(Clone, Copy, PartialEq, Eq)]
 pub enum Answer {
     Rebuilt,

@@ -19,7 +19,7 @@ use lrc_code::{Code, Place, PlaceSet, Reduced};
 use lrc_field::{Gf, Pair, Term, no_pairs, no_terms, pairs_in, terms_in};
 use lrc_plan::{checks_from, reduce_by_lost, value_from};
 
-/// The number that stands where no target is asked for.
+/// The number that is given where no target is asked for.
 pub const NO_PLACE: u8 = 255;
 
 /// A target, or none.

@@ -49,7 +49,7 @@ fn is_room(room: usize, len: usize) -> bool
     room == len || room == 0
 }
 
-// A place's coefficient in a row that goes along the first of some places; 00 where it is none of these.
+// A place's coefficient in a row that has one for each of the first places; 00 where it is none of these.
 fn coefficient_of(row: &[Gf], places: &[Place], place: Place) -> Gf
     requires { length row.now ≤ length places.now }
     ensures { result ≡ coefficient_at places.now row.now place }

@@ -41,8 +41,8 @@ pub(crate) struct Checks<'a> {
     pub(crate) fourth: &'a [Term<'a>],
 }
 
-/// Tests whether all checks are 00 at every place, and writes what is wanted. Where some check isn't 00 the rooms are
-/// written up to some place, and the answer is false.
+/// Tests whether all checks are 00 at every position, and writes what is wanted. Where some check isn't 00 the rooms are written up to some
+/// position, and the answer is false.
 pub(crate) fn write_checked(
     checks: Checks,
     wants: Wants,
@@ -82,7 +82,7 @@ pub(crate) fn write_checked(
     true
 }
 
-// The end of the window that begins at a place.
+// The end of the window that begins at an index.
 fn window_end(from: usize, len: usize) -> usize
     requires { from < len }
     ensures further { from < result }
@@ -91,7 +91,7 @@ fn window_end(from: usize, len: usize) -> usize
     from + (len - from).min(WINDOW)
 }
 
-// Whether all sums are 00 at the places of a window.
+// Whether all sums are 00 at the positions of a window.
 fn are_zero(checks: Checks, len: usize, from: usize, to: usize) -> bool
     requires ready { AreReady len checks }
     requires inside { to ≤ len }
@@ -104,7 +104,7 @@ fn are_zero(checks: Checks, len: usize, from: usize, to: usize) -> bool
         && is_zero(checks.fourth, len, from, to)
 }
 
-// Writes what is wanted in two rooms over the places of a window, by pairs where there are any and the window is long enough.
+// Writes what is wanted in two rooms over the positions of a window, by pairs where there are any and the window is long enough.
 fn write_two(
     pairs: &[Pair],
     one: Wanted,
@@ -133,7 +133,7 @@ fn write_two(
     write_wanted(other, b, len, from, to);
 }
 
-// Writes what is wanted over the places of a window.
+// Writes what is wanted over the positions of a window.
 fn write_wanted(wanted: Wanted, out: &mut [u8], len: usize, from: usize, to: usize)
     requires ready { HasRoom len wanted (length out.old) }
     requires ordered { from ≤ to }

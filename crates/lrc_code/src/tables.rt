@@ -32,7 +32,8 @@ pub(crate) const NARROW_PARITIES: [[u8; 6]; 4] = [
     [0x10, 0x40, 0x50, 0x01, 0x04, 0x05],
 ];
 
-/// The same of the (12,2,2) code. The coefficients of p1 are the squares of those of p0.
+/// The coefficients of the (12,2,2) code's data fragments, in its order, in each of these parities. Those of p1 are the squares of those
+/// of p0.
 pub(crate) const WIDE_PARITIES: [[u8; 12]; 4] = [
     [1, 1, 1, 1, 1, 1, 0, 0, 0, 0, 0, 0],
     [0, 0, 0, 0, 0, 0, 1, 1, 1, 1, 1, 1],
@@ -71,7 +72,7 @@ pub(crate) const NARROW_EQUATIONS: [[u8; 16]; 4] = [
     narrow_equation!(NARROW_PARITIES[3], 0, 0, 0, 1),
 ];
 
-/// Those of the (12,2,2) code.
+/// The coefficients of the (12,2,2) code's equations, by the places' indexes.
 pub(crate) const WIDE_EQUATIONS: [[u8; 16]; 4] = [
     wide_equation!(WIDE_PARITIES[0], 1, 0, 0, 0),
     wide_equation!(WIDE_PARITIES[1], 0, 1, 0, 0),

@@ -43,6 +43,6 @@ pub record HasSix (s : Six) (f : ℕ → ℕ) : Type 0 where
   pub in_front : HasTrio s.front f
   pub in_back : HasTrio s.back (λ k. f (96 + k))
 
--- the bytes before place i are f of their places
+-- the bytes before index i are f of their indexes
 abbrev pub AreSet : (ℕ → ℕ) → List ℕ → ℕ → Type 0
 AreSet f bytes i = (k : ℕ) → k < i → slice_index bytes k ≡ f k

@@ -5,7 +5,7 @@ use Rattle.lrc_field.specs.Field.{times}
 use Rattle.lrc_field.specs.Sums.{column, combination}
 use Rattle.lrc_field.specs.declared.pairs.Pair.{Pair}
 
--- the sum at a place of the pairs' bytes there, each times a scalar of its pair
+-- the sum at an index of the pairs' bytes there, each times a scalar of its pair
 abbrev pub scaled_sum_at : (Pair → ℕ) → List Pair → ℕ → ℕ
 scaled_sum_at scalar [] i = 0
 scaled_sum_at scalar (p ∷ ps) i = bit_xor (times (scalar p) (slice_index p.bytes.now i)) (scaled_sum_at scalar ps i)

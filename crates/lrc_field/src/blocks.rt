@@ -40,7 +40,7 @@ pub(crate) struct Quad {
     fourth: u8x32,
 }
 
-/// The 32 bytes from place `i` on.
+/// The 32 bytes from index `i` on.
 #[inline(always)]
 pub(crate) fn load(bytes: &[u8], i: usize) -> u8x32
     requires { i + 32 ≤ length bytes.now }
@@ -49,7 +49,7 @@ pub(crate) fn load(bytes: &[u8], i: usize) -> u8x32
     u8x32::from_slice(&bytes[i..])
 }
 
-// Writes the vector over the 32 bytes from place `i` on.
+// Writes the vector over the 32 bytes from index `i` on.
 #[inline(always)]
 fn store(bytes: &mut [u8], i: usize, v: u8x32)
     requires room { i + 32 ≤ length bytes.old }
@@ -93,7 +93,7 @@ fn looked_up(table: u8x32, halves: u8x32) -> u8x32
     table.swizzle_dyn_within::<16>(halves)
 }
 
-// The 16 bytes from place `i` on.
+// The 16 bytes from index `i` on.
 #[inline(always)]
 fn load_sixteen(bytes: &[u8], i: usize) -> u8x16
     requires { i + 16 ≤ length bytes.now }
@@ -188,7 +188,7 @@ pub(crate) fn zero_six() -> Six
     }
 }
 
-/// The 96 bytes from place `i` on.
+/// The 96 bytes from index `i` on.
 #[inline(always)]
 pub(crate) fn load_trio(bytes: &[u8], i: usize) -> Trio
     requires { i + 96 ≤ length bytes.now }
@@ -213,7 +213,7 @@ pub(crate) fn added_trio(p: Trio, q: Trio) -> Trio
     }
 }
 
-/// Adds to sums at 96 places the products of a scalar with the bytes there.
+/// Adds to sums at 96 positions the products of a scalar with the bytes there.
 #[inline(always)]
 pub(crate) fn trio_with_products(sums: Trio, c: Gf, bytes: Trio) -> Trio
     ensures { (f x : ℕ → ℕ) → HasTrio sums f → HasTrio bytes x → HasTrio result (λ k. bit_xor (f k) (times c (x k))) }
@@ -222,7 +222,7 @@ pub(crate) fn trio_with_products(sums: Trio, c: Gf, bytes: Trio) -> Trio
     added_trio(sums, tables.scaled_trio(bytes))
 }
 
-/// Adds to sums at 192 places the bytes from place `i` on.
+/// Adds to sums at 192 positions the bytes from index `i` on.
 #[inline(always)]
 pub(crate) fn six_with_bytes(sums: Six, bytes: &[u8], i: usize) -> Six
     requires { i + 192 ≤ length bytes.now }
@@ -234,7 +234,7 @@ pub(crate) fn six_with_bytes(sums: Six, bytes: &[u8], i: usize) -> Six
     }
 }
 
-/// Adds to sums at 192 places the products with the bytes from place `i` on.
+/// Adds to sums at 192 positions the products with the bytes from index `i` on.
 #[inline(always)]
 pub(crate) fn six_with_products(sums: Six, tables: Tables, bytes: &[u8], i: usize) -> Six
     requires { i + 192 ≤ length bytes.now }
@@ -247,7 +247,7 @@ pub(crate) fn six_with_products(sums: Six, tables: Tables, bytes: &[u8], i: usiz
     }
 }
 
-/// The 128 bytes from place `i` on.
+/// The 128 bytes from index `i` on.
 #[inline(always)]
 pub(crate) fn load_quad(bytes: &[u8], i: usize) -> Quad
     requires { i + 128 ≤ length bytes.now }
@@ -274,7 +274,7 @@ pub(crate) fn added_quad(p: Quad, q: Quad) -> Quad
     }
 }
 
-/// Writes 32 bytes from place `i` on. Where all before it were set to what they should be, all to its end are.
+/// Writes 32 bytes from index `i` on. Where all bytes before them are what they should be, all up to their end are.
 #[inline(always)]
 pub(crate) fn put(bytes: &mut [u8], i: usize, v: u8x32)
     requires room { i + 32 ≤ length bytes.old }
@@ -285,7 +285,7 @@ pub(crate) fn put(bytes: &mut [u8], i: usize, v: u8x32)
     store(bytes, i, v);
 }
 
-/// Writes 128 bytes from place `i` on. Where all before it were set to what they should be, all to its end are.
+/// Writes 128 bytes from index `i` on. Where all bytes before them are what they should be, all up to their end are.
 #[inline(always)]
 pub(crate) fn put_quad(bytes: &mut [u8], i: usize, q: Quad)
     requires room { i + 128 ≤ length bytes.old }
@@ -299,7 +299,7 @@ pub(crate) fn put_quad(bytes: &mut [u8], i: usize, q: Quad)
     put(bytes, i + 96, q.fourth);
 }
 
-/// Writes 96 bytes from place `i` on. Where all before it were set to what they should be, all to its end are.
+/// Writes 96 bytes from index `i` on. Where all bytes before them are what they should be, all up to their end are.
 #[inline(always)]
 pub(crate) fn put_trio(bytes: &mut [u8], i: usize, t: Trio)
     requires room { i + 96 ≤ length bytes.old }
@@ -312,7 +312,7 @@ pub(crate) fn put_trio(bytes: &mut [u8], i: usize, t: Trio)
     put(bytes, i + 64, t.third);
 }
 
-/// Writes 192 bytes from place `i` on. Where all before it were set to what they should be, all to its end are.
+/// Writes 192 bytes from index `i` on. Where all bytes before them are what they should be, all up to their end are.
 #[inline(always)]
 pub(crate) fn put_six(bytes: &mut [u8], i: usize, s: Six)
     requires room { i + 192 ≤ length bytes.old }
@@ -325,7 +325,7 @@ pub(crate) fn put_six(bytes: &mut [u8], i: usize, s: Six)
     put_trio(bytes, i + 96, s.back);
 }
 
-/// Adds 32 bytes of `src`, from place `i` on.
+/// Adds 32 bytes of `src`, from index `i` on.
 #[inline(always)]
 pub(crate) fn add_block(dst: &mut [u8], i: usize, src: &[u8])
     requires to { i + 32 ≤ length dst.old }
@@ -338,7 +338,7 @@ pub(crate) fn add_block(dst: &mut [u8], i: usize, src: &[u8])
     store(dst, i, sums);
 }
 
-/// Adds 32 products with bytes of `src`, from place `i` on.
+/// Adds 32 products with bytes of `src`, from index `i` on.
 #[inline(always)]
 pub(crate) fn scale_add_block(dst: &mut [u8], i: usize, tables: Tables, src: &[u8])
     requires to { i + 32 ≤ length dst.old }

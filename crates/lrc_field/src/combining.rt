@@ -8,8 +8,7 @@ use crate::term_sums::{write_few, write_sums};
 use crate::terms::Term;
 use std::alloc::{AllocError, Allocator};
 
-/// Writes over each byte the sum of the terms at its place, where the first byte is at place `from`. Takes no
-/// memory.
+/// Writes over each byte the sum of the terms at its index, where the first byte is at index `from`. Takes no memory.
 pub fn combine_into(dst: &mut [u8], from: usize, terms: &[Term])
     requires few { length terms.now ≤ 16 }
     requires fits { from + length dst.old < 2 ^ 64 }
@@ -20,7 +19,7 @@ pub fn combine_into(dst: &mut [u8], from: usize, terms: &[Term])
     write_sums(dst, from, terms);
 }
 
-/// The sum of the terms at each of `len` places, in a vector that `alloc` gives. The vector is written once: nothing
+/// The sum of the terms at each of `len` positions, in a vector that `alloc` gives. The vector is written once: nothing
 /// is filled with zeros but the part that is about to be written.
 pub fn combined<A: Allocator>(
     alloc: A,
@@ -42,7 +41,7 @@ pub fn combined<A: Allocator>(
     combined_by_tables(alloc, len, terms)
 }
 
-// The same by tables of the scalars.
+// The sum of the terms at each of `len` positions, by tables of the scalars.
 fn combined_by_tables<A: Allocator>(
     alloc: A,
     len: usize,
@@ -59,7 +58,7 @@ fn combined_by_tables<A: Allocator>(
     Ok(bytes)
 }
 
-// The same of three slices as they are.
+// The sum of three slices at each of `len` positions.
 fn combined_of_three<A: Allocator>(
     alloc: A,
     len: usize,
@@ -80,7 +79,7 @@ fn combined_of_three<A: Allocator>(
     Ok(bytes)
 }
 
-// Appends the sums of three slices at 4,096 further places, or at all where few are left after these.
+// Appends the sums of three slices at the next 4,096 positions, or at all that are left where these are fewer than 8,192.
 fn append_part_of_three<A: Allocator>(
     bytes: &mut Vec<u8, A>,
     len: usize,
@@ -106,7 +105,7 @@ fn append_part_of_three<A: Allocator>(
     Ok(())
 }
 
-// The same of few places, which need no tables.
+// The sum of the terms at each of `len` positions, which are few, so that tables don't pay.
 fn few_combined<A: Allocator>(
     alloc: A,
     len: usize,
@@ -120,7 +119,7 @@ fn few_combined<A: Allocator>(
     Ok(bytes)
 }
 
-// Appends the sums at up to 4,096 further places.
+// Appends the sums at up to 4,096 positions more.
 fn append_part<A: Allocator>(
     bytes: &mut Vec<u8, A>,
     len: usize,

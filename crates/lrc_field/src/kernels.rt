@@ -6,7 +6,7 @@ ghost use Rattle.lrc_field.specs.Sums.{sums};
 use crate::blocks::{self, Tables};
 use crate::element::Gf;
 
-/// Adds each byte of `src` to the byte of `dst` at its place. The slices have one length.
+/// Adds each byte of `src` to the byte of `dst` at its index. The slices have one length.
 pub fn add_into(dst: &mut [u8], src: &[u8])
     requires { length dst.old ≡ length src.now }
     ensures { dst.new ≡ sums dst.old src.now }
@@ -21,7 +21,7 @@ pub fn add_into(dst: &mut [u8], src: &[u8])
     }
 }
 
-/// Adds `c` times each byte of `src` to the byte of `dst` at its place. The slices have one length.
+/// Adds `c` times each byte of `src` to the byte of `dst` at its index. The slices have one length.
 pub fn scale_add_into(dst: &mut [u8], c: Gf, src: &[u8])
     requires { length dst.old ≡ length src.now }
     ensures { dst.new ≡ sums dst.old (map (times c) src.now) }

@@ -1,5 +1,6 @@
 //! Two sums over the same slices in one pass: each byte is read and halved once for both.
-ghost use Rattle.std.specs.Prelude.{◌≡◌, ◌≢◌, ◌⊎◌, ◌<◌, ◌≤◌, ◌+◌, ◌^◌, ℕ, true, false, bit_xor, [], length, map, slice_index, slice_index_or, take};
+ghost use Rattle.std.specs.Prelude.{◌≡◌, ◌≢◌, ◌⊎◌, ◌<◌, ◌≤◌, ◌+◌, ◌^◌, ℕ, true, false, [], bit_xor, length, map};
+ghost use Rattle.std.specs.Prelude.{slice_index, slice_index_or, take};
 ghost use Rattle.lrc_field.specs.Blocks.{AreSet, HasTrio};
 ghost use Rattle.lrc_field.specs.Field.{times};
 ghost use Rattle.lrc_field.specs.Pairs.{AllReach, ArePairsOf, first_sum_at, second_sum_at};
@@ -137,7 +138,7 @@ fn with_products(a: Trio, b: Trio, first: Gf, second: Gf, bytes: &[u8], i: usize
     )
 }
 
-// Writes both sums at 96 places, from place `i` on.
+// Writes both sums at 96 positions, from index `i` on.
 #[inline(always)]
 fn put_sums(first: &mut [u8], second: &mut [u8], i: usize, from: usize, pairs: &[Pair])
     requires fits { from + length first.old < 2 ^ 64 }
@@ -163,9 +164,8 @@ fn put_sums(first: &mut [u8], second: &mut [u8], i: usize, from: usize, pairs: &
     blocks::put_trio(second, i, b);
 }
 
-/// Writes over each byte of `first` the sum at its place of the bytes times their first scalars, and over each of
-/// `second` that of the bytes times their second scalars, where the first byte is at place `from`. Both have one
-/// length, of at least 96. Takes no memory.
+/// Writes over each byte of `first` the sum at its index of the bytes times their first scalars, and over each of `second` that of the
+/// bytes times their second scalars, where the first byte is at index `from`. Both have one length, of at least 96. Takes no memory.
 pub fn combine_pairs_into(first: &mut [u8], second: &mut [u8], from: usize, pairs: &[Pair])
     requires many { 96 ≤ length first.old }
     requires same { length second.old ≡ length first.old }

@@ -6,7 +6,7 @@ ghost use Rattle.lrc_field.specs.Combined.{three_at};
 use crate::blocks::{self, Quad};
 use std::simd::prelude::*;
 
-/// Writes over each byte the sum of three slices as they are at its place, counted from place `from` on. A group of four has such a sum for
+/// Writes over each byte the sum of three slices at its index, where the first byte is at index `from`. A group of four has such a sum for
 /// one that is lost. No table is looked for.
 pub(crate) fn write_sums_of_three(
     dst: &mut [u8],
@@ -38,9 +38,9 @@ pub(crate) fn write_sums_of_three(
     blocks::put(dst, rest, sums);
 }
 
-// Writes the sums at as many places from the front as whole blocks of 128 have, and says how many. A block is written after the next
+// Writes the sums at as many of the first positions as whole blocks of 128 have, and says how many. A block is written after the next
 // one's bytes are read: a read waits for a write before it whose address has the same low twelve bits, and memory that is taken
-// after the sources' often stands a few bytes past theirs in that measure.
+// after the sources' is often a few bytes past theirs in that measure.
 #[inline(always)]
 fn write_quads_of_three(
     dst: &mut [u8],
@@ -72,7 +72,7 @@ fn write_quads_of_three(
     i + 128
 }
 
-// The sums of three slices at 32 places, from place `i` on.
+// The sums of three slices at 32 positions, from index `i` on.
 #[inline(always)]
 fn block_of_three(first: &[u8], second: &[u8], third: &[u8], i: usize) -> u8x32
     requires in_first { i + 32 ≤ length first.now }
@@ -84,7 +84,7 @@ fn block_of_three(first: &[u8], second: &[u8], third: &[u8], i: usize) -> u8x32
     blocks::added(blocks::load(first, i), later)
 }
 
-// The sums of three slices at 128 places, from place `i` on.
+// The sums of three slices at 128 positions, from index `i` on.
 #[inline(always)]
 fn quad_of_three(first: &[u8], second: &[u8], third: &[u8], i: usize) -> Quad
     requires in_first { i + 128 ≤ length first.now }

@@ -10,7 +10,7 @@ use crate::sums_of_three::write_sums_of_three;
 use crate::terms::Term;
 use std::simd::prelude::*;
 
-// Adds 32 products of a scalar, from place `i` on. The scalar 01 needs no tables.
+// Adds 32 products of a scalar, from index `i` on. The scalar 01 needs no tables.
 #[inline(always)]
 fn with_products(sums: u8x32, c: Gf, bytes: &[u8], i: usize) -> u8x32
     requires { i + 32 ≤ length bytes.now }
@@ -24,7 +24,7 @@ fn with_products(sums: u8x32, c: Gf, bytes: &[u8], i: usize) -> u8x32
     }
 }
 
-// Adds 192 products of a scalar, from place `i` on.
+// Adds 192 products of a scalar, from index `i` on.
 #[inline(always)]
 fn six_with_products(sums: Six, c: Gf, bytes: &[u8], i: usize) -> Six
     requires { i + 192 ≤ length bytes.now }
@@ -38,7 +38,7 @@ fn six_with_products(sums: Six, c: Gf, bytes: &[u8], i: usize) -> Six
     }
 }
 
-// The sums at 32 places, from place `i` on.
+// The sums at 32 positions, from index `i` on.
 #[inline(always)]
 fn sums_at(terms: &[Term], i: usize) -> u8x32
     requires { Reach (i + 32) terms.now }
@@ -51,7 +51,7 @@ fn sums_at(terms: &[Term], i: usize) -> u8x32
     sums
 }
 
-// The sums at 192 places, from place `i` on.
+// The sums at 192 positions, from index `i` on.
 #[inline(always)]
 fn six_sums_at(terms: &[Term], i: usize) -> Six
     requires { Reach (i + 192) terms.now }
@@ -74,7 +74,7 @@ fn product(c: Gf, byte: u8) -> u8
     }
 }
 
-/// Writes over each byte the sum at its place, counted from place `from` on.
+/// Writes over each byte the sum at its index, where the first byte is at index `from`.
 pub(crate) fn write_sums(dst: &mut [u8], from: usize, terms: &[Term])
     requires fits { from + length dst.old < 2 ^ 64 }
     requires room { Reach (from + length dst.old) terms.now }
@@ -111,7 +111,7 @@ pub(crate) fn write_sums(dst: &mut [u8], from: usize, terms: &[Term])
     blocks::put(dst, last, sums);
 }
 
-/// The same, one term after the other.
+/// Writes over each byte the sum at its index, as `write_sums`, but adds one term after the other, byte by byte.
 pub(crate) fn write_few(dst: &mut [u8], from: usize, terms: &[Term])
     requires fits { from + length dst.old < 2 ^ 64 }
     requires room { Reach (from + length dst.old) terms.now }
@@ -133,7 +133,7 @@ fn clear(bytes: &mut [u8])
     }
 }
 
-// Adds products with the bytes from place `from` on, byte by byte.
+// Adds products with the bytes from index `from` on, byte by byte.
 fn add_few(dst: &mut [u8], from: usize, c: Gf, bytes: &[u8])
     requires fits { from + length dst.old < 2 ^ 64 }
     requires room { from + length dst.old ≤ length bytes.now }

@@ -7,7 +7,7 @@ ghost use Rattle.lrc_field.specs.Combined.{AreZeroBelow, AreZeroBetween, HaveLen
 use crate::term_sums::{write_few, write_sums};
 use crate::terms::Term;
 
-/// Whether the sum of the terms is 00 at each of `len` places.
+/// Whether the sum of the terms is 00 at each of `len` positions.
 pub fn sums_are_zero(len: usize, terms: &[Term]) -> bool
     requires few { length terms.now ≤ 16 }
     requires lengths { HaveLength len terms.now }
@@ -23,7 +23,7 @@ pub fn sums_are_zero(len: usize, terms: &[Term]) -> bool
     sums_are_zero_between(0, len, terms)
 }
 
-/// Whether the sum of the terms is 00 at each place from `from` on and below `to`.
+/// Whether the sum of the terms is 00 at each index from `from` on and below `to`.
 pub fn sums_are_zero_between(from: usize, to: usize, terms: &[Term]) -> bool
     requires few { length terms.now ≤ 16 }
     requires room { Reach to terms.now }
@@ -44,7 +44,7 @@ pub fn sums_are_zero_between(from: usize, to: usize, terms: &[Term]) -> bool
     true
 }
 
-// The same of few places, as many as `sums` has. They are written there.
+// Whether the sum of the terms is 00 at each of few positions, as many as `sums` has. The sums are written there.
 fn few_are_zero(sums: &mut [u8], terms: &[Term]) -> bool
     requires { HaveLength (length sums.old) terms.now }
     ensures { IsTrue result ↔ AreZeroBelow (length sums.old) terms.now }
@@ -53,7 +53,7 @@ fn few_are_zero(sums: &mut [u8], terms: &[Term]) -> bool
     are_zeros(sums)
 }
 
-// Whether the sums at as many places as `part` has are 00, from place `from` on. They are written there.
+// Whether the sums are 00 at as many positions as `part` has, from index `from` on. The sums are written there.
 fn part_is_zero(part: &mut [u8], from: usize, terms: &[Term]) -> bool
     requires fits { from + length part.old < 2 ^ 64 }
     requires room { Reach (from + length part.old) terms.now }

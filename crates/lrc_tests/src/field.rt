@@ -35,7 +35,7 @@ fn some_bytes(alloc: Global, len: usize, seed: u32) -> Result<Vec<u8>, AllocErro
     Ok(bytes)
 }
 
-// The sum of these terms at a place, by shifts.
+// The sum of these terms at an index, by shifts.
 fn sum_at(place: usize, terms: &[Term]) -> Option<u8> {
     let mut sum = 0;
     for term in terms {

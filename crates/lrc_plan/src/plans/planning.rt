@@ -102,7 +102,7 @@ fn push_tree<A: Allocator + Clone>(
 fn tree_of<A: Allocator + Clone>(alloc: &A, row: &[Gf; 16]) -> Result<Option<Tree<A>>, AllocError>
     ensures { IfOk result (λ o. IsRowTree row.now (option_map form_of o)) }
 {
-    // Named, since the proof speaks of it.
+    // A variable, since the proof names the facts of its tree by it.
     let tree = row_tree(alloc, row, &Place::ALL)?;
     Ok(tree)
 }

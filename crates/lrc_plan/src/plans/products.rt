@@ -64,7 +64,7 @@ pub(crate) fn row_tree<A: Allocator + Clone>(
         [first, rest @ ..] => {
             let others = row_tree(alloc, row, rest)?;
             let own = product(alloc.clone()?, row[first.index()], *first)?;
-            // Named, since the proof speaks of it.
+            // A variable, since the proof names the facts of its tree by it.
             let sum = added(alloc, own, others)?;
             Ok(sum)
         }

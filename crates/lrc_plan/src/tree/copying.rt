@@ -6,7 +6,7 @@ use crate::tree::Tree;
 use std::alloc::{AllocError, Allocator};
 
 impl<A: Allocator> Tree<A> {
-    /// The same tree under another allocator. This one stays as it is.
+    /// A copy of the tree under another allocator. This one stays as it is.
     pub fn copy_in<B: Allocator + Clone>(&self, alloc: B) -> Result<Tree<B>, AllocError>
         ensures { IfOk result (λ t. form_of t ≡ form_of self.now) }
     {

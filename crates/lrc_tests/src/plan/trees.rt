@@ -21,7 +21,7 @@ fn sample<A: Allocator + Clone>(alloc: A) -> Result<Tree<A>, AllocError> {
     Ok(Tree::Sum(Box::new(alloc.clone()?, left)?, Box::new(alloc, right)?))
 }
 
-// The same in the heap, copied out of an arena that then ends, unless the copy differs.
+// The sample in the heap, copied out of an arena that then ends; nothing where the copy differs.
 fn copied_sample(alloc: Global) -> Result<Option<Tree<Global>>, AllocError> {
     let bump = Bump::new(alloc);
     let inside = sample(&bump)?;
@@ -123,7 +123,7 @@ fn gives_at_any_forks<R: Threads + Sync>(
 enum Given {
     // There is none.
     NoTree,
-    // The same bytes in every way, which are those of the case if it has any.
+    // Each way gives the same bytes, which are those of the case if it has any.
     Same,
     // And it has some.
     Rebuilt,
