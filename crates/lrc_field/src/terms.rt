@@ -1,5 +1,5 @@
 //! Scalars with the bytes that they scale, and lists of them.
-ghost use Rattle.std.specs.Prelude.{◌≡◌, ◌≢◌, ◌≤◌, ℕ, List, [], length, map, take, slice_index, slice_index_or, true, false};
+ghost use Rattle.std.specs.Prelude.{◌≡◌, ◌≢◌, ◌≤◌, ℕ, All, List, [], length, map, take, slice_index, slice_index_or, true, false};
 ghost use Rattle.lrc_field.specs.Field.{times};
 ghost use Rattle.lrc_field.specs.Terms.{AreTermsOf, HaveLengthWhereUsed};
 
@@ -33,7 +33,7 @@ impl<'a> Source<'a> for &'a [u8] {
 /// Room for sixteen terms, which has none yet.
 #[inline(always)]
 pub fn no_terms<'a>() -> [Term<'a>; 16]
-    ensures { length result ≡ 16 }
+    ensures { All (λ t. t.scalar ≡ 0) result }
 {
     [
         no_term(),
@@ -56,7 +56,9 @@ pub fn no_terms<'a>() -> [Term<'a>; 16]
 }
 
 // 00 times no bytes. A call for each, since such a value isn't copied while its bytes are lent.
-fn no_term<'a>() -> Term<'a> {
+fn no_term<'a>() -> Term<'a>
+    ensures { result.scalar ≡ 0 }
+{
     Term {
         bytes: &[],
         scalar: Gf::new(0),

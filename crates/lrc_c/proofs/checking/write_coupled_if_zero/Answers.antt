@@ -30,8 +30,12 @@ returns-clause-no c = λ f zero.
     let at = lent c.args.at.now in
     let len = c.args.len in
     c.write_checked.ensures.no f (record {
-      first = zero_terms _ at len _ (c.terms_in.ensures len (where_used _ at len (c.requires.used 0 _ (omega arith)))) (zero 0 _ (omega arith));
-      second = zero_terms _ at len _ (c.terms_in-2.ensures len (where_used _ at len (c.requires.used 1 _ (omega arith)))) (zero 1 _ (omega arith));
-      third = zero_terms _ at len _ (c.terms_in-3.ensures len (where_used _ at len (c.requires.used 2 _ (omega arith)))) (zero 2 _ (omega arith));
-      fourth = zero_terms _ at len _ (c.terms_in-4.ensures len (where_used _ at len (c.requires.used 3 _ (omega arith)))) (zero 3 _ (omega arith));
+      first = zero_terms _ at len _ (c.terms_in.ensures len (where_used _ at len (c.requires.used 0 _ (omega arith))))
+          (zero 0 _ (omega arith));
+      second = zero_terms _ at len _ (c.terms_in-2.ensures len (where_used _ at len (c.requires.used 1 _ (omega arith))))
+          (zero 1 _ (omega arith));
+      third = zero_terms _ at len _ (c.terms_in-3.ensures len (where_used _ at len (c.requires.used 2 _ (omega arith))))
+          (zero 2 _ (omega arith));
+      fourth = zero_terms _ at len _ (c.terms_in-4.ensures len (where_used _ at len (c.requires.used 3 _ (omega arith))))
+          (zero 3 _ (omega arith));
     })

@@ -15,6 +15,7 @@ returns-then-byte-eq0-2-clause-no g c = λ f i.
 pub returns-then-is_empty-clause-no : goal.returns-then-is_empty-clause-no
 returns-then-is_empty-clause-no g c = λ f i.
     let bytes = get_or (map g.S.Source.bytes_of c.args.sources.now) c.args.k [] in
-    let none = sym (ap length c.bytes_at.ensures) ∙ eqb-true (length c.bytes_at.result.now) 0 (sym c.is_empty.ensures ∙ c.if-is_empty.true) in
+    let none = sym (ap length c.bytes_at.ensures)
+    ∙ eqb-true (length c.bytes_at.result.now) 0 (sym c.is_empty.ensures ∙ c.if-is_empty.true) in
     let past = get_or_past bytes i 0 (omega (arith, none)) in
     (ap (times c.args.first) past ∙ times-zero_r c.args.first, ap (times c.args.second) past ∙ times-zero_r c.args.second)

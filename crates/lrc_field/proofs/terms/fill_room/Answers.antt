@@ -31,7 +31,8 @@ loop-k-preserved g c =
             few = omega arith;
             lengths = λ len h. lengths-more len ts n _ fits (so_far.lengths len h)
                 (ap length same ∙ h k (λ z. used.0 (sym is_scalar ∙ z)) used.1);
-            sums = λ i. sums-more ts n i _ fits ∙ ap₂ bit_xor (so_far.sums i) (ap (λ xs. times scalar (get_or xs i 0)) same ∙ sym (is_product i)) ∙ sym (more i);
+            sums = λ i. sums-more ts n i _ fits
+                ∙ ap₂ bit_xor (so_far.sums i) (ap (λ xs. times scalar (get_or xs i 0)) same ∙ sym (is_product i)) ∙ sym (more i);
           })
       | else-has_products w ↦
           rw (w.room-is, w.count-is) (record {
