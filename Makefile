@@ -23,7 +23,7 @@ LIBRARY_CC := $(if $(TARGET),$(subst -unknown,,$(TARGET))-gcc,$(CC))
 .PHONY: build demo try install uninstall library install-library uninstall-library ceph install-ceph uninstall-ceph try-ceph test levels \
   wrong-bodies scale bench
 
-# Proves the program and what it stands on, and builds crates/rebuild/out/rebuild. JOBS=N has it use N processors.
+# Proves the program and the crates that it uses, and builds crates/rebuild/out/rebuild. JOBS=N has it use N processors.
 build:
 	@scripts/build.py rebuild $(CPU) $(JOBS)
 
@@ -60,7 +60,7 @@ uninstall:
 	    "$(PLACE)/share/fish/vendor_completions.d/$$name.fish"; \
 	done
 
-# Proves the C library and what it stands on, and builds it: crates/lrc_c/out/liblrc_c.a and the shared object. JOBS=N as above.
+# Proves the C library and the crates that it uses, and builds it: crates/lrc_c/out/liblrc_c.a and the shared object. JOBS=N as above.
 library:
 	@scripts/build.py lrc_c $(or $(TARGET),$(CPU)) $(JOBS)
 	@test $(LIBRARY)/$(SONAME) -nt $(LIBRARY)/liblrc_c.a || $(LIBRARY_CC) -shared -o $(LIBRARY)/$(SONAME) \

@@ -23,7 +23,7 @@ static void make_inverses(void)
                 inverses[a] = b;
 }
 
-/* The place that a name of two characters tells, or -1. */
+/* The place with a name of two characters, or -1. */
 static int place_of(const char *name)
 {
     for (int place = 0; place < PLACES; place++)
@@ -46,7 +46,7 @@ static void clear_column(unsigned char rows[CHECK_ROWS][PLACES], int row, int pl
 }
 
 /* The coefficients over the survivors: first of the target, where they determine it, and then of the checks. Gives the
- * number of rows, and tells whether the first is the target's. */
+ * number of rows, and says whether the first is the target's. */
 static int rows_of(const struct repair_asked *asked, unsigned char *matrix, int *has_value)
 {
     unsigned char rows[CHECK_ROWS][PLACES] = {0};
@@ -89,7 +89,7 @@ static int is_sum(const unsigned char *row, int count)
     return 1;
 }
 
-/* Rebuilds into sums[0] from the sources, which stand in the survivors' order. The other sums and one more source are
+/* Rebuilds into sums[0] from the sources, which are in the survivors' order. The other sums and one more source are
  * room to work in. */
 static enum outcome rebuild(const struct repair_asked *asked, unsigned char **sources, unsigned char **sums)
 {

@@ -25,7 +25,7 @@ static unsigned char products[256][256];
 /* x0 x1 x2 y0 y1 y2 px py p0 p1. */
 static unsigned char *fragments[PLACES];
 
-/* Whether fragments stand where malloc puts them; else they stand at multiples of 64 bytes. */
+/* Whether fragments are where malloc puts them; else they are at multiples of 64 bytes. */
 static int placed_by_malloc;
 
 static void stop(const char *message)
@@ -34,7 +34,7 @@ static void stop(const char *message)
     exit(1);
 }
 
-/* Fragments don't stand at one offset in their pages. */
+/* Fragments aren't at one offset in their pages. */
 static unsigned char *fragment_memory(void)
 {
     static size_t at;

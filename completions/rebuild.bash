@@ -17,7 +17,7 @@ _rebuild() {
     elif [ "$before" = '=' ]; then
       before=${COMP_WORDS[COMP_CWORD - 2]}
     fi
-    # How many folders stand before the current word: what is neither an option nor its number.
+    # How many folders are before the current word: what is neither an option nor its number.
     for ((index = 2; index < COMP_CWORD; index++)); do
       case $ended${COMP_WORDS[index]} in
         --) ended=yes ;;

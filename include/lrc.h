@@ -159,7 +159,7 @@ uint32_t lrc_rebuild_into(uint8_t code, uint32_t survivors, const lrc_bytes at[L
                           size_t length);
 
 /* The same for up to four targets, with the survivors' checks tested once: targets[0] is written to `a`, and so on. Each has its
- * status as lrc_rebuild_into would give it; LRC_NO_PLACE stands for no target, whose status is 0, whose room may have any
+ * status as lrc_rebuild_into would give it; LRC_NO_PLACE means no target, whose status is 0, whose room may have any
  * length and holds anything then. The answer is the greatest status. LRC_BAD_ARGUMENT where one of the targets, or its room's
  * length, is not as lrc_rebuild_into asks, or `length` is 0. */
 uint32_t lrc_rebuild_many_into(uint8_t code, uint32_t survivors, const lrc_bytes at[LRC_PLACES], size_t length,

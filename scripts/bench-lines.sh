@@ -1,6 +1,6 @@
 #!/usr/bin/env bash
 # Times the built program's line mode on short and long lines, beside a C program that reads the same lines, rebuilds with ISA-L
-# and writes the same replies. All runs are made in turn, and the shortest time of each is told.
+# and writes the same replies. All runs are made in turn, and the shortest time of each is shown.
 set -euo pipefail
 cd "$(dirname "$0")/.."
 level=${1:?'the processor level, as x86-64-v3'}

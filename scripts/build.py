@@ -1,5 +1,5 @@
 #!/usr/bin/env python3
-"""Proves a crate with all that it stands on, and builds it: the program (`rebuild`) or the C library (`lrc_c`).
+"""Proves a crate with all that it uses, and builds it: the program (`rebuild`) or the C library (`lrc_c`).
 
     build.py NAME LEVEL [JOBS]      for a level of the processor, as x86-64-v3, with JOBS processors (all that there are); the library
                                     also for another kind of processor, as aarch64-unknown-linux-gnu, in out/ below that name
@@ -27,7 +27,7 @@ import time
 ROOT = pathlib.Path(__file__).resolve().parent.parent
 ROOMS = ROOT / "out" / "rooms"
 PARTS = ("src", "specs", "proofs")
-# What stands in a crate's out/ beside the record of the build: the prover's work, the library, and what is built.
+# What is in a crate's out/ beside the record of the build: the prover's work, the library, and what is built.
 WORK = ("incremental", "rlib")
 # The memory of a proof with one job, and of each further job; the most that was seen is 3 GB and half of that.
 FIRST, FURTHER = 3_000_000_000, 1_500_000_000
@@ -269,7 +269,7 @@ class Build:
         self.inputs = {it: it.inputs(ROOT / "crates", level, kit) for it in crates}
         self.left = [it for it in crates if not it.is_built(self.inputs[it], level)]
         self.done = [it for it in crates if it not in self.left]
-        self.running, self.memory, self.told, self.waits = [], memory(), "", set()
+        self.running, self.memory, self.shown, self.waits = [], memory(), "", set()
         # The lines from a crate to the end of the build.
         self.way = {}
         for it in reversed(crates):
@@ -294,21 +294,21 @@ class Build:
             self.running.append(Run(crate, lock, self.level, jobs, rank, self.kit))
 
     def say(self, line):
-        """Tells a line, in the place of that on what runs."""
+        """Says a line, in the place of that on what runs."""
         if sys.stdout.isatty():
             print("\r\033[K", end="")
         print(line, flush=True)
 
     def say_running(self):
-        """Tells what runs: once, or in a terminal over and over in one line."""
+        """Says what runs: once, or in a terminal over and over in one line."""
         if sys.stdout.isatty():
             now = ", ".join(f"{it.crate.name} {it.seconds()} s" for it in self.running)
             print(f"\r\033[Know: {now}", end="", flush=True)
         else:
             now = ", ".join(it.crate.name for it in self.running)
-            if now != self.told and now:
+            if now != self.shown and now:
                 print(f"  now: {now}", flush=True)
-            self.told = now
+            self.shown = now
 
     def end(self, run):
         """Takes in a proof that has ended."""
@@ -319,8 +319,8 @@ class Build:
             print(*said.splitlines()[-SHOWN:], sep="\n")
             sys.exit(1)
         found = re.findall(r"^logic=proved functions=(\d+)", said, re.M)
-        told = f"{int(found[-1]):4} functions proved" if found else "as it was proved"
-        self.say(f"{run.crate.name:<13} {told:<21} {run.seconds():4} s")
+        what = f"{int(found[-1]):4} functions proved" if found else "as it was proved"
+        self.say(f"{run.crate.name:<13} {what:<21} {run.seconds():4} s")
         self.done.append(run.crate)
 
     def run(self):
@@ -356,7 +356,7 @@ def main(name, level, jobs):
     if not build.left:
         print(f"{top.built(level).relative_to(ROOT)} is as it was built for {level}: nothing has changed since")
         return
-    print(f"Proving the {what} and the {len(top.all_below())} crates that it stands on, then building it for {level}; processors: {jobs}.")
+    print(f"Proving the {what} and the {len(top.all_below())} crates that it uses, then building it for {level}; processors: {jobs}.")
     if build.done:
         print(f"As they were proved before: {', '.join(it.name for it in build.done)}")
     else:

@@ -16,7 +16,7 @@ if ! command -v "$compiler" > /dev/null || [ ! -e "$common" ] ||
 fi
 scratch=$(mktemp -d)
 trap 'rm -rf "$scratch"' EXIT
-# What a make that runs this script was told is not for the runs below.
+# The arguments of a make that runs this script are not for the runs below.
 unset MAKEFLAGS MFLAGS MAKELEVEL MAKEOVERRIDES PREFIX DESTDIR TARGET
 
 fail() {

@@ -155,10 +155,10 @@ for shell in bash zsh fish; do
     tr ' ' '\n' <<< "$wanted" | sed '/^$/d' | sort > "$scratch/wanted"
     offered "$shell" "$line" > "$scratch/sorted" < /dev/null
     if ! diff "$scratch/wanted" "$scratch/sorted"; then
-      echo "completions: $shell offers something else behind \"$line\" (< must be, > is)"
+      echo "completions: $shell offers something else after \"$line\" (< must be, > is)"
       exit 1
     fi
     tried=$((tried + 1))
   done < "$scratch/lines"
-  echo "completions: $shell offers what it must behind $tried lines"
+  echo "completions: $shell offers what it must after $tried lines"
 done

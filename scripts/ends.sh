@@ -1,5 +1,5 @@
 #!/usr/bin/env bash
-# Runs the built program to each of its ends, and compares its exit status, its output and what it tells on standard
+# Runs the built program to each of its ends, and compares its exit status, its output and what it says on standard
 # error: what joins the proved parts to the system's words, input and output is only seen by running it.
 set -euo pipefail
 cd "$(dirname "$0")/.."
@@ -9,26 +9,26 @@ trap 'rm -rf "$scratch"' EXIT
 mkdir "$scratch/out" "$scratch/bad"
 passed=0
 
-# ends NAME STATUS OUTPUT TOLD WORDS..: how a run on standard input ends. What is told has its own first line here.
+# ends NAME STATUS OUTPUT SAID WORDS..: how a run on standard input ends. Of what it says on standard error only the first line is compared.
 ends() {
-  local name=$1 status=$2 output=$3 told=$4 ended=0
+  local name=$1 status=$2 output=$3 said=$4 ended=0
   shift 4
-  timeout 60 "$program" "$@" > "$scratch/output" 2> "$scratch/told" || ended=$?
-  compare "$name" "$status" "$ended" "$told"
+  timeout 60 "$program" "$@" > "$scratch/output" 2> "$scratch/said" || ended=$?
+  compare "$name" "$status" "$ended" "$said"
   [ "$(head -c 1000 "$scratch/output")" = "$output" ] || fail "$name" "wrote $(head -c 300 "$scratch/output")"
 }
 
 # The same, where nothing can be written.
 ends_full() {
-  local name=$1 status=$2 told=$3 ended=0
+  local name=$1 status=$2 said=$3 ended=0
   shift 3
-  "$program" "$@" > /dev/full 2> "$scratch/told" || ended=$?
-  compare "$name" "$status" "$ended" "$told"
+  "$program" "$@" > /dev/full 2> "$scratch/said" || ended=$?
+  compare "$name" "$status" "$ended" "$said"
 }
 
 compare() {
   [ "$3" = "$2" ] || fail "$1" "ended with status $3, and not $2"
-  [ "$(head -n 1 "$scratch/told")" = "$4" ] || fail "$1" "told $(head -c 300 "$scratch/told")"
+  [ "$(head -n 1 "$scratch/said")" = "$4" ] || fail "$1" "said $(head -c 300 "$scratch/said")"
   passed=$((passed + 1))
 }
 

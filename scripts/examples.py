@@ -1,7 +1,7 @@
 #!/usr/bin/env python3
 """Runs the commands that documents show, and compares what they write with what the documents show.
 
-An example is an indented block whose first line begins with `$ `. Each such line is a command, and the lines behind it, up
+An example is an indented block whose first line begins with `$ `. Each such line is a command, and the lines after it, up
 to the next command, are what it writes. The commands of a document run in turn in one empty folder, with the built program
 as `rebuild` and its companion as `rebuild-lists`. The words are the documents; without words it takes README.md and docs/FORMATS.md."""
 
@@ -47,9 +47,9 @@ def run(document, folder):
     for command, shown in list(examples((ROOT / document).read_text())):
         environment = os.environ | {"PATH": f"{folder / 'bin'}:{os.environ['PATH']}", "LC_ALL": "C"}
         ran = subprocess.run(["bash", "-c", command], cwd=folder / "work", env=environment, capture_output=True, timeout=60)
-        told = (ran.stdout + ran.stderr).decode().splitlines()
-        if told != shown:
-            sys.exit(f"examples {document}: {command}\nshows {shown}\nand wrote {told}")
+        said = (ran.stdout + ran.stderr).decode().splitlines()
+        if said != shown:
+            sys.exit(f"examples {document}: {command}\nshows {shown}\nand wrote {said}")
         made += 1
     if made == 0:
         sys.exit(f"examples {document}: there are none")

@@ -11,7 +11,7 @@ trap 'rm -rf "$scratch"' EXIT
 mkdir "$scratch/copy"
 git ls-files -z --cached --others --exclude-standard | xargs -0 cp --parents -t "$scratch/copy"
 cd "$scratch/copy"
-# What a make that runs this script was told is not for the runs below.
+# The arguments of a make that runs this script are not for the runs below.
 unset MAKEFLAGS MFLAGS MAKELEVEL MAKEOVERRIDES PREFIX DESTDIR LD_LIBRARY_PATH
 
 compiler=${CC:-gcc}
@@ -33,7 +33,7 @@ has() {
   return 1
 }
 
-# quietly WHAT COMMAND..: runs the command, and tells what it wrote only where it fails.
+# quietly WHAT COMMAND..: runs the command, and shows what it wrote only where it fails.
 quietly() {
   local what=$1
   shift
@@ -71,14 +71,14 @@ tests() {
   local test
   for test in test-stores test; do
     quietly "the tests for $1" "$compiler" -std=c11 -O2 "${warnings[@]}" -Iinclude -o "$scratch/$test" library/$test.c "$archive"
-    "$scratch/$test" > "$scratch/told" || fail "$1: $(tail -n 1 "$scratch/told")"
-    echo "library: $1: $(tail -n 1 "$scratch/told")"
+    "$scratch/$test" > "$scratch/counts" || fail "$1: $(tail -n 1 "$scratch/counts")"
+    echo "library: $1: $(tail -n 1 "$scratch/counts")"
   done
 }
 tests x86-64-v2
 # rebuilt CODE: how many sets of four lost fragments the tests counted, and how many of them are rebuilt. The page says the same.
 rebuilt() {
-  sed -n "s/^$1: of \([0-9]*\) sets of 4 lost fragments \([0-9]*\) are rebuilt$/\1 \2/p" "$scratch/told"
+  sed -n "s/^$1: of \([0-9]*\) sets of 4 lost fragments \([0-9]*\) are rebuilt$/\1 \2/p" "$scratch/counts"
 }
 read -r narrow narrow_rebuilt < <(rebuilt '(6,2,2)')
 read -r wide wide_rebuilt < <(rebuilt '(12,2,2)')
@@ -97,8 +97,8 @@ if has valgrind 'the tests under valgrind'; then
 fi
 if printf '#include <isa-l.h>\n' | "$compiler" -E - > "$scratch/log" 2>&1; then
   quietly 'the tests beside ISA-L' "$compiler" -std=c11 -O2 -Iinclude -o "$scratch/isal" library/test-isal.c "$archive" -lisal
-  "$scratch/isal" > "$scratch/told" || fail "$(tail -n 1 "$scratch/told")"
-  echo "library: $(tail -n 1 "$scratch/told")"
+  "$scratch/isal" > "$scratch/counts" || fail "$(tail -n 1 "$scratch/counts")"
+  echo "library: $(tail -n 1 "$scratch/counts")"
 else
   left_out+=("the tests beside ISA-L (Debian's libisal-dev isn't installed)")
 fi
@@ -120,7 +120,7 @@ here=$scratch/here
 quietly 'make install-library' make -s install-library "PREFIX=$here"
 if has pkg-config 'lrc.pc'; then
   export PKG_CONFIG_PATH=$here/lib/pkgconfig
-  [ "$(pkg-config --modversion lrc)" = "$version" ] || fail "lrc.pc tells $(pkg-config --modversion lrc)"
+  [ "$(pkg-config --modversion lrc)" = "$version" ] || fail "lrc.pc says $(pkg-config --modversion lrc)"
   flags="$(pkg-config --cflags --libs lrc) -Wl,-rpath,$(pkg-config --variable=libdir lrc)"
 else
   flags="-I$here/include -L$here/lib -llrc -Wl,-rpath,$here/lib"
@@ -191,8 +191,8 @@ if has aarch64-linux-gnu-gcc 'the library for ARM' && has qemu-aarch64 'the libr
     quietly 'the tests for ARM' aarch64-linux-gnu-gcc -std=c11 -O2 "${warnings[@]}" -Iinclude ${short[@]+"${short[@]}"} \
       -static -o "$scratch/arm" \
       library/$test.c crates/lrc_c/out/$target/liblrc_c.a
-    qemu-aarch64 "$scratch/arm" > "$scratch/told" || fail "on ARM: $(tail -n 1 "$scratch/told")"
-    echo "library: on ARM: $(tail -n 1 "$scratch/told")"
+    qemu-aarch64 "$scratch/arm" > "$scratch/counts" || fail "on ARM: $(tail -n 1 "$scratch/counts")"
+    echo "library: on ARM: $(tail -n 1 "$scratch/counts")"
   done
   quietly 'make install-library for ARM' make -s install-library TARGET=$target "DESTDIR=$scratch/arm-root" PREFIX=$prefix
   (cd "$scratch/arm-root$prefix" && find . \( -type f -o -type l \) -printf '%P\n') | LC_ALL=C sort | diff "$scratch/wanted" - ||

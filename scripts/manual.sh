@@ -15,7 +15,7 @@ else
   echo "manual: mandoc is not installed (Debian's mandoc): the form of the pages isn't tested"
 fi
 
-# Writes each example's commands to a file of the scratch folder, and beside it what a shell that tells each line as it
+# Writes each example's commands to a file of the scratch folder, and beside it what a shell that shows each line as it
 # reads it is to show. Tests the tables, the headers and the numbers.
 python3 - "$scratch" <<'PY'
 import re
@@ -46,8 +46,8 @@ if shown != wanted or len(shown) != 10:
     fail('the tables of rebuild.5 are not those of docs/FORMATS.md')
 
 numbers = re.findall(r'^\| (E\d+) \|', formats[formats.index('\n## Faults\n'):], re.M)
-told = re.findall(r'^\.It (E\d+)$', pages['rebuild.1'], re.M)
-if sorted(told) != sorted(numbers) or len(told) != 29:
+listed = re.findall(r'^\.It (E\d+)$', pages['rebuild.1'], re.M)
+if sorted(listed) != sorted(numbers) or len(listed) != 29:
     fail('the numbers of rebuild.1 are not those of docs/FORMATS.md')
 
 headers = re.findall(r'^ {4}((?:order|number),[a-z,]+)$', formats, re.M)

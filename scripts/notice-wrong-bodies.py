@@ -13,7 +13,7 @@ import tempfile
 
 ROOT = pathlib.Path(__file__).resolve().parent.parent
 
-# The crates in which the tests of a crate's calls stand, if not in the crate itself.
+# The crates in which the tests of a crate's calls are, if not in the crate itself.
 TESTS = {
     "lrc_field": ["lrc_tests"],
     "lrc_code": ["lrc_tests"],
@@ -45,7 +45,7 @@ def edited(edit, crate):
         elif key == "new" or line == "new:":
             text = path.read_text()
             if text.count(old) != 1:
-                sys.exit(f"{edit}: the text stands {text.count(old)} times in {path.name}: {old}")
+                sys.exit(f"{edit}: the text is {text.count(old)} times in {path.name}: {old}")
             path.write_text(text.replace(old, value))
     return kept
 

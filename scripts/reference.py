@@ -195,9 +195,9 @@ def main():
         # A last line without a line feed keeps its carriage return.
         lines[-1] += b'\r'
     for line in lines:
-        told = reply(line[:-1] if line.endswith(b'\r') else line)
-        if told is not None:
-            print(told)
+        answer = reply(line[:-1] if line.endswith(b'\r') else line)
+        if answer is not None:
+            print(answer)
 
 
 if __name__ == '__main__':

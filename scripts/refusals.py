@@ -27,7 +27,7 @@ PROGRAM = ROOT / "crates/rebuild/out/rebuild"
 DEMO = ROOT / "demo"
 DEMO_ANSWERED = b"served 4 racks, 14 answers\n"
 
-# Tests that end with want of memory where an allocation is refused, and else pass; and how many threads each starts at least.
+# Tests that end for lack of memory where an allocation is refused, and else pass; and how many threads each starts at least.
 TESTS = [
     ("lrc_tests", "worked_requests_are_answered", 0),
     ("lrc_tests", "value_trees_give_the_same_bytes_at_any_forks", 1),
@@ -107,13 +107,13 @@ class Ended:
     def was_refused(self):
         return self.refused_allocations + self.refused_threads > 0
 
-    def told(self):
+    def text(self):
         return f"status {self.status}, output {self.out[-300:]!r}, standard error {self.err[-300:]!r}"
 
 
 @dataclasses.dataclass(frozen=True)
 class Refusal:
-    """What a run is refused: the allocation or the thread of a number, from 1, and perhaps all behind it; 0 for none."""
+    """What a run is refused: the allocation or the thread of a number, from 1, and perhaps all after it; 0 for none."""
 
     allocation: int = 0
     thread: int = 0
@@ -174,21 +174,21 @@ def test_the_library(library):
         if thread == 1:
             wanted[6] = "n"
         if ran.out.decode() != "".join(wanted) + "\n" or ran.threads != 1 or ran.allocations < 6:
-            raise Fault(f"refuse.c refused others than allocation {allocation} and thread {thread}: {ran.told()}")
+            raise Fault(f"refuse.c refused others than allocation {allocation} and thread {thread}: {ran.text()}")
     ran = library.run([program], refusal=Refusal(allocation=3, rest=True))
     # What starts a thread takes memory too.
     if ran.out != b"yynnnnn\n":
-        raise Fault(f"refuse.c did not refuse allocation 3 and all behind it: {ran.told()}")
+        raise Fault(f"refuse.c did not refuse allocation 3 and all after it: {ran.text()}")
 
 
-def kind_without_memory(ran, may_be_untold):
-    """How a run that was refused memory told so. Nothing is told where the fault's line itself finds none."""
+def kind_without_memory(ran, may_be_silent):
+    """How a run that was refused memory said so. Nothing is said where the fault's line itself finds none."""
     if (ran.status, ran.out) == (EXHAUSTED, b""):
         if ran.err == WITHOUT_MEMORY:
             return "E16"
-        if ran.err == b"" and may_be_untold:
-            return "untold"
-    raise Fault(ran.told())
+        if ran.err == b"" and may_be_silent:
+            return "silent"
+    raise Fault(ran.text())
 
 
 class Text:
@@ -292,7 +292,7 @@ class Farm:
         there = {it.name: hashlib.sha256(it.read_bytes()).hexdigest() for it in pathlib.Path(out).iterdir()}
         whole = [files for files in self.served if there == dict(files[: len(there)])]
         if not whole:
-            raise Fault(f"wrote {sorted(there)}; {ran.told()}")
+            raise Fault(f"wrote {sorted(there)}; {ran.text()}")
         if len(there) == len(whole[0]) and (ran.status, ran.out, ran.err) == (0, self.answered, b""):
             return "answered"
         if not there and (ran.status, ran.out, ran.err) == (EXHAUSTED, b"", WITHOUT_THREAD):
@@ -301,7 +301,7 @@ class Farm:
 
 
 class Test:
-    """A test: it passes, or ends with want of memory."""
+    """A test: it passes, or ends for lack of memory."""
 
     def __init__(self, library, crate, name):
         self.library = library
@@ -320,7 +320,7 @@ class Test:
             return ran, "AllocError"
         if ran.status > 0 and b"starved" in ran.err + ran.out:
             return ran, "starved"
-        raise Fault(ran.told())
+        raise Fault(ran.text())
 
 
 def tally(kinds):
@@ -374,7 +374,7 @@ def make(walk, pool):
         raise Fault(f"{name}: fewer than {walk.least} {what}s refused led to {few}: {tally(kinds)}")
     if walk.only is not None and not set(kinds) <= walk.only:
         raise Fault(f"{name}: {what}s refused led to other ends than {walk.only}: {tally(kinds)}")
-    turns = "with all behind it" if walk.rest else "in turn"
+    turns = "with all after it" if walk.rest else "in turn"
     print(f"refusals {name}: {len(kinds)} {what}s refused, each {turns}: {tally(kinds)}", flush=True)
 
 
@@ -404,18 +404,18 @@ def text_walks(library):
         return ran.status, ran.out, ran.err
 
     replies = (DEMO / "replies").read_bytes()
-    told = {"E16"}
-    # The last growth is that of the fault's line, and where it is refused nothing is told.
-    told_by_a_line = {"E16", "untold"}
+    out_of_memory = {"E16"}
+    # The last growth is that of the fault's line, and where it is refused nothing is said.
+    or_silent = {"E16", "silent"}
     for name, text, ends in [
-        ("one-line", Text(library, [], (0, b"rebuilt 01\n", b""), b"a x0 1 x1=02 x2=03 px=00\n"), told),
-        ("lines", Text(library, [], (1, replies, b""), (DEMO / "requests").read_bytes()), told),
-        ("help", Text(library, ["--help"], said("--help")), told),
-        ("farm-help", Text(library, ["farm", "--help"], said("farm", "--help")), told),
-        ("one-folder", Text(library, ["farm", "in"], said("farm", "in")), told),
-        ("no-workers", Text(library, ["farm", "in", "out", "--workers", "0"], (2, b"", b"refused E11\n")), told),
-        ("no-queue", Text(library, ["farm", "in", "out", "--queue", "0"], (2, b"", b"refused E12\n")), told),
-        ("no-lists", Text(library, ["farm", "in", "out"], (1, b"", b"E23\n")), told_by_a_line),
+        ("one-line", Text(library, [], (0, b"rebuilt 01\n", b""), b"a x0 1 x1=02 x2=03 px=00\n"), out_of_memory),
+        ("lines", Text(library, [], (1, replies, b""), (DEMO / "requests").read_bytes()), out_of_memory),
+        ("help", Text(library, ["--help"], said("--help")), out_of_memory),
+        ("farm-help", Text(library, ["farm", "--help"], said("farm", "--help")), out_of_memory),
+        ("one-folder", Text(library, ["farm", "in"], said("farm", "in")), out_of_memory),
+        ("no-workers", Text(library, ["farm", "in", "out", "--workers", "0"], (2, b"", b"refused E11\n")), out_of_memory),
+        ("no-queue", Text(library, ["farm", "in", "out", "--queue", "0"], (2, b"", b"refused E12\n")), out_of_memory),
+        ("no-lists", Text(library, ["farm", "in", "out"], (1, b"", b"E23\n")), or_silent),
     ]:
         yield Walk(name, "allocation", False, text, ends)
         yield Walk(name, "allocation", True, text, ends)
@@ -423,7 +423,7 @@ def text_walks(library):
     zeros = b"00" * 30_000
     long = Text(library, [], (0, (b"rebuilt %s\n" % zeros) * 6, b""), (b"a x0 30000 x1=%s x2=%s px=%s\n" % (zeros, zeros, zeros)) * 6)
     for rest in [False, True]:
-        yield Walk("long-lines", "allocation", rest, long, told)
+        yield Walk("long-lines", "allocation", rest, long, out_of_memory)
         yield Walk("long-lines", "thread", rest, long, set(), {"answered"})
 
 
@@ -433,7 +433,7 @@ def farm_walks(library):
         farm = Farm(library, workers, queue)
         name = f"farm-{workers}-{queue}"
         yield Walk(name, "allocation", False, farm, {"E16", "E17", "E16 between two writes"})
-        yield Walk(name, "allocation", True, farm, {"E16", "untold", "untold between two writes"})
+        yield Walk(name, "allocation", True, farm, {"E16", "silent", "silent between two writes"})
     for workers, queue in [(1, 1), (4, 16), (16, 1)]:
         for rest in [False, True]:
             yield Walk(f"farm-{workers}-{queue}", "thread", rest, Farm(library, workers, queue), {"E17"})
@@ -487,7 +487,7 @@ def count_threads(library):
                 words = [PROGRAM, "farm", folder / name, folder / "out", "--workers", str(workers), "--queue", "6"]
                 ran = library.run([str(it) for it in words])
                 if (ran.status, ran.out) != (0, b"served 1 racks, %d answers\n" % COUNTED):
-                    raise Fault(f"threads of {name}: {ran.told()}")
+                    raise Fault(f"threads of {name}: {ran.text()}")
                 reading = min(workers, 3 * COUNTED * (OPENING + length + 1) // PART)
                 digesting = min(workers, COUNTED * (BLOCK + length) // PART) if name == "rebuilt" else 1
                 wanted = 2 + workers + (reading - 1) + (digesting - 1)
@@ -505,7 +505,7 @@ def compare_queues(library):
             words = [PROGRAM, "farm", DEMO / "farm", out, "--workers", "2", "--queue", str(queue)]
             ran = library.run([str(it) for it in words], large=LARGE)
             if (ran.status, ran.out) != (0, DEMO_ANSWERED):
-                raise Fault(f"a queue of {queue}: {ran.told()}")
+                raise Fault(f"a queue of {queue}: {ran.text()}")
             counts[queue] = ran.large
     if counts[MOST_QUEUE] != counts[1] + 2 * LARGE_IN_LANE:
         raise Fault(f"queues: allocations of {LARGE} bytes and more by the queue: {counts}")

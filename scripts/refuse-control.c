@@ -13,7 +13,7 @@ static void *end_at_once(void *with)
 
 int main(void)
 {
-    char told[] = "nnnnnnn\n";
+    char answers[] = "nnnnnnn\n";
     pthread_t thread;
     void *volatile given[6] = {NULL};
     void *aligned = NULL;
@@ -25,10 +25,10 @@ int main(void)
     given[5] = memalign(32, 10);
     for (int i = 0; i < 6; i++)
         if (given[i] != NULL)
-            told[i] = 'y';
+            answers[i] = 'y';
     if (pthread_create(&thread, NULL, end_at_once, NULL) == 0) {
         pthread_join(thread, NULL);
-        told[6] = 'y';
+        answers[6] = 'y';
     }
-    return write(1, told, 8) == 8 ? 0 : 1;
+    return write(1, answers, 8) == 8 ? 0 : 1;
 }

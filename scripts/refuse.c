@@ -31,7 +31,7 @@ static struct counts unmapped;
 static struct counts *counts = &unmapped;
 static uint64_t large = UINT64_MAX;
 
-/* The first that is refused, 0 for none, and whether all behind it are. */
+/* The first that is refused, 0 for none, and whether all after it are. */
 static uint64_t first[2];
 static int refuses_rest;
 

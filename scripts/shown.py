@@ -3,8 +3,8 @@
 
     shown.py DOCUMENT SECTION FOLDER
 
-The commands are the lines that begin with four spaces and `$ `, and the output of each are the indented lines behind it.
-They run in FOLDER, one behind the other, in one shell."""
+The commands are the lines that begin with four spaces and `$ `, and the output of each are the indented lines after it.
+They run in FOLDER, one after the other, in one shell."""
 
 import subprocess
 import sys
@@ -35,10 +35,10 @@ def main():
     script = "".join(f"echo '{MARK}'\n{command}" for command, _ in commands)
     ended = subprocess.run(["bash", "-c", script], cwd=folder, stdin=subprocess.DEVNULL, stdout=subprocess.PIPE,
                            stderr=subprocess.STDOUT, text=True)
-    told = ended.stdout.split(MARK + "\n")[1:]
-    if len(told) != len(commands):
-        sys.exit(f"{document}: {section}: only {len(told)} of {len(commands)} commands were run:\n{ended.stdout}")
-    for (command, wanted), had in zip(commands, told):
+    printed = ended.stdout.split(MARK + "\n")[1:]
+    if len(printed) != len(commands):
+        sys.exit(f"{document}: {section}: only {len(printed)} of {len(commands)} commands were run:\n{ended.stdout}")
+    for (command, wanted), had in zip(commands, printed):
         if had != wanted:
             sys.exit(f"{document}: {section}: $ {command}wrote\n{had}and not\n{wanted}")
     print(f"{section}: {len(commands)} commands wrote what {document.rsplit('/', 1)[-1]} shows")

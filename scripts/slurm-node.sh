@@ -1,6 +1,6 @@
 #!/usr/bin/env bash
 # Sets up Slurm with one node, this machine, in a scratch folder, and ends it again. It needs Debian's slurm-wlm, and leaves
-# the Slurm of the machine alone: keys, states and logs stand in the folder, and the daemons listen on the loopback alone.
+# the Slurm of the machine alone: keys, states and logs are in the folder, and the daemons listen on the loopback alone.
 #
 #   slurm-node.sh start FOLDER    makes FOLDER and starts munged, slurmctld and slurmd
 #   slurm-node.sh stop FOLDER     ends them
@@ -85,9 +85,9 @@ fail() {
 }
 
 munged --force --key-file="$folder/munge.key" --socket="$folder/munge.socket" --pid-file="$folder/munged.pid" \
-  --log-file="$folder/munged.log" --seed-file="$folder/munge.seed" 2> "$folder/munged.told" || fail 'munged did not start'
-slurmctld -f "$folder/slurm.conf" 2> "$folder/slurmctld.told" || fail 'slurmctld did not start'
-slurmd -f "$folder/slurm.conf" 2> "$folder/slurmd.told" || fail 'slurmd did not start'
+  --log-file="$folder/munged.log" --seed-file="$folder/munge.seed" 2> "$folder/munged.said" || fail 'munged did not start'
+slurmctld -f "$folder/slurm.conf" 2> "$folder/slurmctld.said" || fail 'slurmctld did not start'
+slurmd -f "$folder/slurm.conf" 2> "$folder/slurmd.said" || fail 'slurmd did not start'
 for _wait in $(seq 100); do
   if [ "$(sinfo --noheader --format=%T 2>/dev/null)" = idle ]; then
     echo "slurm-node: one node is idle"

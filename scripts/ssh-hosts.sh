@@ -1,6 +1,6 @@
 #!/usr/bin/env bash
 # Sets up two hosts to reach by ssh, both of them this machine, in a scratch folder, and ends them again. It needs Debian's
-# openssh-server, and leaves the keys and the settings of the machine and of the user alone: all stands in the folder, and
+# openssh-server, and leaves the keys and the settings of the machine and of the user alone: all is in the folder, and
 # sshd listens on the loopback alone and takes the folder's key alone.
 #
 #   ssh-hosts.sh start FOLDER    makes FOLDER and starts sshd
@@ -70,13 +70,13 @@ if [ "$(id -u)" = 0 ]; then
 fi
 "$(command -v sshd)" -f "$folder/sshd_config" -E "$folder/sshd.log"
 for _wait in $(seq 50); do
-  if ssh -F "$folder/config" host-a true 2> "$folder/told"; then
+  if ssh -F "$folder/config" host-a true 2> "$folder/said"; then
     echo 'ssh-hosts: two hosts answer'
     exit 0
   fi
   sleep 0.1
 done
 echo 'ssh-hosts: no host answers; the ends of the logs:' >&2
-tail -n 5 "$folder/told" "$folder/sshd.log" >&2
+tail -n 5 "$folder/said" "$folder/sshd.log" >&2
 stop
 exit 1

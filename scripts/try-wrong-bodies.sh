@@ -1,6 +1,6 @@
 #!/usr/bin/env bash
 # The edits of crates/*/wrong-bodies, which the proofs must refuse like those of must-fail, and which the gate leaves out for
-# time. They are tried in a copy of the repository where they stand in for the gate's. With names of crates it tries theirs.
+# time. They are tried in a copy of the repository in place of the gate's. With names of crates it tries theirs.
 set -euo pipefail
 cd "$(dirname "$0")/.."
 copy=$(mktemp -d)
@@ -8,7 +8,7 @@ trap 'rm -rf "$copy"' EXIT
 git ls-files -z --cached --others --exclude-standard | xargs -0 cp --parents -t "$copy"
 cd "$copy"
 if [ $# = 0 ]; then
-  # The program stands on every crate that another with edits stands on: proved once with all processors, they are built for each.
+  # The program uses every crate that another with edits uses: proved once with all processors, they are built for each.
   (cd crates/rebuild && rt check --jobs "$(nproc)")
   for edits in crates/*/wrong-bodies; do
     set -- "$@" "$(basename "$(dirname "$edits")")"

@@ -13,17 +13,17 @@ if ! [[ $version =~ ^[0-9]+\.[0-9]+\.[0-9]+$ ]]; then
   exit 1
 fi
 
-# compare PLACE TOLD: whether this place tells the version of the source.
+# compare PLACE SAID: whether this place says the version of the source.
 compare() {
   if [ "$2" != "$version" ]; then
-    echo "version: $1 tells \"$2\", and the source \"$version\""
+    echo "version: $1 says \"$2\", and the source \"$version\""
     exit 1
   fi
 }
 
 for word in --version -V; do
-  crates/rebuild/out/rebuild "$word" > "$scratch/told"
-  compare "rebuild $word" "$(sed 's/^rebuild //' "$scratch/told")"
+  crates/rebuild/out/rebuild "$word" > "$scratch/said"
+  compare "rebuild $word" "$(sed 's/^rebuild //' "$scratch/said")"
 done
 compare 'rebuild-lists --version' "$(companion/rebuild-lists --version | sed 's/^rebuild-lists //')"
 for page in man/rebuild.1 man/rebuild-lists.1 man/rebuild.5; do

@@ -33,7 +33,7 @@ for edit in map(pathlib.Path, sys.argv[1:]):
         elif key == 'old':
             old = value
             if texts[path].count(old) != 1:
-                sys.exit(f'{edit}: its old text stands in {path} {texts[path].count(old)} times: {old}')
+                sys.exit(f'{edit}: its old text is in {path} {texts[path].count(old)} times: {old}')
         elif key == 'new' or line == 'new:':
             texts[path] = texts[path].replace(old, value)
 PY

@@ -60,10 +60,10 @@ objects make "$RUN/long-files" 9 3000000
 mkdir "$RUN/late"
 for i in 7 8; do mv "$RUN/long-files/o$i" "$RUN/late/long$i"; done
 objects write coded "$RUN/late"
-told=$(objects compare coded "$RUN/files") || fail "$told"
-step "short objects: $told"
-told=$(objects compare coded "$RUN/late") || fail "$told"
-step "longer objects: $told"
+said=$(objects compare coded "$RUN/files") || fail "$said"
+step "short objects: $said"
+said=$(objects compare coded "$RUN/late") || fail "$said"
+step "longer objects: $said"
 # shellcheck disable=SC2046
 halt $(names | grep '^osd')
 start=$SECONDS

@@ -12,7 +12,7 @@ using ceph::Reads;
 using ceph::Shards;
 using ceph::buffer::list;
 
-/* The program's version as it is told to plugins, and the folder in which they are looked for. */
+/* The program's version as plugins are given it, and the folder in which they are looked for. */
 extern std::string told_version;
 const char *plugin_folder();
 

@@ -32,7 +32,7 @@ void expect(bool holds, const std::string &what)
 
 /* ---- what plugins call of a program */
 
-/* Stands in for that of libceph-common, so that another version can be told. */
+/* Replaces that of libceph-common, so that another version can be given. */
 const char *ceph_version_to_str() { return told_version.c_str(); }
 
 static std::map<std::string, ceph::ErasureCodePlugin *> plugins;

@@ -12,29 +12,29 @@ trap cluster_stop EXIT
 
 # compare WHEN: reads all objects and compares them.
 compare() {
-  local told
-  told=$(objects compare coded "$files") || fail "$1: $told"
-  step "$1: $told"
+  local said
+  said=$(objects compare coded "$files") || fail "$1: $said"
+  step "$1: $said"
 }
 
 # scrub ERRORS: has all groups of the pool scrubbed deeply, and asks for so many errors.
 scrub() {
-  local since pg told=
+  local since pg said=
   since=$(date -u +%Y-%m-%dT%H:%M:%S)
   for pg in $(ceph pg ls-by-pool coded 2> /dev/null | awk '$1 ~ /^[0-9]+\./ { print $1 }'); do ceph pg deep-scrub "$pg" > /dev/null 2>&1; done
   for _ in $(seq 150); do
-    if told=$(objects scrubbed coded "$since"); then break; fi
+    if said=$(objects scrubbed coded "$since"); then break; fi
     sleep 1
   done
-  step "scrubbed deeply: $told"
-  [[ $told == *", $1 errors" ]] || fail "there have to be $1 errors"
+  step "scrubbed deeply: $said"
+  [[ $said == *", $1 errors" ]] || fail "there have to be $1 errors"
 }
 
 # shard_bytes get-bytes|set-bytes FILE: the bytes of the shard at $json on the stopped OSD $victim.
 shard_bytes() { ceph-objectstore-tool --data-path "$RUN/osd$victim" "$json" "$1" "$2" > "$RUN/tool.out" 2>&1; }
 
 make_pool() {
-  local wrong told data
+  local wrong said data
   for wrong in k=5 code=7-2-2 layout=rows mapping=DDDDDD____ stripe_unit=100; do
     if ceph osd erasure-code-profile set wrong plugin=azure_lrc $wrong > "$RUN/said" 2>&1; then fail "$wrong is not refused"; fi
     step "refused: $wrong: $(tail -n 1 "$RUN/said")"
@@ -47,8 +47,8 @@ make_pool() {
   step "a pool of $(ceph osd erasure-code-profile get words | tr '\n' ' ')"
   if [[ $words == *crush-locality* ]]; then
     data=$(ceph osd erasure-code-profile get words | sed -n 's/^k=//p')
-    told=$(objects racks coded $((data / 2 + 1))) || fail "$told"
-    step "$told"
+    said=$(objects racks coded $((data / 2 + 1))) || fail "$said"
+    step "$said"
   fi
 }
 
