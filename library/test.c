@@ -163,7 +163,8 @@ static void refusals(enum lrc_code code, uint8_t *const fragments[LRC_PLACES])
     uint32_t survivors = lrc_survivors(left, at, N);
     test(lrc_rebuild_into(2, survivors, at, LRC_X0, outs[0], N) == LRC_BAD_ARGUMENT, "a code");
     test(lrc_rebuild_into(number, survivors, at, 16, outs[0], N) == LRC_BAD_ARGUMENT, "a place");
-    test(lrc_rebuild_into(number, survivors, at, LRC_X3, outs[0], N) == LRC_BAD_ARGUMENT, "a place of the other code, or one that survives");
+    test(lrc_rebuild_into(number, survivors, at, LRC_X3, outs[0], N) == LRC_BAD_ARGUMENT,
+         "a place of the other code, or one that survives");
     test(lrc_plan_into(number, survivors, LRC_X1, &plan) == LRC_BAD_ARGUMENT, "a plan of a survivor");
     test(lrc_plan_into(2, survivors, LRC_X0, &plan) == LRC_BAD_ARGUMENT, "a plan of no code");
     test(lrc_plan_into(number, survivors, 16, &plan) == LRC_BAD_ARGUMENT, "a plan of no place");
@@ -173,12 +174,16 @@ static void refusals(enum lrc_code code, uint8_t *const fragments[LRC_PLACES])
     at[LRC_P1].length = N - 1;
     test(lrc_rebuild_into(number, survivors, at, LRC_X0, outs[0], N) == LRC_BAD_ARGUMENT, "a length");
     test(lrc_verify_at(number, survivors, at, N) == LRC_BAD_ARGUMENT, "a length to verify");
-    test(lrc_rebuild_many_into(number, survivors, at, N, targets, outs[0], N, &some, 0, &some, 0, &some, 0, statuses) == LRC_BAD_ARGUMENT, "a length for many");
+    test(lrc_rebuild_many_into(number, survivors, at, N, targets, outs[0], N, &some, 0, &some, 0, &some, 0, statuses) == LRC_BAD_ARGUMENT,
+         "a length for many");
     at[LRC_P1].length = N;
-    test(lrc_rebuild_many_into(number, survivors, at, N, targets, outs[0], N - 1, &some, 0, &some, 0, &some, 0, statuses) == LRC_BAD_ARGUMENT, "a room");
-    test(lrc_rebuild_many_into(number, survivors, at, 0, targets, outs[0], 0, &some, 0, &some, 0, &some, 0, statuses) == LRC_BAD_ARGUMENT, "no length for many");
+    test(lrc_rebuild_many_into(number, survivors, at, N, targets, outs[0], N - 1, &some, 0, &some, 0, &some, 0, statuses)
+         == LRC_BAD_ARGUMENT, "a room");
+    test(lrc_rebuild_many_into(number, survivors, at, 0, targets, outs[0], 0, &some, 0, &some, 0, &some, 0, statuses) == LRC_BAD_ARGUMENT,
+         "no length for many");
     targets[3] = LRC_X1;
-    test(lrc_rebuild_many_into(number, survivors, at, N, targets, outs[0], N, &some, 0, &some, 0, outs[3], N, statuses) == LRC_BAD_ARGUMENT, "a target among many that survives");
+    test(lrc_rebuild_many_into(number, survivors, at, N, targets, outs[0], N, &some, 0, &some, 0, outs[3], N, statuses) == LRC_BAD_ARGUMENT,
+         "a target among many that survives");
     test(statuses[0] == 9 && statuses[3] == 9, "no status written");
     test(lrc_add(outs[0], N, store[0], N - 1) == LRC_BAD_ARGUMENT, "add");
     test(lrc_scale_add(outs[0], N, 3, store[0], N + 1) == LRC_BAD_ARGUMENT, "scale_add");
@@ -197,7 +202,8 @@ static void refusals(enum lrc_code code, uint8_t *const fragments[LRC_PLACES])
     for (size_t k = 0; k < N; k++)
         test(outs[0][k] == (store[LRC_X1][k] ^ product(2, store[LRC_X1][k])), "combine");
     targets[3] = LRC_NO_PLACE;
-    test(lrc_rebuild_many_into(number, survivors, at, N, targets, outs[1], N, &some, 0, &some, 0, &some, 0, statuses) == LRC_OK, "one of four");
+    test(lrc_rebuild_many_into(number, survivors, at, N, targets, outs[1], N, &some, 0, &some, 0, &some, 0, statuses) == LRC_OK,
+         "one of four");
     test(memcmp(outs[1], store[LRC_X0], N) == 0 && statuses[0] == LRC_OK && statuses[1] == LRC_OK, "one of four rebuilt");
 }
 

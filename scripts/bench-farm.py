@@ -133,8 +133,8 @@ def main(level, numbers):
     with tempfile.TemporaryDirectory(dir=place) as folder:
         scratch = pathlib.Path(folder)
         peers = build(scratch, level)
-        print(f"\nFolders of so many racks and requests for fragments of so many bytes, half of them inside one group, in {scratch.parent}:")
-        print(f"ms from the program's start to its end, the least of {PASSES} runs in turn. A ratio is the C program's time divided by ours.\n")
+        print(f"\nFolders of so many racks and requests for fragments of so many bytes, half of them in one group, in {scratch.parent}:")
+        print(f"ms from the program's start to its end, the least of {PASSES} runs in turn. A ratio is the C program's time by ours.\n")
         print("| | Folder | Threads | ours | careful C | ratio | by eight | ratio | careless C | ratio | our peak MB | load |")
         print("|---|---|---|---|---|---|---|---|---|---|---|---|")
         for number, shape in enumerate(SHAPES, 1):

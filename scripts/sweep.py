@@ -1,6 +1,6 @@
 #!/usr/bin/env python3
 """Names what nothing uses: lemmas and definitions of crates/*/specs and crates/*/proofs, and `pub(crate)` items of crates/*/src that no
-other file names; each cycle of imports among the files of a crate's src; and each line and file of a crate that is too long.
+other file names; each cycle of imports among the files of a crate's src; and each line, and each file of a crate's src, that is too long.
 
 The answers to a function's goals and its invariants are used by the prover and not named. Imports are those that `rt tidy` has left, so a
 name that is imported is used."""
@@ -13,7 +13,10 @@ import sys
 ROOT = pathlib.Path(__file__).resolve().parent.parent
 CRATES = ROOT / "crates"
 SIGNATURE = re.compile(r"^(?:(?:abbrev|unfoldable|pub|record|data) )*([^\s:({]+)(?: .*)? : ")
+# Of a line, but for rows of tables.
 MOST_CHARACTERS = 140
+# The endings of files that people write. `out` has what is built.
+WRITTEN = {".antt", ".c", ".cc", ".go", ".h", ".md", ".py", ".rs", ".rt", ".sh", ".yaml"}
 # Files of tests may have more.
 MOST_LINES = 400
 ITEM = re.compile(r"^\s*pub\(crate\) (?:fn|struct|enum|trait|type|const|static|mod) (\w+)", re.M)
@@ -121,15 +124,15 @@ def cycles():
 
 
 def long_texts():
+    for file in sorted(it for it in ROOT.rglob("*.*") if it.suffix in WRITTEN and not {"out", ".git"} & set(it.relative_to(ROOT).parts)):
+        for number, line in enumerate(file.read_text().splitlines(), 1):
+            if len(line) > MOST_CHARACTERS and not line.startswith("|"):
+                yield f"{file.relative_to(ROOT)}:{number}: a line of {len(line)} characters"
     for crate in sorted(CRATES.iterdir()):
-        for part in ("src", "specs", "proofs"):
-            for file in sorted((crate / part).rglob("*.*t")):
-                lines = file.read_text().splitlines()
-                for number, line in enumerate(lines, 1):
-                    if len(line) > MOST_CHARACTERS:
-                        yield f"{file.relative_to(ROOT)}:{number}: a line of {len(line)} characters"
-                if part == "src" and len(lines) > MOST_LINES and not is_of_tests(file):
-                    yield f"{file.relative_to(ROOT)}: {len(lines)} lines"
+        for file in sources(crate):
+            lines = len(file.read_text().splitlines())
+            if lines > MOST_LINES and not is_of_tests(file):
+                yield f"{file.relative_to(ROOT)}: {lines} lines"
 
 
 def is_of_tests(file):

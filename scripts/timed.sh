@@ -4,6 +4,8 @@ set -euo pipefail
 "$@" | while IFS= read -r line; do
   printf '%s\n' "$line"
   case $line in
-    'rt: '*' proved' | *' NOT PROVED' | 'rt: '*': trying its must-fail edits '*) printf 'timed: %d min %d s\n' $((SECONDS / 60)) $((SECONDS % 60)) ;;
+    'rt: '*' proved' | *' NOT PROVED' | 'rt: '*': trying its must-fail edits '*) 
+      printf 'timed: %d min %d s\n' $((SECONDS / 60)) $((SECONDS % 60))
+      ;;
   esac
 done

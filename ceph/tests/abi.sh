@@ -56,5 +56,6 @@ for word, code in (("isa", "ErasureCodeIsaDefault"), ("jerasure", "ErasureCodeJe
     compared += 1
 if compared == 0:
     sys.exit("abi: there is no shipped plugin to compare with")
-print(f"abi: the {CODE} functions of the code and the {PLUGIN} of the plugin are those of {compared} shipped plugins, in order and arguments")
+print(f"abi: the {CODE} functions of the code and the {PLUGIN} of the plugin are those of {compared} shipped plugins, "
+      "in order and arguments")
 END_OF_PYTHON

@@ -150,8 +150,8 @@ static void least(const std::string &words, unsigned most)
     for (unsigned i = 0; i < code->get_data_chunk_count(); i++)
         data.insert(data_shard(code, i));
     least_of(code, data, &asked, &more);
-    printf("%s: 1 to %u wanted shards, and the data: %u answers, %u of them not of the least number of shards\n", words.c_str(), most, asked,
-           more);
+    printf("%s: 1 to %u wanted shards, and the data: %u answers, %u of them not of the least number of shards\n", words.c_str(), most,
+           asked, more);
     if (is_ours(words) && more > 0)
         stop("minimum_to_decode reads too much");
 }

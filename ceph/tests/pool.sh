@@ -21,7 +21,9 @@ compare() {
 scrub() {
   local since pg said=
   since=$(date -u +%Y-%m-%dT%H:%M:%S)
-  for pg in $(ceph pg ls-by-pool coded 2> /dev/null | awk '$1 ~ /^[0-9]+\./ { print $1 }'); do ceph pg deep-scrub "$pg" > /dev/null 2>&1; done
+  for pg in $(ceph pg ls-by-pool coded 2> /dev/null | awk '$1 ~ /^[0-9]+\./ { print $1 }'); do
+    ceph pg deep-scrub "$pg" > /dev/null 2>&1
+  done
   for _ in $(seq 150); do
     if said=$(objects scrubbed coded "$since"); then break; fi
     sleep 1

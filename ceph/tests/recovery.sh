@@ -37,7 +37,8 @@ lose() {
   sleep 3
   wait_clean 400
   took=$((SECONDS - start))
-  awk -v name="$name" -v lost="$lost" -v shard="$((size / 6))" -v sent="$(($(sent) - before))" -v idle="$idle" -v took="$took" -v places="$places" 'BEGIN {
+  awk -v name="$name" -v lost="$lost" -v shard="$((size / 6))" -v sent="$(($(sent) - before))" -v idle="$idle" \
+    -v took="$took" -v places="$places" 'BEGIN {
     all = lost * shard
     printf "    %s: %d shards, %.1f MB, rebuilt in %d s; sent %.2f bytes for each, %.2f without what is sent at rest (%.2f MB/s)",
       name, lost, all / 1e6, took, sent / all, (sent - took * idle) / all, idle / 1e6

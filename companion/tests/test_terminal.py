@@ -29,7 +29,8 @@ class Terminal(SplitStore):
     def test_progress(self):
         (self.at / "list.csv").write_text(FIVE + "rebuild,abc,x0,3,x1 x2 px\n" * 3)
         (self.at / "store/rack0.csv").write_text(FIVE + "rebuild,abc,x0,3,x1 x2 px\n" * 3)
-        cases = [(["check", "store"], "requests checked: 3"), (["split", "list.csv", "store", "work", "--requests", "1"], "folders made: 1"),
+        cases = [(["check", "store"], "requests checked: 3"),
+                 (["split", "list.csv", "store", "work", "--requests", "1"], "folders made: 1"),
                  (["merge", "work", "result"], "answers merged: 3"), (["tell", "result"], "answers read: 3"),
                  (["put", "store", "result"], "fragments put: 1"), (["cut", "list.csv", "store", "pieces"], "fragments cut: 3")]
         for words, last in cases:

@@ -110,7 +110,8 @@ class WrongFolders(Folder):
 
     def test_what_is_no_regular_file(self):
         name = self.store / "rack0.csv"
-        for make, kind in [(name.mkdir, "is a folder and not a regular file"), (lambda: os.mkfifo(name), "is a FIFO and not a regular file"),
+        for make, kind in [(name.mkdir, "is a folder and not a regular file"),
+                           (lambda: os.mkfifo(name), "is a FIFO and not a regular file"),
                            (lambda: name.symlink_to("/dev/null"), "is a device and not a regular file"),
                            (lambda: name.symlink_to("rack0.csv"), "can't be read (Too many levels of symbolic links)")]:
             make()
