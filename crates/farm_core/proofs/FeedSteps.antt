@@ -189,9 +189,9 @@ close_holds s s' (Ok n) closed = ap (λ (q : SeatRecord). q.held) closed.0
 close_holds s s' (Err e) closed = ap (λ (q : SeatRecord). q.held) closed
 
 -- the right is back, and the seat drew so many times more than jobs were put
-pub draws_told : (draws : ℕ) (right : TableId) (s : SeatRecord) (more : ℕ) (told : Bool) → s.knows ≡ told
-    → refused_draws (Some right) told ≡ more → s.draws ≡ draws + more → s.draws ≡ draws + refused_draws (Some right) s.knows
-draws_told draws right s more told knows is all = all ∙ ap (λ n. draws + n) (sym (ap (refused_draws (Some right)) knows ∙ is))
+pub draws_known : (draws : ℕ) (right : TableId) (s : SeatRecord) (more : ℕ) (said : Bool) → s.knows ≡ said
+    → refused_draws (Some right) said ≡ more → s.draws ≡ draws + more → s.draws ≡ draws + refused_draws (Some right) s.knows
+draws_known draws right s more said knows is all = all ∙ ap (λ n. draws + n) (sym (ap (refused_draws (Some right)) knows ∙ is))
 
 -- the right was spent
 pub right_spent : (gate : TableId) (was s s' : SeatRecord) (list : List Order) (result : Result ℕ AlreadyClosed) (close : Option ℕ)

@@ -116,11 +116,11 @@ scan (f ∷ feds) = ⊎_elim
     (λ back. ⊎_elim (λ all. inl (both f feds back all)) (λ (w : (k : ℕ) × (g : Fed) × (get_elem? feds k ≡ some g) × (g.right ≡ None)). inr
     (suc w.0, w.1, w.2, w.3)) (scan feds))
     (λ spent. inr (0, f, refl, spent))
-    (tell f.right)
+    (decide f.right)
   where
-    tell : (o : Option TableId) → (is_some o ≡ true) ⊎ (o ≡ None)
-    tell None = inr refl
-    tell (Some r) = inl refl
+    decide : (o : Option TableId) → (is_some o ≡ true) ⊎ (o ≡ None)
+    decide None = inr refl
+    decide (Some r) = inl refl
 
     both : (f : Fed) (feds : List Fed) → is_some f.right ≡ true → Each (λ (f : Fed). is_some f.right ≡ true) feds
         → Each (λ (f : Fed). is_some f.right ≡ true) (f ∷ feds)
@@ -239,19 +239,19 @@ module _ (gate : GateName) (rack : ℕ) (lists : List (List Order)) (feds : List
               inl (λ k list d at_list at.
               let f = from_drawn k d at in
               let h = at_feed k f.0 f.1 in
-              let told = (left_back gate.id h.2.has h.0 _ f.0.right f.0.close f.0.seat.has (all k f.0 f.1) h.6.right).2
+              let said = (left_back gate.id h.2.has h.0 _ f.0.right f.0.close f.0.seat.has (all k f.0 f.1) h.6.right).2
               (none k f.0.seat.has (at_map (λ (f : Fed). f.seat.has) feds k f.0 f.1)) in
               let same : h.0 ≡ list = some-injective _ _ (sym h.1 ∙ at_list) in (
-                subst (λ l. ¬ HasClose l) same told.1,
+                subst (λ l. ¬ HasClose l) same said.1,
                 subst (λ (l : Draws). DrewAll l list) f.2
-                    (drew_all k f.0 list f.1 at_list h told.0),
+                    (drew_all k f.0 list f.1 at_list h said.0),
               )))
               (λ (w : (k : ℕ) × (f : Fed) × (get_elem? feds k ≡ some f) × (f.right ≡ None)).
               let h = at_feed w.0 w.1 w.2 in
-              let told = left_spent gate.id h.2.has h.0 _ w.1.right w.1.close w.1.seat.has w.3 h.6.right in
+              let said = left_spent gate.id h.2.has h.0 _ w.1.right w.1.close w.1.seat.has w.3 h.6.right in
               let here : get_elem? drawn w.0 ≡ some (draws_at w.1) =
               at_map (λ (e : PutView Job). draws_of (values e.put)) (map jobs_at feds) w.0 w.1.jobs (at_map jobs_at feds w.0 w.1 w.2) in
-              inr (w.0, h.0, draws_at w.1, h.1, here, told.1, drew_all w.0 w.1 h.0 w.2 h.1 h told.0))
+              inr (w.0, h.0, draws_at w.1, h.1, here, said.1, drew_all w.0 w.1 h.0 w.2 h.1 h said.0))
               (scan feds);
         };
         each = λ k e at.
@@ -283,14 +283,14 @@ spend_next size was s s' count (Err e) spending closed = record {
 -- so it knew of none
 pub spend_ends : (size : GateSize) (was s : SeatRecord) (count : ℕ) → IsSound size s → (was.knows ≡ true → IsSpending size was s count)
     → was.used ≡ 0 → length was.made ≡ 0 → count ≡ size.rights → was.knows ≡ false
-spend_ends size was s count sound spending used made all = tell was.knows (λ is.
+spend_ends size was s count sound spending used made all = decide was.knows (λ is.
     let p = spending is in
     let a = p.used in let b = p.made in
     let one = sound.closed_by (omega arith) in omega arith)
   where
-    tell : (b : Bool) → (b ≡ true → ⊥) → b ≡ false
-    tell true out = absurd (out refl)
-    tell false out = refl
+    decide : (b : Bool) → (b ≡ true → ⊥) → b ≡ false
+    decide true out = absurd (out refl)
+    decide false out = refl
 
 -- the rights that came back
 abbrev pub rights_of : List Fed → List TableId

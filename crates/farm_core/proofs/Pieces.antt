@@ -95,76 +95,76 @@ of_feed_append feed (x ∷ merge) more = by (x.0 == feed) (of_feed feed (merge +
 -- ---- the feeds of a rack
 
 module _ {A : Type 0} where
-  pub joined_length : (lists behind : List (List A)) → length (joined lists behind) ≡ length lists
-  joined_length [] behind = refl
+  pub joined_length : (lists further : List (List A)) → length (joined lists further) ≡ length lists
+  joined_length [] further = refl
   joined_length (xs ∷ lists) [] = refl
-  joined_length (xs ∷ lists) (ys ∷ behind) = ap suc (joined_length lists behind)
+  joined_length (xs ∷ lists) (ys ∷ further) = ap suc (joined_length lists further)
 
   -- a list of two, and what it is of
-  pub joined_from : (lists behind : List (List A)) (k : ℕ) (l : List A) → length lists ≡ length behind
-      → get_elem? (joined lists behind) k ≡ some l
-      → (xs : List A) × (ys : List A) × (get_elem? lists k ≡ some xs) × (get_elem? behind k ≡ some ys) × (xs ++ ys ≡ l)
-  joined_from [] behind k l same at = absurd (some-ne-none l (sym at))
+  pub joined_from : (lists further : List (List A)) (k : ℕ) (l : List A) → length lists ≡ length further
+      → get_elem? (joined lists further) k ≡ some l
+      → (xs : List A) × (ys : List A) × (get_elem? lists k ≡ some xs) × (get_elem? further k ≡ some ys) × (xs ++ ys ≡ l)
+  joined_from [] further k l same at = absurd (some-ne-none l (sym at))
   joined_from (xs ∷ lists) [] k l same at = absurd (omega arith)
-  joined_from (xs ∷ lists) (ys ∷ behind) zero l same at = (xs, ys, refl, refl, some-injective _ _ at)
-  joined_from (xs ∷ lists) (ys ∷ behind) (suc k) l same at = joined_from lists behind k l (omega arith) at
+  joined_from (xs ∷ lists) (ys ∷ further) zero l same at = (xs, ys, refl, refl, some-injective _ _ at)
+  joined_from (xs ∷ lists) (ys ∷ further) (suc k) l same at = joined_from lists further k l (omega arith) at
 
   -- a list, and what it becomes
-  pub joined_at : (lists behind : List (List A)) (k : ℕ) (xs : List A) → get_elem? lists k ≡ some xs → (ys : List A)
-      × (get_elem? (joined lists behind) k ≡ some (xs ++ ys))
-  joined_at [] behind k xs at = absurd (some-ne-none xs (sym at))
+  pub joined_at : (lists further : List (List A)) (k : ℕ) (xs : List A) → get_elem? lists k ≡ some xs → (ys : List A)
+      × (get_elem? (joined lists further) k ≡ some (xs ++ ys))
+  joined_at [] further k xs at = absurd (some-ne-none xs (sym at))
   joined_at (x ∷ lists) [] k xs at = ([], at ∙ ap some (sym (nothing xs)))
     where
       nothing : (zs : List A) → zs ++ [] ≡ zs
       nothing [] = refl
       nothing (z ∷ zs) = ap (λ t. z ∷ t) (nothing zs)
-  joined_at (x ∷ lists) (y ∷ behind) zero xs at = (y, ap (λ t. some (t ++ y)) (some-injective _ _ at))
-  joined_at (x ∷ lists) (y ∷ behind) (suc k) xs at = joined_at lists behind k xs at
+  joined_at (x ∷ lists) (y ∷ further) zero xs at = (y, ap (λ t. some (t ++ y)) (some-injective _ _ at))
+  joined_at (x ∷ lists) (y ∷ further) (suc k) xs at = joined_at lists further k xs at
 
-  pub joined_back : (lists behind : List (List A)) (k : ℕ) (ys : List A) → length lists ≡ length behind → get_elem? behind k ≡ some ys
-      → (xs : List A) × (get_elem? (joined lists behind) k ≡ some (xs ++ ys))
+  pub joined_back : (lists further : List (List A)) (k : ℕ) (ys : List A) → length lists ≡ length further → get_elem? further k ≡ some ys
+      → (xs : List A) × (get_elem? (joined lists further) k ≡ some (xs ++ ys))
   joined_back lists [] k ys same at = absurd (some-ne-none ys (sym at))
-  joined_back [] (y ∷ behind) k ys same at = absurd (omega arith)
-  joined_back (x ∷ lists) (y ∷ behind) zero ys same at = (x, ap (λ t. some (x ++ t)) (some-injective _ _ at))
-  joined_back (x ∷ lists) (y ∷ behind) (suc k) ys same at = joined_back lists behind k ys (omega arith) at
+  joined_back [] (y ∷ further) k ys same at = absurd (omega arith)
+  joined_back (x ∷ lists) (y ∷ further) zero ys same at = (x, ap (λ t. some (x ++ t)) (some-injective _ _ at))
+  joined_back (x ∷ lists) (y ∷ further) (suc k) ys same at = joined_back lists further k ys (omega arith) at
 
 -- a close stays, and comes
-pub have_stays : (feeds behind : List (List Order)) → HaveClose feeds → HaveClose (joined feeds behind)
-have_stays feeds behind has =
-    let at = joined_at feeds behind has.0 has.1 has.2 in
+pub have_stays : (feeds further : List (List Order)) → HaveClose feeds → HaveClose (joined feeds further)
+have_stays feeds further has =
+    let at = joined_at feeds further has.0 has.1 has.2 in
     (has.0, has.1 ++ at.0, at.1, close_stays has.1 at.0 has.3)
 
-pub have_comes : (feeds behind : List (List Order)) → length feeds ≡ length behind → HaveClose behind → HaveClose (joined feeds behind)
-have_comes feeds behind same has =
-    let at = joined_back feeds behind has.0 has.1 same has.2 in
+pub have_comes : (feeds further : List (List Order)) → length feeds ≡ length further → HaveClose further → HaveClose (joined feeds further)
+have_comes feeds further same has =
+    let at = joined_back feeds further has.0 has.1 same has.2 in
     (has.0, at.0 ++ has.1, at.1, close_comes at.0 has.1 has.3)
 
-pub are_open : (feeds behind : List (List Order)) → length feeds ≡ length behind → AreOpen feeds → AreOpen behind
-    → AreOpen (joined feeds behind)
-are_open feeds behind same first last k l at has =
-    let from = joined_from feeds behind k l same at in
+pub are_open : (feeds further : List (List Order)) → length feeds ≡ length further → AreOpen feeds → AreOpen further
+    → AreOpen (joined feeds further)
+are_open feeds further same first last k l at has =
+    let from = joined_from feeds further k l same at in
     stays_open from.0 from.1 (first k from.0 from.2) (last k from.1 from.3) (subst HasClose (sym from.4) has)
 
 -- ---- the laws
 
 pub pieces_join : PiecesJoin
-pieces_join feeds behind merge more same opened first last = record {
+pieces_join feeds further merge more same opened first last = record {
   known = known;
   prefixes = λ f l at.
-      let from = joined_from feeds behind f l same at in
+      let from = joined_from feeds further f l same at in
       subst (λ (x : List Order). of_feed f (merge ++ more) ≡ take (length (of_feed f (merge ++ more))) (before_close x)) from.4
       (prefix f from.0 from.1 from.2 from.3);
   ended = ⊎_elim
-      (λ (never : (f : ℕ) (l : List Order) → get_elem? behind f ≡ some l → (HasClose l → ⊥) × IsWhole more f l).
+      (λ (never : (f : ℕ) (l : List Order) → get_elem? further f ≡ some l → (HasClose l → ⊥) × IsWhole more f l).
       inl (λ f l at.
-      let from = joined_from feeds behind f l same at in
+      let from = joined_from feeds further f l same at in
       subst (λ (x : List Order). (HasClose x → ⊥) × IsWhole (merge ++ more) f x) from.4 (
         stays_open from.0 from.1 (opened f from.0 from.2) (never f from.1 from.3).0,
         both f from.0 from.1 from.2 (never f from.1 from.3).1,
       )))
-      (λ (shut : (f : ℕ) × (l : List Order) × (get_elem? behind f ≡ some l) × HasClose l × IsWhole more f l).
-      let at = joined_back feeds behind shut.0 shut.1 same shut.2 in
-      let from = joined_from feeds behind shut.0 (at.0 ++ shut.1) same at.1 in
+      (λ (shut : (f : ℕ) × (l : List Order) × (get_elem? further f ≡ some l) × HasClose l × IsWhole more f l).
+      let at = joined_back feeds further shut.0 shut.1 same shut.2 in
+      let from = joined_from feeds further shut.0 (at.0 ++ shut.1) same at.1 in
       let is : from.1 ≡ shut.1 = some-injective _ _ (sym from.3 ∙ shut.2) in
       inr (
         shut.0,
@@ -191,7 +191,7 @@ pieces_join feeds behind merge more same opened first last = record {
         ∙ ap (λ (t : List Asked). before_close l ++ t) is
         ∙ sym (open_append l r (opened f l at))
 
-    prefix : (f : ℕ) (l r : List Order) → get_elem? feeds f ≡ some l → get_elem? behind f ≡ some r
+    prefix : (f : ℕ) (l r : List Order) → get_elem? feeds f ≡ some l → get_elem? further f ≡ some r
         → of_feed f (merge ++ more) ≡ take (length (of_feed f (merge ++ more))) (before_close (l ++ r))
     prefix f l r at at_r =
         let k : ℕ = length (of_feed f more) in
@@ -204,8 +204,8 @@ pieces_join feeds behind merge more same opened first last = record {
         ∙ sym (front (before_close l) (before_close r) k (length (of_feed f (merge ++ more))) size)
         ∙ ap (take (length (of_feed f (merge ++ more)))) (sym (open_append l r (opened f l at)))
 
-    known : All (λ x. x.0 < length (joined feeds behind)) (merge ++ more)
-    known = subst (λ (n : ℕ). All (λ x. x.0 < n) (merge ++ more)) (sym (joined_length feeds behind))
+    known : All (λ x. x.0 < length (joined feeds further)) (merge ++ more)
+    known = subst (λ (n : ℕ). All (λ x. x.0 < n) (merge ++ more)) (sym (joined_length feeds further))
         (all_both merge more first.known (subst (λ (n : ℕ). All (λ x. x.0 < n) more) (sym same) last.known))
       where
         all_both : (xs ys : List (ℕ × Asked)) → All (λ x. x.0 < length feeds) xs → All (λ x. x.0 < length feeds) ys
@@ -216,13 +216,13 @@ pieces_join feeds behind merge more same opened first last = record {
             (omega (arith, within))
 
 pub close_ends_all : CloseEndsAll
-close_ends_all feeds behind merge has first = record {
-  known = subst (λ (n : ℕ). All (λ x. x.0 < n) merge) (sym (joined_length feeds behind)) first.known;
+close_ends_all feeds further merge has first = record {
+  known = subst (λ (n : ℕ). All (λ x. x.0 < n) merge) (sym (joined_length feeds further)) first.known;
   prefixes = λ f l at.
-      let low : f < length feeds = (let a = at_below (joined feeds behind) f l at in
-      let b = joined_length feeds behind in omega (arith, a, b)) in
+      let low : f < length feeds = (let a = at_below (joined feeds further) f l at in
+      let b = joined_length feeds further in omega (arith, a, b)) in
       let there = member feeds f low in
-      let becomes = joined_at feeds behind f there.0 there.1 in
+      let becomes = joined_at feeds further f there.0 there.1 in
       let is : there.0 ++ becomes.0 ≡ l = some-injective _ _ (sym becomes.1 ∙ at) in
       subst (λ (x : List Order). of_feed f merge ≡ take (length (of_feed f merge)) (before_close x)) is
       (prefix f there.0 becomes.0 there.1);
@@ -230,7 +230,7 @@ close_ends_all feeds behind merge has first = record {
       (λ (never : (f : ℕ) (l : List Order) → get_elem? feeds f ≡ some l → (HasClose l → ⊥) × IsWhole merge f l). absurd
       ((never has.0 has.1 has.2).0 has.3))
       (λ (shut : (f : ℕ) × (l : List Order) × (get_elem? feeds f ≡ some l) × HasClose l × IsWhole merge f l).
-      let becomes = joined_at feeds behind shut.0 shut.1 shut.2 in
+      let becomes = joined_at feeds further shut.0 shut.1 shut.2 in
       inr (
         shut.0,
         shut.1 ++ becomes.0,

@@ -64,16 +64,16 @@ AnswersOfOneAreIts = (list : List Order) (answers : List (ℕ × Outcome)) → A
 
 -- lists, each with the one of the same number after it, where there is one
 abbrev pub joined : {A : Type 0} → List (List A) → List (List A) → List (List A)
-joined [] behind = []
+joined [] further = []
 joined (xs ∷ lists) [] = xs ∷ lists
-joined (xs ∷ lists) (ys ∷ behind) = (xs ++ ys) ∷ joined lists behind
+joined (xs ∷ lists) (ys ∷ further) = (xs ++ ys) ∷ joined lists further
 
 -- Lawful merges of consecutive pieces of feeds, of which the first has no close, joined are a lawful merge of the feeds.
 abbrev pub PiecesJoin : Type 0
-PiecesJoin = (feeds behind : List (List Order)) (merge more : List (ℕ × Asked)) → length feeds ≡ length behind → AreOpen feeds
-    → IsLawfulMerge feeds merge → IsLawfulMerge behind more → IsLawfulMerge (joined feeds behind) (merge ++ more)
+PiecesJoin = (feeds further : List (List Order)) (merge more : List (ℕ × Asked)) → length feeds ≡ length further → AreOpen feeds
+    → IsLawfulMerge feeds merge → IsLawfulMerge further more → IsLawfulMerge (joined feeds further) (merge ++ more)
 
 -- A lawful merge of feeds of which one has a close is one too of these feeds with whatever is after them.
 abbrev pub CloseEndsAll : Type 0
-CloseEndsAll = (feeds behind : List (List Order)) (merge : List (ℕ × Asked)) → HaveClose feeds → IsLawfulMerge feeds merge
-    → IsLawfulMerge (joined feeds behind) merge
+CloseEndsAll = (feeds further : List (List Order)) (merge : List (ℕ × Asked)) → HaveClose feeds → IsLawfulMerge feeds merge
+    → IsLawfulMerge (joined feeds further) merge

@@ -14,7 +14,7 @@ use Rattle.farm_lanes.specs.declared.lane.rule.EndRecord.{EndRecord}
 use Rattle.farm_lanes.specs.Counting.{once_below}
 use Rattle.farm_lanes.specs.LaneRecord.{sender_of, number_of, times_of, IsNumbered}
 use Rattle.farm_lanes.specs.LaneRule.{end_record, lists_of, put_length, put_weight, joined, empty_lists, puts_rest, puts_first, IsLawfulEnd}
-use Rattle.farm_lanes.specs.LaneRule.{KeepsLane, Tells}
+use Rattle.farm_lanes.specs.LaneRule.{KeepsLane, Shows}
 use Rattle.farm_lanes.proofs.Items.{lists_cons, put_length_cons, put_weight_cons}
 use Rattle.farm_lanes.proofs.LaneMeasures.{lists_in, times_in, parts_in, put_in, taken_in, put_weight_in, taken_weight_in, each_set}
 use Rattle.farm_lanes.proofs.Numbers.{once_le, once_lt, test_le, test_none}
@@ -286,8 +286,8 @@ module _ {T : Type 0} where
       }
 
   -- with all parts, the whole is known
-  pub tells : (id : ℕ) (v : EndRecord T) → Learns KeepsLane id v (Tells v)
-  tells id v items views h at some_part all = record {
+  pub shows : (id : ℕ) (v : EndRecord T) → Learns KeepsLane id v (Shows v)
+  shows id v items views h at some_part all = record {
     prefix = h.prefix;
     puts = λ k p e. let same = (h.each id v at).puts k p e in
         (subst (λ l. h.prefix p.0 ≤ length l) (sym same) (h.held p.0).1, subst (IsNumbered p.0) (sym same) (h.numbered p.0));

@@ -117,5 +117,5 @@ module _ {T : Type 0} where
     pub held : (k : ℕ) (p : ℕ × List (Item T)) → get_elem? v.puts k ≡ some p → from_sender p.0 items ≡ drop (prefix p.0) p.1
 
   -- a read, by which the record with all parts learns the queue's items
-  abbrev pub Tells : EndRecord T → List (Item T) → Type 0
-  Tells v items = 0 < v.parts → v.parts ≡ v.ends → KnowsWhole v items
+  abbrev pub Shows : EndRecord T → List (Item T) → Type 0
+  Shows v items = 0 < v.parts → v.parts ≡ v.ends → KnowsWhole v items

@@ -32,10 +32,10 @@ step_same : (requests : List (List RequestRead)) (answers : List Answer) (n : �
     → position answers a.0 n < length (get_or requests a.0 [])
     → about a.0 front ≡ firsts requests answers a.0 n → about a.0 (front ++ row ∷ []) ≡ firsts requests answers a.0 (n + 1)
 unfolding firsts
-step_same requests answers n a row front within is fed told below so =
+step_same requests answers n a row front within is fed said below so =
     about_push a.0 front row ∙ ap (λ b. about a.0 front ++ map request_of (cond b (row ∷ []) [])) (eq-eqb row.feed a.0 fed)
     ∙ ap (λ rs. rs ++ request_of row ∷ []) so
-    ∙ ap (λ r. take (position answers a.0 n) (get_or requests a.0 []) ++ r ∷ []) told
+    ∙ ap (λ r. take (position answers a.0 n) (get_or requests a.0 []) ++ r ∷ []) said
     ∙ sym (ap (λ m. take m (get_or requests a.0 [])) (position_same answers n a within is)
     ∙ take_more (get_or requests a.0 []) (position answers a.0 n) some_request below)
 
@@ -55,12 +55,12 @@ step : (requests : List (List RequestRead)) (answers : List Answer) (n : ℕ) (a
     → request_of row ≡ get_or (get_or requests a.0 []) (position answers a.0 n) some_request
     → position answers a.0 n < length (get_or requests a.0 [])
     → about feed front ≡ firsts requests answers feed n → about feed (front ++ row ∷ []) ≡ firsts requests answers feed (n + 1)
-step requests answers n a row front feed within is fed told below so = by (cases_eq feed a.0)
+step requests answers n a row front feed within is fed said below so = by (cases_eq feed a.0)
   where
     by : (feed ≡ a.0) ⊎ (feed ≡ a.0 → ⊥) → about feed (front ++ row ∷ []) ≡ firsts requests answers feed (n + 1)
     by (inl e) =
         subst (λ g. about g (front ++ row ∷ []) ≡ firsts requests answers g (n + 1)) (sym e)
-        (step_same requests answers n a row front within is fed told below (subst (λ g. about g front ≡ firsts requests answers g n) e so))
+        (step_same requests answers n a row front within is fed said below (subst (λ g. about g front ≡ firsts requests answers g n) e so))
     by (inr apart) = step_other requests answers n a row front feed within is fed apart so
 
 none : (requests : List (List RequestRead)) (answers : List Answer) (feed : ℕ) → about feed [] ≡ firsts requests answers feed 0

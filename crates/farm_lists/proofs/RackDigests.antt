@@ -60,11 +60,11 @@ rack_taken digests rest answers n left is size taken =
     taken ∙ ap (take n) is ∙ take-append-le n (map digest answers) rest (omega (arith, counted, size))
     ∙ take_all n (map digest answers) (omega (arith, counted, size))
 
-pub rack_dropped : (behind rest : List (Option (List ℕ))) (answers : List Answer) (n : ℕ) (left : List (Option (List ℕ)))
+pub rack_dropped : (further rest : List (Option (List ℕ))) (answers : List Answer) (n : ℕ) (left : List (Option (List ℕ)))
     → left ≡ map (λ a. fragment_digest a.1) answers ++ rest → n ≡ length answers
-    → behind ≡ drop n left → behind ≡ rest
+    → further ≡ drop n left → further ≡ rest
 unfolding digest
-rack_dropped behind rest answers n left is size dropped =
+rack_dropped further rest answers n left is size dropped =
     let counted : length (map digest answers) ≡ length answers = length-map answers digest in
     dropped ∙ ap (drop n) is ∙ drop-append-le n (map digest answers) rest (omega (arith, counted, size))
     ∙ ap (λ t. t ++ rest) (drop_all n (map digest answers) (omega (arith, counted, size)))

@@ -14,7 +14,7 @@ use Rattle.lrc_code.specs.declared.codes.Code.TheVariants.{Narrow}
 use Rattle.lrc_code.specs.declared.places.Place.TheVariants.{X0}
 use Rattle.lrc_code.specs.declared.outcomes.Outcome.TheVariants.{Several}
 use Rattle.farm_lists.specs.Report.{RequestRead, Row}
-use Rattle.farm_lists.specs.ReportLaws.{RowsTellTheAnswers, request_of}
+use Rattle.farm_lists.specs.ReportLaws.{RowsGiveTheAnswers, request_of}
 use Rattle.farm_lists.specs.Rows.{FitsFeeds, member, position, row_at, row_of_number}
 
 -- an answer: its feed's number and the outcome
@@ -107,16 +107,16 @@ number_is requests answers n p a row within is at made =
     let found : slice_get answers n ≡ Some a = slice_get-get_or answers n a within ∙ ap (λ (x : Answer). Some x) (sym is) in
     ap (λ o. option_and_then (λ x. row_at requests x (position answers x.0 n)) o) found ∙ ap (λ k. row_at requests a k) (sym at) ∙ made
 
-pub told_step : {A : Type 0} (outcome : A → Outcome) (answers : List Answer) (n : ℕ) (a : Answer) (row : A) (before after : List A)
+pub said_step : {A : Type 0} (outcome : A → Outcome) (answers : List Answer) (n : ℕ) (a : Answer) (row : A) (before after : List A)
     → n < length answers → a ≡ get_or answers n a → outcome row ≡ a.1
     → map outcome before ≡ map (λ x. x.1) (take n answers) → after ≡ before ++ row ∷ []
     → map outcome after ≡ map (λ x. x.1) (take (n + 1) answers)
-told_step outcome answers n a row before after within is told so grew =
+said_step outcome answers n a row before after within is said so grew =
     let snd = λ (x : Answer). x.1 in
     let more : take (n + 1) answers ≡ take n answers ++ a ∷ [] =
     take_more answers n a within ∙ ap (λ (x : Answer). take n answers ++ x ∷ []) (sym is) in
     ap (map outcome) grew ∙ map-append outcome before (row ∷ []) ∙ ap (λ t. t ++ outcome row ∷ []) so
-    ∙ ap (λ o. map snd (take n answers) ++ o ∷ []) told
+    ∙ ap (λ o. map snd (take n answers) ++ o ∷ []) said
     ∙ sym (ap (map snd) more ∙ map-append snd (take n answers) (a ∷ []))
 
 -- what is read of the counts is the position
@@ -142,7 +142,7 @@ position_in items vs answers n p a fits within is at =
     let same = sizes_at items vs a.0 in
     omega (arith, below, same, at)
 
--- ---- the rows tell the answers
+-- ---- the rows give the answers
 
 member_is : {A : Type 0} (lists : List (List A)) (i j : ℕ) (d : A) → i < length lists → j < length (get_or lists i [])
     → member lists i j ≡ Some (get_or (get_or lists i []) j d)
@@ -179,30 +179,30 @@ row_for requests answers n a fits within is =
       inner,
     )
 
-tell : Row → Answer
-tell row = (row.feed, row.outcome)
+answer_in : Row → Answer
+answer_in row = (row.feed, row.outcome)
 
-rows_tell_front : (requests : List (List RequestRead)) (answers : List Answer) → FitsFeeds (map length requests) (map (λ x. x.0) answers)
+rows_give_front : (requests : List (List RequestRead)) (answers : List Answer) → FitsFeeds (map length requests) (map (λ x. x.0) answers)
     → (n : ℕ) → n ≤ length answers
-    → map tell (filter_map (row_of_number requests answers) (range_with_len 0 n)) ≡ take n answers
-unfolding tell
-rows_tell_front requests answers fits zero below = refl
-rows_tell_front requests answers fits (suc n) below =
+    → map answer_in (filter_map (row_of_number requests answers) (range_with_len 0 n)) ≡ take n answers
+unfolding answer_in
+rows_give_front requests answers fits zero below = refl
+rows_give_front requests answers fits (suc n) below =
     let h = row_of_number requests answers in
     let d : Answer = (0, Several) in
     let within : n < length answers = omega arith in
     let a = get_or answers n d in
     let is : get_or answers n d ≡ get_or answers n (get_or answers n d) = get_or_default answers n d (get_or answers n d) within in
     let found = row_for requests answers n (get_or answers n d) fits within is in
-    let rest = rows_tell_front requests answers fits n (omega arith) in
+    let rest = rows_give_front requests answers fits n (omega arith) in
     let more : suc n ≡ n + 1 = omega arith in
-    let told : tell found.0 ≡ a = ap (λ f. (f, found.0.outcome)) found.2 ∙ ap (λ o. ((get_or answers n d).0, o)) found.3 in
-    ap (λ m. map tell (filter_map h (range_with_len 0 m))) more ∙ ap (map tell) (numbers_push h n found.0 found.1)
-    ∙ map-append tell (filter_map h (range_with_len 0 n)) (found.0 ∷ []) ∙ ap (λ t. t ++ tell found.0 ∷ []) rest
-    ∙ ap (λ x. take n answers ++ x ∷ []) told
+    let said : answer_in found.0 ≡ a = ap (λ f. (f, found.0.outcome)) found.2 ∙ ap (λ o. ((get_or answers n d).0, o)) found.3 in
+    ap (λ m. map answer_in (filter_map h (range_with_len 0 m))) more ∙ ap (map answer_in) (numbers_push h n found.0 found.1)
+    ∙ map-append answer_in (filter_map h (range_with_len 0 n)) (found.0 ∷ []) ∙ ap (λ t. t ++ answer_in found.0 ∷ []) rest
+    ∙ ap (λ x. take n answers ++ x ∷ []) said
     ∙ sym (ap (λ m. take m answers) more ∙ take_more answers n d within)
 
-pub rows_tell : RowsTellTheAnswers
-unfolding tell
-rows_tell requests answers fits = rows_tell_front requests answers fits (length answers) (omega arith)
+pub rows_give : RowsGiveTheAnswers
+unfolding answer_in
+rows_give requests answers fits = rows_give_front requests answers fits (length answers) (omega arith)
     ∙ take_all (length answers) answers (omega arith)

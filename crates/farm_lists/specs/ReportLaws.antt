@@ -60,8 +60,8 @@ FilesOfOneFeedAreOfItsList = (lists : List (List RequestRead)) (answers : List (
 -- ---- the rows of a rack
 
 -- where the answers fit the feeds there is a row for each answer, in order, which says its feed and its outcome
-abbrev pub RowsTellTheAnswers : Type 0
-RowsTellTheAnswers = (requests : List (List RequestRead)) (answers : List (ℕ × Outcome))
+abbrev pub RowsGiveTheAnswers : Type 0
+RowsGiveTheAnswers = (requests : List (List RequestRead)) (answers : List (ℕ × Outcome))
     → FitsFeeds (map length requests) (map (λ a. a.0) answers)
     → map (λ row. (row.feed, row.outcome)) (rack_rows requests answers) ≡ answers
 

@@ -110,8 +110,8 @@ pub fn make_files<'a, R: Threads + Sync>(
     let mut files = Vec::new(alloc);
     for rack in 0..racks.len() {
         let outcomes = answers[rack].as_slice();
-        let (rack_digests, behind) = digests_left.split_at(outcomes.len());
-        digests_left = behind;
+        let (rack_digests, further) = digests_left.split_at(outcomes.len());
+        digests_left = further;
         push_rack(
             alloc,
             &mut files,

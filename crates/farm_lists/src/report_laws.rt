@@ -1,6 +1,6 @@
 //! Laws of reports: each function's contract is one, over the definitions alone.
 ghost use Rattle.farm_lists.specs.ReportLaws.{FilesOfOneFeedAreOfItsList, NarrowReportHasSevenFields, RowsOfAFeedAreItsFirst};
-ghost use Rattle.farm_lists.specs.ReportLaws.{RowsTellTheAnswers};
+ghost use Rattle.farm_lists.specs.ReportLaws.{RowsGiveTheAnswers};
 
 /// Where no request is of the (12,2,2) code, each line of the report on a list has seven fields.
 pub fn narrow_report_has_seven_fields()
@@ -13,8 +13,8 @@ pub fn files_of_one_feed_are_of_its_list()
 {}
 
 /// Where a rack's answers fit its feeds there is a row for each answer, in order, which says its feed and its outcome.
-pub fn rows_tell_the_answers()
-    ensures { RowsTellTheAnswers }
+pub fn rows_give_the_answers()
+    ensures { RowsGiveTheAnswers }
 {}
 
 /// And the rows of one feed are about the feed's first requests, in order.

@@ -10,7 +10,7 @@ use Rattle.farm_core.specs.Orders.{before_close}
 use Rattle.farm_core.specs.declared.orders.Order.{Order}
 use Rattle.farm_core.proofs.Works.{zip_append}
 use Rattle.farm_serving.specs.AnsweredRacks.{AreAnswered, all_records, all_requests, listed_counts}
-use Rattle.farm_shelves.specs.Files.{Told}
+use Rattle.farm_shelves.specs.Files.{Shown}
 use Rattle.farm_serving.specs.Pairs.{zip_with}
 use Rattle.farm_lists.specs.Report.{RequestRead, listed_before_close, read_of}
 use Rattle.farm_serving.specs.Serving.{AreRackReads, Reads, orders_rack, rack_read}
@@ -77,15 +77,15 @@ both_values {C = C} f R xs xs' ys ys' zs zs' all first last =
     ap (λ (t : List C). t ++ zs') first ∙ ap (λ (t : List C). zip_with f xs ys ++ t) last ∙ sym (zip_with_append f R xs xs' ys ys' all)
 
 -- nothing is answered of no rack
-pub answered_none : (told : Told) → AreAnswered told [] [] [] []
-answered_none told = record { read = tt; orders = []; ordered = refl; merged = tt; counted = refl; given = λ there e. (refl, refl) }
+pub answered_none : (shown : Shown) → AreAnswered shown [] [] [] []
+answered_none shown = record { read = tt; orders = []; ordered = refl; merged = tt; counted = refl; given = λ there e. (refl, refl) }
 
 -- what is expected of racks, and of those after them, is expected of all
-pub answered_append : (told : Told) (lists lists' : List (List (List Record))) (reads reads' : List (List (List Reads)))
+pub answered_append : (shown : Shown) (lists lists' : List (List (List Record))) (reads reads' : List (List (List Reads)))
     (answers answers' : List (List (ℕ × Outcome))) (requests requests' : List (List (List RequestRead)))
-    → AreAnswered told lists reads answers requests → AreAnswered told lists' reads' answers' requests'
-    → AreAnswered told (lists ++ lists') (reads ++ reads') (answers ++ answers') (requests ++ requests')
-answered_append told lists lists' reads reads' answers answers' requests requests' first last = record {
+    → AreAnswered shown lists reads answers requests → AreAnswered shown lists' reads' answers' requests'
+    → AreAnswered shown (lists ++ lists') (reads ++ reads') (answers ++ answers') (requests ++ requests')
+answered_append shown lists lists' reads reads' answers answers' requests requests' first last = record {
   read = zip_append AreRackReads lists lists' reads reads' first.read last.read;
   orders = first.orders ++ last.orders;
   ordered = both_images (λ (feeds : List (List Order)). map (λ (list : List Order). length (before_close list)) feeds)

@@ -20,7 +20,7 @@ use Rattle.farm_lists.specs.Written.{files_from}
 use Rattle.farm_lists.specs.declared.lists.listing.Record.{Record}
 use Rattle.farm_lists.proofs.MakingAll.{all_zip-length}
 use Rattle.farm_lists.proofs.OneFeed.{files_of_one_feed}
-use Rattle.farm_serving.proofs.ReadRequests.{all_served, close_told}
+use Rattle.farm_serving.proofs.ReadRequests.{all_served, close_is}
 
 -- as answers of the first feed
 abbrev of_first : List Outcome → List (ℕ × Outcome)
@@ -57,7 +57,7 @@ feed_asked there list feed =
     let requests = asked_feed there (listed_before_close list) feed in
     let closes = nat_lt (length (listed_before_close list)) (length list) in
     all_served (orders_feed there list feed) requests closes
-    (ap (λ (tail : List Order). map Rebuild requests ++ tail) (close_told list closes refl))
+    (ap (λ (tail : List Order). map Rebuild requests ++ tail) (close_is list closes refl))
 
 answers_of_lists : (there : Files) (lists : List (List Record)) (read : List (List Reads)) (answers : List (List (ℕ × Outcome)))
     → AllZip AreOf lists read

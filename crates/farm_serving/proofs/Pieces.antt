@@ -19,7 +19,7 @@ use Rattle.farm_lists.specs.declared.lists.listing.Record.{Record}
 use Rattle.farm_lists.specs.declared.lists.listing.Record.TheVariants as rec
 use Rattle.farm_serving.specs.Pieces.{AreOrdersOf, record_count, through_close}
 use Rattle.farm_serving.specs.Serving.{AreRackReads, AreReads, Reads, close_of, feed_read, orders_feed, orders_rack, rack_read}
-use Rattle.farm_serving.proofs.ReadRequests.{all_served, close_told}
+use Rattle.farm_serving.proofs.ReadRequests.{all_served, close_is}
 
 -- ---- a list up to its first close
 
@@ -58,7 +58,7 @@ pub orders_served : (list : List Record) (orders : List Order) → AreOrdersOf l
 orders_served list orders are =
     let closes : Bool = nat_lt (length (listed_before_close list)) (length list) in
     ap (λ (t : List Asked). length t) (all_served orders are.0 closes
-    (are.2 ∙ ap (λ (tail : List Order). map Rebuild are.0 ++ tail) (close_told list closes refl))) ∙ are.1
+    (are.2 ∙ ap (λ (tail : List Order). map Rebuild are.0 ++ tail) (close_is list closes refl))) ∙ are.1
 
 -- a list has a close where not all its orders are requests before one
 pub has_close : (list : List Order) → length (before_close list) < length list → HasClose list

@@ -16,7 +16,7 @@ use Rattle.farm_core.specs.declared.orders.Order.TheVariants.{Rebuild, Close}
 use Rattle.farm_core.proofs.Pieces.{are_open, close_ends_all, have_comes, have_stays, pieces_join}
 use Rattle.farm_core.proofs.Works.{zip_append}
 use Rattle.farm_serving.specs.AnsweredRacks.{AreAnswered, IsAnsweredOnce, rack_requests}
-use Rattle.farm_shelves.specs.Files.{Files, Told}
+use Rattle.farm_shelves.specs.Files.{Files, Shown}
 use Rattle.farm_lists.specs.Report.{RequestRead, listed_before_close, read_of}
 use Rattle.farm_lists.specs.Listed.{ListedRequest}
 use Rattle.farm_lists.specs.declared.lists.listing.Record.{Record}
@@ -30,7 +30,7 @@ use Rattle.farm_serving.proofs.Pieces.{orders_counted, orders_same, reads_same, 
 
 -- of these lists of a rack's feeds the reads, the orders, the answers and the requests with what was left out, and whether a close ended
 -- the rack
-pub record AreSoFar (told : Told) (lists : List (List Record)) (reads : List (List Reads)) (answers : List (ℕ × Outcome))
+pub record AreSoFar (shown : Shown) (lists : List (List Record)) (reads : List (List Reads)) (answers : List (ℕ × Outcome))
     (requests : List (List RequestRead)) (ended : Bool) : Type 0 where
   pub read : AreRackReads lists reads
   pub orders : List (List Order)
@@ -39,7 +39,7 @@ pub record AreSoFar (told : Told) (lists : List (List Record)) (reads : List (Li
   pub opened : ended ≡ false → AreOpen orders
   pub closed : ended ≡ true → HaveClose orders
   pub counted : map (λ rs. length rs) requests ≡ map (λ list. length (listed_before_close list)) lists
-  pub given : (there : Files) → told ≡ Some there → (orders ≡ orders_rack there lists reads) × (requests ≡ rack_read there lists reads)
+  pub given : (there : Files) → shown ≡ Some there → (orders ≡ orders_rack there lists reads) × (requests ≡ rack_read there lists reads)
 
 -- ---- two parts of a list, of which the first has no close, or the second has nothing
 
@@ -247,43 +247,43 @@ zip_size R (x ∷ xs) [] all = absurd all
 zip_size R (x ∷ xs) (y ∷ ys) all = let rest = zip_size R xs ys all.1 in omega (arith, rest)
 
 -- the answers so far, with those of the next piece
-pub merged_more : (orders behind : List (List Order)) (answers after : List (ℕ × Outcome)) (ended now : Bool)
-    → length orders ≡ length behind → AreMergedAnswers orders answers
-    → (ended ≡ false → AreOpen orders) → (ended ≡ true → HaveClose orders) → IsAnsweredOnce behind ended answers after now
-    → AreMergedAnswers (joined orders behind) after × (now ≡ false → AreOpen (joined orders behind))
-    × (now ≡ true → HaveClose (joined orders behind))
-merged_more orders behind answers after true now same first opened closed once = (
-  subst (λ (os : List (ℕ × Outcome)). AreMergedAnswers (joined orders behind) os) (sym once.0)
-      (first.0, close_ends_all orders behind first.0 (closed refl) first.1, first.2),
+pub merged_more : (orders further : List (List Order)) (answers after : List (ℕ × Outcome)) (ended now : Bool)
+    → length orders ≡ length further → AreMergedAnswers orders answers
+    → (ended ≡ false → AreOpen orders) → (ended ≡ true → HaveClose orders) → IsAnsweredOnce further ended answers after now
+    → AreMergedAnswers (joined orders further) after × (now ≡ false → AreOpen (joined orders further))
+    × (now ≡ true → HaveClose (joined orders further))
+merged_more orders further answers after true now same first opened closed once = (
+  subst (λ (os : List (ℕ × Outcome)). AreMergedAnswers (joined orders further) os) (sym once.0)
+      (first.0, close_ends_all orders further first.0 (closed refl) first.1, first.2),
   λ is. absurd (let both : false ≡ true = sym is ∙ once.1 in cc),
-  λ is. have_stays orders behind (closed refl),
+  λ is. have_stays orders further (closed refl),
 )
-merged_more orders behind answers after false now same first opened closed once =
+merged_more orders further answers after false now same first opened closed once =
     let (more, last, are, has, not) = once in (
-      subst (λ (os : List (ℕ × Outcome)). AreMergedAnswers (joined orders behind) os) (sym are) (
+      subst (λ (os : List (ℕ × Outcome)). AreMergedAnswers (joined orders further) os) (sym are) (
         first.0 ++ last.0,
-        pieces_join orders behind first.0 last.0 same (opened refl) first.1 last.1,
+        pieces_join orders further first.0 last.0 same (opened refl) first.1 last.1,
         zip_append IsFedAnswer first.0 last.0 answers more first.2 last.2,
       ),
-      λ is. are_open orders behind same (opened refl) (not is),
-      λ is. have_comes orders behind same (has is),
+      λ is. are_open orders further same (opened refl) (not is),
+      λ is. have_comes orders further same (has is),
     )
 
 -- what is answered of the positions so far and of the next piece
-pub so_far_more : (told : Told) (fs bs : List (List Record)) (ps qs : List (List Reads)) (answers after : List (ℕ × Outcome))
-    (us vs : List (List RequestRead)) (ended now : Bool) (behind : List (List Order))
-    → AllZip Splits fs bs → AreSoFar told fs ps answers us ended → AreRackReads bs qs → AllZip AreOrdersOf bs behind
+pub so_far_more : (shown : Shown) (fs bs : List (List Record)) (ps qs : List (List Reads)) (answers after : List (ℕ × Outcome))
+    (us vs : List (List RequestRead)) (ended now : Bool) (further : List (List Order))
+    → AllZip Splits fs bs → AreSoFar shown fs ps answers us ended → AreRackReads bs qs → AllZip AreOrdersOf bs further
     → map (λ requests. length requests) vs ≡ map (λ list. length (listed_before_close list)) bs
-    → ((there : Files) → told ≡ Some there → (behind ≡ orders_rack there bs qs) × (vs ≡ rack_read there bs qs))
-    → IsAnsweredOnce behind ended answers after now → AreSoFar told (joined fs bs) (joined ps qs) after (joined us vs) now
-so_far_more told fs bs ps qs answers after us vs ended now behind s so read ordered counted given once =
-    let same : length so.orders ≡ length behind = sym (zip_size AreOrdersOf fs so.orders so.ordered) ∙ zip_size Splits fs bs s
-    ∙ zip_size AreOrdersOf bs behind ordered in
-    let merged = merged_more so.orders behind answers after ended now same so.merged so.opened so.closed once in
+    → ((there : Files) → shown ≡ Some there → (further ≡ orders_rack there bs qs) × (vs ≡ rack_read there bs qs))
+    → IsAnsweredOnce further ended answers after now → AreSoFar shown (joined fs bs) (joined ps qs) after (joined us vs) now
+so_far_more shown fs bs ps qs answers after us vs ended now further s so read ordered counted given once =
+    let same : length so.orders ≡ length further = sym (zip_size AreOrdersOf fs so.orders so.ordered) ∙ zip_size Splits fs bs s
+    ∙ zip_size AreOrdersOf bs further ordered in
+    let merged = merged_more so.orders further answers after ended now same so.merged so.opened so.closed once in
     record {
       read = reads_more fs bs ps qs s so.read read;
-      orders = joined so.orders behind;
-      ordered = orders_more fs bs so.orders behind s so.ordered ordered;
+      orders = joined so.orders further;
+      ordered = orders_more fs bs so.orders further s so.ordered ordered;
       merged = merged.0;
       opened = merged.1;
       closed = merged.2;
@@ -358,9 +358,9 @@ count_further (l ∷ lists) n m h =
     )
 
 -- before the first position
-pub so_far_none : (told : Told) (lists : List (Vec Record Global)) (us : List (List RequestRead)) → us ≡ map (λ _. []) lists
-    → AreSoFar told (fronts lists 0) (map (λ _. []) lists) [] us false
-so_far_none told lists us is = record {
+pub so_far_none : (shown : Shown) (lists : List (Vec Record Global)) (us : List (List RequestRead)) → us ≡ map (λ _. []) lists
+    → AreSoFar shown (fronts lists 0) (map (λ _. []) lists) [] us false
+so_far_none shown lists us is = record {
   read = reads lists;
   orders = map (λ _. []) lists;
   ordered = ordered lists;
@@ -421,12 +421,12 @@ counts_all (l ∷ lists) = ap₂ (λ (n : ℕ) (ns : List ℕ). n ∷ ns) (ap (�
     (counts_all lists)
 
 -- when all positions were answered, the rack is
-pub so_far_all : (told : Told) (lists : List (Vec Record Global)) (reads : List (List Reads)) (answers : List (ℕ × Outcome))
+pub so_far_all : (shown : Shown) (lists : List (Vec Record Global)) (reads : List (List Reads)) (answers : List (ℕ × Outcome))
     (us : List (List RequestRead)) (ended : Bool) (n : ℕ)
-    → All (λ l. length l.items ≤ n) lists → AreSoFar told (fronts lists n) reads answers us ended
-    → AreAnswered told (map (λ (list : Vec Record Global). list.items) lists ∷ []) (reads ∷ []) (answers ∷ []) (us ∷ [])
-so_far_all told lists reads answers us ended n few so_far =
-    let so = subst (λ (fs : List (List Record)). AreSoFar told fs reads answers us ended) (fronts_whole lists n few) so_far in
+    → All (λ l. length l.items ≤ n) lists → AreSoFar shown (fronts lists n) reads answers us ended
+    → AreAnswered shown (map (λ (list : Vec Record Global). list.items) lists ∷ []) (reads ∷ []) (answers ∷ []) (us ∷ [])
+so_far_all shown lists reads answers us ended n few so_far =
+    let so = subst (λ (fs : List (List Record)). AreSoFar shown fs reads answers us ended) (fronts_whole lists n few) so_far in
     record {
       read = (reads_same lists reads so.read, tt);
       orders = so.orders ∷ [];
@@ -536,12 +536,12 @@ orders_size lists lent first end orders is are =
     sym (zip_size AreOrdersOf (map (λ (l : Bor (List Record)). l.now) lent) orders are) ∙ length-map lent (λ (l : Bor (List Record)). l.now)
     ∙ piece_size lists lent first end is
 
-pub requests_size : (told : Told) (lists : List (Vec Record Global)) (lent : List (Bor (List Record))) (first end : ℕ)
+pub requests_size : (shown : Shown) (lists : List (Vec Record Global)) (lent : List (Bor (List Record))) (first end : ℕ)
     (reads : List (List Reads)) (answers : List (ℕ × Outcome)) (ended : Bool)
-    (us vs : List (Vec ReadRequest Global)) → AreSoFar told (fronts lists first) reads answers (rack_requests us) ended
+    (us vs : List (Vec ReadRequest Global)) → AreSoFar shown (fronts lists first) reads answers (rack_requests us) ended
     → map (λ l. l.now) lent ≡ pieces lists first end
     → map (λ v. length v.items) vs ≡ map (λ l. length (listed_before_close l.now)) lent → length us ≡ length vs
-requests_size told lists lent first end reads answers ended us vs so is counted =
+requests_size shown lists lent first end reads answers ended us vs so is counted =
     let before = ap (λ (ns : List ℕ). length ns) so.counted in
     let after = ap (λ (ns : List ℕ). length ns) counted in
     omega (

@@ -10,18 +10,18 @@ use Rattle.farm_lists.specs.Listing.{list_of}
 use Rattle.farm_lists.specs.declared.lists.listing.Record.{Record}
 use Rattle.farm_lists.specs.declared.lists.listing.ListFault.{ListFault}
 use Rattle.farm_lists.proofs.Orders.{too_long}
-use Rattle.farm_shelves.specs.Files.{Files, Told}
+use Rattle.farm_shelves.specs.Files.{Files, Shown}
 use Rattle.farm_lists.specs.declared.lists.listing.ListFault.TheVariants as list_fault
 use Rattle.farm_lists.specs.Listing.{IsFaultOf}
 use Rattle.farm_serving.specs.Faults.{IsListFault, serve_fault}
 use Rattle.farm_lists.specs.Names.{fragment_name, list_name}
 use Rattle.farm_serving.specs.Serving.{fragment}
 
--- what is known of the files that are told
-pub told_bytes : (t : Told) (there : Files) (x : Option (List ℕ)) (limit : ℕ) (name : List ℕ)
+-- what is known of the files that are shown
+pub shown_bytes : (t : Shown) (there : Files) (x : Option (List ℕ)) (limit : ℕ) (name : List ℕ)
     → IfSome t (λ f. x ≡ option_map (take limit) (f name)) → t ≡ Some there → x ≡ option_map (take limit) (there name)
-told_bytes None there x limit name h e = cc
-told_bytes (Some f) there x limit name h e = let same : f ≡ there = cc in h ∙ ap (λ (m : Files). option_map (take limit) (m name)) same
+shown_bytes None there x limit name h e = cc
+shown_bytes (Some f) there x limit name h e = let same : f ≡ there = cc in h ∙ ap (λ (m : Files). option_map (take limit) (m name)) same
 
 -- ---- lists
 
@@ -113,17 +113,17 @@ fragment_failed there r p = refl
 
 -- ---- faults of a list
 
-pub list_refused : (f : ListFault) (told : Told) (rack feed n m : ℕ) (name bytes : List ℕ) → m ≡ n → name ≡ list_name rack feed
-    → ((t : Files) → told ≡ Some t → Some bytes ≡ option_map (take 1048577) (t name))
-    → IsFaultOf f (list_of bytes) → IsListFault (serve_fault rack feed f) rack feed told n m
-list_refused list_fault.OutOfMemory told rack feed n m name bytes calm named read is = calm
-list_refused list_fault.InputTooLong told rack feed n m name bytes calm named read is =
+pub list_refused : (f : ListFault) (shown : Shown) (rack feed n m : ℕ) (name bytes : List ℕ) → m ≡ n → name ≡ list_name rack feed
+    → ((t : Files) → shown ≡ Some t → Some bytes ≡ option_map (take 1048577) (t name))
+    → IsFaultOf f (list_of bytes) → IsListFault (serve_fault rack feed f) rack feed shown n m
+list_refused list_fault.OutOfMemory shown rack feed n m name bytes calm named read is = calm
+list_refused list_fault.InputTooLong shown rack feed n m name bytes calm named read is =
     (refl, refl, calm, λ t e. list_read t rack feed name bytes _ named (read t e) is)
-list_refused list_fault.BadHeader told rack feed n m name bytes calm named read is =
+list_refused list_fault.BadHeader shown rack feed n m name bytes calm named read is =
     (refl, refl, calm, λ t e. list_read t rack feed name bytes _ named (read t e) is)
-list_refused list_fault.TooManyOrders told rack feed n m name bytes calm named read is =
+list_refused list_fault.TooManyOrders shown rack feed n m name bytes calm named read is =
     (refl, refl, calm, λ t e. list_read t rack feed name bytes _ named (read t e) is)
-list_refused (list_fault.BadRecord k) told rack feed n m name bytes calm named read is =
+list_refused (list_fault.BadRecord k) shown rack feed n m name bytes calm named read is =
     (refl, refl, calm, λ t e. list_read t rack feed name bytes _ named (read t e) is)
-list_refused (list_fault.Refused k x) told rack feed n m name bytes calm named read is =
+list_refused (list_fault.Refused k x) shown rack feed n m name bytes calm named read is =
     (refl, refl, calm, λ t e. list_read t rack feed name bytes _ named (read t e) is)

@@ -6,7 +6,7 @@ use Rattle.std.proofs.lemmas.Bool.{false≢true}
 use Rattle.std.proofs.lemmas.List.{length-map, map-append}
 use Rattle.farm_lists.specs.Listing.{list_of}
 use Rattle.farm_lists.specs.declared.lists.listing.Record.{Record}
-use Rattle.farm_shelves.specs.Files.{Files, Told}
+use Rattle.farm_shelves.specs.Files.{Files, Shown}
 use Rattle.farm_lists.specs.Names.{list_name}
 use Rattle.farm_serving.specs.Serving.{AreFeeds, AreLists, HaveFeeds, HaveLists}
 use Rattle.farm_serving.specs.Faults.{Explains, HasFifthFeed, IsListFault, IsRackFault, RefusesFeed}
@@ -40,10 +40,10 @@ feeds_push there rack feeds list n e have is =
     (omega (arith, e, length-map feeds (λ (v : Vec Record Global). v.items))) have is)
 
 -- the list of the next feed can't be read
-pub feed_explains : (f : ServeFault) (there : Files) (told : Told) (rack : ℕ) (feeds : List (Vec Record Global)) (k n m : ℕ)
-    → told ≡ Some there → length feeds ≡ k → k < 4 → HaveFeeds there rack 0 (map (λ v. v.items) feeds)
-    → IsListFault f rack k told n m → IsRackFault f rack there
-feed_explains (fault.List j i reason) there told rack feeds k n m t e few have is =
+pub feed_explains : (f : ServeFault) (there : Files) (shown : Shown) (rack : ℕ) (feeds : List (Vec Record Global)) (k n m : ℕ)
+    → shown ≡ Some there → length feeds ≡ k → k < 4 → HaveFeeds there rack 0 (map (λ v. v.items) feeds)
+    → IsListFault f rack k shown n m → IsRackFault f rack there
+feed_explains (fault.List j i reason) there shown rack feeds k n m t e few have is =
     let size : length (map (λ (v : Vec Record Global). v.items) feeds) ≡ i =
     length-map feeds (λ (v : Vec Record Global). v.items) ∙ e ∙ sym is.1 in (
       is.0,
@@ -56,12 +56,12 @@ feed_explains (fault.List j i reason) there told rack feeds k n m t e few have i
             ∙ is.3 there t,
       ),
     )
-feed_explains fault.Device there told rack feeds k n m t e few have is = tt
-feed_explains fault.OutOfMemory there told rack feeds k n m t e few have is = tt
-feed_explains fault.BadFeeds there told rack feeds k n m t e few have is = absurd is
-feed_explains fault.TooManyRacks there told rack feeds k n m t e few have is = absurd is
-feed_explains fault.NoRacks there told rack feeds k n m t e few have is = absurd is
-feed_explains fault.NoThread there told rack feeds k n m t e few have is = absurd is
+feed_explains fault.Device there shown rack feeds k n m t e few have is = tt
+feed_explains fault.OutOfMemory there shown rack feeds k n m t e few have is = tt
+feed_explains fault.BadFeeds there shown rack feeds k n m t e few have is = absurd is
+feed_explains fault.TooManyRacks there shown rack feeds k n m t e few have is = absurd is
+feed_explains fault.NoRacks there shown rack feeds k n m t e few have is = absurd is
+feed_explains fault.NoThread there shown rack feeds k n m t e few have is = absurd is
 
 -- a fifth feed is there
 pub fifth_explains : (there : Files) (rack : ℕ) (feeds : List (Vec Record Global)) (k : ℕ) → length feeds ≡ k → k ≡ 4

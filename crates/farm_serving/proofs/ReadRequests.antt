@@ -77,15 +77,15 @@ served_few (rec.Close ∷ list) = omega arith
 served_few (rec.Rebuild r ∷ list) = let few = served_few list in omega (arith, few)
 
 -- a list has a close where it has more records than requests before a close
-pub close_told : (list : List Record) (b : Bool) → nat_lt (length (listed_before_close list)) (length list) ≡ b
+pub close_is : (list : List Record) (b : Bool) → nat_lt (length (listed_before_close list)) (length list) ≡ b
     → close_of list ≡ close_where b
-close_told list true e = short list (grind arith)
+close_is list true e = short list (grind arith)
   where
     short : (l : List Record) → length (listed_before_close l) < length l → close_of l ≡ Close ∷ []
     short [] less = absurd (omega arith)
     short (rec.Close ∷ l) less = refl
     short (rec.Rebuild r ∷ l) less = short l (omega arith)
-close_told list false e = full list (grind arith)
+close_is list false e = full list (grind arith)
   where
     full : (l : List Record) → length l ≤ length (listed_before_close l) → close_of l ≡ []
     full [] most = refl
@@ -94,7 +94,7 @@ close_told list false e = full list (grind arith)
 
 pub close_counted : (list : List Record) (n : ℕ) → n ≡ length (listed_before_close list)
     → close_of list ≡ close_where (nat_lt n (length list))
-close_counted list n is = close_told list (nat_lt n (length list)) (ap (λ m. nat_lt m (length list)) (sym is))
+close_counted list n is = close_is list (nat_lt n (length list)) (ap (λ m. nat_lt m (length list)) (sym is))
 
 -- with the close the orders of a list are no more than its records
 pub counted_few : (served n records : ℕ) → n ≡ served → served ≤ records → records ≤ 4096 → served + cond (nat_lt n records) 1 0 ≤ 4096

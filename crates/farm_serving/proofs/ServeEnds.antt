@@ -5,7 +5,7 @@ use Rattle.std.proofs.lemmas.List.Sums.{sum_by-cons}
 use Rattle.lrc_code.specs.declared.outcomes.Outcome.{Outcome}
 use Rattle.farm_core.specs.declared.error.FarmError.{FarmError}
 use Rattle.farm_core.specs.declared.error.FarmError.TheVariants as farm
-use Rattle.farm_shelves.specs.Files.{CountsFailure, Files, Told}
+use Rattle.farm_shelves.specs.Files.{CountsFailure, Files, Shown}
 use Rattle.farm_lists.specs.Report.{RequestRead, read_of}
 use Rattle.farm_serving.specs.Serving.{AreLists, Reads, all_read, written_files}
 use Rattle.farm_lists.specs.Written.{files_from}
@@ -54,17 +54,17 @@ written_is there lists racks lent answers given reads files a b is made =
     ∙ ap (λ (x : List Answers). files_from 0 (map requests racks) (map outcomes x)) b
     ∙ ap (λ (x : List (List (List RequestRead))). files_from 0 x (map outcomes answers)) is
 
--- ---- where the input tells its files
+-- ---- where the input shows its files
 
-pub where_told : (told : Told) (P : Files → Type 0) → ((there : Files) → told ≡ Some there → P there) → IfSome told P
-where_told None P each = tt
-where_told (Some there) P each = each there refl
+pub where_shown : (shown : Shown) (P : Files → Type 0) → ((there : Files) → shown ≡ Some there → P there) → IfSome shown P
+where_shown None P each = tt
+where_shown (Some there) P each = each there refl
 
 -- what a failed write leaves
-pub write_leaves : (f : ShelfFault) (told old new : Told) (before after : ℕ) → CountsFailure {A = Unit {0}} (Err f) before after
-    → StopsServing f told old new → LeavesOutput (of_shelf f) told old new before after
-write_leaves shelf.Device told old new before after rose stops = inr (rose, stops)
-write_leaves shelf.OutOfMemory told old new before after calm stops = (calm, inr stops)
+pub write_leaves : (f : ShelfFault) (shown old new : Shown) (before after : ℕ) → CountsFailure {A = Unit {0}} (Err f) before after
+    → StopsServing f shown old new → LeavesOutput (of_shelf f) shown old new before after
+write_leaves shelf.Device shown old new before after rose stops = inr (rose, stops)
+write_leaves shelf.OutOfMemory shown old new before after calm stops = (calm, inr stops)
 
 -- why the farm ended: where a thread was refused, all lists had been read
 pub farm_explains : (f : FarmError) (there : Files) (lists : List (List (List Record))) → AreLists there lists → Explains (of_farm f) there

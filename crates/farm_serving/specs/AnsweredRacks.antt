@@ -5,7 +5,7 @@ use Rattle.lrc_code.specs.declared.outcomes.Outcome.{Outcome}
 use Rattle.farm_core.specs.Merge.{AreAllMergedAnswers, AreMergedAnswers, AreOpen, HaveClose}
 use Rattle.farm_core.specs.Orders.{before_close}
 use Rattle.farm_core.specs.declared.orders.Order.{Order}
-use Rattle.farm_shelves.specs.Files.{Files, Told}
+use Rattle.farm_shelves.specs.Files.{Files, Shown}
 use Rattle.farm_lists.specs.Report.{RequestRead, listed_before_close, read_of}
 use Rattle.farm_serving.specs.Serving.{AreAllReads, Reads, all_read, orders_all}
 use Rattle.farm_lists.specs.declared.lists.listing.Record.{Record}
@@ -32,9 +32,9 @@ abbrev pub listed_counts : List (List (List Record)) → List (List ℕ)
 listed_counts racks = map (λ feeds. map (λ list. length (listed_before_close list)) feeds) racks
 
 -- Of racks with these lists: the reads of their survivors, and of each rack the answers to a lawful merge of its feeds' orders. Where the
--- input tells its files, these orders are those that the lists and the reads give, and so are the requests, with the places that were left
+-- input shows its files, these orders are those that the lists and the reads give, and so are the requests, with the places that were left
 -- out.
-pub record AreAnswered (told : Told) (lists : List (List (List Record))) (reads : List (List (List Reads)))
+pub record AreAnswered (shown : Shown) (lists : List (List (List Record))) (reads : List (List (List Reads)))
     (answers : List (List (ℕ × Outcome)))
     (requests : List (List (List RequestRead))) : Type 0 where
   pub read : AreAllReads lists reads
@@ -42,7 +42,7 @@ pub record AreAnswered (told : Told) (lists : List (List (List Record))) (reads 
   pub ordered : map (λ feeds. map (λ list. length (before_close list)) feeds) orders ≡ listed_counts lists
   pub merged : AreAllMergedAnswers orders answers
   pub counted : map (λ feeds. map (λ rs. length rs) feeds) requests ≡ listed_counts lists
-  pub given : (there : Files) → told ≡ Some there → (orders ≡ orders_all there lists reads) × (requests ≡ all_read there lists reads)
+  pub given : (there : Files) → shown ≡ Some there → (orders ≡ orders_all there lists reads) × (requests ≡ all_read there lists reads)
 
 -- The answers to a piece's orders have come after those before, and whether the rack has ended now is whether the piece has a close; or the
 -- rack had ended before, and no answer has come.

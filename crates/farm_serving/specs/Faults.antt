@@ -5,7 +5,7 @@ use Rattle.farm_lists.specs.Listing.{list_of}
 use Rattle.farm_lists.specs.declared.lists.listing.Record.{Record}
 use Rattle.farm_lists.specs.declared.lists.listing.ListFault.{ListFault}
 use Rattle.farm_lists.specs.declared.lists.listing.ListFault.TheVariants as list_fault
-use Rattle.farm_shelves.specs.Files.{Files, StopsWriting, Told}
+use Rattle.farm_shelves.specs.Files.{Files, StopsWriting, Shown}
 use Rattle.farm_shelves.specs.declared.shelf.ShelfFault.{ShelfFault}
 use Rattle.farm_shelves.specs.declared.shelf.ShelfFault.TheVariants as shelf_fault
 use Rattle.farm_serving.specs.declared.faults.ServeFault.{ServeFault}
@@ -37,14 +37,14 @@ Explains fault.OutOfMemory there = Unit {0}
 Explains fault.NoThread there = (lists : List (List (List Record))) × AreLists there lists
 
 -- a write of what serving these files gives failed
-abbrev pub StopsServing : ShelfFault → Told → Told → Told → Type 0
+abbrev pub StopsServing : ShelfFault → Shown → Shown → Shown → Type 0
 StopsServing f there old new = IfSome there (λ t. (lists : List (List (List Record))) × (reads : List (List (List Reads)))
     × (answers : List (List (ℕ × Outcome)))
     × Serves t lists reads answers × StopsWriting f (written_files t lists reads answers) old new)
 
 -- what a fault leaves of the output, whose device failed so often before and after: a failed write leaves it as StopsWriting says,
 -- and where the failed device was the input's it is as it was
-abbrev pub LeavesOutput : ServeFault → Told → Told → Told → ℕ → ℕ → Type 0
+abbrev pub LeavesOutput : ServeFault → Shown → Shown → Shown → ℕ → ℕ → Type 0
 LeavesOutput fault.Device there old new before after = ((after ≡ before) × (new ≡ old))
     ⊎ ((after ≡ before + 1) × StopsServing shelf_fault.Device there old new)
 LeavesOutput fault.OutOfMemory there old new before after =
@@ -56,7 +56,7 @@ LeavesOutput fault.BadFeeds there old new before after = (after ≡ before) × (
 LeavesOutput (fault.List rack feed reason) there old new before after = (after ≡ before) × (new ≡ old)
 
 -- why the list of a rack's feed can't be read: by the files of the input, and by how often its device failed before and after
-abbrev pub IsListFault : ServeFault → ℕ → ℕ → Told → ℕ → ℕ → Type 0
+abbrev pub IsListFault : ServeFault → ℕ → ℕ → Shown → ℕ → ℕ → Type 0
 IsListFault (fault.List k f reason) rack feed there before after =
     (k ≡ rack) × (f ≡ feed) × (after ≡ before) × ((t : Files) → there ≡ Some t
     → option_map list_of (t (list_name rack feed)) ≡ Some (Err reason))

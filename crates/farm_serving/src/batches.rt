@@ -30,7 +30,7 @@ pub struct Answered<'a> {
     pub requests: Vec<Vec<Vec<ReadRequest<'a>>>>,
 }
 
-// Tells a pause the numbers that the racks and requests of a batch have among those of all lists: a request's number is drawn within its
+// Gives a pause the numbers that the racks and requests of a batch have among those of all lists: a request's number is drawn within its
 // rack, after those of the batches before, and its position is that in its feed's list.
 #[derive(Drop)]
 struct BatchPause<'p, P> {
@@ -74,7 +74,7 @@ impl<'p, P: Pause> Pause for BatchPause<'p, P> {
 
 /// The answers to the lists of all racks, and their requests with what was left out of each. A batch is racks that list at most so many
 /// bytes together; a rack that lists more is cut into pieces, each the requests of all its feeds from one position to another.
-/// A `Pause` is told the numbers of all lists; one that holds a request until one of a later batch begins waits in vain.
+/// A `Pause` is given the numbers of all lists; one that holds a request until one of a later batch begins waits in vain.
 pub fn answer_lists<'a, R: Threads + Wait + Sync, I: Shelf, P: Pause>(
     rt: &R,
     alloc: Global,

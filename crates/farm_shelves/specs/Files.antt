@@ -10,9 +10,9 @@ use Rattle.farm_shelves.specs.declared.shelf.ShelfFault.TheVariants as fault
 abbrev pub Files : Type 0
 Files = List ℕ → Option (List ℕ)
 
--- the files, where they are told
-abbrev pub Told : Type 0
-Told = Option Files
+-- the files, where they are shown
+abbrev pub Shown : Type 0
+Shown = Option Files
 
 -- the files with one replaced
 abbrev pub put : Files → List ℕ → List ℕ → Files
@@ -24,7 +24,7 @@ put_all files [] = files
 put_all files (f ∷ fs) = put_all (put files f.0 f.1) fs
 
 -- all files but this one are as they were
-abbrev pub SameBut : List ℕ → Told → Told → Type 0
+abbrev pub SameBut : List ℕ → Shown → Shown → Type 0
 SameBut name None new = Unit {0}
 SameBut name (Some old) None = ⊥
 SameBut name (Some old) (Some now) = (other : List ℕ) → bytes_eq name other ≡ false → now other ≡ old other
@@ -36,17 +36,17 @@ CountsFailure (Err fault.Device) before after = after ≡ before + 1
 CountsFailure (Err fault.OutOfMemory) before after = after ≡ before
 
 -- what a write leaves
-abbrev pub Writes : Result (Unit {0}) ShelfFault → List ℕ → List ℕ → Told → Told → Type 0
+abbrev pub Writes : Result (Unit {0}) ShelfFault → List ℕ → List ℕ → Shown → Shown → Type 0
 Writes (Ok x) name bytes old new = new ≡ option_map (λ files. put files name bytes) old
 Writes (Err fault.Device) name bytes old new = SameBut name old new
 Writes (Err fault.OutOfMemory) name bytes old new = new ≡ old
 
 -- a write failed: the files before it are put, and nothing is known of its own where the device failed
-abbrev pub StopsAt : ShelfFault → List (List ℕ × List ℕ) → ℕ → Told → Told → Type 0
+abbrev pub StopsAt : ShelfFault → List (List ℕ × List ℕ) → ℕ → Shown → Shown → Type 0
 StopsAt fault.Device files k old new =
     SameBut (slice_index_or files k ([], [])).0 (option_map (λ m. put_all m (take k files)) old) new
 StopsAt fault.OutOfMemory files k old new = new ≡ option_map (λ m. put_all m (take k files)) old
 
 -- the files were written one after the other, up to one whose write failed
-abbrev pub StopsWriting : ShelfFault → List (List ℕ × List ℕ) → Told → Told → Type 0
+abbrev pub StopsWriting : ShelfFault → List (List ℕ × List ℕ) → Shown → Shown → Type 0
 StopsWriting f files old new = (k : ℕ) × (k < length files) × StopsAt f files k old new

@@ -1,4 +1,4 @@
-//! A shelf in memory, which can be told to fail.
+//! A shelf in memory, which can be made to fail.
 ghost use Rattle.std.specs.Prelude.{◌≡◌, ℕ, List, ◌<◌, ◌+◌, ◌^◌, if◌then◌else◌, Some, None, IfOk, IfErr, OnOk, OnErr, take, option_map};
 ghost use Rattle.farm_shelves.specs.Files.{CountsFailure, Writes, put};
 ghost use Rattle.farm_shelves.specs.Memory.{FailsWhenDue, FailsWriteWhenDue, LeavesHalf, due_next, failed_of, fails_in, files_of, is_due};
@@ -7,7 +7,7 @@ use crate::shelf::{Shelf, ShelfFault};
 use std::alloc::{AllocError, Global};
 use std::collections::BTreeMap;
 
-/// A shelf in memory, which fails at the call that it is told to. Contracts see its files by name, how often it failed,
+/// A shelf in memory, which can be made to fail at a call. Contracts see its files by name, how often it failed,
 /// and how many reads and writes go well before the one that fails.
 #[derive(Drop)]
 pub struct MemoryShelf {
@@ -93,7 +93,7 @@ impl MemoryShelf {
     // Whether the call at hand is the one that fails; it is counted.
     fn fails_now(&mut self) -> bool
         requires { failed_of self.old < 2 ^ 63 }
-        ensures told { result ≡ is_due (fails_in self.old) }
+        ensures due { result ≡ is_due (fails_in self.old) }
         ensures next { fails_in self.new ≡ due_next (fails_in self.old) }
         ensures files { files_of self.new ≡ files_of self.old }
         ensures failed { failed_of self.new ≡ failed_of self.old + (if result then 1 else 0) }

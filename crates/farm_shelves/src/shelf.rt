@@ -1,7 +1,7 @@
 //! Shelves: named files on a device that may fail.
 ghost use Rattle.std.specs.Prelude.{◌≡◌, ℕ, List, ◌<◌, ◌^◌, Option, None, IfOk, IfSome, take, option_map};
 ghost use Rattle.std.specs.Thread.{IsSync};
-ghost use Rattle.farm_shelves.specs.Files.{CountsFailure, Told, Writes};
+ghost use Rattle.farm_shelves.specs.Files.{CountsFailure, Shown, Writes};
 
 use std::alloc::{AllocError, Global};
 use std::thread::Threads;
@@ -20,8 +20,8 @@ pub enum ShelfFault {
 
 /// Named files on a device that may fail.
 pub trait Shelf {
-    /// The files, where the shelf tells them.
-    ghost files: { Self → Told } = { λ _. None };
+    /// The files, where the shelf shows them.
+    ghost files: { Self → Shown } = { λ _. None };
 
     /// How often the device failed.
     ghost failed: { Self → ℕ };
@@ -43,7 +43,7 @@ pub trait Shelf {
         ensures same { files self.new ≡ files self.old }
         ensures failure { CountsFailure result (failed self.old) (failed self.new) };
 
-    /// Tells the shelf the names and limits of the files that are read next, in this order, so that it may read them ahead in at most
+    /// Gives the shelf the names and limits of the files that are read next, in this order, so that it may read them ahead in at most
     /// so many threads. It answers no read and counts no failure: the calls of `read` do both. A shelf that doesn't say
     /// otherwise reads nothing ahead.
     fn read_ahead<H: Threads + Sync>(

@@ -385,7 +385,7 @@ fn gives_the_numbers_below_the_closes_answer(rt: HostRuntime) -> Result<(), Fail
 // Where the gate's room is refused, that is said, and nothing else. The heap grows by steps
 // smaller than any allocation, so that each allocation in turn is the one that is refused.
 #[test]
-fn tells_want_of_memory(rt: HostRuntime) -> Result<(), Fail> {
+fn refused_memory_is_said(rt: HostRuntime) -> Result<(), Fail> {
     let alloc: Global = rt.alloc();
     let mut refused = false;
     for words in 0..1000usize {

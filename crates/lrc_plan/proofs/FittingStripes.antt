@@ -27,7 +27,7 @@ use Rattle.lrc_plan.specs.Form.{Form}
 use Rattle.lrc_plan.specs.Planned.{Extends, LeavesSurvive, ExtensionsDiffer}
 use Rattle.lrc_plan.specs.Evaluation.{byte_at, CanEvaluate}
 use Rattle.lrc_plan.specs.EvaluationParts.{AreWhole}
-use Rattle.lrc_plan.specs.RowPlans.{GivesTarget, TellExtensions}
+use Rattle.lrc_plan.specs.RowPlans.{GivesTarget, DecideExtensions}
 use Rattle.lrc_plan.specs.Terms.{AreRowSums, IsZeroRow}
 
 -- a stripe that equals survivors has at their places what survives there
@@ -154,7 +154,7 @@ module _ (r : Asked) (accepted : refusal r ≡ None) (bytes : All (λ s. AreByte
             subst (λ n. i < n) (length-made e y.place) lt in made_at e i y.place 0 h
             ∙ (x i h).kept y.place (same y.place ∙ a))
 
-    module _ (checks : List (List ℕ)) (possible : TellExtensions code survives checks) where
+    module _ (checks : List (List ℕ)) (possible : DecideExtensions code survives checks) where
       -- ---- some check isn't 0
 
       pub contradiction : (¬ All (IsZeroRow r) checks) → IsAnswer r Contradiction

@@ -1,4 +1,4 @@
--- What a reduction of the equations tells of its rows, as functions of the places.
+-- What a reduction of the equations says of its rows, as functions of the places.
 use Rattle.std.proofs.Common.{◌≡◌, ◌↔◌, ℕ, ◌<◌, Bool, true, false, [], length, get_or, Option, Some, None, refl, sym, ◌∙◌, ap, subst, inl}
 use Rattle.std.proofs.Common.{inr, lit<}
 use Rattle.std.specs.Prelude.{not, ◌&&◌}

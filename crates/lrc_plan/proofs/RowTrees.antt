@@ -23,10 +23,10 @@ use Rattle.lrc_plan.specs.Form.{AreCoefficients, Form, Leaf, Scale, Sum, meaning
 use Rattle.lrc_plan.specs.PlanParts.{cut}
 use Rattle.lrc_code.specs.Groups.{group_coefficient, same_group}
 use Rattle.lrc_plan.specs.Planned.{Extends, ExtensionsDiffer, IsLocalTree, IsPlan, IsShallow, IsTargetValue, LeavesSurvive, group_others}
-use Rattle.lrc_plan.specs.RowPlans.{AnswerBy, IsGroupRow, IsRowPlan, IsRowValue, ReadsSurvivors, TellExtensions, rows_with_terms}
+use Rattle.lrc_plan.specs.RowPlans.{AnswerBy, IsGroupRow, IsRowPlan, IsRowValue, ReadsSurvivors, DecideExtensions, rows_with_terms}
 use Rattle.lrc_plan.specs.RowTrees.{AreRowTrees, AreValueCoefficients, IsRowTree, IsValueTree, ZeroTogether}
 use Rattle.lrc_plan.specs.Sums.{MeansRow, sum_meaning, some_leaf, some_leaf_total, terms}
-use Rattle.lrc_plan.proofs.RowPlanLaws.{told_otherwise}
+use Rattle.lrc_plan.proofs.RowPlanLaws.{given_otherwise}
 use Rattle.lrc_plan.proofs.TermRows.{blank_sum}
 
 -- ---- the target's tree
@@ -320,23 +320,23 @@ tree_plan code survives t row checks value trees plan v c = record {
   local = λ l. local_value code t row value l.0 (plan.local l) v;
 }
 
--- the coefficients of a plan's trees answer, also over survivors that are told otherwise
+-- the coefficients of a plan's trees answer, also over survivors that are given otherwise
 pub answer_rows : (code : CodeName) (survives other : Place → Bool) → ((p : Place) → survives p ≡ other p) → (t : Place)
     → (row : Option (List ℕ)) (value : Option Form) (rows : List (List ℕ)) (trees : List Form)
     → IsPlan (tables_of code) survives t value trees → AreValueCoefficients row value → ZeroTogether rows trees
     → AnswerBy (tables_of code) other t row rows
 answer_rows code survives other same t row value rows trees plan is together =
-    told_otherwise (tables_of code) survives other same t row rows (at row value is plan.of_target)
+    given_otherwise (tables_of code) survives other same t row rows (at row value is plan.of_target)
   where
-    tells : TellExtensions (tables_of code) survives rows
-    tells s h = (
+    decide : DecideExtensions (tables_of code) survives rows
+    decide s h = (
       λ x. (together s h).1 ((plan.of_survivors.possible s h).0 x),
       λ a. (plan.of_survivors.possible s h).1 ((together s h).0 a),
     )
 
     at : (row : Option (List ℕ)) (value : Option Form) → AreValueCoefficients row value → IsTargetValue (tables_of code) survives t value
         → AnswerBy (tables_of code) survives t row rows
-    at None None is target = (target.several.0 refl, tells)
+    at None None is target = (target.several.0 refl, decide)
     at None (Some f) is target = absurd (cc)
     at (Some r) None is target = absurd is
-    at (Some r) (Some f) is target = ((λ s e h x. is s h ∙ target.right s e h x), tells)
+    at (Some r) (Some f) is target = ((λ s e h x. is s h ∙ target.right s e h x), decide)

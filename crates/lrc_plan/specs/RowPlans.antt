@@ -20,8 +20,8 @@ GivesTarget code survives target row =
     (s e : Place → ℕ) → GivesBytes s → Extends code survives s e → combination row (map s all_places) ≡ e target
 
 -- survivors' bytes have an extension exactly where each row's sum of products is 0
-abbrev pub TellExtensions : Code → (Place → Bool) → List (List ℕ) → Type 0
-TellExtensions code survives rows = (s : Place → ℕ) → GivesBytes s
+abbrev pub DecideExtensions : Code → (Place → Bool) → List (List ℕ) → Type 0
+DecideExtensions code survives rows = (s : Place → ℕ) → GivesBytes s
     → ((e : Place → ℕ) × Extends code survives s e) ↔ All (λ row. combination row (map s all_places) ≡ 0) rows
 
 -- the row gives the target's byte from the survivors' bytes
@@ -37,7 +37,7 @@ IsRowValue code survives target (Some row) = IsValueRow code survives target row
 -- rows that all give 0 exactly where the survivors' bytes are those of a stripe
 pub record AreCheckRows (code : Code) (survives : Place → Bool) (checks : List (List ℕ)) : Type 0 where
   pub reads : All (ReadsSurvivors survives) checks
-  pub possible : TellExtensions code survives checks
+  pub possible : DecideExtensions code survives checks
 
 -- the equation of the target's group without the target: 1 at the others of the group, 0 elsewhere
 abbrev pub IsGroupRow : Code → Place → List ℕ → Type 0
@@ -63,5 +63,5 @@ IsCheckRow coef pivot r row =
 
 -- rows that answer a request over these survivors: the target's, or none where it is not determined, and those of the survivors
 abbrev pub AnswerBy : Code → (Place → Bool) → Place → Option (List ℕ) → List (List ℕ) → Type 0
-AnswerBy code survives target None checks = ExtensionsDiffer code survives target × TellExtensions code survives checks
-AnswerBy code survives target (Some row) checks = GivesTarget code survives target row × TellExtensions code survives checks
+AnswerBy code survives target None checks = ExtensionsDiffer code survives target × DecideExtensions code survives checks
+AnswerBy code survives target (Some row) checks = GivesTarget code survives target row × DecideExtensions code survives checks

@@ -123,7 +123,7 @@ fn batches_of_any_size(rt: HostRuntime) -> Result<(), AllocError> {
 
 // Counts the calls, with a decimal digit for each order of each rack.
 #[derive(Drop)]
-struct Told {
+struct Calls {
     before: AtomicU64,
     after: AtomicU64,
     ahead: AtomicU64,
@@ -142,7 +142,7 @@ fn digit(rack: usize, number: u64) -> u64 {
     one
 }
 
-impl Pause for Told {
+impl Pause for Calls {
     fn before(&self, rack: usize, number: u64) {
         self.before.fetch_add(digit(rack, number), Ordering::SeqCst);
     }
@@ -163,13 +163,13 @@ impl Pause for Told {
 }
 
 // The numbers that name each request before a close once, and each request and close.
-const TOLD_REQUESTS: u64 = 11_110_111_101_111;
+const ALL_REQUESTS: u64 = 11_110_111_101_111;
 
-const TOLD_ALL: u64 = 111_111_111_111_111;
+const ALL_ORDERS: u64 = 111_111_111_111_111;
 
-impl Told {
-    fn new() -> Told {
-        Told {
+impl Calls {
+    fn new() -> Calls {
+        Calls {
             before: AtomicU64::new(0),
             after: AtomicU64::new(0),
             ahead: AtomicU64::new(0),
@@ -177,11 +177,11 @@ impl Told {
         }
     }
 
-    fn is_told_all(&self) -> bool {
-        self.before.load(Ordering::SeqCst) == TOLD_REQUESTS
-            && self.after.load(Ordering::SeqCst) == TOLD_REQUESTS
-            && self.ahead.load(Ordering::SeqCst) == TOLD_ALL
-            && self.behind.load(Ordering::SeqCst) == TOLD_ALL
+    fn are_all(&self) -> bool {
+        self.before.load(Ordering::SeqCst) == ALL_REQUESTS
+            && self.after.load(Ordering::SeqCst) == ALL_REQUESTS
+            && self.ahead.load(Ordering::SeqCst) == ALL_ORDERS
+            && self.behind.load(Ordering::SeqCst) == ALL_ORDERS
     }
 }
 
@@ -189,10 +189,10 @@ const CUTS: &[u64] = &[1, 6, 12, u64::MAX];
 
 // However the racks are cut, a pause is given each request once, by its rack's number and its own, and each close.
 #[test]
-fn a_pause_is_told_the_numbers_of_all_lists(rt: HostRuntime) -> Result<(), AllocError> {
+fn a_pause_is_given_the_numbers_of_all_lists(rt: HostRuntime) -> Result<(), AllocError> {
     for most in CUTS {
-        let told = Told::new();
-        assert!(&rt; are_racks_answered(&rt, rt.alloc(), 2, *most, &told)? && told.is_told_all());
+        let calls = Calls::new();
+        assert!(&rt; are_racks_answered(&rt, rt.alloc(), 2, *most, &calls)? && calls.are_all());
     }
     Ok(())
 }

@@ -185,7 +185,7 @@ fn has_four_or_five(answered: &Answered) -> bool {
 
 // A close that a piece ends is not passed: with batches of one position each, no other feed goes on past it by more than that position.
 #[test]
-fn no_piece_is_run_behind_a_close(rt: HostRuntime) -> Result<(), AllocError> {
+fn no_piece_is_run_after_a_close(rt: HostRuntime) -> Result<(), AllocError> {
     let feeds: &[&str] = &["ab.", "abcdabcd"];
     assert!(&rt; is_answered(&rt, rt.alloc(), feeds, (2, 0), has_four_or_five)?);
     Ok(())

@@ -92,8 +92,8 @@ fn failed_write_without_memory(rt: HostRuntime) -> Result<(), AllocError> {
             assert!(&rt; has_file(&shelf, "a", b"ot") && shelf.failures() == 1);
             Ok(())
         }
-        told => {
-            assert!(&rt; told == Err(ShelfFault::OutOfMemory));
+        other => {
+            assert!(&rt; other == Err(ShelfFault::OutOfMemory));
             assert!(&rt; has_file(&shelf, "a", b"kept") && shelf.failures() == 0);
             Err(AllocError)
         }

@@ -52,12 +52,12 @@ impl<T> Lesson<Item<T>, EndRecord<T>> for Takes {
 }
 
 /// A read by which who holds all parts learns the whole.
-pub(crate) struct Tells;
+pub(crate) struct Shows;
 
-impl<T> Lesson<Item<T>, EndRecord<T>> for Tells {
+impl<T> Lesson<Item<T>, EndRecord<T>> for Shows {
     ghost use Rattle.farm_lanes.specs.LaneRule as lane;
 
-    ghost fact = { lane.Tells };
+    ghost fact = { lane.Shows };
 }
 
 /// How many ends a new lane has, and how many of them are put ends.

@@ -9,7 +9,7 @@ ghost use Rattle.farm_lanes.specs.LaneRule.{end_record, put_of, put_last, empty_
 
 use crate::lane::item::Item;
 use crate::lane::rule::{
-    CutPut, CutTake, EndCounts, EndRecord, LaneRule, NameEnds, Puts, Takes, Tells, Together,
+    CutPut, CutTake, EndCounts, EndRecord, LaneRule, NameEnds, Puts, Shows, Takes, Together,
 };
 use crossbeam_channel::{Pass, RuledReceiver, RuledSender};
 use std::alloc::Allocator;
@@ -135,7 +135,7 @@ pub(crate) fn learn<T: Drop, A: Allocator>(sends: &LaneSender<T, A>, pass: &mut 
     requires seated { IsSeatAt (sends_on sends.now) pass.old }
     requires all { (0 < (view pass.old).parts) × ((view pass.old).parts ≡ (view pass.old).ends) }
     ensures seated { IsSeatAt (sends_on sends.now) pass.new }
-    ensures told { (items : List (Item T)) × KnowsWhole (view pass.old) items }
+    ensures whole { (items : List (Item T)) × KnowsWhole (view pass.old) items }
 {
-    sends.learn_as::<Tells>(pass);
+    sends.learn_as::<Shows>(pass);
 }

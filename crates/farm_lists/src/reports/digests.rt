@@ -104,9 +104,9 @@ fn hand_out(
     let mut handed = Vec::new(alloc);
     let mut left = digests;
     for index in 0..outcomes.len() {
-        let (digest, behind) = first_digest(outcomes[index], left);
+        let (digest, further) = first_digest(outcomes[index], left);
         handed.push(digest)?;
-        left = behind;
+        left = further;
     }
     Ok(handed)
 }
@@ -115,12 +115,12 @@ fn hand_out(
 fn first_digest<'a>(outcome: &Outcome, left: &'a [Digest]) -> (Option<Digest>, &'a [Digest])
     ensures digest { (rest : List (List ℕ)) → left.now ≡ map sha256 (rebuilt_fragment outcome.now ++ rest)
         → result.0 ≡ fragment_digest outcome.now }
-    ensures behind { (rest : List (List ℕ)) → left.now ≡ map sha256 (rebuilt_fragment outcome.now ++ rest)
+    ensures further { (rest : List (List ℕ)) → left.now ≡ map sha256 (rebuilt_fragment outcome.now ++ rest)
         → result.1.now ≡ map sha256 rest }
 {
     match outcome {
         Outcome::Rebuilt(_) => match left {
-            [digest, behind @ ..] => (Some(*digest), behind),
+            [digest, further @ ..] => (Some(*digest), further),
             [] => (None, left),
         },
         Outcome::Contradiction => (None, left),

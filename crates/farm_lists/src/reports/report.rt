@@ -219,10 +219,14 @@ fn row_line<'a>(
 }
 
 // Adds a field if it is asked for.
-fn push_if<'a>(fields: &mut Vec<&'a [u8]>, is_told: bool, field: &'a [u8]) -> Result<(), AllocError>
-    ensures { OnOk result (map (λ f. f.now) fields.new.items ≡ map (λ f. f.now) fields.old.items ++ field_if is_told field.now) }
+fn push_if<'a>(
+    fields: &mut Vec<&'a [u8]>,
+    is_given: bool,
+    field: &'a [u8],
+) -> Result<(), AllocError>
+    ensures { OnOk result (map (λ f. f.now) fields.new.items ≡ map (λ f. f.now) fields.old.items ++ field_if is_given field.now) }
 {
-    if is_told {
+    if is_given {
         fields.push(field)?;
     }
     Ok(())

@@ -77,7 +77,7 @@ struct Held {
     behind: AtomicBool,
     missed: AtomicBool,
     // How often it was called after an order.
-    told: AtomicU64,
+    passed: AtomicU64,
 }
 
 impl Pause for Held {
@@ -99,7 +99,7 @@ impl Pause for Held {
     }
 
     fn behind(&self, _rack: usize, feed: usize, _position: usize) {
-        self.told.fetch_add(1, Ordering::SeqCst);
+        self.passed.fetch_add(1, Ordering::SeqCst);
         if feed == self.first {
             self.behind.store(true, Ordering::SeqCst);
         }
@@ -177,12 +177,12 @@ fn answers_with_first<R: Abort + Threads + Wait + Sync>(
         first,
         behind: AtomicBool::new(false),
         missed: AtomicBool::new(false),
-        told: AtomicU64::new(0),
+        passed: AtomicU64::new(0),
     };
     let racks = answers_of_feeds(rt, alloc, &feeds, settings_of(rt, 3, 1), &held)?;
     assert!(rt; !held.missed.load(Ordering::SeqCst));
     // A draw that is refused is counted too.
-    assert_eq!(rt; held.told.load(Ordering::SeqCst), 2);
+    assert_eq!(rt; held.passed.load(Ordering::SeqCst), 2);
     match racks.as_slice() {
         [only] => Ok(only.len()),
         _ => panic!(rt; "not one rack"),

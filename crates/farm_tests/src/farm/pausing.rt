@@ -9,7 +9,7 @@ use std::sync::atomic::{AtomicBool, AtomicU64, Ordering};
 // Counts calls, and notes one that names an order or a request that isn't there. Each count has a decimal digit for each rack, or for
 // each feed.
 #[derive(Drop)]
-struct Told {
+struct Calls {
     strange: AtomicBool,
     before: AtomicU64,
     after: AtomicU64,
@@ -17,9 +17,9 @@ struct Told {
     behind: AtomicU64,
 }
 
-impl Told {
-    fn new() -> Told {
-        Told {
+impl Calls {
+    fn new() -> Calls {
+        Calls {
             strange: AtomicBool::new(false),
             before: AtomicU64::new(0),
             after: AtomicU64::new(0),
@@ -70,7 +70,7 @@ fn feed_digit(rack: usize, feed: usize, position: usize) -> Option<u64> {
     }
 }
 
-impl Pause for Told {
+impl Pause for Calls {
     fn before(&self, rack: usize, number: u64) {
         self.count(&self.before, rack_digit(rack, number));
     }
@@ -99,9 +99,9 @@ const SEVEN_FEEDS: &[&[&[Entry]]] = &[
 fn orders_of_seven_feeds(rt: HostRuntime) -> Result<(), AllocError> {
     let alloc = rt.alloc();
     let feeds = feeds_of(&rt, alloc, SEVEN_FEEDS)?;
-    let told = Told::new();
-    let answers = answers_of_feeds(&rt, alloc, &feeds, settings_of(&rt, 3, 1), &told)?;
-    assert!(rt; answers.len() == 3 && told.are(431, 211_211));
+    let calls = Calls::new();
+    let answers = answers_of_feeds(&rt, alloc, &feeds, settings_of(&rt, 3, 1), &calls)?;
+    assert!(rt; answers.len() == 3 && calls.are(431, 211_211));
     Ok(())
 }
 
@@ -112,8 +112,8 @@ const TWO_LISTS: &[&[Entry]] = &[&[LOCAL], &[GLOBAL]];
 fn orders_of_two_lists(rt: HostRuntime) -> Result<(), AllocError> {
     let alloc = rt.alloc();
     let racks = racks_of(&rt, alloc, TWO_LISTS)?;
-    let told = Told::new();
-    let answers = answers_of(&rt, alloc, &racks, settings_of(&rt, 2, 1), &told)?;
-    assert!(rt; answers.len() == 2 && told.are(11, 11));
+    let calls = Calls::new();
+    let answers = answers_of(&rt, alloc, &racks, settings_of(&rt, 2, 1), &calls)?;
+    assert!(rt; answers.len() == 2 && calls.are(11, 11));
     Ok(())
 }

@@ -236,7 +236,7 @@ fn case_in_turn(alloc: Global, case: &Case) -> Result<bool, AllocError> {
 }
 
 #[test]
-fn plan_refused_answers_want_of_memory(rt: HostRuntime) -> Result<(), AllocError> {
+fn refused_plan_answers_out_of_memory(rt: HostRuntime) -> Result<(), AllocError> {
     for case in &CASES {
         assert!(&rt; case_in_turn(rt.alloc(), case)?, "{}", case.name);
     }

@@ -34,7 +34,7 @@ pub loop-first-preserved : goal.loop-first-preserved
 loop-first-preserved g c =
     let (reads, so, within, same, failed, few) = c.loop-first.invariant in
     let (qs, now, rose) = c.in_ok-part.ensures.answered in
-    let told = g.I.Shelf.files c.args.input.now in
+    let shown = g.I.Shelf.files c.args.input.now in
     let lists : List (Vec (Vec Record Global) Global) = c.args.lists.now in
     let i : ℕ = c.loop-first.first in
     let j : ℕ = c.end_of_racks-end.result in
@@ -51,7 +51,7 @@ loop-first-preserved g c =
     ap all_requests c.in_ok-append-2.ensures.items ∙ map-append requests c.loop-first.requests.items c.in_ok-part.part.requests.items in (
       reads ++ qs,
       rw (split, answers_are, requests_are)
-          (answered_append told (all_records (take i lists)) (all_records part) reads qs (all_answers c.loop-first.answers.items)
+          (answered_append shown (all_records (take i lists)) (all_records part) reads qs (all_answers c.loop-first.answers.items)
           (all_answers c.in_ok-part.part.answers.items)
           (all_requests c.loop-first.requests.items) (all_requests c.in_ok-part.part.requests.items) so here),
       omega (arith, c.end_of_racks-end.ensures.within.1),

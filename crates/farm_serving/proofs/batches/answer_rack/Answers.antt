@@ -57,7 +57,7 @@ loop-first-preserved g c =
     let (reads, so, most, same, failed, few) = c.loop-first.invariant in
     let (qs, are, rose, gives) = c.in_ok-orders.ensures.read in
     let at : After-as_slice-in-loop-first-3 g = (goal.at.loop-first-preserved g c).After-as_slice-in-loop-first-3 in
-    let told = g.I.Shelf.files c.args.input.now in
+    let shown = g.I.Shelf.files c.args.input.now in
     let lists : List (Vec Record Global) = c.args.lists.now in
     let i : ℕ = c.loop-first.first in
     let j : ℕ = c.end_of_positions-end.result in
@@ -70,7 +70,7 @@ loop-first-preserved g c =
     lengths_same c.in_ok-orders.later.items ∙ c.in_ok-orders.ensures.counted
     ∙ sym (map-map (λ (l : List Record). length (listed_before_close l)) lent c.as_slice-in-loop-first-3.result.now)
     ∙ ap (map (λ (l : List Record). length (listed_before_close l))) is in
-    let more = so_far_more told (fronts lists i) (pieces lists i j) reads qs c.loop-first.answers.items c.answer_piece.new.answers.items
+    let more = so_far_more shown (fronts lists i) (pieces lists i j) reads qs c.loop-first.answers.items c.answer_piece.new.answers.items
     (rack_requests c.loop-first.requests.items) (rack_requests c.in_ok-orders.later.items)
     c.loop-first.ended c.in_ok-ended.ended c.in_ok-orders.orders.items split so read
     (subst (λ (ls : List (List Record)). AllZip AreOrdersOf ls c.in_ok-orders.orders.items) is c.in_ok-orders.ensures.orders) counted
@@ -80,7 +80,7 @@ loop-first-preserved g c =
     c.in_ok-ended.ensures.answered in (
       joined reads qs,
       rw c.in_ok-requests-2.ensures
-          (subst (λ (fs : List (List Record)). AreSoFar told fs (joined reads qs) c.answer_piece.new.answers.items
+          (subst (λ (fs : List (List Record)). AreSoFar shown fs (joined reads qs) c.answer_piece.new.answers.items
           (joined (rack_requests c.loop-first.requests.items) (rack_requests c.in_ok-orders.later.items)) c.in_ok-ended.ended)
           (fronts_further lists i j ordered) more),
       omega (arith, c.end_of_positions-end.ensures.within.1),

@@ -4,7 +4,7 @@ use Rattle.farm_serving.proofs.batches.answer_racks.Goals as goal
 
 pub returns-clause-answered : goal.returns-clause-answered
 returns-clause-answered g c =
-    let (reads, are, rose, told) = c.in_ok-feeds.ensures.read in (
+    let (reads, are, rose, shown) = c.in_ok-feeds.ensures.read in (
       reads,
       record {
         read = are;
@@ -12,7 +12,7 @@ returns-clause-answered g c =
         ordered = c.in_ok-feeds.ensures.orders ∙ sym (counts_same c.args.racks.now);
         merged = c.in_ok-answers.ensures.answers;
         counted = requests_counted c.in_ok-feeds.requests.items ∙ c.in_ok-feeds.ensures.counted ∙ sym (counts_same c.args.racks.now);
-        given = told;
+        given = shown;
       },
       c.in_ok-answers.ensures.calm ∙ rose,
     )

@@ -16,7 +16,7 @@ use Rattle.farm_lists.specs.Report.{listed_before_close}
 use Rattle.farm_lists.specs.Rows.{FitsFeeds}
 use Rattle.farm_serving.specs.Serving.{AreAllReads, Reads, Serves, all_read, orders_all, written_files}
 use Rattle.farm_serving.proofs.AnsweredRacks.{counts_same, requests_counted}
-use Rattle.farm_serving.proofs.ServeEnds.{Answers, Lists, Requests, farm_explains, records, total_is, where_told, write_leaves, written_is}
+use Rattle.farm_serving.proofs.ServeEnds.{Answers, Lists, Requests, farm_explains, records, total_is, where_shown, write_leaves, written_is}
 use Rattle.farm_serving.proofs.FewAnswers.{FitLists, all_few, fit_counts, listed_counts}
 use Rattle.farm_serving.proofs.Fits.{all_answers_fit}
 use Rattle.farm_lists.proofs.MakingAll.{all_zip-length}
@@ -57,11 +57,11 @@ lent g c =
 pub make_files-requires-clause-answers : goal.make_files-requires-clause-answers
 make_files-requires-clause-answers g c = λ _ _. lent g c
 
--- where the input tells its files, they are served
-told_serves : (g : Over) (c : After-as_slice-3 g) (there : Files) → g.I.Shelf.files c.args.input.now ≡ Some there
+-- where the input shows its files, they are served
+shown_serves : (g : Over) (c : After-as_slice-3 g) (there : Files) → g.I.Shelf.files c.args.input.now ≡ Some there
     → Serves there (map records c.in_ok-lists.lists.items) c.in_ok-answers.ensures.answered.0
     (map (λ a. a.items) c.in_ok-answers.field-0.answers.items)
-told_serves g c there e =
+shown_serves g c there e =
     let (reads, so, rose) = c.in_ok-answers.ensures.answered in
     let lists : List (List (List Record)) = map records c.in_ok-lists.lists.items in
     let same : map records c.as_slice.result.now ≡ lists = ap (map records) c.as_slice.ensures.value in
@@ -75,10 +75,10 @@ told_serves g c there e =
     }
 
 -- the files that are made are those that serving writes
-told_files : (g : Over) (c : After-as_slice-4 g) (there : Files) → g.I.Shelf.files c.args.input.now ≡ Some there
+shown_files : (g : Over) (c : After-as_slice-4 g) (there : Files) → g.I.Shelf.files c.args.input.now ≡ Some there
     → map named c.as_slice-4.result.now ≡ written_files there (map records c.in_ok-lists.lists.items) c.in_ok-answers.ensures.answered.0
     (map (λ a. a.items) c.in_ok-answers.field-0.answers.items)
-told_files g c there e =
+shown_files g c there e =
     let (reads, so, rose) = c.in_ok-answers.ensures.answered in
     let same : map records c.as_slice.result.now ≡ map records c.in_ok-lists.lists.items = ap (map records) c.as_slice.ensures.value in
     let t = so.given there (c.in_ok-lists.ensures.same ∙ e) in
@@ -91,7 +91,7 @@ pub returns-in_err-answers-clause-why : goal.returns-in_err-answers-clause-why
 returns-in_err-answers-clause-why g c =
     let p = err_from_is_err_and c.from_residual-in_err-answers.result c.from_residual-in_err-answers.ensures.1 in
     rw (p.1, p.2)
-    (where_told (g.I.Shelf.files c.args.input.now) (λ t. Explains (of_farm c.in_err-answers.field-0.0) t)
+    (where_shown (g.I.Shelf.files c.args.input.now) (λ t. Explains (of_farm c.in_err-answers.field-0.0) t)
     (λ t e. farm_explains c.in_err-answers.field-0.0 t _ (c.in_ok-lists.ensures.lists t e)))
 
 pub returns-in_err-write_files-clause-output : goal.returns-in_err-write_files-clause-output
@@ -101,7 +101,7 @@ returns-in_err-write_files-clause-output g c =
     rw (p.1, p.2)
     (write_leaves c.in_err-write_files.field-0.0 (g.I.Shelf.files c.args.input.now) (g.O.Shelf.files c.args.output.now)
     (g.O.Shelf.files c.write_files.new.output) _ _ c.in_err-write_files.ensures.failure
-    (where_told (g.I.Shelf.files c.args.input.now)
+    (where_shown (g.I.Shelf.files c.args.input.now)
     (λ t. (lists : List (List (List Record))) × (reads : List (List (List Reads))) × (answers : List (List (ℕ × Outcome)))
     × Serves t lists reads answers
     × StopsWriting c.in_err-write_files.field-0.0 (written_files t lists reads answers) (g.O.Shelf.files c.args.output.now)
@@ -110,9 +110,9 @@ returns-in_err-write_files-clause-output g c =
       map records c.in_ok-lists.lists.items,
       c.in_ok-answers.ensures.answered.0,
       map (λ (a : Answers). a.items) c.in_ok-answers.field-0.answers.items,
-      told_serves g at.After-as_slice-3 t e,
+      shown_serves g at.After-as_slice-3 t e,
       subst (λ fs. StopsWriting c.in_err-write_files.field-0.0 fs (g.O.Shelf.files c.args.output.now)
-          (g.O.Shelf.files c.write_files.new.output)) (told_files g at.After-as_slice-4 t e) c.in_err-write_files.ensures.fault,
+          (g.O.Shelf.files c.write_files.new.output)) (shown_files g at.After-as_slice-4 t e) c.in_err-write_files.ensures.fault,
     ))))
 
 pub count_answers-requires-clause-racks : goal.count_answers-requires-clause-racks
@@ -141,12 +141,12 @@ returns-clause-served g c =
       omega (arith, length-map c.in_ok-lists.lists.items records, c.len.ensures),
       c.count_answers.ensures ∙ ap (sum_by (λ (a : Answers). length a.items)) c.as_slice-5.ensures.value
           ∙ total_is c.in_ok-answers.field-0.answers.items,
-      where_told (g.I.Shelf.files c.args.input.now)
+      where_shown (g.I.Shelf.files c.args.input.now)
           (λ there. Serves there lists reads answers × (g.O.Shelf.files c.write_files.new.output
           ≡ option_map (λ old. put_all old (written_files there lists reads answers)) (g.O.Shelf.files c.args.output.now)))
           (λ there e. (
-            told_serves g at.After-as_slice-3 there e,
+            shown_serves g at.After-as_slice-3 there e,
             c.in_ok-write_files.ensures.ok ∙ ap (λ fs. option_map (λ old. put_all old fs) (g.O.Shelf.files c.args.output.now))
-                (told_files g at.After-as_slice-4 there e),
+                (shown_files g at.After-as_slice-4 there e),
           )),
     )

@@ -13,12 +13,12 @@ fragments-preserved c =
     let f = c.index-fragments-left.result in
     let within : k < length fs = omega arith in
     let next : c.fragments.left ≡ k + 1 = omega arith in
-    let behind = subst (λ n. AreSources (survivors_of (drop n fs)) c.fragments.sources) next c.fragments.invariant.so_far in
+    let further = subst (λ n. AreSources (survivors_of (drop n fs)) c.fragments.sources) next c.fragments.invariant.so_far in
     let here = c.index-fragments-left.is in
     let bytes = c.as_slice.ensures.value ∙ ap (λ (x : Fragment). x.bytes.items) here in
     let at = c.index.ensures.value ∙ ap (λ (x : Fragment). index_of x.place) here in
     record {
       within = omega arith;
       so_far = subst (λ n. AreSources (survivors_of (drop k fs)) (set c.fragments.sources n c.as_slice.result)) (sym at)
-          (sources_more fs k f c.fragments.sources c.as_slice.result within bytes behind);
+          (sources_more fs k f c.fragments.sources c.as_slice.result within bytes further);
     }

@@ -6,21 +6,21 @@ use Rattle.lrc_code.specs.Answers.{IsAnswer}
 use Rattle.lrc_code.specs.Code.{Code}
 use Rattle.lrc_code.specs.Codes.{tables_of}
 use Rattle.lrc_code.specs.Requests.{is_among}
-use Rattle.lrc_plan.specs.RowPlans.{AnswerBy, TellExtensions}
+use Rattle.lrc_plan.specs.RowPlans.{AnswerBy, DecideExtensions}
 use Rattle.lrc_plan.proofs.FittingStripes.{contradiction, rebuilt, several}
 use Rattle.lrc_plan.proofs.solving.answer_by.Goals as goal
 
-tells : (code : Code) (survives : Place → Bool) (t : Place) (value : Option (List ℕ)) (checks : List (List ℕ))
-    → AnswerBy code survives t value checks → TellExtensions code survives checks
-tells code survives t None checks h = h.1
-tells code survives t (Some row) checks h = h.1
+decide : (code : Code) (survives : Place → Bool) (t : Place) (value : Option (List ℕ)) (checks : List (List ℕ))
+    → AnswerBy code survives t value checks → DecideExtensions code survives checks
+decide code survives t None checks h = h.1
+decide code survives t (Some row) checks h = h.1
 
 pub returns-then-not-possible : goal.returns-then-not-possible
 returns-then-not-possible c =
     let r = c.args.request.now in
     contradiction r c.recall_invariant.ensures.accepted c.recall_invariant.ensures.bytes
     (λ p. is_among p r.survivors) (λ p. refl) c.args.plan.now.checks
-    (tells (tables_of r.code) (λ p. is_among p r.survivors) r.target c.args.plan.now.value c.args.plan.now.checks c.requires)
+    (decide (tables_of r.code) (λ p. is_among p r.survivors) r.target c.args.plan.now.value c.args.plan.now.checks c.requires)
     (fails c.are_zero-possible.ensures c.if-not-possible.true)
 
 pub returns-in_ok-bytes-in-Some : goal.returns-in_ok-bytes-in-Some

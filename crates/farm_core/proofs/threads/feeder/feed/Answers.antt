@@ -5,7 +5,7 @@ use Rattle.farm_core.specs.declared.orders.Order.{Order}
 use Rattle.farm_core.specs.declared.jobs.Job.TheVariants.{Solve}
 use Rattle.farm_core.specs.Orders.{before_close, HasClose}
 use Rattle.farm_core.proofs.Progress.{close_here, end_here, one_request, has_close, closes_before_end}
-use Rattle.farm_core.proofs.FeedSteps.{IsFeeding, feed_more, feed_ends, right_spent, close_holds, draws_told}
+use Rattle.farm_core.proofs.FeedSteps.{IsFeeding, feed_more, feed_ends, right_spent, close_holds, draws_known}
 use Rattle.farm_core.proofs.threads.feeder.feed.Goals as goal
 use Rattle.farm_core.proofs.threads.feeder.feed.Goals.{else-loop-order-test, then-loop-order-test+in-Rebuild+in_default-drawn}
 
@@ -62,7 +62,7 @@ returns-clause-fed g c =
           (let a = ap (λ s. s.has.draws) w.seat-is in let b = ap (λ s. s.has.share) w.seat-is in let e = was.0.draws_are in
           let f = was.0.share_is in let h = c.requires.budget in let j = c.orders-order-items.ensures.limit in
           let k = ap (λ (l : List Order). length l) list_is in let m = was.0.within in omega arith)
-          (ap (λ s. s.has.held) w.seat-is) (draws_told c.loop-order.seat.has.draws c.args.right c.loop-order-test.seat.has 0 false
+          (ap (λ s. s.has.held) w.seat-is) (draws_known c.loop-order.seat.has.draws c.args.right c.loop-order-test.seat.has 0 false
           (ap (λ s. s.has.knows) w.seat-is ∙ was.0.kept.2) refl (let a = ap (λ s. s.has.draws) w.seat-is in omega arith))
           c.end-2.ensures
           (λ put count. (
@@ -82,14 +82,14 @@ returns-clause-fed g c =
           (let low : i < length orders = omega (arith, w.loop-order-test.true) in
           let limit = c.orders-order-items.ensures.limit in
           let same_length = ap (λ (l : List Order). length l) list_is in
-          let told = (w.in_default-drawn.ensures.refused (λ (e : c.loop-order.seat.has.share ≡ c.loop-order.seat.has.draws). absurd
+          let said = (w.in_default-drawn.ensures.refused (λ (e : c.loop-order.seat.has.share ≡ c.loop-order.seat.has.draws). absurd
           (let a = was.0.draws_are in let b = was.0.share_is in let d = c.requires.budget in omega arith))).1 in
-          let has = ap (λ s. s.has) w.seat-is ∙ told in
+          let has = ap (λ s. s.has) w.seat-is ∙ said in
           ends inv (ap (λ s. s.gate) w.seat-is ∙ w.draw-drawn.ensures.gate) (ap (λ (q : SeatRecord). q.share) has)
           (ap (λ (q : SeatRecord). q.numbers) has)
           (let a = ap (λ (q : SeatRecord). q.draws) has in let b = ap (λ (q : SeatRecord). q.share) has in let e = was.0.draws_are in
           let f = was.0.share_is in let h = c.requires.budget in omega arith)
-          (ap (λ (q : SeatRecord). q.held) has) (draws_told c.loop-order.seat.has.draws c.args.right c.loop-order-test.seat.has 1 true
+          (ap (λ (q : SeatRecord). q.held) has) (draws_known c.loop-order.seat.has.draws c.args.right c.loop-order-test.seat.has 1 true
           (ap (λ (q : SeatRecord). q.knows) has) refl (let a = ap (λ (q : SeatRecord). q.draws) has in omega arith))
           c.end-2.ensures
           (λ put count. (

@@ -131,7 +131,7 @@ pub returns-clause-settled : goal.returns-clause-settled
 returns-clause-settled g c =
     let empty : c.loop-end-2.takers.items ≡ [] = nil_of c.loop-end-2.takers.items
     (omega (arith, c.loop-end-2.takers.ok.0, c.in_default-pop-2.ensures.cases.0)) in
-    let told = c.learn.ensures.told in
-    finishes c.args.ended.items c.args.takers.items (view c.loop-end-2.pass) told.0 c.loop-end.put c.loop-end-2.taken c.requires
+    let known = c.learn.ensures.whole in
+    finishes c.args.ended.items c.args.takers.items (view c.loop-end-2.pass) known.0 c.loop-end.put c.loop-end-2.taken c.requires
     (subst (λ l. Gathering c.args.ended.items c.args.takers.items [] l
-    (view c.loop-end-2.pass) c.loop-end.put c.loop-end-2.taken) empty c.loop-end-2.invariant.gathering) told.1
+    (view c.loop-end-2.pass) c.loop-end.put c.loop-end-2.taken) empty c.loop-end-2.invariant.gathering) known.1

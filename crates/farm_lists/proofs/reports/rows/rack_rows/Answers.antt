@@ -3,7 +3,7 @@ use Rattle.std.proofs.lemmas.List.{length-set, map-append}
 use Rattle.farm_lists.specs.declared.lists.requests.ReadRequest.{ReadRequest}
 use Rattle.farm_lists.specs.Report.{read_of, row_of}
 use Rattle.farm_lists.specs.Rows.{position, row_of_number}
-use Rattle.farm_lists.proofs.RackRows.{counts_step, known_in, number_is, numbers_push, position_in, position_most, position_read, told_step}
+use Rattle.farm_lists.proofs.RackRows.{counts_step, known_in, number_is, numbers_push, position_in, position_most, position_read, said_step}
 use Rattle.farm_lists.proofs.reports.rows.rack_rows.Goals as goal
 use Rattle.farm_lists.proofs.reports.rows.rack_rows.Goals.{After-index-position}
 
@@ -72,9 +72,9 @@ loop-number-preserved c =
       made = ap (map row_of) c.in_ok-push.ensures.items ∙ map-append row_of c.loop-number.rows.items _
           ∙ ap (λ t. t ++ row_of c.answer_row.result ∷ []) c.loop-number.invariant.made
           ∙ sym (numbers_push (row_of_number requests c.args.answers.now) c.loop-number.number (row_of c.answer_row.result) made);
-      told = told_step (λ r. r.outcome.now) c.args.answers.now c.loop-number.number c.index-answers-number.result c.answer_row.result
+      said = said_step (λ r. r.outcome.now) c.args.answers.now c.loop-number.number c.index-answers-number.result c.answer_row.result
           c.loop-number.rows.items c.push.new.self.items
-          c.loop-number-test.true c.index-answers-number.is c.answer_row.ensures.outcome c.loop-number.invariant.told
+          c.loop-number-test.true c.index-answers-number.is c.answer_row.ensures.outcome c.loop-number.invariant.said
           c.in_ok-push.ensures.items;
       sized = length-set c.loop-number.counts.items c.index-answers-number.result.0 (c.index-position.result.now + 1)
           ∙ c.loop-number.invariant.sized;

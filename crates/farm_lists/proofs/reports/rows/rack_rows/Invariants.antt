@@ -9,7 +9,7 @@ invariant-loop-number l =
     record {
       made : map row_of l.rows.items ≡ filter_map (row_of_number (map (λ rs. map read_of rs.items) l.requests) l.answers)
           (range_with_len 0 l.number);
-      told : map (λ r. r.outcome.now) l.rows.items ≡ map (λ a. a.1) (take l.number l.answers);
+      said : map (λ r. r.outcome.now) l.rows.items ≡ map (λ a. a.1) (take l.number l.answers);
       sized : length l.counts.items ≡ length l.requests;
       counted : (f : ℕ) → f < length l.requests → get_or l.counts.items f 0 ≡ position l.answers f l.number;
     }

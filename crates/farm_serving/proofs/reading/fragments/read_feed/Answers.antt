@@ -47,12 +47,12 @@ returns-clause-read g c =
     let counted : c.len.result ≡ length (listed_before_close c.args.list.now) =
     omega (arith, c.len.ensures, items, images, size, c.in_ok-requests.requests.ok.0) in
     IfOk-weaker c.read_requests.result _ _ (λ v it.
-    let (reads, are, rose, told) = it in (
+    let (reads, are, rose, shown) = it in (
       reads,
       subst (λ (rs : List ListedRequest). AllZip AreReads rs reads) same are,
       rose,
       λ there e.
-          let t = told there e in (
+          let t = shown there e in (
             t.0
                 ∙ ap (λ (rs : List ListedRequest). map Rebuild (asked_feed there rs reads) ++ close_where
                 (nat_lt c.len.result (length c.args.list.now))) same

@@ -53,7 +53,7 @@ loop-rack-init g c = (
 pub loop-rack-preserved : goal.loop-rack-preserved
 unfolding served listed records requests counts orders
 loop-rack-preserved g c =
-    let (reads, are, same, failed, few, orders_sized, requests_sized, told) = c.loop-rack.invariant in
+    let (reads, are, same, failed, few, orders_sized, requests_sized, shown) = c.loop-rack.invariant in
     let (q, is, rose, gives) = c.in_ok-feeds.ensures.read in
     let lists : List Lists = c.args.lists.now in
     let i : ℕ = c.loop-rack.rack in
@@ -77,7 +77,7 @@ loop-rack-preserved g c =
           c.in_ok-push-2.ensures.items requests_sized
           (c.in_ok-feeds.ensures.counted ∙ listed_is),
       λ there e.
-          let before = told there e in
+          let before = shown there e in
           let now = gives there (same ∙ e) in (
             images_more (orders_rack there) orders AreRackReads ls reads rack q c.loop-rack.racks.items c.push.new.self.items
                 c.in_ok-feeds.feeds are c.in_ok-push.ensures.items before.0 now.0,
@@ -94,14 +94,14 @@ read_all racks lists n past same = same ∙ ap (map listed) (take_all n lists pa
 pub from_checked-requires : goal.from_checked-requires
 unfolding served listed
 from_checked-requires g c =
-    let (reads, are, same, failed, few, orders_sized, requests_sized, told) = c.loop-rack.invariant in
+    let (reads, are, same, failed, few, orders_sized, requests_sized, shown) = c.loop-rack.invariant in
     let all = read_all c.loop-rack.racks.items c.args.lists.now c.loop-rack.rack c.loop-rack-test.false orders_sized in
     few_feeds c.loop-rack.racks.items c.args.lists.now all c.requires.racks c.requires.feeds
 
 pub returns-clause-orders : goal.returns-clause-orders
 unfolding served listed orders
 returns-clause-orders g c =
-    let (reads, are, same, failed, few, orders_sized, requests_sized, told) = c.loop-rack.invariant in
+    let (reads, are, same, failed, few, orders_sized, requests_sized, shown) = c.loop-rack.invariant in
     ap (map (λ (feeds : List (List Order)). map (λ (os : List Order). length (before_close os)) feeds)) c.from_checked.ensures
     ∙ map-map (λ (feeds : List (List Order)). map (λ (os : List Order). length (before_close os)) feeds) orders c.loop-rack.racks.items
     ∙ read_all c.loop-rack.racks.items c.args.lists.now c.loop-rack.rack c.loop-rack-test.false orders_sized

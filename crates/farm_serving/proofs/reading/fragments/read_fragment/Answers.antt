@@ -1,6 +1,6 @@
 use Rattle.std.proofs.Common.{◌+◌, ◌++◌, ◌∷◌, ◌∙◌, true, false, Some, None, ap, arith, rules}
 use Rattle.lrc_code.specs.Places.{name_of}
-use Rattle.farm_serving.proofs.ReadFiles.{fragment_absent, fragment_failed, fragment_other, fragment_read, told_bytes}
+use Rattle.farm_serving.proofs.ReadFiles.{fragment_absent, fragment_failed, fragment_other, fragment_read, shown_bytes}
 use Rattle.farm_serving.proofs.reading.fragments.read_fragment.Goals as goal
 
 pub returns-then-len-length-clause-read : goal.returns-then-len-length-clause-read
@@ -12,7 +12,7 @@ returns-then-len-length-clause-read g c =
           fragment_read there c.args.listed.now c.args.place c.as_str.result.now c.in-Ok-Some.bytes.items limit
           (omega (arith, c.length-length.ensures.value))
           (c.as_str.ensures.value ∙ c.in_ok-name.ensures ∙ ap (λ s. s ++ 46 ∷ name_of c.args.place) c.stripe.ensures.value)
-          (told_bytes (g.I.Shelf.files c.args.input.now) there (Some c.in-Ok-Some.bytes.items)
+          (shown_bytes (g.I.Shelf.files c.args.input.now) there (Some c.in-Ok-Some.bytes.items)
           (c.length-length.result + 1) c.as_str.result.now (rw c.in-Ok-Some.field-0-is at c.in-Ok-Some.ensures.bytes) e)
           (omega (arith, c.len.ensures, c.if-len-length.true, c.length-length.ensures.value, c.in-Ok-Some.bytes.ok.0)),
     )
@@ -26,7 +26,7 @@ returns-clause-read g c =
           fragment_other there c.args.listed.now c.args.place c.as_str.result.now c.in-Ok-Some.bytes.items limit
           (omega (arith, c.length-length.ensures.value))
           (c.as_str.ensures.value ∙ c.in_ok-name.ensures ∙ ap (λ s. s ++ 46 ∷ name_of c.args.place) c.stripe.ensures.value)
-          (told_bytes (g.I.Shelf.files c.args.input.now) there (Some c.in-Ok-Some.bytes.items)
+          (shown_bytes (g.I.Shelf.files c.args.input.now) there (Some c.in-Ok-Some.bytes.items)
           (c.length-length.result + 1) c.as_str.result.now (rw c.in-Ok-Some.field-0-is at c.in-Ok-Some.ensures.bytes) e)
           (λ h. c.if-len-length.false (omega (arith, h, c.len.ensures, c.length-length.ensures.value, c.in-Ok-Some.bytes.ok.0))),
     )
@@ -38,7 +38,7 @@ returns-in-Ok-None-clause-read g c = (
   λ there e.
       fragment_absent there c.args.listed.now c.args.place c.as_str.result.now (c.length-length.result + 1)
       (c.as_str.ensures.value ∙ c.in_ok-name.ensures ∙ ap (λ s. s ++ 46 ∷ name_of c.args.place) c.stripe.ensures.value)
-      (told_bytes (g.I.Shelf.files c.args.input.now) there None (c.length-length.result + 1) c.as_str.result.now
+      (shown_bytes (g.I.Shelf.files c.args.input.now) there None (c.length-length.result + 1) c.as_str.result.now
       (rw c.in-Ok-None.field-0-is at c.in-Ok-None.ensures.bytes) e),
 )
 

@@ -40,7 +40,7 @@ loop-feed-init g c = (
 pub loop-feed-preserved : goal.loop-feed-preserved
 unfolding AreOf listed requests count
 loop-feed-preserved g c =
-    let (reads, are, same, failed, few, ordered, requests_sized, told) = c.loop-feed.invariant in
+    let (reads, are, same, failed, few, ordered, requests_sized, shown) = c.loop-feed.invariant in
     let (q, is, rose, gives) = c.in_ok-list.ensures.read in
     let lists : List (Bor (List Record)) = c.args.lists.now in
     let i : ℕ = c.loop-feed.feed in
@@ -62,7 +62,7 @@ loop-feed-preserved g c =
           c.in_ok-push-2.ensures.items requests_sized
           (c.in_ok-list.ensures.counted ∙ listed_is),
       λ there e.
-          let before = told there e in
+          let before = shown there e in
           let now = gives there (same ∙ e) in (
             values_more (orders_feed there) AreOf ls reads list q c.loop-feed.feeds.items c.push.new.self.items c.in_ok-list.list are
                 c.in_ok-push.ensures.items before.0 now.0,
@@ -74,28 +74,28 @@ loop-feed-preserved g c =
 
 pub read_feed-requires-clause-room : goal.read_feed-requires-clause-room
 read_feed-requires-clause-room g c =
-    let (reads, are, same, failed, few, ordered, requests_sized, told) = c.loop-feed.invariant in
+    let (reads, are, same, failed, few, ordered, requests_sized, shown) = c.loop-feed.invariant in
     let most = count_within c.args.lists.now c.loop-feed.feed c.index-lists-feed.result c.loop-feed-test.true in
     let here = ap (λ (v : Bor (List Record)). length v.now) c.index-lists-feed.is in
     omega (arith, few, most, here, c.requires.room)
 
 pub returns-in_err-list-clause-few : goal.returns-in_err-list-clause-few
 returns-in_err-list-clause-few g c =
-    let (reads, are, same, failed, few, ordered, requests_sized, told) = c.loop-feed.invariant in
+    let (reads, are, same, failed, few, ordered, requests_sized, shown) = c.loop-feed.invariant in
     let most = count_within c.args.lists.now c.loop-feed.feed c.index-lists-feed.result c.loop-feed-test.true in
     let here = ap (λ (v : Bor (List Record)). length v.now) c.index-lists-feed.is in
     omega (arith, few, most, here, c.in_err-list.ensures.few)
 
 pub returns-in_err-push-clause-few : goal.returns-in_err-push-clause-few
 returns-in_err-push-clause-few g c =
-    let (reads, are, same, failed, few, ordered, requests_sized, told) = c.loop-feed.invariant in
+    let (reads, are, same, failed, few, ordered, requests_sized, shown) = c.loop-feed.invariant in
     let most = count_within c.args.lists.now c.loop-feed.feed c.index-lists-feed.result c.loop-feed-test.true in
     let here = ap (λ (v : Bor (List Record)). length v.now) c.index-lists-feed.is in
     omega (arith, few, most, here, c.in_ok-list.ensures.few)
 
 pub returns-in_err-push-2-clause-few : goal.returns-in_err-push-2-clause-few
 returns-in_err-push-2-clause-few g c =
-    let (reads, are, same, failed, few, ordered, requests_sized, told) = c.loop-feed.invariant in
+    let (reads, are, same, failed, few, ordered, requests_sized, shown) = c.loop-feed.invariant in
     let most = count_within c.args.lists.now c.loop-feed.feed c.index-lists-feed.result c.loop-feed-test.true in
     let here = ap (λ (v : Bor (List Record)). length v.now) c.index-lists-feed.is in
     omega (arith, few, most, here, c.in_ok-list.ensures.few)

@@ -42,12 +42,12 @@ returns-clause-few g c = omega (arith, few g (goal.at.returns-clause-few g c).Af
 pub returns-clause-read : goal.returns-clause-read
 returns-clause-read g c =
     let same = the_lists g (goal.at.returns-clause-read g c).After-as_slice in
-    let (reads, are, rose, told) = c.in_ok-read.ensures.read in (
+    let (reads, are, rose, shown) = c.in_ok-read.ensures.read in (
       reads,
       reads_same c.args.lists.now reads (subst (λ (ls : List (List Record)). AreRackReads ls reads) same are),
       rose,
       λ there e.
-          let t = told there e in (
+          let t = shown there e in (
             t.0 ∙ ap (λ (ls : List (List Record)). orders_rack there ls reads) same ∙ orders_same there c.args.lists.now reads,
             t.1 ∙ ap (λ (ls : List (List Record)). rack_read there ls reads) same ∙ requests_same there c.args.lists.now reads,
           ),

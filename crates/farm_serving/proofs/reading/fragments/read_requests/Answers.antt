@@ -9,27 +9,27 @@ use Rattle.farm_serving.proofs.reading.fragments.read_requests.Goals as goal
 
 pub read_request-requires : goal.read_request-requires
 read_request-requires g c =
-    let (reads, are, same, failed, few, made, left, told) = c.loop-index.invariant in
+    let (reads, are, same, failed, few, made, left, shown) = c.loop-index.invariant in
     omega (arith, few, c.requires, c.loop-index-test.true)
 
 pub returns-in_err-request-clause-few : goal.returns-in_err-request-clause-few
 returns-in_err-request-clause-few g c =
-    let (reads, are, same, failed, few, made, left, told) = c.loop-index.invariant in
+    let (reads, are, same, failed, few, made, left, shown) = c.loop-index.invariant in
     omega (arith, few, c.in_err-request.ensures.few, c.loop-index-test.true)
 
 pub returns-in_err-push-clause-few : goal.returns-in_err-push-clause-few
 returns-in_err-push-clause-few g c =
-    let (reads, are, same, failed, few, made, left, told) = c.loop-index.invariant in
+    let (reads, are, same, failed, few, made, left, shown) = c.loop-index.invariant in
     omega (arith, few, c.in_ok-request.ensures.few, c.loop-index-test.true)
 
 pub returns-in_err-push-2-clause-few : goal.returns-in_err-push-2-clause-few
 returns-in_err-push-2-clause-few g c =
-    let (reads, are, same, failed, few, made, left, told) = c.loop-index.invariant in
+    let (reads, are, same, failed, few, made, left, shown) = c.loop-index.invariant in
     omega (arith, few, c.in_ok-request.ensures.few, c.loop-index-test.true)
 
 pub loop-index-preserved : goal.loop-index-preserved
 loop-index-preserved g c =
-    let (reads, are, same, failed, few, made, left, told) = c.loop-index.invariant in
+    let (reads, are, same, failed, few, made, left, shown) = c.loop-index.invariant in
     let (q, is, rose, gives) = c.in_ok-request.ensures.read in
     let rs : List ListedRequest = map (λ (x : Bor ListedRequest). x.now) (take c.loop-index.index c.args.requests.now) in
     let r : ListedRequest = c.index-requests-index.result.now in
@@ -52,7 +52,7 @@ loop-index-preserved g c =
         length-append c.loop-index.read.items (c.in_ok-request.with_unread ∷ []),
       ),
       λ there e.
-          let before = told there e in
+          let before = shown there e in
           let now = gives there (same ∙ e) in (
             orders_more there rs reads r q c.loop-index.orders.items c.push.new.self.items c.in_ok-request.request are
                 c.in_ok-push.ensures.items before.0 now.0,
@@ -75,24 +75,24 @@ loop-index-init g c = (
 
 pub returns-in_err-push_close-clause-few : goal.returns-in_err-push_close-clause-few
 returns-in_err-push_close-clause-few g c =
-    let (reads, are, same, failed, few, made, left, told) = c.loop-index.invariant in
+    let (reads, are, same, failed, few, made, left, shown) = c.loop-index.invariant in
     omega (arith, few, c.loop-index-test.false, c.loop-index.auto.index-end)
 
 pub from_checked-requires : goal.from_checked-requires
 from_checked-requires g c =
-    let (reads, are, same, failed, few, made, left, told) = c.loop-index.invariant in
+    let (reads, are, same, failed, few, made, left, shown) = c.loop-index.invariant in
     let all : c.loop-index.index ≡ length c.args.requests.now = omega (arith, c.loop-index-test.false, c.loop-index.auto.index-end) in
     orders_few c.push_close.new.orders.items c.loop-index.orders.items made.0 c.args.closes c.loop-index.index c.in_ok-push_close.ensures
     made.1 made.2 (omega (arith, all, c.requires.orders))
 
 pub returns-clause-orders : goal.returns-clause-orders
 returns-clause-orders g c =
-    let (reads, are, same, failed, few, made, left, told) = c.loop-index.invariant in
+    let (reads, are, same, failed, few, made, left, shown) = c.loop-index.invariant in
     let all : c.loop-index.index ≡ length c.args.requests.now = omega (arith, c.loop-index-test.false, c.loop-index.auto.index-end) in
     (made.0, made.2 ∙ all, c.from_checked.ensures ∙ c.in_ok-push_close.ensures ∙ ap (λ t. t ++ close_where c.args.closes) made.1)
 
 pub returns-clause-counted : goal.returns-clause-counted
 returns-clause-counted g c =
-    let (reads, are, same, failed, few, made, left, told) = c.loop-index.invariant in
+    let (reads, are, same, failed, few, made, left, shown) = c.loop-index.invariant in
     let all : c.loop-index.index ≡ length c.args.requests.now = omega (arith, c.loop-index-test.false, c.loop-index.auto.index-end) in
     left ∙ all

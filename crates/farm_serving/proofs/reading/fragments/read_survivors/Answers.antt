@@ -11,7 +11,7 @@ use Rattle.farm_serving.proofs.reading.fragments.read_survivors.Goals.{in-Some+i
 
 pub loop-index-preserved : goal.loop-index-preserved
 loop-index-preserved g c =
-    let (reads, read, same, failed, few, part, told) = c.loop-index.invariant in
+    let (reads, read, same, failed, few, part, shown) = c.loop-index.invariant in
     let (m, rose, gives) = c.in_ok-bytes.ensures.read in
     let p : Place = get_or c.survivors-places.result.now c.loop-index.index place.X0 in (
       reads ++ (p, m) ∷ [],
@@ -37,16 +37,16 @@ loop-index-preserved g c =
               rw (w.fragments-is, w.in_ok-push-in-Some.ensures.items)
                   (map-append survivor_of c.loop-index.fragments.items _
                   ∙ kept_some there c.args.listed.now reads p m w.in-Some.bytes.items (survivors_of c.loop-index.fragments.items)
-                  (told there e).0 got),
+                  (shown there e).0 got),
               rw w.unread-is (unread_some there c.args.listed.now reads p m w.in-Some.bytes.items c.loop-index.unread.items
-                  (told there e).1 got),
+                  (shown there e).1 got),
             )
         | in-None+in_ok-push-in-None w ↦
             let got = rw w.in-None.is at (gives there (same ∙ e)) in (
               rw w.fragments-is (kept_none there c.args.listed.now reads p m (survivors_of c.loop-index.fragments.items)
-                  (told there e).0 got),
+                  (shown there e).0 got),
               rw (w.unread-is, w.in_ok-push-in-None.ensures.items)
-                  (unread_none there c.args.listed.now reads p m c.loop-index.unread.items (told there e).1 got),
+                  (unread_none there c.args.listed.now reads p m c.loop-index.unread.items (shown there e).1 got),
             )
       ],
     )
