@@ -1,23 +1,26 @@
 -- The answers for several lost targets.
-use Rattle.std.specs.Prelude.{◌≡◌, ◌≢◌, ℕ, ◌<◌, List, Bool, true, false, Some, slice_index}
+use Rattle.std.specs.Prelude.{◌≡◌, ◌≢◌, ℕ, ◌<◌, List, Bool, true, false, not, Some, slice_index}
 use Rattle.lrc_field.specs.declared.terms.Term.{Term}
 use Rattle.lrc_code.specs.declared.places.Place.{Place}
 use Rattle.lrc_code.specs.declared.codes.Code.{Code as CodeName}
 use Rattle.lrc_code.specs.Code.{has_place}
 use Rattle.lrc_code.specs.Codes.{tables_of}
 use Rattle.lrc_code.specs.Places.{index_of}
+use Rattle.lrc_code.specs.Reduction.{IsReduction}
+use Rattle.lrc_code.specs.Sets.{is_in}
 use Rattle.lrc_plan.specs.Planned.{ExtensionsDiffer}
 use Rattle.lrc_plan.specs.RowPlans.{IsValueRow}
 use Rattle.lrc_c.specs.declared.rebuilding.Answer.{Answer}
 use Rattle.lrc_c.specs.declared.rebuilding_many.Target.{Target}
 use Rattle.lrc_c.specs.declared.rebuilding_many.Target.TheVariants as target
+use Rattle.lrc_c.specs.declared.rebuilding_many.Plans.{Plans}
 use Rattle.lrc_c.specs.declared.rebuilding_many.Aim.{Aim}
 use Rattle.lrc_c.specs.declared.rebuilding_many.Aim.TheVariants as aim
 use Rattle.lrc_c.specs.declared.windows.Wanted.{Wanted}
 use Rattle.lrc_c.specs.declared.windows.Wanted.TheVariants as wanted
 use Rattle.lrc_c.specs.Arguments.{AreWhole, code_numbered, is_set}
 use Rattle.lrc_field.specs.Terms.{AreTermsOf}
-use Rattle.lrc_c.specs.Lent.{at_place, AreUsed}
+use Rattle.lrc_c.specs.Lent.{at_place, lent, AreUsed}
 use Rattle.lrc_c.specs.Rebuilt.{status_of, IsAnswerAt}
 
 -- a place of the code that doesn't survive
@@ -41,13 +44,13 @@ pub record AreAllAsked (code_number mask : ℕ) (at : List (List ℕ)) (len : �
   pub third : IsAsked code (is_set mask) len (slice_index targets 2) c
   pub fourth : IsAsked code (is_set mask) len (slice_index targets 3) d
 
--- what is told of a number: 0 of 255, and else an answer, with the bytes that it says in the room
+-- what is answered of a number: 0 of 255, and else an answer, with the bytes that it says in the room
 pub record IsAnswered (code : CodeName) (survives : Place → Bool) (at : List (List ℕ)) (len number status : ℕ) (out : List ℕ) : Type 0 where
   pub nothing : number ≡ 255 → status ≡ 0
   pub target : (p : Place) → index_of p ≡ number
       → (a : Answer) × (status ≡ status_of a) × IsAnswerAt (tables_of code) survives (at_place at) len p a out
 
--- what is told of all four
+-- what is answered of all four
 pub record AreAnswered (code : CodeName) (survives : Place → Bool) (at : List (List ℕ)) (len : ℕ)
     (targets statuses a b c d : List ℕ) : Type 0 where
   pub first : IsAnswered code survives at len (slice_index targets 0) (slice_index statuses 0) a
@@ -95,6 +98,11 @@ IsTermRow aim.Nothing row xss len ts = Unit
 IsTermRow aim.Several row xss len ts = Unit
 IsTermRow aim.Sums row xss len ts = AreTermsOf row xss len ts
 
+-- plans over the survivors' bytes, by the equations reduced by the lost places
+pub record ArePlans (p : Plans) : Type 0 where
+  pub whole : AreWhole p.code (is_in p.set) (lent p.at.now) p.len
+  pub reduced : IsReduction (tables_of p.code) (λ q. not (is_in p.set q)) p.reduced.now
+
 -- two targets both have combinations
 pub record AreBothSums (one other : Aim) : Type 0 where
   pub first : one ≡ aim.Sums
@@ -115,8 +123,8 @@ status_at aim.Several false = 1
 status_at aim.Sums true = 0
 status_at aim.Sums false = 1
 
--- what is told of a target
-abbrev pub IsTold : CodeName → (Place → Bool) → List (List ℕ) → ℕ → Target → ℕ → List ℕ → Type 0
-IsTold code survives at len target.Nothing status out = status ≡ 0
-IsTold code survives at len (target.Lost p) status out =
+-- what is answered of a target
+abbrev pub IsAnsweredAt : CodeName → (Place → Bool) → List (List ℕ) → ℕ → Target → ℕ → List ℕ → Type 0
+IsAnsweredAt code survives at len target.Nothing status out = status ≡ 0
+IsAnsweredAt code survives at len (target.Lost p) status out =
     (a : Answer) × (status ≡ status_of a) × IsAnswerAt (tables_of code) survives (at_place at) len p a out

@@ -1,5 +1,5 @@
 //! The checks of survivors, and what is written beside them in one pass.
-ghost use Rattle.std.specs.Prelude.{◌≡◌, true, false, length, All, ◌⊎◌};
+ghost use Rattle.std.specs.Prelude.{◌≡◌, true, false, length, All, IsTrue, ◌↔◌, ◌⊎◌};
 ghost use Rattle.lrc_code.specs.declared.codes.Code.{Code};
 ghost use Rattle.lrc_code.specs.Code.{AreBytes};
 ghost use Rattle.lrc_code.specs.Codes.{tables_of};
@@ -88,8 +88,7 @@ fn is_possible(code: Code, set: PlaceSet, at: &[Lent; 16], len: usize) -> bool
 /// Whether four combinations of lent bytes are 00 at every position.
 pub(crate) fn are_zero(rows: [[Gf; 16]; 4], at: &[Lent; 16], len: usize) -> bool
     requires { All (λ row. AreUsed row (lent at.now) len) rows }
-    ensures yes { result ≡ true → AreZeroRows rows (lent at.now) len }
-    ensures no { result ≡ false → ¬ AreZeroRows rows (lent at.now) len }
+    ensures { IsTrue result ↔ AreZeroRows rows (lent at.now) len }
 {
     let nothing = Wants {
         first: Wanted::Nothing,

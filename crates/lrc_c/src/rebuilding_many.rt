@@ -1,14 +1,12 @@
 //! Rebuilding up to four lost fragments of a stripe in one pass.
-ghost use Rattle.std.specs.Prelude.{◌≡◌, ◌<◌, not, length, max, MatchOption, slice_index};
+ghost use Rattle.std.specs.Prelude.{◌≡◌, ◌<◌, length, max, MatchOption, slice_index};
 ghost use Rattle.lrc_code.specs.declared.codes.Code.{Code};
-ghost use Rattle.lrc_code.specs.Codes.{tables_of};
-ghost use Rattle.lrc_code.specs.Reduction.{IsReduction};
 ghost use Rattle.lrc_code.specs.Sets.{is_in};
 ghost use Rattle.lrc_c.specs.Arguments.{AreWhole, is_set};
 ghost use Rattle.lrc_c.specs.Lent.{lent};
 ghost use Rattle.lrc_field.specs.Pairs.{ArePairsOf};
 ghost use Rattle.lrc_c.specs.RebuiltMany.{AreAllAsked, AreAnswered, AreBothSums, IsAimed, IsAsked, IsLostOf, IsReady, IsTargetOf};
-ghost use Rattle.lrc_c.specs.RebuiltMany.{IsTermRow, IsTold, IsUsedRow, IsWantedOf, status_at};
+ghost use Rattle.lrc_c.specs.RebuiltMany.{ArePlans, IsAnsweredAt, IsTermRow, IsUsedRow, IsWantedOf, status_at};
 
 use crate::arguments::{are_whole, code_numbered, set_of};
 use crate::checking::{are_sixteen, write_coupled_if_zero};
@@ -57,6 +55,16 @@ pub struct Statuses {
     pub fourth: u32,
 }
 
+/// What the plans of a stripe's lost places are made from: the survivors of a code, their reduced equations, and their bytes.
+#[derive(Clone, Copy)]
+pub(crate) struct Plans<'r, 't, 'a> {
+    pub(crate) code: Code,
+    pub(crate) reduced: &'r Reduced,
+    pub(crate) set: PlaceSet,
+    pub(crate) at: &'t [Lent<'a>; 16],
+    pub(crate) len: usize,
+}
+
 // The target of a number, where that is none, or a lost place of the code whose room has the length.
 fn target_of(code: Code, set: PlaceSet, number: u8, room: usize, len: usize) -> Option<Target>
     ensures { MatchOption result (¬ IsAsked code (is_in set) len number room) (IsTargetOf code (is_in set) len number room) }
@@ -81,28 +89,25 @@ fn target_of(code: Code, set: PlaceSet, number: u8, room: usize, len: usize) -> 
 
 // What the plan of a target asks for, with the row of its combination, and this one's terms, which are written over the first of the room.
 fn aim_of<'s, 'a>(
-    code: Code,
-    reduced: &Reduced,
-    set: PlaceSet,
-    at: &[Lent<'a>; 16],
-    len: usize,
+    plans: &Plans<'_, '_, 'a>,
     target: Target,
     room: &'s mut [Term<'a>; 16],
     row: &mut [Gf; 16],
 ) -> (Aim, &'s [Term<'a>])
-    requires whole { AreWhole code (is_in set) (lent at.now) len }
-    requires target { IsLostOf code (is_in set) target }
-    requires reduced { IsReduction (tables_of code) (λ p. not (is_in set p)) reduced.now }
+    requires plans { ArePlans plans.now }
+    requires target { IsLostOf plans.now.code (is_in plans.now.set) target }
     requires many { length room.old ≡ 16 }
-    ensures aim { IsAimed code (is_in set) (lent at.now) len target result.0 result.1.now }
-    ensures used { IsUsedRow result.0 row.new (lent at.now) len }
-    ensures row { IsTermRow result.0 row.new (lent at.now) len result.1.now }
+    ensures aim { IsAimed plans.now.code (is_in plans.now.set) (lent plans.now.at.now) plans.now.len target result.0 result.1.now }
+    ensures used { IsUsedRow result.0 row.new (lent plans.now.at.now) plans.now.len }
+    ensures row { IsTermRow result.0 row.new (lent plans.now.at.now) plans.now.len result.1.now }
 {
+    let at = plans.at;
     are_sixteen(at);
     let Target::Lost(place) = target else {
         return (Aim::Nothing, &[]);
     };
-    let Some(found) = value_from(code, reduced, set, place) else {
+    let reduced = plans.reduced;
+    let Some(found) = value_from(plans.code, reduced, plans.set, place) else {
         return (Aim::Several, &[]);
     };
     *row = found;
@@ -117,20 +122,20 @@ fn couple_in<'s, 'a>(
     other: Aim,
     firsts: &[Gf; 16],
     seconds: &[Gf; 16],
-    at: &[Lent<'a>; 16],
-    len: usize,
+    plans: &Plans<'_, '_, 'a>,
 ) -> &'s [Pair<'a>]
     requires many { length room.old ≡ 16 }
-    requires first { IsUsedRow one firsts.now (lent at.now) len }
-    requires second { IsUsedRow other seconds.now (lent at.now) len }
+    requires first { IsUsedRow one firsts.now (lent plans.now.at.now) plans.now.len }
+    requires second { IsUsedRow other seconds.now (lent plans.now.at.now) plans.now.len }
     ensures both { 0 < length result.now → AreBothSums one other }
-    ensures pairs { 0 < length result.now → ArePairsOf firsts.now seconds.now (lent at.now) len result.now }
+    ensures pairs { 0 < length result.now → ArePairsOf firsts.now seconds.now (lent plans.now.at.now) plans.now.len result.now }
 {
     match (one, other) {
         (Aim::Sums, Aim::Sums) => {
             if !are_worth_pairing(firsts, seconds) {
                 return &[];
             }
+            let at = plans.at;
             pairs_in(room, firsts, seconds, at)
         }
         _ => &[],
@@ -175,62 +180,39 @@ fn rebuild_four(
     requires second { IsReady code (is_in set) len targets.second (length b.old) }
     requires third { IsReady code (is_in set) len targets.third (length c.old) }
     requires fourth { IsReady code (is_in set) len targets.fourth (length d.old) }
-    ensures first { IsTold code (is_in set) (lent at.now) len targets.first result.first a.new }
-    ensures second { IsTold code (is_in set) (lent at.now) len targets.second result.second b.new }
-    ensures third { IsTold code (is_in set) (lent at.now) len targets.third result.third c.new }
-    ensures fourth { IsTold code (is_in set) (lent at.now) len targets.fourth result.fourth d.new }
+    ensures first { IsAnsweredAt code (is_in set) (lent at.now) len targets.first result.first a.new }
+    ensures second { IsAnsweredAt code (is_in set) (lent at.now) len targets.second result.second b.new }
+    ensures third { IsAnsweredAt code (is_in set) (lent at.now) len targets.third result.third c.new }
+    ensures fourth { IsAnsweredAt code (is_in set) (lent at.now) len targets.fourth result.fourth d.new }
 {
     are_sixteen(at);
+    let Targets {
+        first,
+        second,
+        third,
+        fourth,
+    } = targets;
     let reduced = reduce_by_lost(code, set);
     let checks = checks_from(code, &reduced, set);
+    let plans = Plans {
+        code,
+        reduced: &reduced,
+        set,
+        at,
+        len,
+    };
     let mut first_room = no_terms();
     let mut first_row = [Gf::new(0); 16];
-    let (first_aim, first_terms) = aim_of(
-        code,
-        &reduced,
-        set,
-        at,
-        len,
-        targets.first,
-        &mut first_room,
-        &mut first_row,
-    );
+    let (first_aim, first_terms) = aim_of(&plans, first, &mut first_room, &mut first_row);
     let mut second_room = no_terms();
     let mut second_row = [Gf::new(0); 16];
-    let (second_aim, second_terms) = aim_of(
-        code,
-        &reduced,
-        set,
-        at,
-        len,
-        targets.second,
-        &mut second_room,
-        &mut second_row,
-    );
+    let (second_aim, second_terms) = aim_of(&plans, second, &mut second_room, &mut second_row);
     let mut third_room = no_terms();
     let mut third_row = [Gf::new(0); 16];
-    let (third_aim, third_terms) = aim_of(
-        code,
-        &reduced,
-        set,
-        at,
-        len,
-        targets.third,
-        &mut third_room,
-        &mut third_row,
-    );
+    let (third_aim, third_terms) = aim_of(&plans, third, &mut third_room, &mut third_row);
     let mut fourth_room = no_terms();
     let mut fourth_row = [Gf::new(0); 16];
-    let (fourth_aim, fourth_terms) = aim_of(
-        code,
-        &reduced,
-        set,
-        at,
-        len,
-        targets.fourth,
-        &mut fourth_room,
-        &mut fourth_row,
-    );
+    let (fourth_aim, fourth_terms) = aim_of(&plans, fourth, &mut fourth_room, &mut fourth_row);
     let wants = Wants {
         first: wanted_of(first_aim, first_terms),
         second: wanted_of(second_aim, second_terms),
@@ -244,8 +226,7 @@ fn rebuild_four(
         second_aim,
         &first_row,
         &second_row,
-        at,
-        len,
+        &plans,
     );
     let mut back_room = no_pairs();
     let back = couple_in(
@@ -254,8 +235,7 @@ fn rebuild_four(
         fourth_aim,
         &third_row,
         &fourth_row,
-        at,
-        len,
+        &plans,
     );
     let couples = Couples { front, back };
     let possible = write_coupled_if_zero(checks, at, wants, couples, len, a, b, c, d);
@@ -324,7 +304,10 @@ pub extern "C" fn lrc_rebuild_many_into(
         third,
         fourth,
     };
-    let told = rebuild_four(own, set, at, len, asked, a, b, c, d);
-    *statuses = [told.first, told.second, told.third, told.fourth];
-    told.first.max(told.second).max(told.third.max(told.fourth))
+    let answers = rebuild_four(own, set, at, len, asked, a, b, c, d);
+    *statuses = [answers.first, answers.second, answers.third, answers.fourth];
+    answers
+        .first
+        .max(answers.second)
+        .max(answers.third.max(answers.fourth))
 }

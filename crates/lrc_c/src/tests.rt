@@ -76,7 +76,7 @@ fn a_stripe(rt: HostRuntime) {
     assert_eq!(&rt; out[0], 1);
     let mut other = [9u8];
     let mut statuses = [9u32; 4];
-    let told = lrc_rebuild_many_into(
+    let status = lrc_rebuild_many_into(
         0,
         0x2be,
         &at,
@@ -88,7 +88,7 @@ fn a_stripe(rt: HostRuntime) {
         &mut [],
         &mut statuses,
     );
-    assert_eq!(&rt; told, 0);
+    assert_eq!(&rt; status, 0);
     assert_eq!(&rt; statuses, [0, 0, 0, 0]);
     assert_eq!(&rt; [out[0], other[0]], [0x01, 0x04]);
 }

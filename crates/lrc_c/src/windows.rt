@@ -1,5 +1,5 @@
 //! Several combinations in one pass: window by window, each over the same bytes while these are near the processor.
-ghost use Rattle.std.specs.Prelude.{◌≡◌, ◌<◌, ◌≤◌, true, false, length};
+ghost use Rattle.std.specs.Prelude.{◌≡◌, ◌<◌, ◌≤◌, true, false, length, IsTrue, ◌↔◌};
 ghost use Rattle.lrc_c.specs.Windows.{AreCoupled, AreReady, AreRooms, AreWritten, AreZeroWithin, HasRoom, IsSomeWritten, MayBeCouple};
 
 use crate::combining::{is_zero, write_window};
@@ -95,8 +95,7 @@ fn window_end(from: usize, len: usize) -> usize
 fn are_zero(checks: Checks, len: usize, from: usize, to: usize) -> bool
     requires ready { AreReady len checks }
     requires inside { to ≤ len }
-    ensures yes { result ≡ true → AreZeroWithin from to checks.entry }
-    ensures no { result ≡ false → ¬ AreZeroWithin from to checks.entry }
+    ensures { IsTrue result ↔ AreZeroWithin from to checks.entry }
 {
     is_zero(checks.first, len, from, to)
         && is_zero(checks.second, len, from, to)

@@ -65,7 +65,7 @@ fn undetermined_targets(rt: HostRuntime) {
     let mut out = [9u8];
     let mut other = [9u8];
     let mut statuses = [9u32; 4];
-    let told = lrc_rebuild_many_into(
+    let status = lrc_rebuild_many_into(
         0,
         0x46,
         &fragments(&STRIPE),
@@ -77,7 +77,7 @@ fn undetermined_targets(rt: HostRuntime) {
         &mut [],
         &mut statuses,
     );
-    assert_eq!(&rt; told, 2);
+    assert_eq!(&rt; status, 2);
     assert_eq!(&rt; statuses, [0, 2, 0, 0]);
 }
 
@@ -87,7 +87,7 @@ fn refused_targets_and_rooms(rt: HostRuntime) {
     let mut out = [9u8, 9];
     assert_eq!(&rt; lrc_rebuild_into(0, 0x3ff, &at, 0, &mut out[..1]), 3);
     let mut statuses = [9u32; 4];
-    let told = lrc_rebuild_many_into(
+    let status = lrc_rebuild_many_into(
         0,
         0x3fe,
         &at,
@@ -99,7 +99,7 @@ fn refused_targets_and_rooms(rt: HostRuntime) {
         &mut [],
         &mut statuses,
     );
-    assert_eq!(&rt; told, 3);
+    assert_eq!(&rt; status, 3);
     assert_eq!(&rt; out, [9, 9]);
     assert_eq!(&rt; statuses, [9; 4]);
 }
@@ -111,8 +111,8 @@ fn refused_parities(rt: HostRuntime) {
     let mut py = [9u8];
     let mut p0 = [9u8];
     let mut longer = [9u8, 9];
-    let told = lrc_encode_into(0, &at[..6], &mut px, &mut py, &mut p0, &mut longer);
-    assert_eq!(&rt; told, 3);
+    let status = lrc_encode_into(0, &at[..6], &mut px, &mut py, &mut p0, &mut longer);
+    assert_eq!(&rt; status, 3);
     assert_eq!(&rt; longer, [9, 9]);
 }
 

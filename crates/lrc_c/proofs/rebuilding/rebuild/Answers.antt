@@ -1,4 +1,4 @@
-use Rattle.std.proofs.Common.{length}
+use Rattle.std.proofs.Common.{length, sym, ◌∙◌, true≢false}
 use Rattle.lrc_code.specs.Codes.{tables_of}
 use Rattle.lrc_code.specs.Sets.{is_in}
 use Rattle.lrc_c.specs.Lent.{lent}
@@ -12,12 +12,12 @@ are_zero-requires c = used c.args.code (is_in c.args.set) (lent c.args.at.now) (
 pub returns-then-not-are_zero : goal.returns-then-not-are_zero
 returns-then-not-are_zero c = contradiction c.args.code (is_in c.args.set) (lent c.args.at.now) (length c.args.out.now) c.requires.whole
     c.are_sixteen.ensures.bytes c.are_sixteen.ensures.count c.plan_rows-plan.result.checks c.plan_rows-plan.ensures.of_survivors
-    (c.are_zero.ensures.no c.if-not-are_zero.true)
+    (λ z. absurd (true≢false (sym (c.are_zero.ensures.1 z) ∙ c.if-not-are_zero.true)))
 
 pub returns-in_default : goal.returns-in_default
 returns-in_default c = several c.args.code (is_in c.args.set) (lent c.args.at.now) (length c.args.out.now) c.requires.whole
     c.are_sixteen.ensures.bytes c.are_sixteen.ensures.count c.plan_rows-plan.result.checks c.plan_rows-plan.ensures.of_survivors
-    (c.are_zero.ensures.yes c.if-not-are_zero.false) c.args.target c.requires.place c.requires.some
+    (c.are_zero.ensures.0 c.if-not-are_zero.false) c.args.target c.requires.place c.requires.some
     (value_none (tables_of c.args.code) (is_in c.args.set) c.args.target c.plan_rows-plan.result.value c.in_default.is
     c.plan_rows-plan.ensures.of_target)
 

@@ -9,19 +9,19 @@ use Rattle.lrc_c.proofs.rebuilding_many.aim_of.Goals as goal
 
 pub returns-clause-aim : goal.returns-clause-aim
 returns-clause-aim c =
-    let at = lent c.args.at.now in
-    let terms = c.terms_in.ensures c.args.len (where_used c.in-Some.found at c.args.len (row_used c.args.code (is_in c.args.set) at
-    c.args.len c.requires.whole c.are_sixteen.ensures.bytes c.are_sixteen.ensures.count c.in-Some.found c.in-Some.ensures.value.reads)) in
-    subst (λ t. IsAimed c.args.code (is_in c.args.set) at c.args.len t aim.Sums c.terms_in.result.now) (sym c.in-Lost.is)
+    let at = lent c.args.plans.now.at.now in
+    let terms = c.terms_in.ensures c.args.plans.now.len (where_used c.in-Some.found at c.args.plans.now.len (row_used c.args.plans.now.code (is_in c.args.plans.now.set) at
+    c.args.plans.now.len c.requires.plans.whole c.are_sixteen.ensures.bytes c.are_sixteen.ensures.count c.in-Some.found c.in-Some.ensures.value.reads)) in
+    subst (λ t. IsAimed c.args.plans.now.code (is_in c.args.plans.now.set) at c.args.plans.now.len t aim.Sums c.terms_in.result.now) (sym c.in-Lost.is)
     (c.in-Some.found, c.in-Some.ensures.value, terms)
 
 pub returns-clause-used : goal.returns-clause-used
 returns-clause-used c =
-    row_used c.args.code (is_in c.args.set) (lent c.args.at.now) c.args.len c.requires.whole
+    row_used c.args.plans.now.code (is_in c.args.plans.now.set) (lent c.args.plans.now.at.now) c.args.plans.now.len c.requires.plans.whole
     c.are_sixteen.ensures.bytes c.are_sixteen.ensures.count c.in-Some.found c.in-Some.ensures.value.reads
 
 pub returns-clause-row : goal.returns-clause-row
 returns-clause-row c =
-    let at = lent c.args.at.now in
-    c.terms_in.ensures c.args.len (where_used c.in-Some.found at c.args.len (row_used c.args.code (is_in c.args.set) at c.args.len
-    c.requires.whole c.are_sixteen.ensures.bytes c.are_sixteen.ensures.count c.in-Some.found c.in-Some.ensures.value.reads))
+    let at = lent c.args.plans.now.at.now in
+    c.terms_in.ensures c.args.plans.now.len (where_used c.in-Some.found at c.args.plans.now.len (row_used c.args.plans.now.code (is_in c.args.plans.now.set) at c.args.plans.now.len
+    c.requires.plans.whole c.are_sixteen.ensures.bytes c.are_sixteen.ensures.count c.in-Some.found c.in-Some.ensures.value.reads))

@@ -1,7 +1,7 @@
 use Rattle.std.proofs.Common.{length, arith}
 use Rattle.lrc_code.specs.Sets.{is_in}
 use Rattle.lrc_c.specs.Lent.{lent}
-use Rattle.lrc_c.proofs.Many.{told}
+use Rattle.lrc_c.proofs.Many.{answered_at}
 use Rattle.lrc_c.proofs.PairRows.{couple_of}
 use Rattle.lrc_c.proofs.Stripes.{used}
 use Rattle.lrc_c.proofs.rebuilding_many.rebuild_four.Goals as goal
@@ -12,7 +12,7 @@ write_coupled_if_zero-possible-requires-clause-used c = used c.args.code (is_in 
 
 pub returns-clause-first : goal.returns-clause-first
 returns-clause-first c =
-    told c.args.code (is_in c.args.set) (lent c.args.at.now) c.args.len c.requires.whole c.are_sixteen.ensures.bytes
+    answered_at c.args.code (is_in c.args.set) (lent c.args.at.now) c.args.len c.requires.whole c.are_sixteen.ensures.bytes
     c.are_sixteen.ensures.count
     c.checks_from-checks.result c.checks_from-checks.ensures.checks c.requires.some c.write_coupled_if_zero-possible.result
     c.args.targets.first _ _
@@ -23,7 +23,7 @@ returns-clause-first c =
 
 pub returns-clause-second : goal.returns-clause-second
 returns-clause-second c =
-    told c.args.code (is_in c.args.set) (lent c.args.at.now) c.args.len c.requires.whole c.are_sixteen.ensures.bytes
+    answered_at c.args.code (is_in c.args.set) (lent c.args.at.now) c.args.len c.requires.whole c.are_sixteen.ensures.bytes
     c.are_sixteen.ensures.count
     c.checks_from-checks.result c.checks_from-checks.ensures.checks c.requires.some c.write_coupled_if_zero-possible.result
     c.args.targets.second _ _
@@ -34,7 +34,7 @@ returns-clause-second c =
 
 pub returns-clause-third : goal.returns-clause-third
 returns-clause-third c =
-    told c.args.code (is_in c.args.set) (lent c.args.at.now) c.args.len c.requires.whole c.are_sixteen.ensures.bytes
+    answered_at c.args.code (is_in c.args.set) (lent c.args.at.now) c.args.len c.requires.whole c.are_sixteen.ensures.bytes
     c.are_sixteen.ensures.count
     c.checks_from-checks.result c.checks_from-checks.ensures.checks c.requires.some c.write_coupled_if_zero-possible.result
     c.args.targets.third _ _
@@ -45,7 +45,7 @@ returns-clause-third c =
 
 pub returns-clause-fourth : goal.returns-clause-fourth
 returns-clause-fourth c =
-    told c.args.code (is_in c.args.set) (lent c.args.at.now) c.args.len c.requires.whole c.are_sixteen.ensures.bytes
+    answered_at c.args.code (is_in c.args.set) (lent c.args.at.now) c.args.len c.requires.whole c.are_sixteen.ensures.bytes
     c.are_sixteen.ensures.count
     c.checks_from-checks.result c.checks_from-checks.ensures.checks c.requires.some c.write_coupled_if_zero-possible.result
     c.args.targets.fourth _ _
