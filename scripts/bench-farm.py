@@ -7,7 +7,7 @@ that writes as it goes.
 
 All runs of a shape are made in turn, and the shortest time of each is shown (BENCH_PASSES of them, 9). What the C programs leave is
 compared with what ours leaves. The folders are in memory where there is room. C programs know no feeds, so a
-shape with several is ours alone."""
+shape with several is ours alone. Called by `chrt -f 5`, all but the shapes beside busy processes have that realtime priority."""
 
 import dataclasses
 import filecmp
@@ -25,6 +25,7 @@ COMPILER = os.environ.get("CC", "gcc")
 # Room for the folders of the largest shape and what three farms make of it.
 ROOM = 4_000_000_000
 PEERS = ("careful", "eight", "careless")
+PRIORITY = os.sched_getscheduler(0), os.sched_getparam(0)
 
 
 @dataclasses.dataclass(frozen=True)
@@ -65,7 +66,7 @@ def build(scratch, level):
     made = subprocess.run([COMPILER, "-O3", f"-march={level}", "-D_GNU_SOURCE", "-o", scratch / "serve", ROOT / "bench/serve.c", "-lisal",
                            "-lcrypto", "-pthread"], stderr=subprocess.DEVNULL, check=False)
     if made.returncode != 0:
-        print("ISA-L or OpenSSL is not installed (Debian's libisal-dev, libssl-dev): our figures are alone.")
+        print("ISA-L or OpenSSL is not installed (Debian's libisal-dev, libssl-dev): only our figures are shown.")
         return ()
     return PEERS
 
@@ -103,6 +104,8 @@ def time_shape(shape, peers, scratch):
     (scratch / "in").mkdir()
     subprocess.run([scratch / "folder", scratch / "in", *map(str, (shape.racks, shape.requests, shape.length, shape.feeds))], check=True)
     farms = ("ours", *(peers if shape.feeds == 1 else ()))
+    # At a realtime priority busy processes would leave the others nothing.
+    os.sched_setscheduler(0, *((os.SCHED_OTHER, os.sched_param(0)) if shape.busy else PRIORITY))
     busy = [subprocess.Popen(["sh", "-c", "while :; do :; done"]) for _ in range(shape.busy)]
     try:
         runs = [{farm: serve(farm, shape, scratch) for farm in farms} for _ in range(PASSES)]
@@ -134,7 +137,7 @@ def main(level, numbers):
         scratch = pathlib.Path(folder)
         peers = build(scratch, level)
         print(f"\nFolders of so many racks and requests for fragments of so many bytes, half of them in one group, in {scratch.parent}:")
-        print(f"ms from the program's start to its end, the least of {PASSES} runs in turn. A ratio is the C program's time by ours.\n")
+        print(f"ms from the program's start to its end, the least of {PASSES} runs in turn. A ratio is the C program's time over ours.\n")
         print("| | Folder | Threads | ours | careful C | ratio | by eight | ratio | careless C | ratio | our peak MB | load |")
         print("|---|---|---|---|---|---|---|---|---|---|---|---|")
         for number, shape in enumerate(SHAPES, 1):

@@ -33,7 +33,7 @@ grep -v '^time' "$copy/ours.0" > "$copy/cases"
 compiler=${CC:-gcc}
 peers=()
 if ! command -v "$compiler" > "$copy/log"; then
-  echo "There is no $compiler here: our figures are alone."
+  echo "There is no $compiler here: only our figures are shown."
 else
   "$compiler" -O3 "-march=$level" -o "$copy/plain" bench/plain.c
   peers+=(plain)

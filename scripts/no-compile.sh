@@ -23,7 +23,7 @@ for line in lines:
         text = open(path, encoding='utf-8').read()
     elif key == 'old':
         old = value
-        assert text.count(old) == 1, f'{edit}: the text is {text.count(old)} times in {path}: {old}'
+        assert text.count(old) == 1, f'{edit}: the text is in {path} {text.count(old)} times: {old}'
     elif key == 'new':
         text = text.replace(old, value)
         open(path, 'w', encoding='utf-8').write(text)

@@ -45,7 +45,7 @@ def edited(edit, crate):
         elif key == "new" or line == "new:":
             text = path.read_text()
             if text.count(old) != 1:
-                sys.exit(f"{edit}: the text is {text.count(old)} times in {path.name}: {old}")
+                sys.exit(f"{edit}: the text is in {path.name} {text.count(old)} times: {old}")
             path.write_text(text.replace(old, value))
     return kept
 

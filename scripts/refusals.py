@@ -204,8 +204,8 @@ class Text:
         ran = self.library.run(self.words, self.given, refusal)
         if (ran.status, ran.out, ran.err) == self.said:
             return ran, "answered"
-        tells_fault = self.said[2].startswith(b"E")
-        return ran, kind_without_memory(ran, refusal.rest or tells_fault)
+        says_fault = self.said[2].startswith(b"E")
+        return ran, kind_without_memory(ran, refusal.rest or says_fault)
 
 
 def merges(feeds):
@@ -406,7 +406,7 @@ def text_walks(library):
     replies = (DEMO / "replies").read_bytes()
     out_of_memory = {"E16"}
     # The last growth is that of the fault's line, and where it is refused nothing is said.
-    or_silent = {"E16", "silent"}
+    out_of_memory_or_silent = {"E16", "silent"}
     for name, text, ends in [
         ("one-line", Text(library, [], (0, b"rebuilt 01\n", b""), b"a x0 1 x1=02 x2=03 px=00\n"), out_of_memory),
         ("lines", Text(library, [], (1, replies, b""), (DEMO / "requests").read_bytes()), out_of_memory),
@@ -415,7 +415,7 @@ def text_walks(library):
         ("one-folder", Text(library, ["farm", "in"], said("farm", "in")), out_of_memory),
         ("no-workers", Text(library, ["farm", "in", "out", "--workers", "0"], (2, b"", b"refused E11\n")), out_of_memory),
         ("no-queue", Text(library, ["farm", "in", "out", "--queue", "0"], (2, b"", b"refused E12\n")), out_of_memory),
-        ("no-lists", Text(library, ["farm", "in", "out"], (1, b"", b"E23\n")), or_silent),
+        ("no-lists", Text(library, ["farm", "in", "out"], (1, b"", b"E23\n")), out_of_memory_or_silent),
     ]:
         yield Walk(name, "allocation", False, text, ends)
         yield Walk(name, "allocation", True, text, ends)

@@ -151,18 +151,18 @@ for part in "${parts[@]}"; do
   )
   ended=$?
   set -e
-  told=passed
+  end=passed
   while read -r it; do
     [ -n "$it" ] || continue
     left_out+=("$it")
-    told='left out'
+    end='left out'
   done < "$notes"
   rm -f "$notes"
   if [ "$ended" != 0 ]; then
     failed+=("$part")
-    told=FAILED
+    end=FAILED
   fi
-  echo "$part: $told, $((SECONDS - start)) s, load $(cut -d ' ' -f 1 /proc/loadavg)"
+  echo "$part: $end, $((SECONDS - start)) s, load $(cut -d ' ' -f 1 /proc/loadavg)"
 done
 for it in ${left_out[@]+"${left_out[@]}"}; do echo "left out: $it"; done
 [ ${#failed[@]} = 0 ] || { echo "failed: ${failed[*]}"; exit 1; }

@@ -268,7 +268,7 @@ static void version(const std::string &words)
     for (const char *release : {"17.2.7", "15.2.17", "16.20.0", "16.1.0", "16.2.9"}) {
         Code code;
         std::string said;
-        told_version = release;
+        given_version = release;
         int r = try_open(words, &code, &said);
         const bool is_16_2 = strncmp(release, "16.2.", 5) == 0;
         if (r != (is_16_2 ? 0 : -EXDEV))
@@ -285,7 +285,7 @@ int main(int argc, char **argv)
     ceph::global::g_ceph_context = static_cast<ceph::common::CephContext *>(rados_cct(cluster));
     ceph_arch_probe();
     const char *release = getenv("RELEASE"); /* that of the shipped plugins, for them */
-    told_version = release ? release : "16.2.15";
+    given_version = release ? release : "16.2.15";
     std::string part = argv[1];
     std::vector<std::string> words(argv + 2, argv + argc);
     if (part == "sets" && words.size() == 1)

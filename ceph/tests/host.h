@@ -13,7 +13,7 @@ using ceph::Shards;
 using ceph::buffer::list;
 
 /* The program's version as plugins are given it, and the folder in which they are looked for. */
-extern std::string told_version;
+extern std::string given_version;
 const char *plugin_folder();
 
 [[noreturn]] void stop(const std::string &why);

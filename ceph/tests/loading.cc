@@ -8,7 +8,7 @@
 
 #include "host.h"
 
-std::string told_version;
+std::string given_version;
 
 const char *plugin_folder()
 {
@@ -33,7 +33,7 @@ void expect(bool holds, const std::string &what)
 /* ---- what plugins call of a program */
 
 /* Replaces that of libceph-common, so that another version can be given. */
-const char *ceph_version_to_str() { return told_version.c_str(); }
+const char *ceph_version_to_str() { return given_version.c_str(); }
 
 static std::map<std::string, ceph::ErasureCodePlugin *> plugins;
 ceph::ErasureCodePluginRegistry ceph::ErasureCodePluginRegistry::singleton;
@@ -53,7 +53,7 @@ static int load(const std::string &name, const std::string &directory, std::ostr
     auto start = reinterpret_cast<int (*)(const char *, const char *)>(dlsym(library, "__erasure_code_init"));
     if (!version || !start)
         stop(path + " has not the two functions of a plugin");
-    if (version() != told_version) {
+    if (version() != given_version) {
         *err << "the plugin is of version " << version();
         return -EXDEV;
     }

@@ -18,7 +18,7 @@ enum Lengths {
     Equal,
     // One within the first eight is longer, and one after them empty.
     Broken,
-    // No two neighbours have one length.
+    // No two have one length.
     Mixed,
 }
 
@@ -30,12 +30,12 @@ fn length_of(lengths: Lengths, number: u8) -> usize {
             12 => 0,
             _ => 64,
         },
-        Lengths::Mixed => 55 + (number % 2) as usize,
+        Lengths::Mixed => 55 + number as usize,
     }
 }
 
-// 64 fragments that are so much longer are worth three threads.
-const LONGER: usize = 50_000;
+// 33 fragments that are so much longer are worth three threads.
+const LONGER: usize = 100_000;
 
 // A fragment of bytes that all are its number.
 fn fragment(
@@ -126,8 +126,14 @@ fn agree<R: Threads + Sync>(
 fn digests_of_several_lengths(rt: HostRuntime) -> Result<(), AllocError> {
     assert!(&rt; agree(&rt, rt.alloc(), FRAGMENTS, 0, 1)?);
     assert!(&rt; agree(&rt, rt.alloc(), FRAGMENTS, 0, 16)?);
-    assert!(&rt; agree(&rt, rt.alloc(), &[64], LONGER, 2)?);
-    assert!(&rt; agree(&rt, rt.alloc(), &[64], LONGER, 16)?);
+    Ok(())
+}
+
+// Of two grains and one alone, and of whole grains.
+#[test]
+fn digests_in_several_threads(rt: HostRuntime) -> Result<(), AllocError> {
+    assert!(&rt; agree(&rt, rt.alloc(), &[33, 64], LONGER, 2)?);
+    assert!(&rt; agree(&rt, rt.alloc(), &[33, 64], LONGER, 16)?);
     Ok(())
 }
 

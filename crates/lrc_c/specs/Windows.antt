@@ -17,7 +17,7 @@ abbrev pub HasRoom : ℕ → Wanted → ℕ → Type 0
 HasRoom len Nothing room = Unit
 HasRoom len (Sums ts) room = HaveRoom len ts.now × (room ≡ len)
 
--- the sums are in the room before a place
+-- the sums are in the room before an index
 abbrev pub IsSomeWritten : Wanted → List ℕ → ℕ → Type 0
 IsSomeWritten Nothing bytes i = Unit
 IsSomeWritten (Sums ts) bytes i = IsWritten ts.now bytes i
@@ -29,7 +29,7 @@ pub record AreRooms (len : ℕ) (w : Wants) (a b c d : ℕ) : Type 0 where
   pub third : HasRoom len w.third c
   pub fourth : HasRoom len w.fourth d
 
--- each of four is in its room before a place
+-- each of four is in its room before an index
 pub record AreWritten (w : Wants) (i : ℕ) (a b c d : List ℕ) : Type 0 where
   pub first : IsSomeWritten w.first a i
   pub second : IsSomeWritten w.second b i
@@ -43,7 +43,7 @@ pub record AreReady (len : ℕ) (c : Checks) : Type 0 where
   pub third : HaveRoom len c.third.now
   pub fourth : HaveRoom len c.fourth.now
 
--- each check is 0 from one place on and below another
+-- each check is 0 from one index on and below another
 pub record AreZeroWithin (from to : ℕ) (c : Checks) : Type 0 where
   pub first : AreZeroBetween from to c.first.now
   pub second : AreZeroBetween from to c.second.now

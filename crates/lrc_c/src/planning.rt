@@ -41,6 +41,7 @@ pub extern "C" fn lrc_plan_into(code: u8, survivors: u32, target: u8, plan: &mut
         return 3;
     };
     let rows = plan_rows(lost.code, set_of(survivors), lost.place);
+    // The checker follows an array from one field to another by a variable alone.
     let checks = rows.checks;
     plan.checks = checks;
     match rows.value {

@@ -87,7 +87,8 @@ fn target_of(code: Code, set: PlaceSet, number: u8, room: usize, len: usize) -> 
     Some(Target::Lost(place))
 }
 
-// What the plan of a target asks for, with the row of its combination, and this one's terms, which are written over the first of the room.
+// What the plan of a target asks for, and the terms of its combination, which are written at the start of the room. Its row is written
+// over `row`.
 fn aim_of<'s, 'a>(
     plans: &Plans<'_, '_, 'a>,
     target: Target,
@@ -114,7 +115,7 @@ fn aim_of<'s, 'a>(
     (Aim::Sums, terms_in(room, &found, at))
 }
 
-// The pairs of two targets' combinations, which are written over the first of the room: none where a target has no combination, or where
+// The pairs of two targets' combinations, which are written at the start of the room: none where a target has no combination, or where
 // the two have so little in common that each is faster alone.
 fn couple_in<'s, 'a>(
     room: &'s mut [Pair<'a>; 16],

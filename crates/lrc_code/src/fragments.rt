@@ -23,7 +23,7 @@ pub struct Fragment {
 /// Bytes by the indexes of places, from x0 at 0 to y5 at 15.
 pub type Sources<'a> = [&'a [u8]; 16];
 
-fn is_at(place: Place, fragments: &[Fragment]) -> bool
+fn is_among_places(place: Place, fragments: &[Fragment]) -> bool
     ensures { result ≡ list_any (λ f. same_place place f.place) fragments.now }
 {
     fragments.iter().any(|f| place.index() == f.place.index())
@@ -33,10 +33,10 @@ fn is_at(place: Place, fragments: &[Fragment]) -> bool
 pub(crate) fn is_survivor(place: Place, fragments: &[Fragment]) -> bool
     ensures { result ≡ is_among place (survivors_of fragments.now) }
 {
-    is_at(place, fragments)
+    is_among_places(place, fragments)
 }
 
-fn is_later(first: &Fragment, later: &[Fragment]) -> bool
+fn is_among_later(first: &Fragment, later: &[Fragment]) -> bool
     ensures { result ≡ is_among first.now.place (survivors_of later.now) }
 {
     is_survivor(first.place, later)
@@ -48,7 +48,7 @@ pub(crate) fn has_repeated(fragments: &[Fragment]) -> bool
 {
     match fragments {
         [] => false,
-        [first, later @ ..] => is_later(first, later) || has_repeated(later),
+        [first, later @ ..] => is_among_later(first, later) || has_repeated(later),
     }
 }
 

@@ -38,7 +38,7 @@ AreZeroBelow n ts = (i : ℕ) → i < n → sum_at ts i ≡ 0
 abbrev pub AreZeroBetween : ℕ → ℕ → List Term → Type 0
 AreZeroBetween from to ts = (i : ℕ) → from ≤ i → i < to → sum_at ts i ≡ 0
 
--- at each index before one f of it was added, and nothing else changed
+-- to the byte at each index before i, f of the index was added, and nothing else changed
 pub record IsAddedBelow (f : ℕ → ℕ) (before after : List ℕ) (i : ℕ) : Type 0 where
   pub len : length after ≡ length before
   pub done : (k : ℕ) → k < i → slice_index after k ≡ bit_xor (slice_index before k) (f k)

@@ -1,9 +1,11 @@
-//! Two sums over the same slices in one pass: each byte is read and halved once for both.
+//! Pairs of scalars with the bytes that both scale, lists of them, and two sums over the same slices in one pass: each byte is read and
+//! halved once for both.
 ghost use Rattle.std.specs.Prelude.{◌≡◌, ◌≢◌, ◌⊎◌, ◌<◌, ◌≤◌, ◌+◌, ◌^◌, ℕ, true, false, [], bit_xor, length, map};
 ghost use Rattle.std.specs.Prelude.{slice_index, slice_index_or, take};
 ghost use Rattle.lrc_field.specs.Blocks.{AreSet, HasTrio};
 ghost use Rattle.lrc_field.specs.Field.{times};
 ghost use Rattle.lrc_field.specs.Pairs.{AllReach, ArePairsOf, first_sum_at, second_sum_at};
+ghost use Rattle.lrc_field.specs.Sums.{column, combination};
 ghost use Rattle.lrc_field.specs.Terms.{HaveLengthWhereUsed};
 
 use crate::blocks::{self, Trio};
@@ -52,8 +54,8 @@ fn no_pair<'a>() -> Pair<'a> {
     }
 }
 
-/// The pairs of sources with two coefficients for each, as `terms_in` for one: a pair for each source that has bytes, unless both its
-/// coefficients are 00.
+/// The pairs of sources with two coefficients for each, at most sixteen of each kind: a pair for each source that isn't empty, unless both
+/// its coefficients are 00. They are written at the start of the room, as by `terms_in`.
 pub fn pairs_in<'s, 'a, S: Source<'a>>(
     room: &'s mut [Pair<'a>; 16],
     firsts: &[Gf],
@@ -63,7 +65,10 @@ pub fn pairs_in<'s, 'a, S: Source<'a>>(
     requires many { length room.old ≡ 16 }
     requires few { length firsts.now ≤ 16 }
     requires same { length seconds.now ≡ length firsts.now }
-    ensures { (len : ℕ) → HaveLengthWhereUsed firsts.now (map S.bytes_of sources.now) len
+    ensures few { length result.now ≤ 16 }
+    ensures first_sums { (i : ℕ) → first_sum_at result.now i ≡ combination firsts.now (column (map S.bytes_of sources.now) i) }
+    ensures second_sums { (i : ℕ) → second_sum_at result.now i ≡ combination seconds.now (column (map S.bytes_of sources.now) i) }
+    ensures pairs { (len : ℕ) → HaveLengthWhereUsed firsts.now (map S.bytes_of sources.now) len
         → HaveLengthWhereUsed seconds.now (map S.bytes_of sources.now) len
         → ArePairsOf firsts.now seconds.now (map S.bytes_of sources.now) len result.now }
 {
@@ -71,7 +76,7 @@ pub fn pairs_in<'s, 'a, S: Source<'a>>(
     &room[..count]
 }
 
-// Writes the pairs over the first of the room, and returns how many there are.
+// Writes the pairs at the start of the room, and returns how many there are.
 fn fill_room<'a, S: Source<'a>>(
     room: &mut [Pair<'a>; 16],
     firsts: &[Gf],
@@ -83,6 +88,9 @@ fn fill_room<'a, S: Source<'a>>(
     requires same { length seconds.now ≡ length firsts.now }
     ensures len { length room.new ≡ 16 }
     ensures count { result ≤ 16 }
+    ensures first_sums { (i : ℕ) → first_sum_at (take result room.new) i ≡ combination firsts.now (column (map S.bytes_of sources.now) i) }
+    ensures second_sums { (i : ℕ) → second_sum_at (take result room.new) i
+        ≡ combination seconds.now (column (map S.bytes_of sources.now) i) }
     ensures pairs { (len : ℕ) → HaveLengthWhereUsed firsts.now (map S.bytes_of sources.now) len
         → HaveLengthWhereUsed seconds.now (map S.bytes_of sources.now) len
         → ArePairsOf firsts.now seconds.now (map S.bytes_of sources.now) len (take result room.new) }
@@ -111,13 +119,7 @@ fn has_products<'a, S: Source<'a>>(first: Gf, second: Gf, sources: &[S], k: usiz
     ensures no { result ≡ false → (i : ℕ) → (times first (slice_index (slice_index_or (map S.bytes_of sources.now) k []) i) ≡ 0)
         × (times second (slice_index (slice_index_or (map S.bytes_of sources.now) k []) i) ≡ 0) }
 {
-    if first.byte() == 0 && second.byte() == 0 {
-        return false;
-    }
-    if bytes_at(sources, k).is_empty() {
-        return false;
-    }
-    true
+    (first.byte() != 0 || second.byte() != 0) && !bytes_at(sources, k).is_empty()
 }
 
 // Adds to two sums at 96 positions the products of the bytes from position `i` on, each with a scalar of its own. Where both scalars
@@ -138,7 +140,7 @@ fn with_products(a: Trio, b: Trio, first: Gf, second: Gf, bytes: &[u8], i: usize
     )
 }
 
-// Writes both sums at 96 positions, from index `i` on.
+// Writes both sums at 96 positions, from position `i` on.
 #[inline(always)]
 fn put_sums(first: &mut [u8], second: &mut [u8], i: usize, from: usize, pairs: &[Pair])
     requires fits { from + length first.old < 2 ^ 64 }

@@ -1,6 +1,8 @@
 //! Scalars with the bytes that they scale, and lists of them.
 ghost use Rattle.std.specs.Prelude.{◌≡◌, ◌≢◌, ◌≤◌, ℕ, All, List, [], length, map, take, slice_index, slice_index_or, true, false};
 ghost use Rattle.lrc_field.specs.Field.{times};
+ghost use Rattle.lrc_field.specs.Combined.{sum_at};
+ghost use Rattle.lrc_field.specs.Sums.{column, combination};
 ghost use Rattle.lrc_field.specs.Terms.{AreTermsOf, HaveLengthWhereUsed};
 
 use crate::element::Gf;
@@ -65,8 +67,9 @@ fn no_term<'a>() -> Term<'a>
     }
 }
 
-/// The terms of sources: one for each coefficient that isn't 00, with the bytes of the source at its index, if that has any. They are
-/// written over the first of the room, which is the caller's, since it has hundreds of bytes, which would be copied on their way back.
+/// The terms of sources with at most sixteen coefficients, one for each source: a term for each coefficient that isn't 00, unless there
+/// is no source at its index or that source is empty. They are written at the start of the room, which is the caller's, since it has
+/// hundreds of bytes, which would be copied on their way back.
 pub fn terms_in<'s, 'a, S: Source<'a>>(
     room: &'s mut [Term<'a>; 16],
     coefficients: &[Gf],
@@ -74,14 +77,16 @@ pub fn terms_in<'s, 'a, S: Source<'a>>(
 ) -> &'s [Term<'a>]
     requires many { length room.old ≡ 16 }
     requires few { length coefficients.now ≤ 16 }
-    ensures { (len : ℕ) → HaveLengthWhereUsed coefficients.now (map S.bytes_of sources.now) len
+    ensures few { length result.now ≤ 16 }
+    ensures sums { (i : ℕ) → sum_at result.now i ≡ combination coefficients.now (column (map S.bytes_of sources.now) i) }
+    ensures terms { (len : ℕ) → HaveLengthWhereUsed coefficients.now (map S.bytes_of sources.now) len
         → AreTermsOf coefficients.now (map S.bytes_of sources.now) len result.now }
 {
     let count = fill_room(room, coefficients, sources);
     &room[..count]
 }
 
-// Writes the terms over the first of the room, and returns how many there are.
+// Writes the terms at the start of the room, and returns how many there are.
 fn fill_room<'a, S: Source<'a>>(
     room: &mut [Term<'a>; 16],
     coefficients: &[Gf],
@@ -91,6 +96,7 @@ fn fill_room<'a, S: Source<'a>>(
     requires few { length coefficients.now ≤ 16 }
     ensures len { length room.new ≡ 16 }
     ensures count { result ≤ 16 }
+    ensures sums { (i : ℕ) → sum_at (take result room.new) i ≡ combination coefficients.now (column (map S.bytes_of sources.now) i) }
     ensures terms { (len : ℕ) → HaveLengthWhereUsed coefficients.now (map S.bytes_of sources.now) len
         → AreTermsOf coefficients.now (map S.bytes_of sources.now) len (take result room.new) }
 {
@@ -118,17 +124,11 @@ pub(crate) fn bytes_at<'a, S: Source<'a>>(sources: &[S], k: usize) -> &'a [u8]
 }
 
 // Whether a scalar's products with the bytes of the source at an index may be other than 00. Most scalars are 00, and then the source isn't
-// looked at.
+// looked at. It gives no option with the bytes, since an option's copies wait for their own writes.
 #[inline(always)]
 fn has_products<'a, S: Source<'a>>(scalar: Gf, sources: &[S], k: usize) -> bool
     ensures yes { result ≡ true → (scalar ≢ 0) × (length (slice_index_or (map S.bytes_of sources.now) k []) ≢ 0) }
     ensures no { result ≡ false → (i : ℕ) → times scalar (slice_index (slice_index_or (map S.bytes_of sources.now) k []) i) ≡ 0 }
 {
-    if scalar.byte() == 0 {
-        return false;
-    }
-    if bytes_at(sources, k).is_empty() {
-        return false;
-    }
-    true
+    scalar.byte() != 0 && !bytes_at(sources, k).is_empty()
 }

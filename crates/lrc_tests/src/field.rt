@@ -2,8 +2,8 @@
 ghost use Rattle.std.specs.Prelude.{◌≡◌};
 
 use lrc_field::{
-    Gf, Term, add_into, combine_into, combined, scale_add_into, sums_are_zero,
-    sums_are_zero_between,
+    Gf, Pair, Term, add_into, combine_into, combined, no_pairs, no_terms, pairs_in, scale_add_into,
+    sums_are_zero, sums_are_zero_between, terms_in,
 };
 use std::alloc::{AllocError, Global};
 
@@ -36,25 +36,67 @@ fn some_bytes(alloc: Global, len: usize, seed: u32) -> Result<Vec<u8>, AllocErro
 }
 
 // The sum of these terms at an index, by shifts.
-fn sum_at(place: usize, terms: &[Term]) -> Option<u8> {
+fn sum_at(index: usize, terms: &[Term]) -> Option<u8> {
     let mut sum = 0;
     for term in terms {
-        let byte = term.bytes.get(place)?;
+        let byte = term.bytes.get(index)?;
         sum ^= product_by_shifts(term.scalar.byte(), *byte);
     }
     Some(sum)
 }
 
-// Whether these bytes are the sums of the terms, by shifts, from a place on.
+// Whether these bytes are the sums of the terms, by shifts, from an index on.
 fn are_sums(bytes: &[u8], from: usize, terms: &[Term]) -> bool {
-    let mut place = from;
+    let mut index = from;
     for byte in bytes {
-        if sum_at(place, terms) != Some(*byte) {
+        if sum_at(index, terms) != Some(*byte) {
             return false;
         }
-        place = place.wrapping_add(1);
+        index = index.wrapping_add(1);
     }
     true
+}
+
+// Both sums of these pairs at an index, by shifts.
+fn pair_sums_at(index: usize, pairs: &[Pair]) -> Option<(u8, u8)> {
+    let mut first = 0;
+    let mut second = 0;
+    for pair in pairs {
+        let byte = pair.bytes.get(index)?;
+        first ^= product_by_shifts(pair.first.byte(), *byte);
+        second ^= product_by_shifts(pair.second.byte(), *byte);
+    }
+    Some((first, second))
+}
+
+// The second source is empty, and the last coefficient has no source.
+const SOURCES: &[&[u8]] = &[&[0x80, 0x04], &[], &[0xff, 0x0c], &[0x61, 0x61]];
+
+const FIRSTS: [u8; 5] = [0x00, 0x53, 0x02, 0x10, 0xff];
+
+const SECONDS: [u8; 5] = [0x04, 0x00, 0x00, 0x01, 0x00];
+
+fn elements(bytes: [u8; 5]) -> [Gf; 5] {
+    let [a, b, c, d, e] = bytes;
+    [Gf::new(a), Gf::new(b), Gf::new(c), Gf::new(d), Gf::new(e)]
+}
+
+#[test]
+fn terms_of_sources(rt: HostRuntime) {
+    let mut room = no_terms();
+    let terms = terms_in(&mut room, &elements(FIRSTS), SOURCES);
+    assert_eq!(&rt; terms.len(), 2);
+    assert_eq!(&rt; sum_at(0, terms), Some(0xe3 ^ 0x5e));
+    assert_eq!(&rt; sum_at(1, terms), Some(0x18 ^ 0x5e));
+}
+
+#[test]
+fn pairs_of_sources(rt: HostRuntime) {
+    let mut room = no_pairs();
+    let pairs = pairs_in(&mut room, &elements(FIRSTS), &elements(SECONDS), SOURCES);
+    assert_eq!(&rt; pairs.len(), 3);
+    assert_eq!(&rt; pair_sums_at(0, pairs), Some((0xe3 ^ 0x5e, 0x3a ^ 0x61)));
+    assert_eq!(&rt; pair_sums_at(1, pairs), Some((0x18 ^ 0x5e, 0x10 ^ 0x61)));
 }
 
 const LENGTHS: &[usize] = &[0, 1, 31, 32, 33, 64, 4_100, 65_536];
@@ -261,7 +303,7 @@ fn sums_of_terms_in_windows(rt: HostRuntime) -> Result<(), AllocError> {
     Ok(())
 }
 
-// Whether two terms that differ at one place have zero sums in just the windows without it.
+// Whether two terms that differ at one index have zero sums in just the windows without it.
 fn differ_at(changed: usize, terms: &[Term; 2]) -> bool {
     for from in [0usize, 1, 33, 100, 1_024] {
         for to in [0usize, 32, 128, 133, 1_024, 1_025, 4_096, 4_097, 4_200] {
@@ -276,7 +318,7 @@ fn differ_at(changed: usize, terms: &[Term; 2]) -> bool {
     true
 }
 
-// Whether they have, where the second differs from the first at this place.
+// Whether they have, where the second differs from the first at this index.
 fn windows_are_zero(alloc: Global, changed: usize) -> Result<bool, AllocError> {
     let first = some_bytes(alloc, SOURCE, 5)?;
     let mut second = first.clone()?;

@@ -180,7 +180,7 @@ fn put_stops<'a, R: Wait>(rt: &R, stops: PutEnd<Job<'a>>, count: usize) -> Ended
     stops.end(rt)
 }
 
-/// Joins the feeders, lets the workers stop, and joins them and the collector. Gives nothing where a thread was refused.
+/// Joins the feeders, lets the workers stop, and joins the collector and then them. Gives nothing where a thread was refused.
 pub(crate) fn join_all<'a, R: Threads + Wait>(
     rt: &R,
     started: Started<'a>,
@@ -214,7 +214,7 @@ pub(crate) fn join_all<'a, R: Threads + Wait>(
     join_left(rt, left);
     put_ends.push_reserved(put_stops(rt, stops, working.len()));
     take_mark(rt, &mut taker);
-    // The collector ends after the workers have put their last replies, so they needn't be waited for one by one.
+    // The collector ends when each worker has put its end mark, so the workers have ended by then, or are about to.
     let Cleared { all, replies: desk } = collecting.join(rt);
     join_workers(rt, working, &mut job_ends, &mut reply_ends);
     if !started_all || !fed_all {

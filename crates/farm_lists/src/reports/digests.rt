@@ -35,7 +35,7 @@ pub fn digests_of_racks<R: Threads + Sync>(
 {
     let outcomes = outcomes_of_racks(alloc, racks)?;
     let fragments = rebuilt_fragments(alloc, outcomes.as_slice())?;
-    let digests = grains::digests_of(rt, alloc, fragments.as_slice(), threads)?;
+    let digests = grains::digests_in_grains(rt, alloc, fragments.as_slice(), threads)?;
     hand_out(alloc, outcomes.as_slice(), digests.as_slice())
 }
 

@@ -32,7 +32,7 @@ struct Grain {
 
 /// The digest of each fragment, made in at most so many threads. Each takes a grain whenever it is free, so that a thread that comes late
 /// or shares its processor leaves more to the others, and one that is refused leaves all to them.
-pub(crate) fn digests_of<R: Threads + Sync>(
+pub(crate) fn digests_in_grains<R: Threads + Sync>(
     rt: &R,
     alloc: Global,
     fragments: &[&[u8]],
@@ -119,15 +119,15 @@ fn grains_in_threads<R: Threads + Sync>(
     Ok(slots)
 }
 
-// How many threads are worth their start for these fragments, of so many at most: each has the least part.
+// How many threads are worth their start for these fragments, of so many at most: each has the least part, as of files in `farm_shelves`.
 fn worthwhile(fragments: &[&[u8]], threads: usize) -> usize
     ensures { 0 < result }
 {
     let mut bytes = 0u64;
-    for index in 0..fragments.len() {
+    for fragment in fragments {
         bytes = bytes
             .saturating_add(BLOCK)
-            .saturating_add(fragments[index].len() as u64);
+            .saturating_add(fragment.len() as u64);
     }
     let parts = usize::try_from(bytes / LEAST_PART).unwrap_or(usize::MAX);
     parts.min(threads).max(1)
@@ -198,8 +198,8 @@ fn place_grains(slots: &[Option<Grain>], places: &[usize], digests: &mut [Option
         → AreRight right digests.new }
 {
     for index in 0..slots.len() {
-        if let Some(grain) = slots[index] {
-            place_grain(&grain, places, digests);
+        if let Some(grain) = &slots[index] {
+            place_grain(grain, places, digests);
         }
     }
 }
@@ -223,7 +223,8 @@ fn put(digests: &mut [Option<Digest>], place: usize, digest: Digest)
     }
 }
 
-// All digests, of which those that no thread made are made here.
+// All digests. Those that no thread made are made here: there are none, since the slots have room for all grains, but no contract says that
+// places differ and grains are all taken.
 fn complete(
     alloc: Global,
     fragments: &[&[u8]],

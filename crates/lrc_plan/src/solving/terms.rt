@@ -56,7 +56,7 @@ pub(crate) fn is_blank(row: &[Gf; 16]) -> bool
     row.iter().all(|c| c.byte() == 0)
 }
 
-// The terms of a row's products with the survivors' bytes, over the first of the room.
+// The terms of a row's products with the survivors' bytes, at the start of the room.
 fn row_terms<'s, 'a>(
     room: &'s mut [Term<'a>; 16],
     row: &[Gf; 16],

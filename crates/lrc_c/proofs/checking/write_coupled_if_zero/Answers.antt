@@ -8,10 +8,10 @@ write_checked-requires-clause-ready c =
     let at = lent c.args.at.now in
     let len = c.args.len in
     record {
-      first = (c.terms_in.ensures len (where_used _ at len (c.requires.used 0 _ (omega arith)))).room;
-      second = (c.terms_in-2.ensures len (where_used _ at len (c.requires.used 1 _ (omega arith)))).room;
-      third = (c.terms_in-3.ensures len (where_used _ at len (c.requires.used 2 _ (omega arith)))).room;
-      fourth = (c.terms_in-4.ensures len (where_used _ at len (c.requires.used 3 _ (omega arith)))).room;
+      first = (c.terms_in.ensures.terms len (where_used _ at len (c.requires.used 0 _ (omega arith)))).room;
+      second = (c.terms_in-2.ensures.terms len (where_used _ at len (c.requires.used 1 _ (omega arith)))).room;
+      third = (c.terms_in-3.ensures.terms len (where_used _ at len (c.requires.used 2 _ (omega arith)))).room;
+      fourth = (c.terms_in-4.ensures.terms len (where_used _ at len (c.requires.used 3 _ (omega arith)))).room;
     }
 
 pub returns-clause-zero : goal.returns-clause-zero
@@ -20,22 +20,22 @@ returns-clause-zero c = λ t.
     let len = c.args.len in
     let z = c.write_checked.ensures.zero t in
     zero_of_four c.args.rows at len (omega arith)
-    (terms_zero _ at len _ (c.terms_in.ensures len (where_used _ at len (c.requires.used 0 _ (omega arith)))) z.first)
-    (terms_zero _ at len _ (c.terms_in-2.ensures len (where_used _ at len (c.requires.used 1 _ (omega arith)))) z.second)
-    (terms_zero _ at len _ (c.terms_in-3.ensures len (where_used _ at len (c.requires.used 2 _ (omega arith)))) z.third)
-    (terms_zero _ at len _ (c.terms_in-4.ensures len (where_used _ at len (c.requires.used 3 _ (omega arith)))) z.fourth)
+    (terms_zero _ at len _ (c.terms_in.ensures.terms len (where_used _ at len (c.requires.used 0 _ (omega arith)))) z.first)
+    (terms_zero _ at len _ (c.terms_in-2.ensures.terms len (where_used _ at len (c.requires.used 1 _ (omega arith)))) z.second)
+    (terms_zero _ at len _ (c.terms_in-3.ensures.terms len (where_used _ at len (c.requires.used 2 _ (omega arith)))) z.third)
+    (terms_zero _ at len _ (c.terms_in-4.ensures.terms len (where_used _ at len (c.requires.used 3 _ (omega arith)))) z.fourth)
 
 pub returns-clause-no : goal.returns-clause-no
 returns-clause-no c = λ f zero.
     let at = lent c.args.at.now in
     let len = c.args.len in
     c.write_checked.ensures.no f (record {
-      first = zero_terms _ at len _ (c.terms_in.ensures len (where_used _ at len (c.requires.used 0 _ (omega arith))))
+      first = zero_terms _ at len _ (c.terms_in.ensures.terms len (where_used _ at len (c.requires.used 0 _ (omega arith))))
           (zero 0 _ (omega arith));
-      second = zero_terms _ at len _ (c.terms_in-2.ensures len (where_used _ at len (c.requires.used 1 _ (omega arith))))
+      second = zero_terms _ at len _ (c.terms_in-2.ensures.terms len (where_used _ at len (c.requires.used 1 _ (omega arith))))
           (zero 1 _ (omega arith));
-      third = zero_terms _ at len _ (c.terms_in-3.ensures len (where_used _ at len (c.requires.used 2 _ (omega arith))))
+      third = zero_terms _ at len _ (c.terms_in-3.ensures.terms len (where_used _ at len (c.requires.used 2 _ (omega arith))))
           (zero 2 _ (omega arith));
-      fourth = zero_terms _ at len _ (c.terms_in-4.ensures len (where_used _ at len (c.requires.used 3 _ (omega arith))))
+      fourth = zero_terms _ at len _ (c.terms_in-4.ensures.terms len (where_used _ at len (c.requires.used 3 _ (omega arith))))
           (zero 3 _ (omega arith));
     })

@@ -10,10 +10,13 @@ write_all-requires-clause-rooms c =
     let len = length c.args.px.now in
     let n = length c.args.sources.now in
     record {
-      first = ((c.terms_in.ensures len (all_where_used (take n c.args.rows.now.px) at len c.requires.lengths)).room, refl);
-      second = ((c.terms_in-2.ensures len (all_where_used (take n c.args.rows.now.py) at len c.requires.lengths)).room, c.requires.rooms.0);
-      third = ((c.terms_in-3.ensures len (all_where_used (take n c.args.rows.now.p0) at len c.requires.lengths)).room, c.requires.rooms.1);
-      fourth = ((c.terms_in-4.ensures len (all_where_used (take n c.args.rows.now.p1) at len c.requires.lengths)).room, c.requires.rooms.2);
+      first = ((c.terms_in.ensures.terms len (all_where_used (take n c.args.rows.now.px) at len c.requires.lengths)).room, refl);
+      second = ((c.terms_in-2.ensures.terms len (all_where_used (take n c.args.rows.now.py) at len
+          c.requires.lengths)).room, c.requires.rooms.0);
+      third = ((c.terms_in-3.ensures.terms len (all_where_used (take n c.args.rows.now.p0) at len
+          c.requires.lengths)).room, c.requires.rooms.1);
+      fourth = ((c.terms_in-4.ensures.terms len (all_where_used (take n c.args.rows.now.p1) at len
+          c.requires.lengths)).room, c.requires.rooms.2);
     }
 
 pub write_all-requires-clause-coupled : goal.write_all-requires-clause-coupled
@@ -27,7 +30,8 @@ write_all-requires-clause-coupled c =
     record {
       front = λ some. absurd (omega (arith, some));
       back = λ some. couple len at p0 p1 _ _ _ (length c.args.p0.now) (length c.args.p1.now)
-          (c.terms_in-3.ensures len used0) (c.terms_in-4.ensures len used1) (c.pairs_in.ensures len used0 used1) (omega arith)
+          (c.terms_in-3.ensures.terms len used0) (c.terms_in-4.ensures.terms len used1) (c.pairs_in.ensures.pairs len used0 used1)
+          (omega arith)
           (omega arith) _ _ refl refl;
     }
 
@@ -36,7 +40,7 @@ returns-clause-px c =
     let at = lent c.args.sources.now in
     let len = length c.args.px.now in
     let row = take (length c.args.sources.now) c.args.rows.now.px in
-    parity row at len _ c.write_all.new.a (c.terms_in.ensures len (all_where_used row at len c.requires.lengths)) (omega arith)
+    parity row at len _ c.write_all.new.a (c.terms_in.ensures.terms len (all_where_used row at len c.requires.lengths)) (omega arith)
     c.write_all.ensures.first
 
 pub returns-clause-py : goal.returns-clause-py
@@ -44,7 +48,7 @@ returns-clause-py c =
     let at = lent c.args.sources.now in
     let len = length c.args.px.now in
     let row = take (length c.args.sources.now) c.args.rows.now.py in
-    parity row at len _ c.write_all.new.b (c.terms_in-2.ensures len (all_where_used row at len c.requires.lengths)) (omega arith)
+    parity row at len _ c.write_all.new.b (c.terms_in-2.ensures.terms len (all_where_used row at len c.requires.lengths)) (omega arith)
     c.write_all.ensures.second
 
 pub returns-clause-p0 : goal.returns-clause-p0
@@ -52,7 +56,7 @@ returns-clause-p0 c =
     let at = lent c.args.sources.now in
     let len = length c.args.px.now in
     let row = take (length c.args.sources.now) c.args.rows.now.p0 in
-    parity row at len _ c.write_all.new.c (c.terms_in-3.ensures len (all_where_used row at len c.requires.lengths)) (omega arith)
+    parity row at len _ c.write_all.new.c (c.terms_in-3.ensures.terms len (all_where_used row at len c.requires.lengths)) (omega arith)
     c.write_all.ensures.third
 
 pub returns-clause-p1 : goal.returns-clause-p1
@@ -60,5 +64,5 @@ returns-clause-p1 c =
     let at = lent c.args.sources.now in
     let len = length c.args.px.now in
     let row = take (length c.args.sources.now) c.args.rows.now.p1 in
-    parity row at len _ c.write_all.new.d (c.terms_in-4.ensures len (all_where_used row at len c.requires.lengths)) (omega arith)
+    parity row at len _ c.write_all.new.d (c.terms_in-4.ensures.terms len (all_where_used row at len c.requires.lengths)) (omega arith)
     c.write_all.ensures.fourth

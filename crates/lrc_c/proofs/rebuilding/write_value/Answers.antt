@@ -9,7 +9,7 @@ write_if_zero-requires-clause-rooms c =
     let at = lent c.args.at.now in
     let len = length c.args.out.now in
     record {
-      first = ((c.terms_in.ensures len (where_used c.args.row.now at len c.requires.row)).room, refl);
+      first = ((c.terms_in.ensures.terms len (where_used c.args.row.now at len c.requires.row)).room, refl);
       second = tt;
       third = tt;
       fourth = tt;
@@ -19,5 +19,5 @@ pub returns-clause-value : goal.returns-clause-value
 returns-clause-value c = λ t.
     let at = lent c.args.at.now in
     let len = length c.args.out.now in
-    parity c.args.row.now at len _ c.write_if_zero.new.a (c.terms_in.ensures len (where_used c.args.row.now at len c.requires.row))
+    parity c.args.row.now at len _ c.write_if_zero.new.a (c.terms_in.ensures.terms len (where_used c.args.row.now at len c.requires.row))
     (omega arith) (c.write_if_zero.ensures.written t).first

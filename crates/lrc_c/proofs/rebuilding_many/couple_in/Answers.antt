@@ -8,6 +8,6 @@ pub returns-else-not-are_worth_pairing-clause-pairs : goal.returns-else-not-are_
 returns-else-not-are_worth_pairing-clause-pairs c = λ some.
     let at = lent c.args.plans.now.at.now in
     let len = c.args.plans.now.len in
-    c.pairs_in.ensures len
+    c.pairs_in.ensures.pairs len
     (where_used c.args.firsts.now at len (subst (λ a. IsUsedRow a c.args.firsts.now at len) c.in-Sums-Sums.is-0 c.requires.first))
     (where_used c.args.seconds.now at len (subst (λ a. IsUsedRow a c.args.seconds.now at len) c.in-Sums-Sums.is-1 c.requires.second))

@@ -18,7 +18,8 @@ returns-clause-answer c = λ o h.
     let at = lent c.args.at.now in
     let len = c.args.len in
     let targets = c.args.targets.now in
-    said_of (λ x s q. AreAnswered x s at len targets (answers.first ∷ answers.second ∷ answers.third ∷ answers.fourth ∷ []) new.a new.b new.c new.d)
+    said_of (λ x s q. AreAnswered x s at len targets (answers.first ∷ answers.second ∷ answers.third ∷ answers.fourth ∷ []) new.a new.b
+    new.c new.d)
     c.args.survivors c.set_of-set.result own o X0 X0 c.set_of-set.ensures
     (same_code (code_numbered c.args.code) own o (sym c.code_numbered.ensures ∙ c.in-Some.is) h.code_is) refl (record {
       first = answered own survives at len (get_or targets 0 0) answers.first new.a

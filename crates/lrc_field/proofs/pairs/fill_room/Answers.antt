@@ -60,6 +60,14 @@ loop-k-preserved g c =
           })
     ]
 
+pub returns-clause-first_sums : goal.returns-clause-first_sums
+returns-clause-first_sums g c = λ i. c.loop-k.invariant.first_sums i ∙ combination-all c.args.firsts.now
+    (column (map g.S.Source.bytes_of c.args.sources.now) i) c.loop-k.k (omega arith)
+
+pub returns-clause-second_sums : goal.returns-clause-second_sums
+returns-clause-second_sums g c = λ i. c.loop-k.invariant.second_sums i ∙ combination-all c.args.seconds.now
+    (column (map g.S.Source.bytes_of c.args.sources.now) i) c.loop-k.k (omega (arith, c.requires.same))
+
 pub returns-clause-pairs : goal.returns-clause-pairs
 returns-clause-pairs g c = λ len h j.
     let xss = map g.S.Source.bytes_of c.args.sources.now in

@@ -43,6 +43,10 @@ loop-k-preserved g c =
           })
     ]
 
+pub returns-clause-sums : goal.returns-clause-sums
+returns-clause-sums g c = λ i. c.loop-k.invariant.sums i ∙ combination-all c.args.coefficients.now
+    (column (map g.S.Source.bytes_of c.args.sources.now) i) c.loop-k.k (omega arith)
+
 pub returns-clause-terms : goal.returns-clause-terms
 returns-clause-terms g c = λ len used.
     let ts = c.loop-k.room in
