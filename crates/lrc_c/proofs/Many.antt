@@ -22,7 +22,7 @@ use Rattle.lrc_c.specs.Windows.{IsSomeWritten}
 use Rattle.lrc_c.specs.Lent.{at_place}
 use Rattle.lrc_c.specs.Stripes.{AreZeroRows}
 use Rattle.lrc_c.specs.Rebuilt.{status_of, IsAnswerAt}
-use Rattle.lrc_c.specs.RebuiltMany.{IsAimed, IsAnswered, IsAsked, IsPlanned, IsReady, IsTargetOf, IsAnsweredAt, IsWantedOf, status_at}
+use Rattle.lrc_c.specs.RebuiltMany.{IsAimed, IsAnswered, IsAsked, IsPlanned, IsReady, IsTargetOf, IsTargetAnswered, IsWantedOf, status_at}
 use Rattle.lrc_c.proofs.EncodeLemmas.{parity}
 use Rattle.lrc_c.proofs.Exports.{set_is}
 use Rattle.lrc_c.proofs.Stripes.{contradiction, rebuilt, several}
@@ -31,49 +31,49 @@ module _ (code : CodeName) (survives : Place → Bool) (at : List (List ℕ)) (l
     (small : All AreBytes at) (sixteen : length at ≡ 16) (checks : List (List ℕ))
     (of_survivors : AreCheckRows (tables_of code) survives checks)
     (some : 0 < len) where
-  answered_lost : (possible : Bool) (p : Place) (a : Aim) (ts : List Term) (w : Wanted) (out : List ℕ) (room : ℕ)
+  lost_answered : (possible : Bool) (p : Place) (a : Aim) (ts : List Term) (w : Wanted) (out : List ℕ) (room : ℕ)
       → (possible ≡ true → AreZeroRows checks at len) → (possible ≡ false → ¬ AreZeroRows checks at len)
       → IsReady code survives len (target.Lost p) room → IsPlanned code survives at len p a ts → IsWantedOf a ts w
       → (possible ≡ true → IsSomeWritten w out len) → length out ≡ room
       → (x : Answer) × (status_at a possible ≡ status_of x) × IsAnswerAt (tables_of code) survives (at_place at) len p x out
-  answered_lost b p aim.Nothing ts w out room hy hn ready plan want done long = absurd (plan refl)
-  answered_lost true p aim.Several ts w out room hy hn ready plan want done long =
+  lost_answered b p aim.Nothing ts w out room hy hn ready plan want done long = absurd (plan refl)
+  lost_answered true p aim.Several ts w out room hy hn ready plan want done long =
       (answer.Several, refl, several code survives at len whole small sixteen checks of_survivors (hy refl) p ready.0.of_code some plan)
-  answered_lost false p aim.Several ts w out room hy hn ready plan want done long =
+  lost_answered false p aim.Several ts w out room hy hn ready plan want done long =
       (answer.Contradiction, refl, contradiction code survives at len whole small sixteen checks of_survivors (hn refl))
-  answered_lost true p aim.Sums ts wanted.Nothing out room hy hn ready plan want done long = absurd (want refl)
-  answered_lost true p aim.Sums ts (wanted.Sums us) out room hy hn ready plan want done long = (
+  lost_answered true p aim.Sums ts wanted.Nothing out room hy hn ready plan want done long = absurd (want refl)
+  lost_answered true p aim.Sums ts (wanted.Sums us) out room hy hn ready plan want done long = (
     answer.Rebuilt,
     refl,
     rebuilt code survives at len whole small sixteen checks of_survivors (hy refl) p ready.0.of_code plan.0 out plan.1
         (parity plan.0 at len ts out plan.2 (long ∙ ready.1) (subst (λ vs. IsWritten vs out len) want (done refl))),
   )
-  answered_lost false p aim.Sums ts w out room hy hn ready plan want done long =
+  lost_answered false p aim.Sums ts w out room hy hn ready plan want done long =
       (answer.Contradiction, refl, contradiction code survives at len whole small sixteen checks of_survivors (hn refl))
 
   -- a target's status and room, from its plan, the checks and what was written
-  pub answered_at : (possible : Bool) (t : Target) (a : Aim) (ts : List Term) (w : Wanted) (out : List ℕ) (room status : ℕ)
+  pub target_answered : (possible : Bool) (t : Target) (a : Aim) (ts : List Term) (w : Wanted) (out : List ℕ) (room status : ℕ)
       → (possible ≡ true → AreZeroRows checks at len) → (possible ≡ false → ¬ AreZeroRows checks at len)
       → IsReady code survives len t room → IsAimed code survives at len t a ts → IsWantedOf a ts w
       → (possible ≡ true → IsSomeWritten w out len) → length out ≡ room → status ≡ status_at a possible
-      → IsAnsweredAt code survives at len t status out
-  answered_at possible target.Nothing a ts w out room status hy hn ready plan want done long e = e ∙ ap (λ x. status_at x possible) plan
-  answered_at possible (target.Lost p) a ts w out room status hy hn ready plan want done long e =
-      let x = answered_lost possible p a ts w out room hy hn ready plan want done long in (x.0, e ∙ x.1, x.2)
+      → IsTargetAnswered code survives at len t status out
+  target_answered possible target.Nothing a ts w out room status hy hn ready plan want done long e = e ∙ ap (λ x. status_at x possible) plan
+  target_answered possible (target.Lost p) a ts w out room status hy hn ready plan want done long e =
+      let x = lost_answered possible p a ts w out room hy hn ready plan want done long in (x.0, e ∙ x.1, x.2)
 
 -- a number's, from its target's
 pub answered : (code : CodeName) (survives : Place → Bool) (at : List (List ℕ)) (len number status : ℕ) (out : List ℕ) (room : ℕ)
     (t : Target)
-    → IsTargetOf code survives len number room t → IsAnsweredAt code survives at len t status out
+    → IsTargetOf code survives len number room t → IsTargetAnswered code survives at len t status out
     → IsAnswered code survives at len number status out
-answered code survives at len number status out room target.Nothing e said = record {
-  nothing = λ n. said;
+answered code survives at len number status out room target.Nothing e given = record {
+  nothing = λ n. given;
   target = λ p i. (let lt = index_of-lt p in absurd (omega (arith, lt, i, e)));
 }
-answered code survives at len number status out room (target.Lost q) e said = record {
+answered code survives at len number status out room (target.Lost q) e given = record {
   nothing = λ n. (let lt = index_of-lt q in let i = e.0 in absurd (omega (arith, lt, i, n)));
   target = λ p i. subst (λ r. (a : Answer) × (status ≡ status_of a) × IsAnswerAt (tables_of code) survives (at_place at) len r a out)
-      (index_of-eq q p (e.0 ∙ sym i)) said;
+      (index_of-eq q p (e.0 ∙ sym i)) given;
 }
 
 -- a target is asked for

@@ -1,26 +1,23 @@
 -- The answers for several lost targets.
-use Rattle.std.specs.Prelude.{◌≡◌, ◌≢◌, ℕ, ◌<◌, List, Bool, true, false, not, Some, slice_index}
+use Rattle.std.specs.Prelude.{◌≡◌, ◌≢◌, ℕ, ◌<◌, List, Bool, true, false, Some, slice_index}
 use Rattle.lrc_field.specs.declared.terms.Term.{Term}
 use Rattle.lrc_code.specs.declared.places.Place.{Place}
 use Rattle.lrc_code.specs.declared.codes.Code.{Code as CodeName}
 use Rattle.lrc_code.specs.Code.{has_place}
 use Rattle.lrc_code.specs.Codes.{tables_of}
 use Rattle.lrc_code.specs.Places.{index_of}
-use Rattle.lrc_code.specs.Reduction.{IsReduction}
-use Rattle.lrc_code.specs.Sets.{is_in}
 use Rattle.lrc_plan.specs.Planned.{ExtensionsDiffer}
 use Rattle.lrc_plan.specs.RowPlans.{IsValueRow}
 use Rattle.lrc_c.specs.declared.rebuilding.Answer.{Answer}
 use Rattle.lrc_c.specs.declared.rebuilding_many.Target.{Target}
 use Rattle.lrc_c.specs.declared.rebuilding_many.Target.TheVariants as target
-use Rattle.lrc_c.specs.declared.rebuilding_many.Plans.{Plans}
 use Rattle.lrc_c.specs.declared.rebuilding_many.Aim.{Aim}
 use Rattle.lrc_c.specs.declared.rebuilding_many.Aim.TheVariants as aim
 use Rattle.lrc_c.specs.declared.windows.Wanted.{Wanted}
 use Rattle.lrc_c.specs.declared.windows.Wanted.TheVariants as wanted
 use Rattle.lrc_c.specs.Arguments.{AreWhole, code_numbered, is_set}
 use Rattle.lrc_field.specs.Terms.{AreTermsOf}
-use Rattle.lrc_c.specs.Lent.{at_place, lent, AreUsed}
+use Rattle.lrc_c.specs.Lent.{at_place, AreUsed}
 use Rattle.lrc_c.specs.Rebuilt.{status_of, IsAnswerAt}
 
 -- a place of the code that doesn't survive
@@ -98,11 +95,6 @@ IsTermRow aim.Nothing row xss len ts = Unit
 IsTermRow aim.Several row xss len ts = Unit
 IsTermRow aim.Sums row xss len ts = AreTermsOf row xss len ts
 
--- plans over the survivors' bytes, by the equations reduced by the lost places
-pub record ArePlans (p : Plans) : Type 0 where
-  pub whole : AreWhole p.code (is_in p.set) (lent p.at.now) p.len
-  pub reduced : IsReduction (tables_of p.code) (λ q. not (is_in p.set q)) p.reduced.now
-
 -- two targets both have combinations
 pub record AreBothSums (one other : Aim) : Type 0 where
   pub first : one ≡ aim.Sums
@@ -124,7 +116,7 @@ status_at aim.Sums true = 0
 status_at aim.Sums false = 1
 
 -- what is answered of a target
-abbrev pub IsAnsweredAt : CodeName → (Place → Bool) → List (List ℕ) → ℕ → Target → ℕ → List ℕ → Type 0
-IsAnsweredAt code survives at len target.Nothing status out = status ≡ 0
-IsAnsweredAt code survives at len (target.Lost p) status out =
+abbrev pub IsTargetAnswered : CodeName → (Place → Bool) → List (List ℕ) → ℕ → Target → ℕ → List ℕ → Type 0
+IsTargetAnswered code survives at len target.Nothing status out = status ≡ 0
+IsTargetAnswered code survives at len (target.Lost p) status out =
     (a : Answer) × (status ≡ status_of a) × IsAnswerAt (tables_of code) survives (at_place at) len p a out

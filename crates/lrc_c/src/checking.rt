@@ -1,5 +1,6 @@
 //! The checks of survivors, and what is written beside them in one pass.
-ghost use Rattle.std.specs.Prelude.{◌≡◌, true, false, length, All, IsTrue, ◌↔◌, ◌⊎◌};
+ghost use Rattle.std.specs.Prelude.{◌↔◌, ◌≡◌, true, false, length, All, ◌⊎◌};
+ghost use Rattle.std.specs.Bool.{IsTrue};
 ghost use Rattle.lrc_code.specs.declared.codes.Code.{Code};
 ghost use Rattle.lrc_code.specs.Code.{AreBytes};
 ghost use Rattle.lrc_code.specs.Codes.{tables_of};

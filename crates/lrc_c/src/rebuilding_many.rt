@@ -1,12 +1,14 @@
 //! Rebuilding up to four lost fragments of a stripe in one pass.
-ghost use Rattle.std.specs.Prelude.{◌≡◌, ◌<◌, length, max, MatchOption, slice_index};
+ghost use Rattle.std.specs.Prelude.{◌≡◌, ◌<◌, not, length, max, MatchOption, slice_index};
 ghost use Rattle.lrc_code.specs.declared.codes.Code.{Code};
+ghost use Rattle.lrc_code.specs.Codes.{tables_of};
+ghost use Rattle.lrc_code.specs.Reduction.{IsReduction};
 ghost use Rattle.lrc_code.specs.Sets.{is_in};
 ghost use Rattle.lrc_c.specs.Arguments.{AreWhole, is_set};
 ghost use Rattle.lrc_c.specs.Lent.{lent};
 ghost use Rattle.lrc_field.specs.Pairs.{ArePairsOf};
 ghost use Rattle.lrc_c.specs.RebuiltMany.{AreAllAsked, AreAnswered, AreBothSums, IsAimed, IsAsked, IsLostOf, IsReady, IsTargetOf};
-ghost use Rattle.lrc_c.specs.RebuiltMany.{ArePlans, IsAnsweredAt, IsTermRow, IsUsedRow, IsWantedOf, status_at};
+ghost use Rattle.lrc_c.specs.RebuiltMany.{IsTermRow, IsTargetAnswered, IsUsedRow, IsWantedOf, status_at};
 
 use crate::arguments::{are_whole, code_numbered, set_of};
 use crate::checking::{are_sixteen, write_coupled_if_zero};
@@ -46,6 +48,23 @@ pub enum Aim {
     Sums,
 }
 
+// The survivors of a stripe, whose bytes are lent, and the code's equations, reduced by the lost places.
+#[derive(Clone, Copy)]
+struct Survivors<'r, 's, 'a> {
+    code: Code,
+    reduced: &'r Reduced,
+    set: PlaceSet,
+    at: &'s [Lent<'a>; 16],
+    len: usize,
+}
+
+// What a target's plan asks for, with the row of its combination.
+#[derive(Clone, Copy)]
+struct Aimed {
+    aim: Aim,
+    row: [Gf; 16],
+}
+
 /// The numbers that C gets for four targets.
 #[derive(Clone, Copy)]
 pub struct Statuses {
@@ -53,16 +72,6 @@ pub struct Statuses {
     pub second: u32,
     pub third: u32,
     pub fourth: u32,
-}
-
-/// What the plans of a stripe's lost places are made from: the survivors of a code, their reduced equations, and their bytes.
-#[derive(Clone, Copy)]
-pub(crate) struct Plans<'r, 't, 'a> {
-    pub(crate) code: Code,
-    pub(crate) reduced: &'r Reduced,
-    pub(crate) set: PlaceSet,
-    pub(crate) at: &'t [Lent<'a>; 16],
-    pub(crate) len: usize,
 }
 
 // The target of a number, where that is none, or a lost place of the code whose room has the length.
@@ -87,57 +96,68 @@ fn target_of(code: Code, set: PlaceSet, number: u8, room: usize, len: usize) -> 
     Some(Target::Lost(place))
 }
 
-// What the plan of a target asks for, and the terms of its combination, which are written at the start of the room. Its row is written
-// over `row`.
+// What the plan of a target asks for, and the terms of its combination, which are written at the start of the room.
 fn aim_of<'s, 'a>(
-    plans: &Plans<'_, '_, 'a>,
+    survivors: &Survivors<'_, '_, 'a>,
     target: Target,
     room: &'s mut [Term<'a>; 16],
-    row: &mut [Gf; 16],
-) -> (Aim, &'s [Term<'a>])
-    requires plans { ArePlans plans.now }
-    requires target { IsLostOf plans.now.code (is_in plans.now.set) target }
+) -> (Aimed, &'s [Term<'a>])
+    requires whole { AreWhole survivors.now.code (is_in survivors.now.set) (lent survivors.now.at.now) survivors.now.len }
+    requires target { IsLostOf survivors.now.code (is_in survivors.now.set) target }
+    requires reduced { IsReduction (tables_of survivors.now.code) (λ p. not (is_in survivors.now.set p)) survivors.now.reduced.now }
     requires many { length room.old ≡ 16 }
-    ensures aim { IsAimed plans.now.code (is_in plans.now.set) (lent plans.now.at.now) plans.now.len target result.0 result.1.now }
-    ensures used { IsUsedRow result.0 row.new (lent plans.now.at.now) plans.now.len }
-    ensures row { IsTermRow result.0 row.new (lent plans.now.at.now) plans.now.len result.1.now }
+    ensures aim { IsAimed survivors.now.code (is_in survivors.now.set) (lent survivors.now.at.now) survivors.now.len target
+        result.0.aim result.1.now }
+    ensures used { IsUsedRow result.0.aim result.0.row (lent survivors.now.at.now) survivors.now.len }
+    ensures row { IsTermRow result.0.aim result.0.row (lent survivors.now.at.now) survivors.now.len result.1.now }
 {
-    let at = plans.at;
+    let at = survivors.at;
+    let reduced = survivors.reduced;
     are_sixteen(at);
     let Target::Lost(place) = target else {
-        return (Aim::Nothing, &[]);
+        return (without_row(Aim::Nothing), &[]);
     };
-    let reduced = plans.reduced;
-    let Some(found) = value_from(plans.code, reduced, plans.set, place) else {
-        return (Aim::Several, &[]);
+    let Some(row) = value_from(survivors.code, reduced, survivors.set, place) else {
+        return (without_row(Aim::Several), &[]);
     };
-    *row = found;
-    (Aim::Sums, terms_in(room, &found, at))
+    let sums = Aimed {
+        aim: Aim::Sums,
+        row,
+    };
+    (sums, terms_in(room, &row, at))
+}
+
+// An aim that has no combination.
+fn without_row(aim: Aim) -> Aimed
+    ensures { result.aim ≡ aim }
+{
+    Aimed {
+        aim,
+        row: [Gf::new(0); 16],
+    }
 }
 
 // The pairs of two targets' combinations, which are written at the start of the room: none where a target has no combination, or where
 // the two have so little in common that each is faster alone.
 fn couple_in<'s, 'a>(
     room: &'s mut [Pair<'a>; 16],
-    one: Aim,
-    other: Aim,
-    firsts: &[Gf; 16],
-    seconds: &[Gf; 16],
-    plans: &Plans<'_, '_, 'a>,
+    one: &Aimed,
+    other: &Aimed,
+    at: &[Lent<'a>; 16],
+    len: usize,
 ) -> &'s [Pair<'a>]
     requires many { length room.old ≡ 16 }
-    requires first { IsUsedRow one firsts.now (lent plans.now.at.now) plans.now.len }
-    requires second { IsUsedRow other seconds.now (lent plans.now.at.now) plans.now.len }
-    ensures both { 0 < length result.now → AreBothSums one other }
-    ensures pairs { 0 < length result.now → ArePairsOf firsts.now seconds.now (lent plans.now.at.now) plans.now.len result.now }
+    requires first { IsUsedRow one.now.aim one.now.row (lent at.now) len }
+    requires second { IsUsedRow other.now.aim other.now.row (lent at.now) len }
+    ensures both { 0 < length result.now → AreBothSums one.now.aim other.now.aim }
+    ensures pairs { 0 < length result.now → ArePairsOf one.now.row other.now.row (lent at.now) len result.now }
 {
-    match (one, other) {
+    match (one.aim, other.aim) {
         (Aim::Sums, Aim::Sums) => {
-            if !are_worth_pairing(firsts, seconds) {
+            if !are_worth_pairing(&one.row, &other.row) {
                 return &[];
             }
-            let at = plans.at;
-            pairs_in(room, firsts, seconds, at)
+            pairs_in(room, &one.row, &other.row, at)
         }
         _ => &[],
     }
@@ -181,21 +201,15 @@ fn rebuild_four(
     requires second { IsReady code (is_in set) len targets.second (length b.old) }
     requires third { IsReady code (is_in set) len targets.third (length c.old) }
     requires fourth { IsReady code (is_in set) len targets.fourth (length d.old) }
-    ensures first { IsAnsweredAt code (is_in set) (lent at.now) len targets.first result.first a.new }
-    ensures second { IsAnsweredAt code (is_in set) (lent at.now) len targets.second result.second b.new }
-    ensures third { IsAnsweredAt code (is_in set) (lent at.now) len targets.third result.third c.new }
-    ensures fourth { IsAnsweredAt code (is_in set) (lent at.now) len targets.fourth result.fourth d.new }
+    ensures first { IsTargetAnswered code (is_in set) (lent at.now) len targets.first result.first a.new }
+    ensures second { IsTargetAnswered code (is_in set) (lent at.now) len targets.second result.second b.new }
+    ensures third { IsTargetAnswered code (is_in set) (lent at.now) len targets.third result.third c.new }
+    ensures fourth { IsTargetAnswered code (is_in set) (lent at.now) len targets.fourth result.fourth d.new }
 {
     are_sixteen(at);
-    let Targets {
-        first,
-        second,
-        third,
-        fourth,
-    } = targets;
     let reduced = reduce_by_lost(code, set);
     let checks = checks_from(code, &reduced, set);
-    let plans = Plans {
+    let survivors = Survivors {
         code,
         reduced: &reduced,
         set,
@@ -203,48 +217,31 @@ fn rebuild_four(
         len,
     };
     let mut first_room = no_terms();
-    let mut first_row = [Gf::new(0); 16];
-    let (first_aim, first_terms) = aim_of(&plans, first, &mut first_room, &mut first_row);
     let mut second_room = no_terms();
-    let mut second_row = [Gf::new(0); 16];
-    let (second_aim, second_terms) = aim_of(&plans, second, &mut second_room, &mut second_row);
     let mut third_room = no_terms();
-    let mut third_row = [Gf::new(0); 16];
-    let (third_aim, third_terms) = aim_of(&plans, third, &mut third_room, &mut third_row);
     let mut fourth_room = no_terms();
-    let mut fourth_row = [Gf::new(0); 16];
-    let (fourth_aim, fourth_terms) = aim_of(&plans, fourth, &mut fourth_room, &mut fourth_row);
+    let (first, first_terms) = aim_of(&survivors, targets.first, &mut first_room);
+    let (second, second_terms) = aim_of(&survivors, targets.second, &mut second_room);
+    let (third, third_terms) = aim_of(&survivors, targets.third, &mut third_room);
+    let (fourth, fourth_terms) = aim_of(&survivors, targets.fourth, &mut fourth_room);
     let wants = Wants {
-        first: wanted_of(first_aim, first_terms),
-        second: wanted_of(second_aim, second_terms),
-        third: wanted_of(third_aim, third_terms),
-        fourth: wanted_of(fourth_aim, fourth_terms),
+        first: wanted_of(first.aim, first_terms),
+        second: wanted_of(second.aim, second_terms),
+        third: wanted_of(third.aim, third_terms),
+        fourth: wanted_of(fourth.aim, fourth_terms),
     };
     let mut front_room = no_pairs();
-    let front = couple_in(
-        &mut front_room,
-        first_aim,
-        second_aim,
-        &first_row,
-        &second_row,
-        &plans,
-    );
     let mut back_room = no_pairs();
-    let back = couple_in(
-        &mut back_room,
-        third_aim,
-        fourth_aim,
-        &third_row,
-        &fourth_row,
-        &plans,
-    );
-    let couples = Couples { front, back };
+    let couples = Couples {
+        front: couple_in(&mut front_room, &first, &second, at, len),
+        back: couple_in(&mut back_room, &third, &fourth, at, len),
+    };
     let possible = write_coupled_if_zero(checks, at, wants, couples, len, a, b, c, d);
     Statuses {
-        first: status_at(first_aim, possible),
-        second: status_at(second_aim, possible),
-        third: status_at(third_aim, possible),
-        fourth: status_at(fourth_aim, possible),
+        first: status_at(first.aim, possible),
+        second: status_at(second.aim, possible),
+        third: status_at(third.aim, possible),
+        fourth: status_at(fourth.aim, possible),
     }
 }
 
@@ -305,10 +302,7 @@ pub extern "C" fn lrc_rebuild_many_into(
         third,
         fourth,
     };
-    let answers = rebuild_four(own, set, at, len, asked, a, b, c, d);
-    *statuses = [answers.first, answers.second, answers.third, answers.fourth];
-    answers
-        .first
-        .max(answers.second)
-        .max(answers.third.max(answers.fourth))
+    let four = rebuild_four(own, set, at, len, asked, a, b, c, d);
+    *statuses = [four.first, four.second, four.third, four.fourth];
+    four.first.max(four.second).max(four.third.max(four.fourth))
 }

@@ -1,5 +1,6 @@
 //! Several combinations in one pass: window by window, each over the same bytes while these are near the processor.
-ghost use Rattle.std.specs.Prelude.{◌≡◌, ◌<◌, ◌≤◌, true, false, length, IsTrue, ◌↔◌};
+ghost use Rattle.std.specs.Prelude.{◌↔◌, ◌≡◌, ◌<◌, ◌≤◌, true, false, length};
+ghost use Rattle.std.specs.Bool.{IsTrue};
 ghost use Rattle.lrc_c.specs.Windows.{AreCoupled, AreReady, AreRooms, AreWritten, AreZeroWithin, HasRoom, IsSomeWritten, MayBeCouple};
 
 use crate::combining::{is_zero, write_window};

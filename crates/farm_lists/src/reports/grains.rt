@@ -1,5 +1,5 @@
 //! The digests of fragments, the longest first, in grains of sixteen, each taken by the thread that is free next.
-ghost use Rattle.std.specs.Prelude.{◌≡◌, ◌+◌, ◌<◌, ◌≤◌, ℕ, List, [], None, Some, IfOk, IfSome, length, map, set, slice_index_or, All};
+ghost use Rattle.std.specs.Prelude.{◌≡◌, ◌+◌, ◌<◌, ◌≤◌, ℕ, List, [], None, Some, IfOk, IfSome, length, map, max, set, slice_index_or, All};
 ghost use Rattle.sha2.specs.Sha256.{sha256};
 ghost use Rattle.farm_lists.specs.Grains.{AreGrains, AreRight, IsGrain, at_each};
 
@@ -121,7 +121,8 @@ fn grains_in_threads<R: Threads + Sync>(
 
 // How many threads are worth their start for these fragments, of so many at most: each has the least part, as of files in `farm_shelves`.
 fn worthwhile(fragments: &[&[u8]], threads: usize) -> usize
-    ensures { 0 < result }
+    ensures some { 0 < result }
+    ensures few { result ≤ max 1 threads }
 {
     let mut bytes = 0u64;
     for fragment in fragments {

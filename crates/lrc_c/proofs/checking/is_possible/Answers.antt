@@ -1,4 +1,4 @@
-use Rattle.std.proofs.Common.{sym, ◌∙◌, true≢false}
+use Rattle.std.proofs.lemmas.Bool.{both_ways}
 use Rattle.lrc_code.specs.Sets.{is_in}
 use Rattle.lrc_c.specs.Lent.{lent}
 use Rattle.lrc_c.proofs.Stripes.{used, contradiction, possible}
@@ -16,4 +16,4 @@ returns-clause-yes c = λ t. possible c.args.code (is_in c.args.set) (lent c.arg
 pub returns-clause-no : goal.returns-clause-no
 returns-clause-no c = λ f. contradiction c.args.code (is_in c.args.set) (lent c.args.at.now) c.args.len c.requires
     c.are_sixteen.ensures.bytes c.are_sixteen.ensures.count c.check_rows-checks.result c.check_rows-checks.ensures
-    (λ z. absurd (true≢false (sym (c.are_zero.ensures.1 z) ∙ f)))
+    (λ zero. both_ways _ f (c.are_zero.ensures.1 zero))

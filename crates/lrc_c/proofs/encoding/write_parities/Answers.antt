@@ -11,12 +11,21 @@ write_all-requires-clause-rooms c =
     let n = length c.args.sources.now in
     record {
       first = ((c.terms_in.ensures.terms len (all_where_used (take n c.args.rows.now.px) at len c.requires.lengths)).room, refl);
-      second = ((c.terms_in-2.ensures.terms len (all_where_used (take n c.args.rows.now.py) at len
-          c.requires.lengths)).room, c.requires.rooms.0);
-      third = ((c.terms_in-3.ensures.terms len (all_where_used (take n c.args.rows.now.p0) at len
-          c.requires.lengths)).room, c.requires.rooms.1);
-      fourth = ((c.terms_in-4.ensures.terms len (all_where_used (take n c.args.rows.now.p1) at len
-          c.requires.lengths)).room, c.requires.rooms.2);
+      second = (
+        (c.terms_in-2.ensures.terms len (all_where_used (take n c.args.rows.now.py) at len
+            c.requires.lengths)).room,
+        c.requires.rooms.0,
+      );
+      third = (
+        (c.terms_in-3.ensures.terms len (all_where_used (take n c.args.rows.now.p0) at len
+            c.requires.lengths)).room,
+        c.requires.rooms.1,
+      );
+      fourth = (
+        (c.terms_in-4.ensures.terms len (all_where_used (take n c.args.rows.now.p1) at len
+            c.requires.lengths)).room,
+        c.requires.rooms.2,
+      );
     }
 
 pub write_all-requires-clause-coupled : goal.write_all-requires-clause-coupled

@@ -1,4 +1,5 @@
-use Rattle.std.proofs.Common.{length, sym, ◌∙◌, true≢false}
+use Rattle.std.proofs.Common.{length}
+use Rattle.std.proofs.lemmas.Bool.{both_ways}
 use Rattle.lrc_code.specs.Codes.{tables_of}
 use Rattle.lrc_code.specs.Sets.{is_in}
 use Rattle.lrc_c.specs.Lent.{lent}
@@ -12,7 +13,7 @@ are_zero-requires c = used c.args.code (is_in c.args.set) (lent c.args.at.now) (
 pub returns-then-not-are_zero : goal.returns-then-not-are_zero
 returns-then-not-are_zero c = contradiction c.args.code (is_in c.args.set) (lent c.args.at.now) (length c.args.out.now) c.requires.whole
     c.are_sixteen.ensures.bytes c.are_sixteen.ensures.count c.plan_rows-plan.result.checks c.plan_rows-plan.ensures.of_survivors
-    (λ z. absurd (true≢false (sym (c.are_zero.ensures.1 z) ∙ c.if-not-are_zero.true)))
+    (λ zero. both_ways _ c.if-not-are_zero.true (c.are_zero.ensures.1 zero))
 
 pub returns-in_default : goal.returns-in_default
 returns-in_default c = several c.args.code (is_in c.args.set) (lent c.args.at.now) (length c.args.out.now) c.requires.whole

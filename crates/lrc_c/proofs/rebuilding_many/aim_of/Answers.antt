@@ -9,24 +9,24 @@ use Rattle.lrc_c.proofs.rebuilding_many.aim_of.Goals as goal
 
 pub returns-clause-aim : goal.returns-clause-aim
 returns-clause-aim c =
-    let plans = c.args.plans.now in
-    let at = lent plans.at.now in
-    let used = row_used plans.code (is_in plans.set) at plans.len c.requires.plans.whole c.are_sixteen.ensures.bytes
-        c.are_sixteen.ensures.count c.in-Some.found c.in-Some.ensures.value.reads in
-    let terms = c.terms_in.ensures.terms plans.len (where_used c.in-Some.found at plans.len used) in
-    subst (λ t. IsAimed plans.code (is_in plans.set) at plans.len t aim.Sums c.terms_in.result.now) (sym c.in-Lost.is)
-    (c.in-Some.found, c.in-Some.ensures.value, terms)
+    let survivors = c.args.survivors.now in
+    let at = lent survivors.at.now in
+    let terms = c.terms_in.ensures.terms survivors.len (where_used c.in-Some.row at survivors.len
+        (row_used survivors.code (is_in survivors.set)
+    at survivors.len c.requires.whole c.are_sixteen.ensures.bytes c.are_sixteen.ensures.count c.in-Some.row
+    c.in-Some.ensures.value.reads)) in
+    subst (λ t. IsAimed survivors.code (is_in survivors.set) at survivors.len t aim.Sums c.terms_in.result.now) (sym c.in-Lost.is)
+    (c.in-Some.row, c.in-Some.ensures.value, terms)
 
 pub returns-clause-used : goal.returns-clause-used
 returns-clause-used c =
-    let plans = c.args.plans.now in
-    row_used plans.code (is_in plans.set) (lent plans.at.now) plans.len c.requires.plans.whole c.are_sixteen.ensures.bytes
-    c.are_sixteen.ensures.count c.in-Some.found c.in-Some.ensures.value.reads
+    let survivors = c.args.survivors.now in
+    row_used survivors.code (is_in survivors.set) (lent survivors.at.now) survivors.len c.requires.whole
+    c.are_sixteen.ensures.bytes c.are_sixteen.ensures.count c.in-Some.row c.in-Some.ensures.value.reads
 
 pub returns-clause-row : goal.returns-clause-row
 returns-clause-row c =
-    let plans = c.args.plans.now in
-    let at = lent plans.at.now in
-    let used = row_used plans.code (is_in plans.set) at plans.len c.requires.plans.whole c.are_sixteen.ensures.bytes
-        c.are_sixteen.ensures.count c.in-Some.found c.in-Some.ensures.value.reads in
-    c.terms_in.ensures.terms plans.len (where_used c.in-Some.found at plans.len used)
+    let survivors = c.args.survivors.now in
+    let at = lent survivors.at.now in
+    c.terms_in.ensures.terms survivors.len (where_used c.in-Some.row at survivors.len (row_used survivors.code (is_in survivors.set) at
+    survivors.len c.requires.whole c.are_sixteen.ensures.bytes c.are_sixteen.ensures.count c.in-Some.row c.in-Some.ensures.value.reads))

@@ -11,24 +11,23 @@ use Rattle.lrc_c.proofs.rebuilding_many.lrc_rebuild_many_into.Goals as goal
 pub returns-clause-answer : goal.returns-clause-answer
 returns-clause-answer c = λ o h.
     let own = c.in-Some.own in
-    let answers = c.rebuild_four-answers.result in
-    let ensures = c.rebuild_four-answers.ensures in
-    let new = c.rebuild_four-answers.new in
+    let four = c.rebuild_four-four.result in
+    let ensures = c.rebuild_four-four.ensures in
+    let new = c.rebuild_four-four.new in
     let survives = is_in c.set_of-set.result in
     let at = lent c.args.at.now in
     let len = c.args.len in
     let targets = c.args.targets.now in
-    said_of (λ x s q. AreAnswered x s at len targets (answers.first ∷ answers.second ∷ answers.third ∷ answers.fourth ∷ []) new.a new.b
-    new.c new.d)
+    said_of (λ x s q. AreAnswered x s at len targets (four.first ∷ four.second ∷ four.third ∷ four.fourth ∷ []) new.a new.b new.c new.d)
     c.args.survivors c.set_of-set.result own o X0 X0 c.set_of-set.ensures
     (same_code (code_numbered c.args.code) own o (sym c.code_numbered.ensures ∙ c.in-Some.is) h.code_is) refl (record {
-      first = answered own survives at len (get_or targets 0 0) answers.first new.a
+      first = answered own survives at len (get_or targets 0 0) four.first new.a
           (length c.args.a.now) c.in-Some-target_of.first c.in-Some-target_of.ensures ensures.first;
-      second = answered own survives at len (get_or targets 1 0) answers.second new.b
+      second = answered own survives at len (get_or targets 1 0) four.second new.b
           (length c.args.b.now) c.in-Some-target_of-2.second c.in-Some-target_of-2.ensures ensures.second;
-      third = answered own survives at len (get_or targets 2 0) answers.third new.c
+      third = answered own survives at len (get_or targets 2 0) four.third new.c
           (length c.args.c.now) c.in-Some-target_of-3.third c.in-Some-target_of-3.ensures ensures.third;
-      fourth = answered own survives at len (get_or targets 3 0) answers.fourth new.d
+      fourth = answered own survives at len (get_or targets 3 0) four.fourth new.d
           (length c.args.d.now) c.in-Some-target_of-4.fourth c.in-Some-target_of-4.ensures ensures.fourth;
     })
 
