@@ -7,6 +7,7 @@ use crate::planning::{Plan, lrc_apply, lrc_plan_into};
 use crate::reading::{lrc_cheapest_reads_into, lrc_reads_into};
 use crate::rebuilding::lrc_rebuild_into;
 use crate::rebuilding_many::lrc_rebuild_many_into;
+use crate::tests::stripes::fragments;
 use crate::updating::lrc_update_into;
 use crate::version::lrc_version;
 use lrc_field::Gf;
@@ -46,25 +47,8 @@ fn a_stripe(rt: HostRuntime) {
         0
     );
     assert_eq!(&rt; [px[0], py[0], p0[0], p1[0]], [0x01, 0x00, 0x04, 0x10]);
-    let none: &[u8] = &[];
-    let at = [
-        one(&x0),
-        one(&zero),
-        one(&zero),
-        one(&zero),
-        one(&zero),
-        one(&zero),
-        one(&px),
-        one(&py),
-        one(&p0),
-        one(&p1),
-        one(none),
-        one(none),
-        one(none),
-        one(none),
-        one(none),
-        one(none),
-    ];
+    let stripe = [1, 0, 0, 0, 0, 0, px[0], py[0], p0[0], p1[0]];
+    let at = fragments(&stripe);
     let mut out = [9u8];
     assert_eq!(&rt; lrc_verify_at(0, 0x3ff, &at, 1), 0);
     assert_eq!(&rt; lrc_rebuild_into(0, 0x3fe, &at, 0, &mut out), 0);

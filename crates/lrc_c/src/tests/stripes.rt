@@ -12,8 +12,8 @@ use lrc_field::Gf;
 // A stripe in which x5 alone isn't 00: its parities are the coefficients of x5.
 const STRIPE: [u8; 10] = [0x00, 0x00, 0x00, 0x00, 0x00, 0x01, 0x00, 0x01, 0x03, 0x05];
 
-// Fragments of one byte each.
-fn fragments(bytes: &[u8; 10]) -> [Lent<'_>; 16] {
+/// Fragments of one byte each.
+pub(crate) fn fragments(bytes: &[u8; 10]) -> [Lent<'_>; 16] {
     [
         one(&bytes[0..1]),
         one(&bytes[1..2]),
