@@ -12,7 +12,7 @@ returns-clause-aim c =
     let survivors = c.args.survivors.now in
     let at = lent survivors.at.now in
     let terms = c.terms_in.ensures.terms survivors.len (where_used c.in-Some.row at survivors.len
-        (row_used survivors.code (is_in survivors.set)
+    (row_used survivors.code (is_in survivors.set)
     at survivors.len c.requires.whole c.are_sixteen.ensures.bytes c.are_sixteen.ensures.count c.in-Some.row
     c.in-Some.ensures.value.reads)) in
     subst (λ t. IsAimed survivors.code (is_in survivors.set) at survivors.len t aim.Sums c.terms_in.result.now) (sym c.in-Lost.is)
