@@ -5,7 +5,7 @@ use Rattle.std.specs.List.{sum_by, slice_index}
 use Rattle.std.specs.Prelude.{All}
 use Rattle.std.proofs.lemmas.Nat.{or_shifted, or_comm, and_or_self}
 use lib.Bits.{or_add_and}
-use mathlib.Core.Option.{some, some-ne-none, some-injective}
+use mathlib.Core.Option.{some, some-ne-none}
 use lib.ListN.{get_elem?}
 use Rattle.atomic_table.specs.Table.{State, Step, Me, Act, keeps, Valid, carried_after, Allows, Splits, Joins, stepped}
 use Rattle.atomic_table.proofs.Lists.{at_set, at_snoc, set_again}
@@ -17,7 +17,7 @@ use Rattle.farm_lanes.specs.GateRule.{closing, late, word_of, KeepsGate, Draws, 
 use Rattle.farm_lanes.specs.SeatChanges.{joined}
 use Rattle.farm_lanes.specs.Lists.{Each}
 use Rattle.farm_lanes.specs.SeatChanges.{fresh, accepted, refused, without}
-use Rattle.farm_lanes.proofs.Numbers.{once_more, once_le, once_lt, times-append, times-snoc, all_below}
+use Rattle.farm_lanes.proofs.Numbers.{once_more, once_le, times-append, times-snoc, all_below}
 use Rattle.farm_lanes.proofs.Sums.{total_set, total_snoc, total_part, total_two, total_le, total_alone}
 
 -- bit 63
