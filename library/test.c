@@ -362,7 +362,7 @@ static ucontext_t caller, called;
 /* What the calls are given: a stripe of each code with fragments of `size` bytes, of which four are lost. */
 static enum lrc_code its_code;
 static size_t size;
-static uint32_t lasting, statuses[4];
+static uint32_t lasting, answers[4];
 static const uint8_t *remaining[LRC_PLACES];
 static lrc_bytes table[LRC_PLACES];
 static lrc_plan row;
@@ -378,10 +378,10 @@ static void call_encode(void) { lrc_encode(its_code, whole_stripe, size); }
 static void call_plan(void) { lrc_plan_into((uint8_t)its_code, lasting, LRC_X0, &row); }
 static void call_apply(void) { lrc_apply(row.value, table, outs[0], size); }
 static void call_rebuild(void) { lrc_rebuild(its_code, remaining, LRC_X0, outs[0], size); }
-static void call_rebuild_many(void) { lrc_rebuild_many(its_code, remaining, four, four_rooms, statuses, 4, size); }
+static void call_rebuild_many(void) { lrc_rebuild_many(its_code, remaining, four, four_rooms, answers, 4, size); }
 static void call_verify(void) { lrc_verify(its_code, remaining, size); }
 static void call_update(void) { lrc_update(its_code, LRC_X1, store[LRC_X0], four_rooms, size); }
-static void call_reads(void) { lrc_cheapest_reads_into((uint8_t)its_code, UINT32_C(1) << LRC_X0, lasting, costs, statuses); }
+static void call_reads(void) { lrc_cheapest_reads_into((uint8_t)its_code, UINT32_C(1) << LRC_X0, lasting, costs, answers); }
 
 /* How many bytes of stack a call uses. */
 static size_t used(void (*call)(void))

@@ -2,8 +2,8 @@
 ghost use Rattle.std.specs.Prelude.{◌≡◌};
 
 use lrc_field::{
-    Gf, Pair, Term, add_into, combine_into, combined, no_pairs, no_terms, pairs_in, scale_add_into,
-    sums_are_zero, sums_are_zero_between, terms_in,
+    Gf, Pair, Term, add_into, combine_into, combine_pairs_into, combined, no_pairs, no_terms,
+    pairs_in, scale_add_into, sums_are_zero, sums_are_zero_between, terms_in,
 };
 use std::alloc::{AllocError, Global};
 
@@ -300,6 +300,58 @@ fn windows_are_combined(alloc: Global, b: u8, c: u8) -> Result<bool, AllocError>
 fn sums_of_terms_in_windows(rt: HostRuntime) -> Result<(), AllocError> {
     assert!(&rt; windows_are_combined(rt.alloc(), 0x01, 0x01)?);
     assert!(&rt; windows_are_combined(rt.alloc(), 0x53, 0x00)?);
+    Ok(())
+}
+
+// Lengths of windows of pairs: around the blocks of 96 bytes, of which one is the least.
+const PAIR_WINDOWS: &[usize] = &[96, 97, 128, 191, 192, 193, 1025, 4097];
+
+// Whether both sums of a window are those by shifts.
+fn are_combined_in_pairs(
+    alloc: Global,
+    from: usize,
+    len: usize,
+    pairs: &[Pair],
+) -> Result<bool, AllocError> {
+    let mut first = some_bytes(alloc, len, 23)?;
+    let mut second = some_bytes(alloc, len, 29)?;
+    if first.len() != len || second.len() != len || len < 96 || from > 100 || len > 4_097 {
+        return Ok(false);
+    }
+    if !pairs.iter().all(|pair| pair.bytes.len() >= from + len) {
+        return Ok(false);
+    }
+    combine_pairs_into(&mut first, &mut second, from, pairs);
+    for index in 0..len {
+        let made = match (first.get(index), second.get(index)) {
+            (Some(one), Some(other)) => Some((*one, *other)),
+            _ => None,
+        };
+        if made.is_none() || made != pair_sums_at(from + index, pairs) {
+            return Ok(false);
+        }
+    }
+    Ok(true)
+}
+
+#[test]
+fn sums_of_pairs_in_windows(rt: HostRuntime) -> Result<(), AllocError> {
+    let first = some_bytes(rt.alloc(), SOURCE, 5)?;
+    let second = some_bytes(rt.alloc(), SOURCE, 11)?;
+    let third = some_bytes(rt.alloc(), SOURCE, 17)?;
+    let sources = [first.as_slice(), second.as_slice(), third.as_slice()];
+    let firsts = [Gf::new(0x01), Gf::new(0x53), Gf::new(0x00)];
+    let seconds = [Gf::new(0x01), Gf::new(0x8e), Gf::new(0x04)];
+    let mut room = no_pairs();
+    let pairs = pairs_in(&mut room, &firsts, &seconds, &sources);
+    for from in [0usize, 1, 33, 100] {
+        for len in PAIR_WINDOWS {
+            assert!(&rt;
+                are_combined_in_pairs(rt.alloc(), from, *len, pairs)?,
+                "{len} bytes from {from}"
+            );
+        }
+    }
     Ok(())
 }
 
