@@ -1,4 +1,5 @@
-//! What all threads of a run share, and which of them was refused.
+//! What all threads of a run share, which of them was refused, and how each is started.
+ghost use Rattle.std.specs.Prelude.{◌≡◌, IfErr, IfOk};
 
 pub(crate) mod all;
 pub(crate) mod closing;
@@ -8,8 +9,14 @@ pub(crate) mod given;
 pub(crate) mod rack_feeders;
 pub(crate) mod worker;
 
+use core::thread::Stack;
 use std::alloc::Global;
 use std::sync::atomic::{AtomicBool, AtomicUsize};
+use std::thread::{Promise, PromisedHandle, Scope, SpawnError};
+
+// The bytes of a thread's stack. The C library keeps the stacks of ended threads for the next ones, 40 MiB at most. Of its own size, 8 MiB,
+// that is five: each further one would be mapped for its thread and unmapped after it, which interrupts all processors.
+const STACK: usize = 1_048_576;
 
 /// What a run was called with, and which of its threads was refused.
 #[derive(Drop)]
@@ -39,4 +46,22 @@ impl Refusals {
             feeder: AtomicBool::new(false),
         }
     }
+}
+
+/// Starts a thread of a run. The body is handed back where no thread can be made.
+pub(crate) fn start_thread<
+    's,
+    E,
+    P: Promise<T> + Drop,
+    F: FnOnce() -> T + Send + 's,
+    T: Send + Drop + 's,
+>(scope: &Scope<'s, E>, promise: P, body: F) -> Result<PromisedHandle<T, P>, SpawnError<F>>
+    requires runs { F.pre body }
+    requires keeps { (r : T) → F.post body r → P.kept_by promise r }
+    ensures ok { IfOk result (λ h. h.promise ≡ promise) }
+    ensures err { IfErr result (λ e. e.value ≡ body) }
+{
+    Stack::new()
+        .stack_size(STACK)
+        .spawn_scoped_with(scope, promise, body)
 }

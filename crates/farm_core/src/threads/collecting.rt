@@ -7,7 +7,7 @@ ghost use Rattle.farm_core.specs.Settled.{HasCleared};
 use crate::pause::Pause;
 use crate::replies::Reply;
 use crate::replies::board::{Board, HandedIn, hand_in};
-use crate::threads::Shared;
+use crate::threads::{Shared, start_thread};
 use farm_lanes::{Item, TakeEnd};
 use std::snapshot::Snapshot;
 use std::sync::Wait;
@@ -113,7 +113,7 @@ pub(crate) fn start_collector<'s, 'a: 's, E, R: Wait + Sync, P: Pause>(
         requires { HoldsNothing desk.board.racks desk.board × IsUnusedTake desk.replies }
         ensures { HasCleared desk.entry.board.racks desk.entry.replies result.all.board result.all.fault result.replies }
     { clear_with(shared, desk) };
-    match scope.spawn_with(promise, body) {
+    match start_thread(scope, promise, body) {
         Ok(handle) => Ok(handle),
         Err(back) => {
             shared.refused.collector.store(true, Ordering::SeqCst);

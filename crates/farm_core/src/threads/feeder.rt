@@ -9,9 +9,9 @@ use crate::feeds::slots::slot_number;
 use crate::jobs::Job;
 use crate::orders::{Order, RackList};
 use crate::pause::Pause;
-use crate::threads::Shared;
 use crate::threads::given::Feeder;
 use crate::threads::worker::take_mark;
+use crate::threads::{Shared, start_thread};
 use farm_lanes::{EndedPut, Gate, PutEnd, Right, Seat, TakeEnd};
 use std::snapshot::Snapshot;
 use std::sync::Wait;
@@ -153,7 +153,7 @@ fn start_feeder<'s, 'a: 's, E, R: Threads + Wait + Sync, P: Pause>(
     let body = move || -> Option<Fed>
         ensures { IfSome result (LeftBy feeder.entry) }
     { feed_with(shared, feeder) };
-    match scope.spawn_with(promise, body) {
+    match start_thread(scope, promise, body) {
         Ok(handle) => Some(handle),
         Err(back) => {
             shared.refused.feeder.store(true, Ordering::SeqCst);

@@ -9,8 +9,8 @@ ghost use Rattle.farm_core.specs.Threads.{WorkersJoined, ends_of};
 use crate::jobs::Job;
 use crate::pause::Pause;
 use crate::replies::Reply;
-use crate::threads::Shared;
 use crate::threads::given::WorkerEnds;
+use crate::threads::{Shared, start_thread};
 use bumpalo::Bump;
 use farm_lanes::{EndedPut, Item, PutEnd, TakeEnd};
 use lrc_code::{Outcome, Request};
@@ -151,7 +151,7 @@ fn start_worker<'s, 'a: 's, E, R: Threads + Wait + Sync, P: Pause>(
     let body = move || -> Worked
         ensures { HasWorked ends.entry.jobs ends.entry.replies result.jobs result.replies }
     { work_with(shared, number, ends) };
-    match scope.spawn_with(promise, body) {
+    match start_thread(scope, promise, body) {
         Ok(handle) => Ok(handle),
         Err(back) => {
             shared.refused.worker.store(number, Ordering::SeqCst);
