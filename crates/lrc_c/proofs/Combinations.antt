@@ -5,8 +5,7 @@ use Rattle.std.proofs.lemmas.List.{get_or_default, get_or_past}
 use Rattle.lrc_field.specs.declared.terms.Term.{Term}
 use Rattle.lrc_field.specs.Combined.{AreZeroBetween}
 use Rattle.lrc_field.specs.Terms.{AreTermsOf, HaveLengthWhereUsed}
-use Rattle.lrc_c.specs.Lent.{AreUsed, IsUsedAt}
-use Rattle.lrc_c.specs.Stripes.{AreZeroRows, IsZeroRow}
+use Rattle.lrc_plan.specs.Stripes.{AreUsed, IsUsedAt, AreZeroRows, IsZeroRow}
 
 -- bytes whose coefficient is not 0 have the length
 pub used_at : (row : List ℕ) (xss : List (List ℕ)) (len k : ℕ) → AreUsed row xss len → k < length xss → ¬ (get_or row k 0 ≡ 0)
@@ -45,13 +44,3 @@ zero_of_four rows xss len four a b c e k d lt =
     each (suc (suc zero)) h = c
     each (suc (suc (suc zero))) h = e
     each (suc (suc (suc (suc n)))) h = absurd (omega (arith, h))
-
--- where each index does, all do
-pub used_from : (len : ℕ) (row : List ℕ) (xss : List (List ℕ)) → ((k : ℕ) → k < length row → IsUsedAt row xss len k) → AreUsed row xss len
-used_from len [] xss h = tt
-used_from len (c ∷ row) [] h = tt
-used_from len (c ∷ row) (xs ∷ xss) h = (
-  λ n. h 0 (omega arith) (omega arith) n,
-  used_from len row xss
-      (λ k less lt n. h (suc k) (omega arith) (omega arith) n),
-)

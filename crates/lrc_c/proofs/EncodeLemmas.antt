@@ -9,7 +9,7 @@ use Rattle.lrc_code.specs.Reduction.{row_at}
 use Rattle.lrc_code.proofs.Encodings.{parities_by_row, parity_rows, data_of, encoding}
 use Rattle.lrc_field.specs.declared.terms.Term.{Term}
 use Rattle.lrc_field.specs.Terms.{AreTermsOf, HaveLengthWhereUsed}
-use Rattle.lrc_c.specs.Lent.{AreUsed}
+use Rattle.lrc_plan.specs.Stripes.{AreUsed}
 use Rattle.lrc_c.specs.Combined.{IsWritten}
 use Rattle.lrc_c.proofs.Combinations.{where_used}
 

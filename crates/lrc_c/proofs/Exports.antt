@@ -6,7 +6,8 @@ use Rattle.lrc_code.specs.declared.codes.Code.{Code as CodeName}
 use Rattle.lrc_code.specs.declared.codes.Code.TheVariants.{Narrow}
 use Rattle.lrc_code.specs.Sets.{is_in}
 use Rattle.lrc_code.proofs.PlaceSums.{index_of-eq}
-use Rattle.lrc_c.specs.Arguments.{code_numbered, is_set, IsLost, AreWhole}
+use Rattle.lrc_plan.specs.Stripes.{AreWhole}
+use Rattle.lrc_c.specs.Arguments.{code_numbered, is_set, IsLost}
 
 code_or : Option CodeName → CodeName → CodeName
 code_or None d = d

@@ -1,6 +1,5 @@
 pub mod Masks
 pub mod Combinations
-pub mod Stripes
 pub mod Exports
 pub mod EncodeLemmas
 pub mod Many

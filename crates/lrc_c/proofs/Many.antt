@@ -16,16 +16,15 @@ use Rattle.lrc_c.specs.declared.rebuilding_many.Aim.{Aim}
 use Rattle.lrc_c.specs.declared.rebuilding_many.Aim.TheVariants as aim
 use Rattle.lrc_c.specs.declared.windows.Wanted.{Wanted}
 use Rattle.lrc_c.specs.declared.windows.Wanted.TheVariants as wanted
-use Rattle.lrc_c.specs.Arguments.{AreWhole, is_set}
+use Rattle.lrc_plan.specs.Stripes.{AreWhole, at_place, AreZeroRows}
+use Rattle.lrc_c.specs.Arguments.{is_set}
 use Rattle.lrc_c.specs.Combined.{IsWritten}
 use Rattle.lrc_c.specs.Windows.{IsSomeWritten}
-use Rattle.lrc_c.specs.Lent.{at_place}
-use Rattle.lrc_c.specs.Stripes.{AreZeroRows}
 use Rattle.lrc_c.specs.Rebuilt.{status_of, IsAnswerAt}
 use Rattle.lrc_c.specs.RebuiltMany.{IsAimed, IsAnswered, IsAsked, IsPlanned, IsReady, IsTargetOf, IsTargetAnswered, IsWantedOf, status_at}
 use Rattle.lrc_c.proofs.EncodeLemmas.{parity}
 use Rattle.lrc_c.proofs.Exports.{set_is}
-use Rattle.lrc_c.proofs.Stripes.{contradiction, rebuilt, several}
+use Rattle.lrc_plan.proofs.Stripes.{contradiction, rebuilt, several}
 
 module _ (code : CodeName) (survives : Place → Bool) (at : List (List ℕ)) (len : ℕ) (whole : AreWhole code survives at len)
     (small : All AreBytes at) (sixteen : length at ≡ 16) (checks : List (List ℕ))

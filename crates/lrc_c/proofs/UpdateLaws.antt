@@ -23,7 +23,7 @@ use Rattle.lrc_code.proofs.Encodings.{code_says, data_of, fourth_of, parity_rows
 use Rattle.lrc_code.proofs.PlaceSums.{same_place-eq, sum_over-same, sum_over-single}
 use Rattle.lrc_code.proofs.RowOps.{length-sums}
 use Rattle.lrc_c.specs.Updated.{is_parity, AreCoefficients, AreSolution, DifferAt, IsCoefficient, IsUpdated, SameOthers}
-use Rattle.lrc_c.proofs.Stripes.{in_list, map_along}
+use Rattle.lrc_plan.proofs.Stripes.{in_list, map_along}
 
 -- ---- a row's coefficient at a place
 

@@ -7,7 +7,7 @@ use Rattle.lrc_code.specs.declared.codes.Code.TheVariants.{Narrow, Wide}
 use Rattle.lrc_code.specs.Places.{index_of}
 use Rattle.lrc_code.specs.Code.{has_place}
 use Rattle.lrc_code.specs.Codes.{tables_of}
-use Rattle.lrc_c.specs.Lent.{at_place, AreUsed}
+use Rattle.lrc_plan.specs.Stripes.{at_place, AreUsed}
 
 -- the code of a number
 abbrev pub code_numbered : ℕ → Option CodeName
@@ -16,14 +16,6 @@ code_numbered n = if n == 0 then Some Narrow else if n == 1 then Some Wide else 
 -- whether a place's bit is set
 abbrev pub is_set : ℕ → Place → Bool
 is_set mask p = bit_at mask (index_of p) == 1
-
--- whether a place, if it is in a set, is the code's and has so many bytes
-abbrev pub is_whole_at : CodeName → (Place → Bool) → List (List ℕ) → ℕ → Place → Bool
-is_whole_at code survives at len p = not (survives p) || (has_place (tables_of code) p && length (at_place at p) == len)
-
--- each place of a set is the code's and has so many bytes
-abbrev pub AreWhole : CodeName → (Place → Bool) → List (List ℕ) → ℕ → Type 0
-AreWhole code survives at len = (p : Place) → is_whole_at code survives at len p ≡ true
 
 -- the number is the code's, and the index that of one of its places, whose bit is not set
 pub record IsLost (number mask target : ℕ) (code : CodeName) (place : Place) : Type 0 where

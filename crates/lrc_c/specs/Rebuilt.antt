@@ -4,7 +4,7 @@ use Rattle.lrc_code.specs.declared.places.Place.{Place}
 use Rattle.lrc_code.specs.Code.{Code}
 use Rattle.lrc_c.specs.declared.rebuilding.Answer.{Answer}
 use Rattle.lrc_c.specs.declared.rebuilding.Answer.TheVariants.{Rebuilt, Contradiction, Several}
-use Rattle.lrc_c.specs.Stripes.{IsRebuilt, IsContradiction, AreSeveral}
+use Rattle.lrc_plan.specs.Stripes.{IsRebuilt, IsContradiction, AreSeveral}
 
 abbrev pub IsAnswerAt : Code → (Place → Bool) → (Place → List ℕ) → ℕ → Place → Answer → List ℕ → Type 0
 IsAnswerAt code survives at len target Rebuilt out = IsRebuilt code survives at len target out

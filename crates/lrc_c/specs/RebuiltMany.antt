@@ -15,9 +15,9 @@ use Rattle.lrc_c.specs.declared.rebuilding_many.Aim.{Aim}
 use Rattle.lrc_c.specs.declared.rebuilding_many.Aim.TheVariants as aim
 use Rattle.lrc_c.specs.declared.windows.Wanted.{Wanted}
 use Rattle.lrc_c.specs.declared.windows.Wanted.TheVariants as wanted
-use Rattle.lrc_c.specs.Arguments.{AreWhole, code_numbered, is_set}
+use Rattle.lrc_plan.specs.Stripes.{AreWhole, at_place, AreUsed}
+use Rattle.lrc_c.specs.Arguments.{code_numbered, is_set}
 use Rattle.lrc_field.specs.Terms.{AreTermsOf}
-use Rattle.lrc_c.specs.Lent.{at_place, AreUsed}
 use Rattle.lrc_c.specs.Rebuilt.{status_of, IsAnswerAt}
 
 -- a place of the code that doesn't survive

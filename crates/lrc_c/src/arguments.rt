@@ -7,7 +7,8 @@ ghost use Rattle.lrc_code.specs.declared.codes.Code.{Code};
 ghost use Rattle.lrc_code.specs.Places.{index_of};
 ghost use Rattle.lrc_code.specs.Sets.{is_in};
 ghost use Rattle.lrc_c.specs.Lent.{lent};
-ghost use Rattle.lrc_c.specs.Arguments.{code_numbered, is_set, is_whole_at, AreWhole, IsLost};
+ghost use Rattle.lrc_plan.specs.Stripes.{is_whole_at, AreWhole};
+ghost use Rattle.lrc_c.specs.Arguments.{code_numbered, is_set, IsLost};
 
 use crate::lent::Lent;
 use lrc_code::{Code, Place, PlaceSet};

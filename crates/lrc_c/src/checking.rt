@@ -5,9 +5,9 @@ ghost use Rattle.lrc_code.specs.declared.codes.Code.{Code};
 ghost use Rattle.lrc_code.specs.Code.{AreBytes};
 ghost use Rattle.lrc_code.specs.Codes.{tables_of};
 ghost use Rattle.lrc_code.specs.Sets.{is_in};
-ghost use Rattle.lrc_c.specs.Arguments.{AreWhole, is_set, IsSurveyed};
-ghost use Rattle.lrc_c.specs.Lent.{lent, at_place, AreUsed};
-ghost use Rattle.lrc_c.specs.Stripes.{AreZeroRows, IsContradiction, IsPossible};
+ghost use Rattle.lrc_plan.specs.Stripes.{AreWhole, at_place, AreUsed, AreZeroRows, IsContradiction, IsPossible};
+ghost use Rattle.lrc_c.specs.Arguments.{is_set, IsSurveyed};
+ghost use Rattle.lrc_c.specs.Lent.{lent};
 ghost use Rattle.lrc_c.specs.Windows.{AreCoupled, AreRooms, AreWritten};
 
 use crate::arguments::{are_whole, code_numbered, set_of};

@@ -4,7 +4,8 @@ ghost use Rattle.std.specs.Bool.{IsTrue};
 ghost use Rattle.lrc_field.specs.Combined.{AreZeroBetween};
 ghost use Rattle.lrc_field.specs.Terms.{HaveRoom};
 ghost use Rattle.lrc_code.specs.Encoding.{IsParity};
-ghost use Rattle.lrc_c.specs.Lent.{lent, AreUsed, IsUsedAt};
+ghost use Rattle.lrc_plan.specs.Stripes.{AreUsed, IsUsedAt};
+ghost use Rattle.lrc_c.specs.Lent.{lent};
 ghost use Rattle.lrc_c.specs.Combined.{IsWritten};
 
 use crate::lent::Lent;

@@ -6,9 +6,9 @@ ghost use Rattle.lrc_code.specs.Codes.{tables_of};
 ghost use Rattle.lrc_plan.specs.RowPlans.{IsRowPlan, IsValueRow};
 ghost use Rattle.lrc_code.specs.Code.{has_place};
 ghost use Rattle.lrc_code.specs.Encoding.{IsParity};
-ghost use Rattle.lrc_c.specs.Arguments.{AreWhole, is_set, IsLost};
-ghost use Rattle.lrc_c.specs.Lent.{lent, at_place, AreUsed};
-ghost use Rattle.lrc_c.specs.Stripes.{Keeps};
+ghost use Rattle.lrc_plan.specs.Stripes.{AreWhole, at_place, AreUsed, Keeps};
+ghost use Rattle.lrc_c.specs.Arguments.{is_set, IsLost};
+ghost use Rattle.lrc_c.specs.Lent.{lent};
 
 use crate::arguments::{lost_place, set_of};
 use crate::checking::are_sixteen;

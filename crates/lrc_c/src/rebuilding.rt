@@ -7,9 +7,9 @@ ghost use Rattle.lrc_code.specs.Codes.{tables_of};
 ghost use Rattle.lrc_code.specs.Encoding.{IsParity};
 ghost use Rattle.lrc_code.specs.Sets.{is_in};
 ghost use Rattle.lrc_c.specs.declared.rebuilding.Answer.{Answer};
-ghost use Rattle.lrc_c.specs.Lent.{lent, at_place, AreUsed};
-ghost use Rattle.lrc_c.specs.Arguments.{AreWhole, is_set, IsAsked};
-ghost use Rattle.lrc_c.specs.Stripes.{AreZeroRows};
+ghost use Rattle.lrc_plan.specs.Stripes.{at_place, AreUsed, AreWhole, AreZeroRows};
+ghost use Rattle.lrc_c.specs.Lent.{lent};
+ghost use Rattle.lrc_c.specs.Arguments.{is_set, IsAsked};
 ghost use Rattle.lrc_c.specs.Rebuilt.{status_of, IsAnswerAt};
 
 use crate::arguments::{are_whole, lost_place, set_of};

@@ -29,6 +29,7 @@ use Rattle.lrc_plan.specs.Evaluation.{byte_at, CanEvaluate}
 use Rattle.lrc_plan.specs.EvaluationParts.{AreWhole}
 use Rattle.lrc_plan.specs.RowPlans.{GivesTarget, DecideExtensions}
 use Rattle.lrc_plan.specs.Terms.{AreRowSums, IsZeroRow}
+use Rattle.lrc_plan.proofs.Stripes.{in_list, solves_along, solves_same}
 
 -- a stripe that equals survivors has at their places what survives there
 stripe_bytes : (st : Place → List ℕ) (ss : List Survivor) → All (λ x. st x.place ≡ x.bytes) ss → (p : Place)
@@ -39,31 +40,6 @@ stripe_bytes st (s ∷ ss) h p a = elim (cases_Bool (same_place p s.place)) as (
   | inr f ↦ stripe_bytes st ss (λ k d lt. h (suc k) d (omega arith)) p
       (sym (ap (λ b. b || is_among p ss) f) ∙ a) ∙ sym (ap (λ b. cond b s.bytes (bytes_of ss p)) f)
 ]
-
-map_same : (ps : List Place) (b d : Place → ℕ) → ((p : Place) → b p ≡ d p) → map b ps ≡ map d ps
-map_same [] b d h = refl
-map_same (p ∷ ps) b d h = ap₂ (λ x xs. x ∷ xs) (h p) (map_same ps b d h)
-
-solves_same : (rows : List (List ℕ)) (ps : List Place) (b d : Place → ℕ) → ((p : Place) → b p ≡ d p)
-    → Solves rows ps b → Solves rows ps d
-solves_same rows ps b d h s = λ k row lt. ap (combination (get_or rows k row)) (sym (map_same ps b d h)) ∙ s k row lt
-
--- what holds along a list holds at its members
-in_list : (P : Place → Type 0) (ps : List Place) → All P ps → (p : Place) → list_any (same_place p) ps ≡ true → P p
-in_list P [] h p a = absurd (cc)
-in_list P (q ∷ ps) h p a = elim (cases_Bool (same_place p q)) [
-  | inl t ↦ subst P (sym (same_place-eq p q t)) (h 0 q (omega arith))
-  | inr f ↦ in_list P ps (λ k d lt. h (suc k) d (omega arith)) p (sym (ap (λ b. b || list_any (same_place p) ps) f) ∙ a)
-]
-
--- equal bytes along the places
-map_along : (ps : List Place) (b d : Place → ℕ) → All (λ p. b p ≡ d p) ps → map b ps ≡ map d ps
-map_along [] b d h = refl
-map_along (p ∷ ps) b d h = ap₂ (λ x xs. x ∷ xs) (h 0 p (omega arith)) (map_along ps b d (λ k e lt. h (suc k) e (omega arith)))
-
-solves_along : (rows : List (List ℕ)) (ps : List Place) (b d : Place → ℕ) → All (λ p. b p ≡ d p) ps
-    → Solves rows ps b → Solves rows ps d
-solves_along rows ps b d h s = λ k row lt. ap (combination (get_or rows k row)) (sym (map_along ps b d h)) ∙ s k row lt
 
 module _ (r : Asked) (accepted : refusal r ≡ None) (bytes : All (λ s. AreBytes s.bytes) r.survivors) where
   abbrev code : Code

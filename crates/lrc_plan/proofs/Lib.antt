@@ -15,3 +15,4 @@ pub mod UncheckedRows
 pub mod AnswerLaws
 pub mod RowTrees
 pub mod CheckCounts
+pub mod Stripes

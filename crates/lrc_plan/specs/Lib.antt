@@ -11,3 +11,4 @@ pub mod Terms
 pub mod RowPlans
 pub mod RowTrees
 pub mod Remembered
+pub mod Stripes

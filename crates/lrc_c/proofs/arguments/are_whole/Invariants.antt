@@ -3,7 +3,7 @@ use Rattle.lrc_code.specs.declared.places.Place.{Place}
 use Rattle.lrc_code.specs.Places.{index_of}
 use Rattle.lrc_code.specs.Sets.{is_in}
 use Rattle.lrc_c.specs.Lent.{lent}
-use Rattle.lrc_c.specs.Arguments.{is_whole_at}
+use Rattle.lrc_plan.specs.Stripes.{is_whole_at}
 use Rattle.lrc_c.proofs.arguments.are_whole.Given as goal
 
 abbrev pub invariant-loop-i : goal.invariant-loop-i

@@ -1,7 +1,7 @@
 use Rattle.std.proofs.lemmas.Bool.{both_ways}
 use Rattle.lrc_code.specs.Sets.{is_in}
 use Rattle.lrc_c.specs.Lent.{lent}
-use Rattle.lrc_c.proofs.Stripes.{used, contradiction, possible}
+use Rattle.lrc_plan.proofs.Stripes.{used, contradiction, possible}
 use Rattle.lrc_c.proofs.checking.is_possible.Goals as goal
 
 pub are_zero-requires : goal.are_zero-requires

@@ -1,8 +1,8 @@
 use Rattle.std.proofs.Common.{sym, inr, refl, ◌∙◌}
 use Rattle.lrc_code.specs.declared.places.Place.TheVariants.{X0}
 use Rattle.lrc_code.specs.Codes.{tables_of}
-use Rattle.lrc_c.specs.Lent.{lent, at_place}
-use Rattle.lrc_c.specs.Stripes.{IsContradiction}
+use Rattle.lrc_plan.specs.Stripes.{at_place, IsContradiction}
+use Rattle.lrc_c.specs.Lent.{lent}
 use Rattle.lrc_c.specs.Arguments.{code_numbered}
 use Rattle.lrc_c.proofs.Exports.{same_code, said_of}
 use Rattle.lrc_c.proofs.checking.lrc_verify_at.Goals as goal

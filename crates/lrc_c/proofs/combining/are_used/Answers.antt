@@ -1,7 +1,8 @@
 use Rattle.std.proofs.Common.{refl, arith}
 use Rattle.lrc_field.proofs.Tests.{fails}
 use Rattle.lrc_c.specs.Lent.{lent}
-use Rattle.lrc_c.proofs.Combinations.{used_at, used_from}
+use Rattle.lrc_plan.proofs.Stripes.{used_from}
+use Rattle.lrc_c.proofs.Combinations.{used_at}
 use Rattle.lrc_c.proofs.combining.are_used.Goals as goal
 
 pub returns-then-not-is_used_at : goal.returns-then-not-is_used_at

@@ -1,5 +1,6 @@
 use Rattle.std.proofs.Common.{ℕ, ◌<◌}
-use Rattle.lrc_c.specs.Lent.{lent, IsUsedAt}
+use Rattle.lrc_plan.specs.Stripes.{IsUsedAt}
+use Rattle.lrc_c.specs.Lent.{lent}
 use Rattle.lrc_c.proofs.combining.are_used.Given as goal
 
 abbrev pub invariant-loop-k : goal.invariant-loop-k

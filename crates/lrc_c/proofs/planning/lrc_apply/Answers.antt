@@ -1,7 +1,7 @@
 use Rattle.lrc_field.proofs.Tests.{fails}
 use Rattle.std.proofs.Common.{length, refl}
 use Rattle.lrc_c.specs.Lent.{lent}
-use Rattle.lrc_c.proofs.Stripes.{applied, row_used}
+use Rattle.lrc_plan.proofs.Stripes.{applied, row_used}
 use Rattle.lrc_c.proofs.planning.lrc_apply.Goals as goal
 
 pub returns-then-not-are_used-clause-planned : goal.returns-then-not-are_used-clause-planned

@@ -1,6 +1,7 @@
 use Rattle.std.proofs.Common.{length, arith, refl}
 use Rattle.lrc_code.specs.Codes.{tables_of}
-use Rattle.lrc_c.specs.Lent.{lent, at_place}
+use Rattle.lrc_plan.specs.Stripes.{at_place}
+use Rattle.lrc_c.specs.Lent.{lent}
 use Rattle.lrc_c.specs.Rebuilt.{IsAnswerAt}
 use Rattle.lrc_c.proofs.Exports.{same_lost, said_of, whole_is}
 use Rattle.lrc_c.proofs.rebuilding.lrc_rebuild_into.Goals as goal

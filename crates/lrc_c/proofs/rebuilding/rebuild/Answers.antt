@@ -3,7 +3,7 @@ use Rattle.std.proofs.lemmas.Bool.{both_ways}
 use Rattle.lrc_code.specs.Codes.{tables_of}
 use Rattle.lrc_code.specs.Sets.{is_in}
 use Rattle.lrc_c.specs.Lent.{lent}
-use Rattle.lrc_c.proofs.Stripes.{used, row_used, contradiction, rebuilt, several, value_none, value_some}
+use Rattle.lrc_plan.proofs.Stripes.{used, row_used, contradiction, rebuilt, several, value_none, value_some}
 use Rattle.lrc_c.proofs.rebuilding.rebuild.Goals as goal
 
 pub are_zero-requires : goal.are_zero-requires

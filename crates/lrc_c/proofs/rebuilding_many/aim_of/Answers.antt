@@ -4,7 +4,7 @@ use Rattle.lrc_c.specs.Lent.{lent}
 use Rattle.lrc_c.specs.RebuiltMany.{IsAimed}
 use Rattle.lrc_c.specs.declared.rebuilding_many.Aim.TheVariants as aim
 use Rattle.lrc_c.proofs.Combinations.{where_used}
-use Rattle.lrc_c.proofs.Stripes.{row_used}
+use Rattle.lrc_plan.proofs.Stripes.{row_used}
 use Rattle.lrc_c.proofs.rebuilding_many.aim_of.Goals as goal
 
 pub returns-clause-aim : goal.returns-clause-aim

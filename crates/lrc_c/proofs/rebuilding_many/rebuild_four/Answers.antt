@@ -3,7 +3,7 @@ use Rattle.lrc_code.specs.Sets.{is_in}
 use Rattle.lrc_c.specs.Lent.{lent}
 use Rattle.lrc_c.proofs.Many.{target_answered}
 use Rattle.lrc_c.proofs.PairRows.{couple_of}
-use Rattle.lrc_c.proofs.Stripes.{used}
+use Rattle.lrc_plan.proofs.Stripes.{used}
 use Rattle.lrc_c.proofs.rebuilding_many.rebuild_four.Goals as goal
 
 pub write_coupled_if_zero-possible-requires-clause-used : goal.write_coupled_if_zero-possible-requires-clause-used

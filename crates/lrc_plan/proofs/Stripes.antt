@@ -23,16 +23,14 @@ use Rattle.lrc_code.proofs.CodeLaws.{code-linear}
 use Rattle.lrc_code.proofs.PlaceSums.{same_place-eq, index_of-lt, index_at}
 use Rattle.lrc_plan.specs.Planned.{Extends, ExtensionsDiffer}
 use Rattle.lrc_plan.specs.RowPlans.{IsRowValue, IsValueRow, AreCheckRows, ReadsSurvivors}
-use Rattle.lrc_c.specs.Lent.{at_place, AreUsed}
-use Rattle.lrc_c.specs.Arguments.{AreWhole}
-use Rattle.lrc_c.proofs.Combinations.{used_from}
-use Rattle.lrc_c.specs.Stripes.{Keeps, IsPossible, IsContradiction, IsRebuilt, AreSeveral, AreZeroRows}
+use Rattle.lrc_plan.specs.Stripes.{Keeps, IsPossible, IsContradiction, IsRebuilt, AreSeveral, AreZeroRows}
+use Rattle.lrc_plan.specs.Stripes.{at_place, AreUsed, AreWhole, IsUsedAt}
 
-map_same : (ps : List Place) (b d : Place → ℕ) → ((p : Place) → b p ≡ d p) → map b ps ≡ map d ps
+pub map_same : (ps : List Place) (b d : Place → ℕ) → ((p : Place) → b p ≡ d p) → map b ps ≡ map d ps
 map_same [] b d h = refl
 map_same (p ∷ ps) b d h = ap₂ (λ x xs. x ∷ xs) (h p) (map_same ps b d h)
 
-solves_same : (rows : List (List ℕ)) (ps : List Place) (b d : Place → ℕ) → ((p : Place) → b p ≡ d p)
+pub solves_same : (rows : List (List ℕ)) (ps : List Place) (b d : Place → ℕ) → ((p : Place) → b p ≡ d p)
     → Solves rows ps b → Solves rows ps d
 solves_same rows ps b d h s = λ k row lt. ap (combination (get_or rows k row)) (sym (map_same ps b d h)) ∙ s k row lt
 
@@ -49,9 +47,19 @@ pub map_along : (ps : List Place) (b d : Place → ℕ) → All (λ p. b p ≡ d
 map_along [] b d h = refl
 map_along (p ∷ ps) b d h = ap₂ (λ x xs. x ∷ xs) (h 0 p (omega arith)) (map_along ps b d (λ k e lt. h (suc k) e (omega arith)))
 
-solves_along : (rows : List (List ℕ)) (ps : List Place) (b d : Place → ℕ) → All (λ p. b p ≡ d p) ps
+pub solves_along : (rows : List (List ℕ)) (ps : List Place) (b d : Place → ℕ) → All (λ p. b p ≡ d p) ps
     → Solves rows ps b → Solves rows ps d
 solves_along rows ps b d h s = λ k row lt. ap (combination (get_or rows k row)) (sym (map_along ps b d h)) ∙ s k row lt
+
+-- where each index does, all do
+pub used_from : (len : ℕ) (row : List ℕ) (xss : List (List ℕ)) → ((k : ℕ) → k < length row → IsUsedAt row xss len k) → AreUsed row xss len
+used_from len [] xss h = tt
+used_from len (c ∷ row) [] h = tt
+used_from len (c ∷ row) (xs ∷ xss) h = (
+  λ n. h 0 (omega arith) (omega arith) n,
+  used_from len row xss
+      (λ k less lt n. h (suc k) (omega arith) (omega arith) n),
+)
 
 whole_parts : (s h e : Bool) → (not s || (h && e)) ≡ true → s ≡ true → (h ≡ true) × (e ≡ true)
 whole_parts true true e w k = (refl, w)
