@@ -7,7 +7,7 @@ use Rattle.lrc_code.specs.declared.codes.Code.TheVariants.{Narrow, Wide}
 use Rattle.lrc_code.specs.Places.{index_of}
 use Rattle.lrc_code.specs.Code.{has_place}
 use Rattle.lrc_code.specs.Codes.{tables_of}
-use Rattle.lrc_plan.specs.Stripes.{at_place, AreUsed}
+use Rattle.lrc_plan.specs.Stripes.{at_place, AreUsed, AreWhole}
 
 -- the code of a number
 abbrev pub code_numbered : ℕ → Option CodeName
