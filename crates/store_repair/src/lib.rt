@@ -1,0 +1,11 @@
+//! Repairing the stripes of a store: the lost fragments of a stripe are rebuilt from those that survive, window by window, whatever their
+//! length. The code is the (6,2,2) code or the (12,2,2) code of Huang et al., "Erasure Coding in Windows Azure Storage", USENIX ATC 2012,
+//! sections 2 and 3.
+#![tactic(auto)]
+
+mod mending;
+mod store;
+mod windows;
+
+pub use mending::{MendFault, Survivors, mend};
+pub use store::{Fragment, NewFragment};
