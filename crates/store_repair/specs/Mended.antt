@@ -58,3 +58,8 @@ IsOfSystem (fault.Several index) = ⊥
 IsOfSystem fault.OutOfMemory = Unit
 IsOfSystem (fault.Unread index error) = Unit
 IsOfSystem (fault.Unwritten index error) = Unit
+
+-- what is said of survivors: that some stripe of the code has their bytes, or that none has
+abbrev pub IsConsistency : CodeName → (Place → Bool) → List (List ℕ) → ℕ → Bool → Type 0
+IsConsistency code survives at len true = IsPossible (tables_of code) survives (at_place at) len
+IsConsistency code survives at len false = IsContradiction (tables_of code) survives (at_place at) len

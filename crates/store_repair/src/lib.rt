@@ -3,9 +3,13 @@
 //! sections 2 and 3.
 #![tactic(auto)]
 
+mod consistency;
+mod losses;
 mod mending;
 mod store;
 mod windows;
 
+pub use consistency::are_consistent;
+pub use losses::{LostPlaces, have_checks, lost_places};
 pub use mending::{MendFault, Survivors, mend};
 pub use store::{Fragment, NewFragment};

@@ -1,0 +1,12 @@
+//! A store in a folder: each fragment is a file that is named for its stripe and its place, as `note.x1`.
+#![tactic(auto)]
+
+mod listing;
+mod names;
+mod placing;
+mod surviving;
+
+pub use listing::{Found, Listing, StripeFiles, list};
+pub use names::{file_name, named, path_in};
+pub use placing::{NewFile, Placed, place_new, place_over, remove_leftovers, sync_folder};
+pub use surviving::{FileFragment, open_fragment};

@@ -1,0 +1,113 @@
+//! Putting rebuilt fragments in their places. A file has no name that a fragment can have until it is whole and on the disk.
+ghost use Rattle.std.specs.Prelude.{None};
+
+use crate::names::path_in;
+use std::alloc::Global;
+use std::fs::{self, File};
+use std::io::{self, ErrorKind, Write};
+use std::os::unix::fs::{MetadataExt, OpenOptionsExt, fchown};
+use store_repair::NewFragment;
+
+// How the name of a file begins that isn't whole yet.
+const UNFINISHED: &str = ".rebuild-store-";
+
+/// Whether a name is that of a file that a run which was killed has left.
+pub(crate) fn is_leftover(name: &str) -> bool {
+    name.starts_with(UNFINISHED)
+}
+
+/// A rebuilt fragment that is being written.
+#[derive(Drop)]
+pub struct NewFile {
+    file: File,
+    path: String,
+}
+
+/// What became of a rebuilt fragment.
+#[derive(Clone, Copy, Debug, PartialEq, Eq)]
+pub enum Placed {
+    /// It has its name.
+    Placed,
+    /// Something has come under its name meanwhile, which stays.
+    IsThere,
+}
+
+impl NewFragment for NewFile {
+    ghost shown = { λ _. None };
+
+    fn append(&mut self, bytes: &[u8]) -> io::Result<()> {
+        self.file.write_all(bytes)
+    }
+}
+
+impl NewFile {
+    /// A new file in a folder, whose name has a number that no other of this run has. Nobody but its owner can read it.
+    pub fn create(rt: &HostRuntime, alloc: Global, folder: &str, number: u64) -> io::Result<NewFile> {
+        let name = format!(in alloc; "{UNFINISHED}{number}")?;
+        let path = path_in(alloc, folder, name.as_str())?;
+        let mut options = File::options();
+        options.write(true).create_new(true).mode(0o600);
+        let file = options.open(rt, path.as_str())?;
+        Ok(NewFile { file, path })
+    }
+
+    /// Gives the file the owner and the mode of another one. Who isn't allowed to give it away keeps it.
+    pub fn take_after(&self, rt: &HostRuntime, neighbour: &str) -> io::Result<()> {
+        let metadata = fs::metadata(rt, neighbour)?;
+        let given = fchown(&self.file, Some(metadata.uid()), Some(metadata.gid()));
+        if let Err(error) = given {
+            if error.kind() != ErrorKind::PermissionDenied {
+                return Err(error);
+            }
+        }
+        self.file.set_permissions(metadata.permissions())
+    }
+
+    /// Removes the file.
+    pub fn discard(self, rt: &HostRuntime) -> io::Result<()> {
+        let NewFile { file: _file, path } = self;
+        fs::remove_file(rt, path.as_str())
+    }
+}
+
+/// Writes a file to the disk and gives it the name at a path, under which nothing may be.
+pub fn place_new(rt: &HostRuntime, file: NewFile, path: &str) -> io::Result<Placed> {
+    file.file.sync_all()?;
+    let placed = match fs::hard_link(rt, file.path.as_str(), path) {
+        Ok(()) => Placed::Placed,
+        Err(error) if error.kind() == ErrorKind::AlreadyExists => Placed::IsThere,
+        Err(error) => return Err(error),
+    };
+    file.discard(rt)?;
+    Ok(placed)
+}
+
+/// Writes a file to the disk and gives it the name at a path. What was there is kept under a second name, at `kept`.
+pub fn place_over(rt: &HostRuntime, file: NewFile, path: &str, kept: &str) -> io::Result<Placed> {
+    file.file.sync_all()?;
+    match fs::hard_link(rt, path, kept) {
+        Ok(()) => {}
+        Err(error) if error.kind() == ErrorKind::AlreadyExists => {
+            file.discard(rt)?;
+            return Ok(Placed::IsThere);
+        }
+        Err(error) => return Err(error),
+    }
+    let NewFile { file: _file, path: unfinished } = file;
+    fs::rename(rt, unfinished.as_str(), path)?;
+    Ok(Placed::Placed)
+}
+
+/// Removes files that a run which was killed has left, by their names.
+pub fn remove_leftovers(rt: &HostRuntime, alloc: Global, folder: &str, names: &[String]) -> io::Result<()> {
+    for name in names {
+        let path = path_in(alloc, folder, name.as_str())?;
+        fs::remove_file(rt, path.as_str())?;
+    }
+    Ok(())
+}
+
+/// Writes the names of a folder to the disk.
+pub fn sync_folder(rt: &HostRuntime, folder: &str) -> io::Result<()> {
+    fs::open(rt, folder)?.sync_all()
+}

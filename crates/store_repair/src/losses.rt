@@ -1,0 +1,78 @@
+//! The lost places of a stripe: which of them the survivors determine, and whether the survivors can be checked.
+ghost use Rattle.std.specs.Prelude.{◌≡◌, IfOk, true, false, not};
+ghost use Rattle.lrc_code.specs.Code.{has_place};
+ghost use Rattle.lrc_code.specs.Codes.{tables_of};
+ghost use Rattle.lrc_code.specs.Reduction.{IsReduction};
+ghost use Rattle.lrc_code.specs.Sets.{is_in};
+ghost use Rattle.store_repair.specs.Mended.{AreLost};
+
+use lrc_code::{Code, Place, PlaceSet, Reduced};
+use lrc_plan::{check_rows, reduce_by_lost, value_from};
+use std::alloc::{AllocError, Global};
+
+/// The places of a code that don't survive, in the order of their indexes.
+#[derive(Debug, Drop)]
+pub struct LostPlaces {
+    /// Those whose fragments the survivors determine, unless the survivors contradict each other.
+    pub determined: Vec<Place>,
+    /// Those at which stripes with the same survivors may differ.
+    pub several: Vec<Place>,
+}
+
+/// The lost places of a stripe of which the fragments at some places survive.
+pub fn lost_places(
+    alloc: Global,
+    code: Code,
+    survivors: PlaceSet,
+) -> Result<LostPlaces, AllocError>
+    ensures determined { IfOk result (λ lost. AreLost code (is_in survivors) lost.determined.items) }
+    ensures several { IfOk result (λ lost. AreLost code (is_in survivors) lost.several.items) }
+{
+    Ok(LostPlaces {
+        determined: places_where(alloc, code, survivors, true)?,
+        several: places_where(alloc, code, survivors, false)?,
+    })
+}
+
+// The lost places at which the survivors determine the fragment, or those at which they don't.
+fn places_where(
+    alloc: Global,
+    code: Code,
+    survivors: PlaceSet,
+    determined: bool,
+) -> Result<Vec<Place>, AllocError>
+    ensures { IfOk result (λ v. AreLost code (is_in survivors) v.items) }
+{
+    let reduced = reduce_by_lost(code, survivors);
+    let mut places = Vec::new(alloc);
+    for place in &Place::ALL {
+        if is_lost_and(code, &reduced, survivors, *place, determined) {
+            places.push(*place)?;
+        }
+    }
+    Ok(places)
+}
+
+// Whether a place is lost, and the survivors determine its fragment or don't.
+fn is_lost_and(
+    code: Code,
+    reduced: &Reduced,
+    survivors: PlaceSet,
+    place: Place,
+    determined: bool,
+) -> bool
+    requires { IsReduction (tables_of code) (λ p. not (is_in survivors p)) reduced.now }
+    ensures { result ≡ true → (has_place (tables_of code) place ≡ true) × (is_in survivors place ≡ false) }
+{
+    if !code.has(place) || survivors.has(place) {
+        return false;
+    }
+    value_from(code, reduced, survivors, place).is_some() == determined
+}
+
+/// Whether survivors are more than a stripe is determined by, so that some contradict each other if one is damaged.
+pub fn have_checks(code: Code, survivors: PlaceSet) -> bool {
+    check_rows(code, survivors)
+        .iter()
+        .any(|row| row.iter().any(|coefficient| coefficient.byte() != 0))
+}
