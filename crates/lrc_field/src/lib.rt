@@ -30,5 +30,6 @@ pub use combining::combine_into;
 pub use element::Gf;
 pub use kernels::{add_into, scale_add_into};
 pub use pairs::{Pair, combine_pairs_into, no_pairs, pairs_in};
+pub use term_sums::SUMMED_AT_ONCE;
 pub use terms::{Source, Term, no_terms, terms_in};
-pub use zero_sums::{sums_are_zero, sums_are_zero_between};
+pub use zero_sums::{TESTED_AT_ONCE, sums_are_zero, sums_are_zero_between};
