@@ -438,7 +438,8 @@ static void names(void)
 
 int main(void)
 {
-    static const size_t lengths[] = {1, 2, 31, 32, 33, 127, 129, 4096, 8191, 8192, 8193, 16385,
+    // Around blocks, a window of 2,304 bytes, and three windows.
+    static const size_t lengths[] = {1, 2, 31, 32, 33, 127, 129, 191, 193, 2303, 2304, 2305, 6911, 6913,
 #ifndef SHORT
                                      65536, 65537,
 #endif

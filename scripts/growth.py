@@ -1,7 +1,8 @@
 #!/usr/bin/env python3
 """The time of the program grows with its work and not faster: four times the lines, and four times the requests of a rack with four
 feeds, take the processor less than ten times as long. Work that is done anew for each line, reply or row would take it sixteen
-times as long. It runs what was built last: crates/rebuild/out/rebuild."""
+times as long. And line mode remembers the plans of eight questions: lines that ask eight in turn take less time than lines that ask
+nine, each of which is forgotten before it is asked again. It runs what was built last: crates/rebuild/out/rebuild."""
 
 import pathlib
 import resource
@@ -15,6 +16,10 @@ PROGRAM = ROOT / "crates/rebuild/out/rebuild"
 # How much longer four times the work may take, and how often each run is made: the least time counts.
 MOST = 10
 RUNS = 12
+
+# How many plans line mode remembers, and how much longer lines take at least of which each wants a new one.
+REMEMBERED = 8
+LEAST = 1.3
 
 LINES = 100_000
 REQUESTS = 4_096
@@ -44,6 +49,13 @@ def lines(count):
     return seconds([PROGRAM], b"a x0 1 x1=02 x2=03 px=00\n" * count, b"rebuilt 01\n" * count)
 
 
+def questions(count):
+    """As many lines that ask for one lost fragment after another of so many, where all are lost."""
+    places = "x0 x1 x2 x3 x4 x5 y0 y1 y2 y3 y4 y5 px py p0 p1".split()[:count]
+    asked = b"".join(b"code=12-2-2 a %s 1\n" % place.encode() for place in places)
+    return seconds([PROGRAM], asked * (LINES // count), b"several\n" * (LINES // count * count)) / (LINES // count * count)
+
+
 def feeds(count):
     """A rack of four feeds with so many requests each."""
     with tempfile.TemporaryDirectory() as folder:
@@ -67,8 +79,16 @@ def compare(what, run, count):
     print(f"growth: {count} {what} take {whole / part:.1f} times as long as a quarter of them, {whole:.3f} s of the processor")
 
 
+def compare_questions():
+    few, many = questions(REMEMBERED), questions(REMEMBERED + 1)
+    if many < LEAST * few:
+        sys.exit(f"growth: a line takes {few * 1e9:.0f} ns where {REMEMBERED} questions take turns, and {many * 1e9:.0f} ns with one more")
+    print(f"growth: {REMEMBERED} plans are remembered: with one question more a line takes {many / few:.1f} times as long")
+
+
 def main():
     compare("lines", lines, LINES)
+    compare_questions()
     compare(f"requests in each of {FEEDS} feeds", feeds, REQUESTS)
 
 

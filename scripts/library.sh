@@ -69,7 +69,7 @@ fi
 # tests LEVEL: the tests in C with the archive as it is built for a level of the processor.
 tests() {
   local test
-  for test in test-stores test; do
+  for test in test-growth test-stores test; do
     quietly "the tests for $1" "$compiler" -std=c11 -O2 "${warnings[@]}" -Iinclude -o "$scratch/$test" library/$test.c "$archive"
     "$scratch/$test" > "$scratch/counts" || fail "$1: $(tail -n 1 "$scratch/counts")"
     echo "library: $1: $(tail -n 1 "$scratch/counts")"

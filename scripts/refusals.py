@@ -32,6 +32,7 @@ TESTS = [
     ("lrc_tests", "worked_requests_are_answered", 0),
     ("lrc_tests", "value_trees_give_the_same_bytes_at_any_forks", 1),
     ("lrc_tests", "evaluate_both_at_two_forks", 2),
+    ("lrc_tests", "evaluate_both_at_most_forks", 4),
     ("farm_tests", "two_workers_and_a_queue_of_one", 4),
     ("farm_tests", "six_feeds_with_two_workers", 9),
     ("farm_tests", "collector_takes_its_room", 0),
@@ -43,14 +44,22 @@ TESTS = [
 ]
 
 # Those of which the other threads do the work where one is refused, so that they pass then.
-PASSING = {"value_trees_give_the_same_bytes_at_any_forks", "evaluate_both_at_two_forks", "digests_in_three_threads"}
+PASSING = {
+    "value_trees_give_the_same_bytes_at_any_forks",
+    "evaluate_both_at_two_forks",
+    "evaluate_both_at_most_forks",
+    "digests_in_three_threads",
+}
 
 # Those that start just as many threads, and no more.
-EXACT = {"evaluate_both_at_two_forks", "digests_in_three_threads"}
+EXACT = {"evaluate_both_at_two_forks", "evaluate_both_at_most_forks", "digests_in_three_threads"}
 
 # Limits of address space, in KiB: from where the program is hardly loaded to where all of its threads have room.
 ROOMS = [6_000, 8_000, 10_000, 12_000, 16_000, 20_000, 30_000, 40_000, 60_000]
 ROOMS += [80_000, 100_000, 120_000, 150_000, 200_000, 250_000, 300_000, 400_000]
+
+# From how many bytes on line mode cuts an input into pieces.
+LONG_INPUT = 262_144
 
 # How many requests are listed where threads are counted, and how long fragments are of which several threads make the digests; what a
 # file is worth that is read ahead, beside its bytes and one more, and a fragment that is digested, beside its bytes; and how much a
@@ -338,8 +347,8 @@ class Walk:
     ends: set
     # All ends that there may be, if not any.
     only: set = None
-    # How many of the runs come to each of the ends at least.
-    least: int = 1
+    # Of some ends how many of the runs come to them, no fewer and no more.
+    exact: dict = dataclasses.field(default_factory=dict)
 
 
 def make(walk, pool):
@@ -369,9 +378,11 @@ def make(walk, pool):
     asked = whole.allocations if what == "allocation" else whole.threads
     if len(kinds) < max(asked // 2, 1):
         raise Fault(f"{name}: {len(kinds)} refused, and {asked} asked for")
-    few = {kind for kind in walk.ends if kinds.count(kind) < walk.least}
-    if few:
-        raise Fault(f"{name}: fewer than {walk.least} {what}s refused led to {few}: {tally(kinds)}")
+    if not walk.ends <= set(kinds):
+        raise Fault(f"{name}: no {what} refused led to {walk.ends - set(kinds)}: {tally(kinds)}")
+    for kind, count in walk.exact.items():
+        if kinds.count(kind) != count:
+            raise Fault(f"{name}: {kinds.count(kind)} and not {count} {what}s refused led to {kind}: {tally(kinds)}")
     if walk.only is not None and not set(kinds) <= walk.only:
         raise Fault(f"{name}: {what}s refused led to other ends than {walk.only}: {tally(kinds)}")
     turns = "with all after it" if walk.rest else "in turn"
@@ -457,9 +468,10 @@ def test_walks(library):
 
 
 def worker_walk(library):
-    """A worker that is refused the memory of its plan's arena, and that of its answer."""
+    """A worker that is refused the memory of its plan's arena, and that of its answer, and nothing else: one that plans elsewhere than in
+    its arena is refused each node of a plan."""
     test = Test(library, "farm_tests", "a_worker_without_memory")
-    return Walk("a_worker_without_memory", "allocation", False, test, {"AllocError", "starved"}, least=2)
+    return Walk("a_worker_without_memory", "allocation", False, test, {"AllocError", "starved"}, exact={"starved": 2})
 
 
 def rack_of(folder, survivors, length):
@@ -496,6 +508,17 @@ def count_threads(library):
     print("refusals threads: as many as --workers says, for survivors, requests and digests", flush=True)
 
 
+def count_threads_of_lines(library):
+    """Line mode starts no thread for a short input, and else one fewer than there are pieces, which are halves of halves at most."""
+    line = b"a x0 1 x1=02 x2=03 px=00\n"
+    for least, threads in [(0, 0), (LONG_INPUT - len(line), 0), (LONG_INPUT, 1), (4 * LONG_INPUT, 3), (16 * LONG_INPUT, 3)]:
+        count = -(-least // len(line))
+        ran = library.run([PROGRAM], line * count)
+        if (ran.status, ran.out, ran.threads) != (0, b"rebuilt 01\n" * count, threads):
+            raise Fault(f"{len(line) * count} bytes of lines: {ran.threads} threads, and not {threads}: {ran.text()}")
+    print("refusals lines: no thread for a short input, one for a longer, three for a long one", flush=True)
+
+
 def compare_queues(library):
     """Both lanes of the farm have as much room as `--queue` says: with the greatest queue the large allocations of two lanes are
     there, and with the least of none."""
@@ -521,6 +544,7 @@ def main():
         try:
             test_the_library(library)
             count_threads(library)
+            count_threads_of_lines(library)
             compare_queues(library)
             for walk in itertools.chain(text_walks(library), farm_walks(library), test_walks(library), [worker_walk(library)]):
                 make(walk, pool)

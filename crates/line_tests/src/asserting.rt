@@ -1,33 +1,67 @@
 //! Runs of line mode over texts, and assertions on what they write and answer.
-use line_mode::{LineCount, LineFault, line_mode};
+use line_mode::{LineCount, LineFault, line_mode, line_mode_in};
 use std::alloc::{AllocError, Global};
+use std::io::{Read, Write};
 use std::process::Abort;
+use std::thread::Threads;
+
+/// The calls of line mode: in one thread, and in several for a long input, as the program does.
+#[derive(Clone, Copy, Debug)]
+pub(crate) enum Mode {
+    Alone,
+    InThreads,
+}
+
+pub(crate) const MODES: [Mode; 2] = [Mode::Alone, Mode::InThreads];
+
+impl Mode {
+    /// Line mode over these devices.
+    pub(crate) fn reply<T: Threads + Sync, R: Read, W: Write>(
+        self,
+        rt: &T,
+        alloc: Global,
+        input: &mut R,
+        output: &mut W,
+    ) -> Result<LineCount, LineFault> {
+        match self {
+            Mode::Alone => line_mode(alloc, input, output),
+            Mode::InThreads => line_mode_in(rt, alloc, input, output),
+        }
+    }
+}
 
 /// What line mode writes for an input, and what it answers.
-pub(crate) fn run(alloc: Global, input: &[u8]) -> (Vec<u8>, Result<LineCount, LineFault>) {
+pub(crate) fn run<T: Threads + Sync>(
+    rt: &T,
+    mode: Mode,
+    alloc: Global,
+    input: &[u8],
+) -> (Vec<u8>, Result<LineCount, LineFault>) {
     let mut output = Vec::new(alloc);
     let mut rest = input;
-    let answer = line_mode(alloc, &mut rest, &mut output);
+    let answer = mode.reply(rt, alloc, &mut rest, &mut output);
     (output, answer)
 }
 
 /// Asserts that line mode replies to an input by a text, and that it counts so many answered and refused lines.
 pub(crate) fn assert_replies(
-    rt: &(impl Abort + AllocGlobal),
+    rt: &(impl Abort + AllocGlobal + Threads + Sync),
     input: &[u8],
     text: &[u8],
     answered: u64,
     refused: u64,
 ) {
-    let (output, answer) = run(rt.alloc(), input);
-    let given = str::from_utf8(input);
-    assert_eq!(rt; str::from_utf8(&output), str::from_utf8(text), "{given:?}");
-    assert_eq!(rt; answer, Ok(LineCount { answered, refused }), "{given:?}");
+    for mode in MODES {
+        let (output, answer) = run(rt, mode, rt.alloc(), input);
+        let given = str::from_utf8(input);
+        assert_eq!(rt; str::from_utf8(&output), str::from_utf8(text), "{mode:?} {given:?}");
+        assert_eq!(rt; answer, Ok(LineCount { answered, refused }), "{mode:?} {given:?}");
+    }
 }
 
 /// Asserts the reply to a line, each without its line feed: a refusal where the reply says so, else an answer.
 pub(crate) fn assert_reply(
-    rt: &(impl Abort + AllocGlobal),
+    rt: &(impl Abort + AllocGlobal + Threads + Sync),
     line: &[u8],
     reply: &[u8],
 ) -> Result<(), AllocError> {

@@ -1,9 +1,10 @@
 //! Readers and writers that give and take little, or fail.
-use line_mode::{LineCount, LineFault, line_mode, line_status};
-use std::alloc::Global;
+use crate::asserting::{MODES, Mode};
+use line_mode::{LineCount, LineFault, line_status};
 use std::io;
 use std::io::{ErrorKind, Read, Write};
 use std::process::Abort;
+use std::thread::Threads;
 
 // The input of the program's stored run, whose ten lines are all answered.
 const TEN_LINES: &[u8] = b"a x0 1 x1=02 x2=03 px=00\n\
@@ -101,7 +102,14 @@ struct Run {
 }
 
 // Line mode over the ten lines, by devices that move so many bytes at a call.
-fn run_ten(alloc: Global, most: usize, reading: Calls, writing: Calls) -> Run {
+fn run_ten(
+    rt: &(impl AllocGlobal + Threads + Sync),
+    mode: Mode,
+    most: usize,
+    reading: Calls,
+    writing: Calls,
+) -> Run {
+    let alloc = rt.alloc();
     let mut input = PieceReader {
         rest: TEN_LINES,
         most,
@@ -115,7 +123,7 @@ fn run_ten(alloc: Global, most: usize, reading: Calls, writing: Calls) -> Run {
         calls: 0,
         rule: writing,
     };
-    let answer = line_mode(alloc, &mut input, &mut output);
+    let answer = mode.reply(rt, alloc, &mut input, &mut output);
     Run {
         text: output.text,
         flushed: output.flushed,
@@ -136,12 +144,17 @@ fn assert_whole(rt: &(impl Abort + AllocGlobal), run: &Run) {
     assert_eq!(rt; run.answer, ALL_ANSWERED);
 }
 
+// All is flushed, and nothing is read but the pieces and the end.
 #[test]
 fn takes_small_pieces(rt: HostRuntime) {
-    for most in [1usize, 2, 7, 100, 1000] {
-        let run = run_ten(rt.alloc(), most, Calls::AllWork, Calls::AllWork);
-        assert_whole(&rt, &run);
-        assert_eq!(rt; run.flushed, TEN_REPLIES.len(), "{most} at a call");
+    for mode in MODES {
+        for most in [1usize, 2, 7, 100, 1000] {
+            let run = run_ten(&rt, mode, most, Calls::AllWork, Calls::AllWork);
+            assert_whole(&rt, &run);
+            assert_eq!(rt; run.flushed, TEN_REPLIES.len(), "{mode:?} {most} at a call");
+            let pieces = TEN_LINES.len().div_ceil(most) as u64;
+            assert_eq!(rt; run.reads, pieces + 1, "{mode:?} {most} at a call");
+        }
     }
 }
 
@@ -151,39 +164,55 @@ fn assert_faulty(rt: &(impl Abort + AllocGlobal), run: &Run) {
     assert_eq!(rt; line_status(&run.answer), 3);
 }
 
-// A read that fails, whichever it is, ends line mode and leaves the writer alone.
+// Asserts that a read that fails, whichever it is, ends line mode, is not made again, and leaves the writer alone.
+fn assert_ends_at_reads(rt: &(impl Abort + AllocGlobal + Threads + Sync), mode: Mode, most: usize) {
+    let whole = run_ten(rt, mode, most, Calls::AllWork, Calls::AllWork);
+    assert!(rt; 1 < whole.reads);
+    for k in 0..whole.reads {
+        let reading = Calls::OneFails(k, ErrorKind::Other);
+        let run = run_ten(rt, mode, most, reading, Calls::AllWork);
+        assert_faulty(rt, &run);
+        assert_eq!(rt;
+            (run.text.len(), run.writes, run.reads),
+            (0, 0, k + 1),
+            "{mode:?} read {k}, {most} at a call"
+        );
+    }
+}
+
 #[test]
 fn ends_at_failed_reads(rt: HostRuntime) {
-    for most in [1usize, 100, 1000] {
-        let whole = run_ten(rt.alloc(), most, Calls::AllWork, Calls::AllWork);
-        assert!(rt; 1 < whole.reads);
-        for k in 0..whole.reads {
-            let reading = Calls::OneFails(k, ErrorKind::Other);
-            let run = run_ten(rt.alloc(), most, reading, Calls::AllWork);
-            assert_faulty(&rt, &run);
-            assert_eq!(rt;
-                (run.text.len(), run.writes),
-                (0, 0),
-                "read {k}, {most} at a call"
-            );
+    for mode in MODES {
+        for most in [1usize, 100, 1000] {
+            assert_ends_at_reads(&rt, mode, most);
         }
     }
 }
 
-// A write or a flush that fails, whichever it is, ends line mode.
+// Asserts that a write or a flush that fails, whichever it is, ends line mode and is not made again.
+fn assert_ends_at_writes(
+    rt: &(impl Abort + AllocGlobal + Threads + Sync),
+    mode: Mode,
+    most: usize,
+) {
+    let whole = run_ten(rt, mode, most, Calls::AllWork, Calls::AllWork);
+    assert!(rt; 1 < whole.writes);
+    for k in 0..whole.writes {
+        let writing = Calls::OneFails(k, ErrorKind::Other);
+        let run = run_ten(rt, mode, most, Calls::AllWork, writing);
+        assert_faulty(rt, &run);
+        assert!(rt;
+            TEN_REPLIES.starts_with(&run.text) && run.writes == k + 1,
+            "{mode:?} write {k}, {most} at a call"
+        );
+    }
+}
+
 #[test]
 fn ends_at_failed_writes(rt: HostRuntime) {
-    for most in [1usize, 10, 1000] {
-        let whole = run_ten(rt.alloc(), most, Calls::AllWork, Calls::AllWork);
-        assert!(rt; 1 < whole.writes);
-        for k in 0..whole.writes {
-            let writing = Calls::OneFails(k, ErrorKind::Other);
-            let run = run_ten(rt.alloc(), most, Calls::AllWork, writing);
-            assert_faulty(&rt, &run);
-            assert!(rt;
-                TEN_REPLIES.starts_with(&run.text),
-                "write {k}, {most} at a call"
-            );
+    for mode in MODES {
+        for most in [1usize, 10, 1000] {
+            assert_ends_at_writes(&rt, mode, most);
         }
     }
 }
@@ -191,12 +220,14 @@ fn ends_at_failed_writes(rt: HostRuntime) {
 // A read or a write that is interrupted is made again.
 #[test]
 fn goes_on_after_interruptions(rt: HostRuntime) {
-    for k in 0..3u64 {
-        let interrupted = Calls::OneFails(k, ErrorKind::Interrupted);
-        assert_whole(&rt, &run_ten(rt.alloc(), 200, interrupted, Calls::AllWork));
+    for mode in MODES {
+        for k in 0..3u64 {
+            let interrupted = Calls::OneFails(k, ErrorKind::Interrupted);
+            assert_whole(&rt, &run_ten(&rt, mode, 200, interrupted, Calls::AllWork));
+        }
+        let interrupted = Calls::OneFails(0, ErrorKind::Interrupted);
+        assert_whole(&rt, &run_ten(&rt, mode, 1000, Calls::AllWork, interrupted));
     }
-    let interrupted = Calls::OneFails(0, ErrorKind::Interrupted);
-    assert_whole(&rt, &run_ten(rt.alloc(), 1000, Calls::AllWork, interrupted));
 }
 
 // A reader whose calls are always interrupted, and how many there were.
@@ -215,10 +246,12 @@ impl Read for InterruptedReader {
 // Line mode ends for a reader that never gives anything, after 16,777,216 reads and no more.
 #[test]
 fn ends_for_an_interrupted_reader(rt: HostRuntime) {
-    let mut input = InterruptedReader { calls: 0 };
-    let mut output = Vec::new(rt.alloc());
-    let answer = line_mode(rt.alloc(), &mut input, &mut output);
-    assert_eq!(rt; answer, Err(LineFault::Device));
-    assert_eq!(rt; output.len(), 0);
-    assert_eq!(rt; input.calls, 16_777_216);
+    for mode in MODES {
+        let mut input = InterruptedReader { calls: 0 };
+        let mut output = Vec::new(rt.alloc());
+        let answer = mode.reply(&rt, rt.alloc(), &mut input, &mut output);
+        assert_eq!(rt; answer, Err(LineFault::Device));
+        assert_eq!(rt; output.len(), 0);
+        assert_eq!(rt; input.calls, 16_777_216);
+    }
 }

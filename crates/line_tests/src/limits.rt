@@ -1,23 +1,29 @@
 //! The greatest input and one byte more, and long lines.
-use crate::asserting::assert_replies;
-use line_mode::{LineCount, LineFault, line_mode, line_status};
-use std::alloc::{AllocError, Global};
+use crate::asserting::{MODES, assert_replies};
+use line_mode::{LineCount, LineFault, line_status};
+use std::alloc::AllocError;
 use std::io;
 use std::io::Read;
 use std::process::Abort;
+use std::thread::Threads;
 
 // The greatest length of an input.
 const GREATEST: usize = 8_388_608;
 
-// A reader that gives so many line feeds, at most so many at each call.
+// How many bytes are asked of a reader at once.
+const BLOCK: usize = 65_536;
+
+// A reader that gives so many line feeds, at most so many at each call, and counts the calls.
 #[derive(Drop)]
 struct LineFeeds {
     left: usize,
     most: usize,
+    calls: usize,
 }
 
 impl Read for LineFeeds {
     fn read(&mut self, buf: &mut [u8]) -> io::Result<usize> {
+        self.calls = self.calls.saturating_add(1);
         let n = buf.len().min(self.most).min(self.left);
         buf[..n].fill(b'\n');
         self.left -= n;
@@ -25,23 +31,32 @@ impl Read for LineFeeds {
     }
 }
 
-// Asserts what line mode answers to so many line feeds, and that it writes nothing.
+// Asserts what line mode answers to so many line feeds, that it writes nothing, and that it reads no more often than whole blocks ask for.
 fn assert_answer(
-    rt: &(impl Abort + AllocGlobal),
+    rt: &(impl Abort + AllocGlobal + Threads + Sync),
     left: usize,
     most: usize,
     wanted: Result<LineCount, LineFault>,
     status: u8,
 ) {
-    let mut output = Vec::new(rt.alloc());
-    let answer = line_mode(rt.alloc(), &mut LineFeeds { left, most }, &mut output);
-    assert_eq!(rt; answer, wanted, "{left} bytes, {most} at a call");
-    assert_eq!(rt;
-        line_status(&answer),
-        status,
-        "{left} bytes, {most} at a call"
-    );
-    assert_eq!(rt; output.len(), 0, "{left} bytes, {most} at a call");
+    for mode in MODES {
+        let mut output = Vec::new(rt.alloc());
+        let mut input = LineFeeds {
+            left,
+            most,
+            calls: 0,
+        };
+        let answer = mode.reply(rt, rt.alloc(), &mut input, &mut output);
+        assert_eq!(rt; answer, wanted, "{mode:?} {left} bytes, {most} at a call");
+        assert_eq!(rt;
+            line_status(&answer),
+            status,
+            "{mode:?} {left} bytes, {most} at a call"
+        );
+        assert_eq!(rt; output.len(), 0, "{mode:?} {left} bytes, {most} at a call");
+        let reads = GREATEST / BLOCK.min(most) + 1;
+        assert!(rt; input.calls <= reads, "{mode:?} {left} bytes, {most} at a call");
+    }
 }
 
 // The greatest input is read, and one byte more is refused, however few bytes a call gives.

@@ -7,8 +7,8 @@ use crate::combining::{is_zero, write_window};
 use crate::pairing::{LEAST, write_pairs};
 use lrc_field::{Pair, Term};
 
-// How many bytes of each fragment a window has.
-const WINDOW: usize = 2304;
+/// How many bytes of each fragment a window has.
+pub(crate) const WINDOW: usize = 2304;
 
 /// What a room for bytes is wanted for.
 #[derive(Clone, Copy)]

@@ -25,11 +25,6 @@ HaveLength n ts = All (λ t. length t.bytes.now ≡ n) ts
 abbrev pub Reach : ℕ → List Term → Type 0
 Reach n ts = All (λ t. n ≤ length t.bytes.now) ts
 
--- at every index the sum of the terms
-pub record IsCombined (n : ℕ) (ts : List Term) (bytes : List ℕ) : Type 0 where
-  pub len : length bytes ≡ n
-  pub at : (i : ℕ) → i < n → slice_index bytes i ≡ sum_at ts i
-
 -- the sum of the terms is 0 at so many positions
 abbrev pub AreZeroBelow : ℕ → List Term → Type 0
 AreZeroBelow n ts = (i : ℕ) → i < n → sum_at ts i ≡ 0

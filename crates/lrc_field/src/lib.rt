@@ -1,5 +1,5 @@
 //! The field of 256 elements, GF(2^8) with the polynomial x^8 + x^4 + x^3 + x^2 + 1 (11D): arithmetic on one
-//! element, kernels on slices of bytes, and the field's laws. Only `combined` takes memory.
+//! element, kernels on slices of bytes, and the field's laws. Nothing here takes memory.
 //!
 //! ```
 //! use lrc_field::{Gf, add_into, scale_add_into};
@@ -26,9 +26,10 @@ mod term_sums;
 mod terms;
 mod zero_sums;
 
-pub use combining::{combine_into, combined};
+pub use combining::combine_into;
 pub use element::Gf;
 pub use kernels::{add_into, scale_add_into};
 pub use pairs::{Pair, combine_pairs_into, no_pairs, pairs_in};
+pub use term_sums::SUMMED_AT_ONCE;
 pub use terms::{Source, Term, no_terms, terms_in};
-pub use zero_sums::{sums_are_zero, sums_are_zero_between};
+pub use zero_sums::{TESTED_AT_ONCE, sums_are_zero, sums_are_zero_between};

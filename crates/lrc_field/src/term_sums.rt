@@ -10,6 +10,9 @@ use crate::sums_of_three::write_sums_of_three;
 use crate::terms::Term;
 use std::simd::prelude::*;
 
+/// How many sums of terms are made at once where there are so many, in six vectors.
+pub const SUMMED_AT_ONCE: usize = 192;
+
 // Adds 32 products of a scalar, from index `i` on. The scalar 01 needs no tables.
 #[inline(always)]
 fn with_products(sums: u8x32, c: Gf, bytes: &[u8], i: usize) -> u8x32
@@ -92,10 +95,10 @@ pub(crate) fn write_sums(dst: &mut [u8], from: usize, terms: &[Term])
         }
     }
     let mut i = 0;
-    'sixes: while dst.len() - i >= 192 {
+    'sixes: while dst.len() - i >= SUMMED_AT_ONCE {
         let sums = six_sums_at(terms, from + i);
         blocks::put_six(dst, i, sums);
-        i += 192;
+        i += SUMMED_AT_ONCE;
     }
     'singles: while dst.len() - i >= 32 {
         let sums = sums_at(terms, from + i);

@@ -7,6 +7,9 @@ ghost use Rattle.lrc_field.specs.Combined.{AreZeroBelow, AreZeroBetween, HaveLen
 use crate::term_sums::{write_few, write_sums};
 use crate::terms::Term;
 
+/// How many sums are made before they are tested.
+pub const TESTED_AT_ONCE: usize = 1152;
+
 /// Whether the sum of the terms is 00 at each of `len` positions.
 pub fn sums_are_zero(len: usize, terms: &[Term]) -> bool
     requires few { length terms.now ≤ 16 }
@@ -32,10 +35,10 @@ pub fn sums_are_zero_between(from: usize, to: usize, terms: &[Term]) -> bool
     if from >= to {
         return true;
     }
-    let mut part = [0u8; 1152];
+    let mut part = [0u8; TESTED_AT_ONCE];
     let mut at = from;
     'parts: while at < to {
-        let size = (to - at).min(1152);
+        let size = (to - at).min(TESTED_AT_ONCE);
         if !part_is_zero(&mut part[..size], at, terms) {
             return false;
         }

@@ -13,7 +13,7 @@ use Rattle.lrc_code.proofs.CodeLaws.{answer-unique}
 use Rattle.lrc_plan.specs.AnswerLaws.{HasOneAnswer}
 use Rattle.lrc_plan.specs.RowPlans.{IsRowPlan}
 use Rattle.lrc_plan.specs.Terms.{AreRowSums, IsZeroRow, row_at}
-use Rattle.lrc_plan.proofs.FittingStripes.{contradiction, rebuilt, several}
+use Rattle.lrc_plan.proofs.FittingStripes.{ZeroRows, contradiction, rebuilt, rows_along, rows_at, several}
 
 -- the sums of a row at all positions
 row_sums : Asked → List ℕ → List ℕ
@@ -35,9 +35,10 @@ pub one_answer : (r : Asked) → refusal r ≡ None → All (λ s. AreBytes s.by
     → (value : Option (List ℕ)) (checks : List (List ℕ)) → IsRowPlan (tables_of r.code) survives r.target value checks
     → (possible : Bool) → (possible ≡ true → All (IsZeroRow r) checks) → (possible ≡ false → ¬ All (IsZeroRow r) checks) → HasOneAnswer r
 one_answer r accepted bytes survives same value checks plan false zero other =
-    alone r Contradiction (contradiction r accepted bytes survives same checks plan.of_survivors.possible (other refl))
+    alone r Contradiction (contradiction r accepted bytes survives same (ZeroRows checks) plan.of_survivors.possible
+    (λ all. other refl (rows_along r checks all)))
 one_answer r accepted bytes survives same (Some row) checks plan true zero other =
-    alone r (Rebuilt (row_sums r row)) (rebuilt r accepted bytes survives same checks plan.of_survivors.possible (zero refl) row
-    (row_sums r row) plan.of_target.right (are_sums r row))
+    alone r (Rebuilt (row_sums r row)) (rebuilt r accepted bytes survives same (ZeroRows checks) plan.of_survivors.possible
+    (rows_at r checks (zero refl)) row (row_sums r row) plan.of_target.right (are_sums r row))
 one_answer r accepted bytes survives same None checks plan true zero other =
-    alone r Several (several r accepted bytes survives same checks plan.of_survivors.possible (zero refl) plan.of_target)
+    alone r Several (several r accepted bytes survives same (ZeroRows checks) plan.of_survivors.possible (rows_at r checks (zero refl)) plan.of_target)

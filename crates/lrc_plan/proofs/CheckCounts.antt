@@ -1,7 +1,7 @@
 -- How many checks there are.
-use Rattle.std.proofs.Common.{◌≡◌, ◌≢◌, ◌<◌, ◌≤◌, ◌+◌, ℕ, zero, suc, Bool, true, false, cond, List, [], ◌∷◌, length, Option, Some, None}
-use Rattle.std.proofs.Common.{is_none, slice_index, refl, sym, ◌∙◌, ap, ap₂, subst, arith, inl, inr, lit<}
-use Rattle.std.specs.Prelude.{not, ◌||◌, ◌==◌, if◌then◌else◌}
+use Rattle.std.proofs.Common.{◌≡◌, ◌≢◌, ◌<◌, ◌≤◌, ◌+◌, ℕ, Bool, true, false, cond, List, [], ◌∷◌, Option, Some, None}
+use Rattle.std.proofs.Common.{is_none, slice_index, refl, sym, ◌∙◌, ap, ap₂, arith, inl, inr, lit<}
+use Rattle.std.specs.Prelude.{not, ◌||◌, ◌==◌}
 use Rattle.std.specs.List.{list_any, fold}
 use Rattle.std.proofs.lemmas.Bool.{cases_Bool, eqb-true, eq-eqb}
 use Rattle.lrc_code.specs.declared.places.Place.{Place}
@@ -105,18 +105,3 @@ check_count code survives r n red is = record {
       ∙ ap (rows_without_pivot (pivot_of q)) (sym (four_equations code));
   some = (r, red);
 }
-
-below_four : (pivot : ℕ → Option Place) (n : ℕ) → rows_without_pivot pivot n ≤ n
-below_four pivot zero = omega arith
-below_four pivot (suc n) = let less = below_four pivot n in let one = at_most_one (is_none (pivot n)) in omega (arith, less, one)
-  where
-    at_most_one : (b : Bool) → (if b then 1 else 0) ≤ 1
-    at_most_one true = omega arith
-    at_most_one false = omega arith
-
--- at most four
-pub few_checks : (code : CodeName) (survives : Place → Bool) (n : ℕ) → HasCheckCount (tables_of code) survives n → n ≤ 4
-few_checks code survives n count =
-    let is = count.each count.some.0 count.some.1 in
-    subst (λ m. n ≤ m) (four_equations code) (subst (λ m. m ≤ length (tables_of code).equations) (sym is)
-    (below_four (pivot_of count.some.0) (length (tables_of code).equations)))

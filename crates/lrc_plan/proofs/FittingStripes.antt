@@ -1,17 +1,18 @@
 -- From plans to answers: stripes made of extensions at each position.
 use Rattle.std.proofs.Common.{◌≡◌, ℕ, suc, ◌<◌, ◌≤◌, List, [], ◌∷◌, length, map, get_or, Bool, true, cond, None, refl, ap, ap₂, sym, ◌∙◌}
 use Rattle.std.proofs.Common.{subst, arith, inl, inr, ◌⊎◌, All, lit<, zero-add}
-use Rattle.std.specs.Prelude.{◌||◌}
+use Rattle.std.specs.Prelude.{◌↔◌, ◌||◌}
 use Rattle.std.specs.List.{range_with_len, list_any}
 use Rattle.std.specs.Int.Bits.{bit_xor, xor_self, xor_zero_r}
 use Rattle.std.proofs.lemmas.Nat.{xor_lt}
 use Rattle.std.proofs.lemmas.Bool.{cases_lt, cases_Bool}
-use Rattle.std.proofs.lemmas.List.{ext_get_or, get_or_past}
+use Rattle.std.proofs.lemmas.List.{ext_get_or, get_or-map, get_or_past, length-map}
+use Rattle.std.proofs.lemmas.List.Elements.{All-map}
 use Rattle.std.proofs.lemmas.List.FromFn.{get_or-map-range_with_len, length-map-range_with_len}
 use Rattle.lrc_field.proofs.Shift.{cancel}
 use Rattle.lrc_code.specs.declared.places.Place.{Place}
 use Rattle.lrc_code.specs.declared.outcomes.Outcome.TheVariants.{Rebuilt, Contradiction, Several}
-use Rattle.lrc_code.specs.Places.{same_place}
+use Rattle.lrc_code.specs.Places.{same_place, all_places}
 use Rattle.lrc_field.specs.Sums.{combination}
 use Rattle.lrc_code.specs.Code.{Code, AreBytes, has_place, Solves, bytes_at}
 use Rattle.lrc_code.specs.Codes.{tables_of}
@@ -23,11 +24,11 @@ use Rattle.lrc_code.proofs.PlaceSums.{same_place-eq}
 use Rattle.lrc_code.proofs.CodeLaws.{code-linear}
 use Rattle.lrc_code.proofs.RequestLaws.{accepted_target, accepted_places, accepted_length, accepted_lengths, accepted_bytes}
 use Rattle.lrc_code.proofs.RequestLaws.{survivors_hold_bytes, among_at}
-use Rattle.lrc_plan.specs.Form.{Form}
+use Rattle.lrc_plan.specs.Form.{Form, meaning}
 use Rattle.lrc_plan.specs.Planned.{Extends, LeavesSurvive, ExtensionsDiffer}
 use Rattle.lrc_plan.specs.Evaluation.{byte_at, CanEvaluate}
-use Rattle.lrc_plan.specs.EvaluationParts.{AreWhole}
-use Rattle.lrc_plan.specs.RowPlans.{GivesTarget, DecideExtensions}
+use Rattle.lrc_plan.specs.EvaluationParts.{AreWhole, IsZeroTree}
+use Rattle.lrc_plan.specs.RowPlans.{GivesTarget}
 use Rattle.lrc_plan.specs.Terms.{AreRowSums, IsZeroRow}
 use Rattle.lrc_plan.proofs.Stripes.{in_list, solves_along, solves_same}
 
@@ -40,6 +41,28 @@ stripe_bytes st (s ∷ ss) h p a = elim (cases_Bool (same_place p s.place)) as (
   | inr f ↦ stripe_bytes st ss (λ k d lt. h (suc k) d (omega arith)) p
       (sym (ap (λ b. b || is_among p ss) f) ∙ a) ∙ sym (ap (λ b. cond b s.bytes (bytes_of ss p)) f)
 ]
+
+-- what checks as rows ask of bytes
+abbrev pub ZeroRows : List (List ℕ) → (Place → ℕ) → Type 0
+ZeroRows checks s = All (λ row. combination row (map s all_places) ≡ 0) checks
+
+-- what checks as trees ask of bytes
+abbrev pub ZeroTrees : List Form → (Place → ℕ) → Type 0
+ZeroTrees checks s = All (λ t. meaning s t ≡ 0) checks
+
+pub rows_at : (r : Asked) (checks : List (List ℕ)) → All (IsZeroRow r) checks → (i : ℕ) → i < r.len → ZeroRows checks (byte_at r i)
+rows_at r checks all i h k d lt = all k d lt i h
+
+pub rows_along : (r : Asked) (checks : List (List ℕ)) → ((i : ℕ) → i < r.len → ZeroRows checks (byte_at r i)) → All (IsZeroRow r) checks
+rows_along r checks all k d lt i h = all i h k d lt
+
+module _ {T : Type 0} (form : T → Form) (r : Asked) (checks : List T) where
+  pub trees_at : All (λ t. IsZeroTree r (form t)) checks → (i : ℕ) → i < r.len → ZeroTrees (map form checks) (byte_at r i)
+  trees_at all i h = All-map (λ t. meaning (byte_at r i) t ≡ 0) form checks (λ k d lt. all k d lt i h)
+
+  pub trees_along : ((i : ℕ) → i < r.len → ZeroTrees (map form checks) (byte_at r i)) → All (λ t. IsZeroTree r (form t)) checks
+  trees_along all k d lt i h = subst (λ t. meaning (byte_at r i) t ≡ 0) (get_or-map form checks k d (form d) lt)
+      (all i h k (form d) (subst (λ n. k < n) (sym (length-map checks form)) lt))
 
 module _ (r : Asked) (accepted : refusal r ≡ None) (bytes : All (λ s. AreBytes s.bytes) r.survivors) where
   abbrev code : Code
@@ -130,18 +153,18 @@ module _ (r : Asked) (accepted : refusal r ≡ None) (bytes : All (λ s. AreByte
             subst (λ n. i < n) (length-made e y.place) lt in made_at e i y.place 0 h
             ∙ (x i h).kept y.place (same y.place ∙ a))
 
-    module _ (checks : List (List ℕ)) (possible : DecideExtensions code survives checks) where
+    module _ (AreZero : (Place → ℕ) → Type 0)
+        (possible : (s : Place → ℕ) → GivesBytes s → ((e : Place → ℕ) × Extends code survives s e) ↔ AreZero s) where
       -- ---- some check isn't 0
 
-      pub contradiction : (¬ All (IsZeroRow r) checks) → IsAnswer r Contradiction
-      contradiction n st f = n (λ k d lt i h. (possible (byte_at r i) (byte_at-lt i)).0
-          (trimmed st i, fits_extends st f i h) k d lt)
+      pub contradiction : (¬ ((i : ℕ) → i < r.len → AreZero (byte_at r i))) → IsAnswer r Contradiction
+      contradiction n st f = n (λ i h. (possible (byte_at r i) (byte_at-lt i)).0 (trimmed st i, fits_extends st f i h))
 
       -- ---- all checks are 0
 
-      module _ (zero_checks : All (IsZeroRow r) checks) where
+      module _ (zero_checks : (i : ℕ) → i < r.len → AreZero (byte_at r i)) where
         extension : (i : ℕ) → i < r.len → (e : Place → ℕ) × Extends code survives (byte_at r i) e
-        extension i h = (possible (byte_at r i) (byte_at-lt i)).1 (λ k d lt. zero_checks k d lt i h)
+        extension i h = (possible (byte_at r i) (byte_at-lt i)).1 (zero_checks i h)
 
         pick : (i : ℕ) → (i < r.len) ⊎ (r.len ≤ i) → Place → ℕ
         pick i (inl lt) = (extension i lt).0

@@ -1,12 +1,11 @@
 -- Trees of the rows of a plan.
-use Rattle.std.proofs.Common.{◌≡◌, ◌≢◌, ◌<◌, ◌≤◌, ◌↔◌, ◌+◌, ℕ, suc, zero, Bool, true, false, cond, List, [], ◌∷◌, ◌++◌, Option, Some, None}
-use Rattle.std.proofs.Common.{IsNone, All, length, filter, get_or, replicate, take, ◌⊎◌, slice_index, refl, sym, ◌∙◌, ap, subst, arith, inl}
-use Rattle.std.proofs.Common.{inr, lit<, map, length-append}
+use Rattle.std.proofs.Common.{◌≡◌, ◌≢◌, ◌<◌, ◌↔◌, ◌+◌, ℕ, suc, Bool, true, false, cond, List, [], ◌∷◌, ◌++◌, Option, Some, None}
+use Rattle.std.proofs.Common.{IsNone, All, length, filter, slice_index, refl, sym, ◌∙◌, ap, subst, arith}
+use Rattle.std.proofs.Common.{lit<, map, length-append}
 use Rattle.std.specs.Prelude.{not, ◌&&◌, ◌==◌, IsSome, IsSomeAnd, count_by, if◌then◌else◌}
 use Rattle.std.specs.List.{fold}
-use Rattle.std.proofs.lemmas.Bool.{cases_lt, eqb-true, true_from_ne_false}
-use Rattle.std.proofs.lemmas.List.{get_or-take}
-use Rattle.std.proofs.lemmas.List.Elements.{All-cons, All-nil, All-push, All-pop, All-take}
+use Rattle.std.proofs.lemmas.Bool.{eqb-true, true_from_ne_false}
+use Rattle.std.proofs.lemmas.List.Elements.{All-cons, All-nil, All-push, All-pop}
 use Rattle.lrc_code.specs.declared.places.Place.{Place}
 use Rattle.lrc_code.specs.declared.places.Place.TheVariants.{X0, X1, X2, Y0, Y1, Y2, Px, Py, P0, P1, X3, X4, X5, Y3, Y4, Y5}
 use Rattle.lrc_code.specs.declared.codes.Code.{Code as CodeName}
@@ -19,15 +18,13 @@ use Rattle.lrc_code.specs.Codes.{tables_of}
 use Rattle.lrc_code.proofs.PlaceSums.{same_place-comm, combination-sum_over}
 use Rattle.lrc_code.proofs.CodeTables.{own_places}
 use Rattle.lrc_code.proofs.Words.{word, word_small, word_apart, word_solves}
-use Rattle.lrc_plan.specs.Form.{AreCoefficients, Form, Leaf, Scale, Sum, meaning, leaf_total}
+use Rattle.lrc_plan.specs.Form.{Form, Leaf, Scale, Sum, meaning, leaf_total}
 use Rattle.lrc_plan.specs.PlanParts.{cut}
 use Rattle.lrc_code.specs.Groups.{group_coefficient, same_group}
 use Rattle.lrc_plan.specs.Planned.{Extends, ExtensionsDiffer, IsLocalTree, IsPlan, IsShallow, IsTargetValue, LeavesSurvive, group_others}
-use Rattle.lrc_plan.specs.RowPlans.{AnswerBy, IsGroupRow, IsRowPlan, IsRowValue, ReadsSurvivors, DecideExtensions, rows_with_terms}
-use Rattle.lrc_plan.specs.RowTrees.{AreRowTrees, AreValueCoefficients, IsRowTree, IsValueTree, ZeroTogether}
+use Rattle.lrc_plan.specs.RowPlans.{IsGroupRow, IsRowPlan, IsRowValue, ReadsSurvivors, rows_with_terms}
+use Rattle.lrc_plan.specs.RowTrees.{AreRowTrees, IsRowTree, IsValueTree}
 use Rattle.lrc_plan.specs.Sums.{MeansRow, sum_meaning, some_leaf, some_leaf_total, terms}
-use Rattle.lrc_plan.proofs.RowPlanLaws.{given_otherwise}
-use Rattle.lrc_plan.proofs.TermRows.{blank_sum}
 
 -- ---- the target's tree
 
@@ -267,41 +264,6 @@ same_trees rows trees row all one = record {
     more : (n : ℕ) → n + 0 ≡ n
     more n = omega arith
 
--- ---- the coefficients of trees
-
-pub zero_more : (rows : List (List ℕ)) (trees : List Form) (row : List ℕ) (t : Form) → ZeroTogether rows trees → AreCoefficients row t
-    → ZeroTogether (rows ++ row ∷ []) (trees ++ t ∷ [])
-zero_more rows trees row t all one s h = (
-  λ a. (let parts = All-pop (λ r. combination r (map s all_places) ≡ 0) (rows ++ row ∷ []) rows (Some row) refl a in
-      All-push (λ f. meaning s f ≡ 0) trees t ((all s h).0 parts.0) (sym (one s h) ∙ parts.1)),
-  λ a. (let parts = All-pop (λ f. meaning s f ≡ 0) (trees ++ t ∷ []) trees (Some t) refl a in
-      All-push (λ r. combination r (map s all_places) ≡ 0) rows row ((all s h).1 parts.0) (one s h ∙ parts.1)),
-)
-
-taken : (rows : List (List ℕ)) (n k : ℕ) → k < length rows → k < n → k < length (take n rows)
-taken [] n k h j = absurd (omega (arith, h))
-taken (r ∷ rows) zero k h j = absurd (omega (arith, j))
-taken (r ∷ rows) (suc n) zero h j = omega arith
-taken (r ∷ rows) (suc n) (suc k) h j =
-    let less : k < length (take n rows) = taken rows n k (let a : k < length rows = omega (arith, h) in a)
-    (let b : k < n = omega (arith, j) in b) in
-    omega (arith, less)
-
--- rows of 0 after them
-pub zero_end : (rows : List (List ℕ)) (trees : List Form) (n : ℕ) → ZeroTogether (take n rows) trees
-    → ((k : ℕ) (d : List ℕ) → n ≤ k → k < length rows → get_or rows k d ≡ replicate 16 0) → ZeroTogether rows trees
-zero_end rows trees n made rest s h = (
-  λ a. (made s h).0 (All-take (λ r. combination r (map s all_places) ≡ 0) n rows a),
-  λ a k d lt. at ((made s h).1 a) k d lt (cases_lt k n),
-)
-  where
-    at : All (λ r. combination r (map s all_places) ≡ 0) (take n rows) → (k : ℕ) (d : List ℕ) → k < length rows → (k < n) ⊎ (n ≤ k)
-        → combination (get_or rows k d) (map s all_places) ≡ 0
-    at all k d lt (inl less) = subst (λ r. combination r (map s all_places) ≡ 0) (get_or-take n rows k d less)
-        (all k d (taken rows n k lt less))
-    at all k d lt (inr more) = ap (λ r. combination r (map s all_places)) (rest k d more lt)
-        ∙ blank_sum (replicate 16 0) (map s all_places) refl
-
 -- ---- the whole plan
 
 pub tree_plan : (code : CodeName) (survives : Place → Bool) (t : Place) (row : Option (List ℕ)) (checks : List (List ℕ))
@@ -319,24 +281,3 @@ tree_plan code survives t row checks value trees plan v c = record {
   };
   local = λ l. local_value code t row value l.0 (plan.local l) v;
 }
-
--- the coefficients of a plan's trees answer, also over survivors that are given otherwise
-pub answer_rows : (code : CodeName) (survives other : Place → Bool) → ((p : Place) → survives p ≡ other p) → (t : Place)
-    → (row : Option (List ℕ)) (value : Option Form) (rows : List (List ℕ)) (trees : List Form)
-    → IsPlan (tables_of code) survives t value trees → AreValueCoefficients row value → ZeroTogether rows trees
-    → AnswerBy (tables_of code) other t row rows
-answer_rows code survives other same t row value rows trees plan is together =
-    given_otherwise (tables_of code) survives other same t row rows (at row value is plan.of_target)
-  where
-    decide : DecideExtensions (tables_of code) survives rows
-    decide s h = (
-      λ x. (together s h).1 ((plan.of_survivors.possible s h).0 x),
-      λ a. (plan.of_survivors.possible s h).1 ((together s h).0 a),
-    )
-
-    at : (row : Option (List ℕ)) (value : Option Form) → AreValueCoefficients row value → IsTargetValue (tables_of code) survives t value
-        → AnswerBy (tables_of code) survives t row rows
-    at None None is target = (target.several.0 refl, decide)
-    at None (Some f) is target = absurd (cc)
-    at (Some r) None is target = absurd is
-    at (Some r) (Some f) is target = ((λ s e h x. is s h ∙ target.right s e h x), decide)

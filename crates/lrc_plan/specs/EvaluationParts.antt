@@ -14,6 +14,10 @@ AreWhole r =
     (p : Place) → is_among p r.survivors ≡ true
     → (length (bytes_of r.survivors p) ≡ r.len) × AreBytes (bytes_of r.survivors p)
 
+-- the form means 0 at each position
+abbrev pub IsZeroTree : Asked → Form → Type 0
+IsZeroTree r t = (i : ℕ) → i < r.len → meaning (byte_at r i) t ≡ 0
+
 -- a factor times the form's meaning at each position
 pub record IsScaledValue (factor : ℕ) (r : Asked) (t : Form) (bytes : List ℕ) : Type 0 where
   pub len : length bytes ≡ r.len

@@ -1,10 +1,10 @@
--- Rows of coefficients as trees, and the coefficients of trees.
+-- Rows of coefficients as trees.
 use Rattle.std.specs.Prelude.{◌≡◌, ◌≢◌, ◌≤◌, ◌↔◌, ℕ, Bool, true, Option, Some, None, List, length, map, slice_index, All}
 use Rattle.lrc_code.specs.declared.places.Place.{Place}
 use Rattle.lrc_code.specs.Places.{index_of, all_places}
 use Rattle.lrc_field.specs.Sums.{combination}
 use Rattle.lrc_code.specs.Sums.{GivesBytes}
-use Rattle.lrc_plan.specs.Form.{AreCoefficients, Form, meaning}
+use Rattle.lrc_plan.specs.Form.{Form, meaning}
 use Rattle.lrc_plan.specs.Planned.{IsShallow, LeavesSurvive}
 use Rattle.lrc_plan.specs.RowPlans.{ReadsSurvivors, rows_with_terms}
 use Rattle.lrc_plan.specs.Sums.{MeansRow, some_depth, some_leaf, some_leaf_total, terms}
@@ -34,9 +34,3 @@ pub record AreRowTrees (rows : List (List ℕ)) (trees : List Form) : Type 0 whe
   pub leaves : (survives : Place → Bool) → All (ReadsSurvivors survives) rows → All (LeavesSurvive survives) trees
   pub shallow : All IsShallow trees
   pub count : length trees ≡ rows_with_terms rows
-
--- the coefficients of the tree, if there is one
-abbrev pub AreValueCoefficients : Option (List ℕ) → Option Form → Type 0
-AreValueCoefficients None tree = tree ≡ None
-AreValueCoefficients (Some row) None = ⊥
-AreValueCoefficients (Some row) (Some t) = AreCoefficients row t

@@ -8,6 +8,11 @@ use Rattle.lrc_code.specs.Places.{all_places}
 use Rattle.lrc_code.specs.Requests.{Asked}
 use Rattle.lrc_plan.specs.Evaluation.{byte_at}
 
+-- at every index the sum of the terms
+pub record IsCombined (n : ℕ) (ts : List Term) (bytes : List ℕ) : Type 0 where
+  pub len : length bytes ≡ n
+  pub at : (i : ℕ) → i < n → slice_index bytes i ≡ sum_at ts i
+
 -- the sum of a row's products with the survivors' bytes at a position
 abbrev pub row_at : Asked → List ℕ → ℕ → ℕ
 row_at r row i = combination row (map (byte_at r i) all_places)

@@ -31,7 +31,7 @@ pub use plans::remembered::RememberedPlans;
 pub use plans::row_plans::{
     RowPlan, check_rows, checks_from, plan_rows, reduce_by_lost, value_from,
 };
-pub use solving::solve;
+pub use solving::{answer_by, solve};
 pub use tree::Tree;
 pub use tree::both_branches::evaluate_both;
 pub use tree::evaluation::evaluate;

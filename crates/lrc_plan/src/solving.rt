@@ -1,23 +1,23 @@
 //! Answers to requests.
-ghost use Rattle.std.specs.Prelude.{◌↔◌, ◌≤◌, true, false, All, IfOk, vec_len};
+ghost use Rattle.std.specs.Prelude.{◌↔◌, true, map, All, IfOk};
 ghost use Rattle.std.specs.Bool.{IsTrue};
 ghost use Rattle.lrc_code.specs.Codes.{tables_of};
 ghost use Rattle.lrc_code.specs.Answers.{IsAnswer};
 ghost use Rattle.lrc_code.specs.Requests.{AreSources, is_among};
-ghost use Rattle.lrc_plan.specs.Planned.{check_forms, value_form};
-ghost use Rattle.lrc_plan.specs.RowPlans.{AnswerBy};
-ghost use Rattle.lrc_plan.specs.RowTrees.{AreValueCoefficients, ZeroTogether};
-ghost use Rattle.lrc_plan.specs.Terms.{IsZeroRow};
+ghost use Rattle.lrc_plan.specs.EvaluationParts.{IsZeroTree};
+ghost use Rattle.lrc_plan.specs.Planned.{IsPlan, check_forms, value_form};
+ghost use Rattle.lrc_plan.specs.Tree.{form_of};
 
+pub(crate) mod by_rows;
+mod combining;
 pub(crate) mod terms;
 
 use crate::invariant::recall_invariant;
 use crate::plans::Plan;
 use crate::plans::planning::plan_in;
-use crate::plans::row_plans::RowPlan;
 use crate::solving::terms::{is_zero, row_sums};
+use crate::tree::Tree;
 use lrc_code::{Bytes, Outcome, Request, Sources};
-use lrc_field::Gf;
 use std::alloc::{AllocError, Allocator, Global};
 
 /// The answer to a request over all stripes of its code: the target's bytes that every fitting stripe
@@ -44,61 +44,55 @@ pub fn solve<A: Allocator + Clone>(
         request.survivors(),
         request.target(),
     )?;
-    let rows = coefficients_of(&plan);
-    answer_by(alloc, &rows, request)
+    answer_by(alloc, &plan, request)
 }
 
-// The coefficients of a plan's trees, with rows of 00 after those of the checks.
-fn coefficients_of<A: Allocator>(plan: &Plan<A>) -> RowPlan
-    requires { vec_len plan.now.checks ≤ 4 }
-    ensures value { AreValueCoefficients result.value (value_form plan.now) }
-    ensures checks { ZeroTogether result.checks (check_forms plan.now) }
-{
-    let value = match &plan.value {
-        Some(tree) => Some(tree.coefficients()),
-        None => None,
-    };
-    let mut checks = [[Gf::new(0); 16]; 4];
-    for index in 0..plan.checks.len() {
-        checks[index] = plan.checks[index].coefficients();
-    }
-    RowPlan { value, checks }
-}
-
-/// What rows answer. The checks need no memory, and the value needs that of its bytes.
-pub(crate) fn answer_by(
+/// The answer to a request, as `solve`, by a plan for its code, its survivors and its target. Each tree is read once, the value's only
+/// where the checks are 00. The checks need no memory, and the value needs that of its bytes.
+pub fn answer_by<A: Allocator>(
     alloc: Global,
-    plan: &RowPlan,
+    plan: &Plan<A>,
     request: &Request,
 ) -> Result<Outcome, AllocError>
-    requires { AnswerBy (tables_of request.now.code) (λ p. is_among p request.now.survivors) request.now.target plan.now.value
-        plan.now.checks }
+    requires { IsPlan (tables_of request.now.code) (λ p. is_among p request.now.survivors) request.now.target
+        (value_form plan.now) (check_forms plan.now) }
     ensures { IfOk result (IsAnswer request.now) }
 {
     recall_invariant(request);
     let sources = request.sources();
-    let possible = are_zero(&plan.checks, request, &sources);
+    let possible = are_zero_trees(plan.checks.as_slice(), request, &sources);
     if !possible {
         return Ok(Outcome::Contradiction);
     }
     match &plan.value {
-        Some(row) => {
-            let bytes = row_sums(alloc, row, request, &sources)?;
+        Some(tree) => {
+            let row = tree.coefficients();
+            let bytes = row_sums(alloc, &row, request, &sources)?;
             Ok(Outcome::Rebuilt(Bytes::new(bytes)))
         }
         None => Ok(Outcome::Several),
     }
 }
 
-/// Whether all rows' sums are 00 at every position.
-pub(crate) fn are_zero(rows: &[[Gf; 16]], request: &Request, sources: &Sources<'_>) -> bool
+// Whether all trees mean 00 at every position.
+fn are_zero_trees<A: Allocator>(trees: &[Tree<A>], request: &Request, sources: &Sources<'_>) -> bool
     requires { AreSources request.now.survivors sources.now }
-    ensures { IsTrue result ↔ All (IsZeroRow request.now) rows.now }
+    ensures { IsTrue result ↔ All (λ t. IsZeroTree request.now (form_of t)) trees.now }
 {
-    for row in rows {
-        if !is_zero(row, request, sources) {
+    for tree in trees {
+        if !is_zero_tree(tree, request, sources) {
             return false;
         }
     }
     true
+}
+
+// Whether a tree means 00 at every position.
+fn is_zero_tree<A: Allocator>(tree: &Tree<A>, request: &Request, sources: &Sources<'_>) -> bool
+    requires { AreSources request.now.survivors sources.now }
+    ensures { IsTrue result ↔ IsZeroTree request.now (form_of tree.now) }
+{
+    recall_invariant(request);
+    let row = tree.coefficients();
+    is_zero(&row, request, sources)
 }

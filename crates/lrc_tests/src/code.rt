@@ -304,6 +304,7 @@ fn one_reduction(rt: HostRuntime) {
 #[test]
 fn places_of_the_codes(rt: HostRuntime) {
     assert!(&rt; Code::Narrow.places().len() == 10 && Code::Wide.places().len() == 16);
+    assert!(&rt; Code::Narrow.data_count() == 6 && Code::Wide.data_count() == 12);
     assert!(&rt;
         !Code::Narrow.has(Place::X3) && Code::Narrow.has(Place::P1) && Code::Wide.has(Place::Y5)
     );
@@ -311,6 +312,34 @@ fn places_of_the_codes(rt: HostRuntime) {
     assert_eq!(&rt; Code::Wide.named(b"x3"), Some(Place::X3));
     let set = PlaceSet::empty().with(Place::X0).with(Place::X3);
     assert!(&rt; Code::Narrow.others(set).len() == 9 && Code::Wide.others(set).len() == 14);
+}
+
+// The coefficients of px, py, p0 and p1 of (6,2,2).
+const NARROW_ROWS: [[u8; 12]; 4] = [
+    [1, 1, 1, 0, 0, 0, 0, 0, 0, 0, 0, 0],
+    [0, 0, 0, 1, 1, 1, 0, 0, 0, 0, 0, 0],
+    [4, 8, 12, 1, 2, 3, 0, 0, 0, 0, 0, 0],
+    [16, 64, 80, 1, 4, 5, 0, 0, 0, 0, 0, 0],
+];
+
+// And of (12,2,2).
+const WIDE_ROWS: [[u8; 12]; 4] = [
+    [1, 1, 1, 1, 1, 1, 0, 0, 0, 0, 0, 0],
+    [0, 0, 0, 0, 0, 0, 1, 1, 1, 1, 1, 1],
+    [16, 32, 48, 64, 80, 96, 1, 2, 3, 4, 5, 6],
+    [29, 116, 105, 205, 208, 185, 1, 4, 5, 16, 17, 20],
+];
+
+// Whether a code's parities have these coefficients.
+fn has_parities(code: Code, rows: [[u8; 12]; 4]) -> bool {
+    let found = code.parities();
+    [found.px, found.py, found.p0, found.p1].map(|row| row.map(|c| c.byte())) == rows
+}
+
+#[test]
+fn parities_of_the_codes(rt: HostRuntime) {
+    assert!(&rt; has_parities(Code::Narrow, NARROW_ROWS));
+    assert!(&rt; has_parities(Code::Wide, WIDE_ROWS));
 }
 
 const WIDE_STRIPE: &[&[u8]; 16] = &[

@@ -2,8 +2,8 @@
 ghost use Rattle.std.specs.Prelude.{◌≡◌};
 
 use lrc_field::{
-    Gf, Pair, Term, add_into, combine_into, combine_pairs_into, combined, no_pairs, no_terms,
-    pairs_in, scale_add_into, sums_are_zero, sums_are_zero_between, terms_in,
+    Gf, Pair, SUMMED_AT_ONCE, TESTED_AT_ONCE, Term, add_into, combine_into, combine_pairs_into, no_pairs,
+    no_terms, pairs_in, scale_add_into, sums_are_zero, sums_are_zero_between, terms_in,
 };
 use std::alloc::{AllocError, Global};
 
@@ -90,6 +90,13 @@ fn terms_of_sources(rt: HostRuntime) {
     assert_eq!(&rt; sum_at(1, terms), Some(0x18 ^ 0x5e));
 }
 
+// Rooms have nothing in them at first, so that what is read of one by mistake adds nothing.
+#[test]
+fn rooms_have_nothing_at_first(rt: HostRuntime) {
+    assert!(&rt; no_terms().iter().all(|t| t.scalar.byte() == 0 && t.bytes.is_empty()));
+    assert!(&rt; no_pairs().iter().all(|p| p.first.byte() == 0 && p.second.byte() == 0 && p.bytes.is_empty()));
+}
+
 #[test]
 fn pairs_of_sources(rt: HostRuntime) {
     let mut room = no_pairs();
@@ -99,7 +106,17 @@ fn pairs_of_sources(rt: HostRuntime) {
     assert_eq!(&rt; pair_sums_at(1, pairs), Some((0x18 ^ 0x5e, 0x10 ^ 0x61)));
 }
 
-const LENGTHS: &[usize] = &[0, 1, 31, 32, 33, 64, 4_100, 65_536];
+const LENGTHS: &[usize] = &[
+    0,
+    1,
+    31,
+    32,
+    33,
+    64,
+    TESTED_AT_ONCE + 1,
+    4_100,
+    65_536,
+];
 
 const PRODUCTS: &[(u8, u8, u8)] = &[
     (0x02, 0x80, 0x1d),
@@ -227,7 +244,11 @@ fn are_combined(alloc: Global, first: &[u8], second: &[u8]) -> Result<bool, Allo
         term_of(0x53, second),
         term_of(0x00, second),
     ];
-    let sums = combined(alloc, len, &terms)?;
+    let mut sums = some_bytes(alloc, len, 23)?;
+    if sums.len() != len {
+        return Ok(false);
+    }
+    combine_into(&mut sums, 0, &terms);
     Ok(sums.len() == len && are_sums(&sums, 0, &terms) && sums_are_zero(len, &terms) == (len == 0))
 }
 
@@ -250,9 +271,27 @@ fn sums_of_terms(rt: HostRuntime) -> Result<(), AllocError> {
     Ok(())
 }
 
-// Lengths of windows: around the blocks of 32 and of 128 bytes and the parts of 1,024 and of 4,096.
+// Lengths of windows: around the blocks of 32 bytes, the two of 128 of a sum of three, and those of 192 of other sums.
 const WINDOWS: &[usize] = &[
-    0, 1, 31, 32, 33, 127, 128, 129, 160, 1023, 1025, 4095, 4096, 4097,
+    0,
+    1,
+    31,
+    32,
+    33,
+    127,
+    128,
+    129,
+    160,
+    SUMMED_AT_ONCE - 1,
+    SUMMED_AT_ONCE,
+    SUMMED_AT_ONCE + 1,
+    255,
+    256,
+    257,
+    2 * SUMMED_AT_ONCE - 1,
+    2 * SUMMED_AT_ONCE,
+    2 * SUMMED_AT_ONCE + 33,
+    4_097,
 ];
 
 // Bytes of each source, more than any window needs.
@@ -357,8 +396,18 @@ fn sums_of_pairs_in_windows(rt: HostRuntime) -> Result<(), AllocError> {
 
 // Whether two terms that differ at one index have zero sums in just the windows without it.
 fn differ_at(changed: usize, terms: &[Term; 2]) -> bool {
-    for from in [0usize, 1, 33, 100, 1_024] {
-        for to in [0usize, 32, 128, 133, 1_024, 1_025, 4_096, 4_097, 4_200] {
+    for from in [0, 1, 33, 100, TESTED_AT_ONCE] {
+        for to in [
+            0,
+            32,
+            SUMMED_AT_ONCE,
+            SUMMED_AT_ONCE + 5,
+            TESTED_AT_ONCE,
+            TESTED_AT_ONCE + 1,
+            2 * TESTED_AT_ONCE,
+            2 * TESTED_AT_ONCE + 1,
+            SOURCE,
+        ] {
             if !terms.iter().all(|term| term.bytes.len() >= to) {
                 return false;
             }
@@ -386,7 +435,18 @@ fn windows_are_zero(alloc: Global, changed: usize) -> Result<bool, AllocError> {
 
 #[test]
 fn zero_sums_in_windows(rt: HostRuntime) -> Result<(), AllocError> {
-    for changed in [0usize, 31, 32, 127, 128, 1_023, 1_024, 4_095, 4_096, 4_199] {
+    for changed in [
+        0,
+        31,
+        32,
+        SUMMED_AT_ONCE - 1,
+        SUMMED_AT_ONCE,
+        TESTED_AT_ONCE - 1,
+        TESTED_AT_ONCE,
+        2 * TESTED_AT_ONCE - 1,
+        2 * TESTED_AT_ONCE,
+        SOURCE - 1,
+    ] {
         assert!(&rt;
             windows_are_zero(rt.alloc(), changed)?,
             "changed at {changed}"

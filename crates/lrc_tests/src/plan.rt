@@ -4,3 +4,4 @@ mod fixtures;
 mod plans;
 mod refusals;
 mod trees;
+mod wide_cases;

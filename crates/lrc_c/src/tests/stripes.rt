@@ -7,6 +7,7 @@ use crate::lent::Lent;
 use crate::planning::{Plan, lrc_plan_into};
 use crate::rebuilding::lrc_rebuild_into;
 use crate::rebuilding_many::lrc_rebuild_many_into;
+use crate::windows::WINDOW;
 use lrc_field::Gf;
 
 // A stripe in which x5 alone isn't 00: its parities are the coefficients of x5.
@@ -124,10 +125,13 @@ fn sixteen_sources(rt: HostRuntime) {
     assert_eq!(&rt; out, [2]);
 }
 
+// Fragments of three windows and eight bytes more.
+const LONG: usize = 3 * WINDOW + 8;
+
 #[test]
 fn parities_of_several_windows(rt: HostRuntime) {
-    let x5 = [0x80u8; 8200];
-    let zero = [0u8; 8200];
+    let x5 = [0x80u8; LONG];
+    let zero = [0u8; LONG];
     let sources = [
         one(&zero),
         one(&zero),
@@ -136,15 +140,15 @@ fn parities_of_several_windows(rt: HostRuntime) {
         one(&zero),
         one(&x5),
     ];
-    let mut px = [9u8; 8200];
-    let mut py = [9u8; 8200];
-    let mut p0 = [9u8; 8200];
-    let mut p1 = [9u8; 8200];
+    let mut px = [9u8; LONG];
+    let mut py = [9u8; LONG];
+    let mut p0 = [9u8; LONG];
+    let mut p1 = [9u8; LONG];
     assert_eq!(&rt;
         lrc_encode_into(0, &sources, &mut px, &mut py, &mut p0, &mut p1),
         0
     );
-    for k in [0usize, 8191, 8192, 8199] {
+    for k in [0, WINDOW - 1, WINDOW, 3 * WINDOW, LONG - 1] {
         assert_eq!(&rt;
             [px[k], py[k], p0[k], p1[k]],
             [0x00, 0x80, 0x9d, 0xba],

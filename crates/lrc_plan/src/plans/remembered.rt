@@ -8,7 +8,7 @@ ghost use Rattle.lrc_plan.specs.RowPlans.{IsRowPlan};
 
 use crate::invariant::recall_invariant;
 use crate::plans::row_plans::{RowPlan, plan_rows};
-use crate::solving::answer_by;
+use crate::solving::by_rows::answer_by_rows;
 use lrc_code::{Code, Outcome, Place, PlaceSet, Request};
 use std::alloc::{AllocError, Global};
 use std::marker::Model;
@@ -123,6 +123,6 @@ impl RememberedPlans {
     {
         recall_invariant(request);
         let plan = self.plan(request.code(), request.survivors(), request.target());
-        answer_by(alloc, &plan, request)
+        answer_by_rows(alloc, &plan, request)
     }
 }

@@ -6,8 +6,9 @@ ghost use Rattle.lrc_code.specs.Requests.{AreSources};
 ghost use Rattle.lrc_plan.specs.Terms.{AreRowSums, AreRowTerms, IsZeroRow};
 
 use crate::invariant::recall_invariant;
+use crate::solving::combining::combined;
 use lrc_code::{Place, Request, Sources};
-use lrc_field::{Gf, Term, combined, no_terms, sums_are_zero, terms_in};
+use lrc_field::{Gf, Term, no_terms, sums_are_zero, terms_in};
 use std::alloc::{AllocError, Global};
 
 /// The row's sum at each position.

@@ -1,7 +1,8 @@
 //! `solve` and remembered plans against worked requests.
 use super::fixtures::{Answer, CASES, Case, request_of};
+use super::wide_cases::WIDE_CASES;
 use bumpalo::Bump;
-use lrc_code::{Outcome, Request};
+use lrc_code::{Fragment, Outcome, Request};
 use lrc_plan::{RememberedPlans, solve};
 use std::alloc::{AllocError, Allocator, Global};
 
@@ -43,12 +44,68 @@ fn worked_requests_are_answered(rt: HostRuntime) -> Result<(), AllocError> {
     for case in &CASES {
         assert!(&rt; is_worked(rt.alloc(), case)?, "{}", case.name);
     }
+    for case in &WIDE_CASES {
+        assert!(&rt; is_worked(rt.alloc(), case)?, "{}", case.name);
+    }
+    Ok(())
+}
+
+// Lengths around the parts in which an answer's vector is written: 4,096 bytes, and up to 8,191 for the last.
+const LENGTHS: &[u32] = &[
+    1, 31, 32, 33, 4_095, 4_096, 4_097, 8_191, 8_192, 8_193, 12_288, 65_536,
+];
+
+// Bytes of so many times one byte.
+fn repeated(alloc: Global, byte: u8, length: u32) -> Result<Vec<u8>, AllocError> {
+    vec![in alloc; byte; length as usize]
+}
+
+// Whether x0 of survivors whose bytes are each a case's first byte so many times has the answer's byte so many times, in a vector with
+// no more room than that.
+fn is_repeated(alloc: Global, case: &Case, length: u32) -> Result<bool, AllocError> {
+    let mut survivors = Vec::new(alloc);
+    for (place, bytes) in case.survivors {
+        let bytes = repeated(alloc, *bytes.first().unwrap_or(&0), length)?;
+        survivors.push(Fragment {
+            place: *place,
+            bytes,
+        })?;
+    }
+    let stripe = "a".to_string(alloc)?;
+    let Ok(request) = Request::new_in(case.code, stripe, case.target, length, survivors) else {
+        return Ok(false);
+    };
+    match (solve(alloc, alloc, &request)?, case.answer) {
+        (Outcome::Rebuilt(bytes), Answer::Rebuilt([byte])) => {
+            let bytes = bytes.into_vec();
+            Ok(
+                bytes.len() == length as usize
+                    && bytes.capacity() == bytes.len()
+                    && bytes.iter().all(|b| *b == *byte),
+            )
+        }
+        _ => Ok(false),
+    }
+}
+
+#[test]
+fn long_answers_have_no_room_left(rt: HostRuntime) -> Result<(), AllocError> {
+    for length in LENGTHS {
+        // The sum of three as they are, a sum of products, and the sum of six.
+        for case in [&CASES[0], &CASES[4], &WIDE_CASES[0], &WIDE_CASES[3]] {
+            assert!(&rt; is_repeated(rt.alloc(), case, *length)?, "{} {length}", case.name);
+        }
+    }
     Ok(())
 }
 
 // Whether each case is answered by plans that remember those of the cases before it.
-fn are_remembered(alloc: Global, plans: &mut RememberedPlans) -> Result<bool, AllocError> {
-    for case in &CASES {
+fn are_remembered(
+    alloc: Global,
+    plans: &mut RememberedPlans,
+    cases: &[Case],
+) -> Result<bool, AllocError> {
+    for case in cases {
         let Some(request) = request_of(alloc, case)? else {
             return Ok(false);
         };
@@ -66,7 +123,9 @@ fn are_remembered(alloc: Global, plans: &mut RememberedPlans) -> Result<bool, Al
 #[test]
 fn worked_requests_are_answered_by_remembered_plans(rt: HostRuntime) -> Result<(), AllocError> {
     let mut plans = RememberedPlans::new();
-    assert!(&rt; are_remembered(rt.alloc(), &mut plans)?);
-    assert!(&rt; are_remembered(rt.alloc(), &mut plans)?);
+    for _ in 0..2u8 {
+        assert!(&rt; are_remembered(rt.alloc(), &mut plans, &CASES)?);
+        assert!(&rt; are_remembered(rt.alloc(), &mut plans, &WIDE_CASES)?);
+    }
     Ok(())
 }

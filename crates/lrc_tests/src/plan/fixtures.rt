@@ -3,7 +3,7 @@ ghost use Rattle.std.specs.Prelude.{◌≡◌, IfOk};
 ghost use Rattle.lrc_plan.specs.Form.{Leaf, Sum};
 ghost use Rattle.lrc_plan.specs.Tree.{form_of};
 
-use lrc_code::{Fragment, Place, PlaceSet, Request};
+use lrc_code::{Code, Fragment, Place, PlaceSet, Request};
 use lrc_field::Gf;
 use lrc_plan::Tree;
 use std::alloc::{AllocError, Allocator, Global};
@@ -16,10 +16,11 @@ pub enum Answer {
     Several,
 }
 
-/// A request by its target, length and survivors, with its answer.
+/// A request by its code, target, length and survivors, with its answer.
 #[derive(Clone, Copy)]
 pub struct Case {
     pub name: &'static str,
+    pub code: Code,
     pub target: Place,
     pub length: u32,
     pub survivors: &'static [(Place, &'static [u8])],
@@ -30,6 +31,7 @@ pub struct Case {
 pub static CASES: [Case; 17] = [
     Case {
         name: "the three others of the group alone",
+        code: Code::Narrow,
         target: Place::X0,
         length: 1,
         survivors: &[
@@ -41,6 +43,7 @@ pub static CASES: [Case; 17] = [
     },
     Case {
         name: "the three others of the group, and data of the other group that nothing shows to be altered",
+        code: Code::Narrow,
         target: Place::X0,
         length: 1,
         survivors: &[
@@ -55,6 +58,7 @@ pub static CASES: [Case; 17] = [
     },
     Case {
         name: "the same with the other group's parity, which shows it",
+        code: Code::Narrow,
         target: Place::X0,
         length: 1,
         survivors: &[
@@ -70,6 +74,7 @@ pub static CASES: [Case; 17] = [
     },
     Case {
         name: "the local parity lost too",
+        code: Code::Narrow,
         target: Place::Y0,
         length: 1,
         survivors: &[
@@ -86,6 +91,7 @@ pub static CASES: [Case; 17] = [
     },
     Case {
         name: "two lost in each group",
+        code: Code::Narrow,
         target: Place::X0,
         length: 1,
         survivors: &[
@@ -100,6 +106,7 @@ pub static CASES: [Case; 17] = [
     },
     Case {
         name: "a global parity from all data",
+        code: Code::Narrow,
         target: Place::P1,
         length: 1,
         survivors: &[
@@ -114,6 +121,7 @@ pub static CASES: [Case; 17] = [
     },
     Case {
         name: "a product reduced by the polynomial",
+        code: Code::Narrow,
         target: Place::P0,
         length: 1,
         survivors: &[
@@ -128,6 +136,7 @@ pub static CASES: [Case; 17] = [
     },
     Case {
         name: "the same for the other global parity",
+        code: Code::Narrow,
         target: Place::P1,
         length: 1,
         survivors: &[
@@ -142,6 +151,7 @@ pub static CASES: [Case; 17] = [
     },
     Case {
         name: "an altered local parity that a global one shows",
+        code: Code::Narrow,
         target: Place::X0,
         length: 1,
         survivors: &[
@@ -159,6 +169,7 @@ pub static CASES: [Case; 17] = [
     },
     Case {
         name: "an altered local parity that nothing shows",
+        code: Code::Narrow,
         target: Place::X0,
         length: 1,
         survivors: &[
@@ -170,6 +181,7 @@ pub static CASES: [Case; 17] = [
     },
     Case {
         name: "too few survivors, and wrong",
+        code: Code::Narrow,
         target: Place::X0,
         length: 1,
         survivors: &[
@@ -182,6 +194,7 @@ pub static CASES: [Case; 17] = [
     },
     Case {
         name: "a whole group lost, a member of it wanted",
+        code: Code::Narrow,
         target: Place::Y0,
         length: 1,
         survivors: &[
@@ -196,6 +209,7 @@ pub static CASES: [Case; 17] = [
     },
     Case {
         name: "a whole group lost, a member of the other wanted",
+        code: Code::Narrow,
         target: Place::X0,
         length: 1,
         survivors: &[
@@ -209,6 +223,7 @@ pub static CASES: [Case; 17] = [
     },
     Case {
         name: "no survivors",
+        code: Code::Narrow,
         target: Place::X0,
         length: 1,
         survivors: &[],
@@ -216,6 +231,7 @@ pub static CASES: [Case; 17] = [
     },
     Case {
         name: "three positions, both members of a group and both local parities lost",
+        code: Code::Narrow,
         target: Place::X0,
         length: 3,
         survivors: &[
@@ -230,6 +246,7 @@ pub static CASES: [Case; 17] = [
     },
     Case {
         name: "the second position alone is wrong",
+        code: Code::Narrow,
         target: Place::X0,
         length: 2,
         survivors: &[
@@ -242,6 +259,7 @@ pub static CASES: [Case; 17] = [
     },
     Case {
         name: "the greatest length",
+        code: Code::Narrow,
         target: Place::X0,
         length: 65_536,
         survivors: &[],
@@ -258,7 +276,8 @@ pub fn request_of(alloc: Global, case: &Case) -> Result<Option<Request>, AllocEr
             bytes: bytes.to_vec(alloc)?,
         })?;
     }
-    Ok(Request::new("a".to_string(alloc)?, case.target, case.length, survivors).ok())
+    let stripe = "a".to_string(alloc)?;
+    Ok(Request::new_in(case.code, stripe, case.target, case.length, survivors).ok())
 }
 
 /// The set of these places.

@@ -2,10 +2,11 @@
 //! numbered from 0; how many fit a heap is measured, and number k is the refused one where exactly k fit.
 use super::answers::is_outcome;
 use super::fixtures::{Answer, CASES, Case, are_same, request_of, scaled_leaf, sum_of_leaves};
+use super::wide_cases::WIDE_CASES;
 use linked_list_allocator::LocalHeap;
 use lrc_code::{Code, Place, PlaceSet, Request};
 use lrc_field::Gf;
-use lrc_plan::{Plan, Tree, plan, solve};
+use lrc_plan::{Plan, Tree, plan_in, solve};
 use std::alloc::{AllocError, Allocator, Global};
 
 // Heaps of 0, 8, 16 and so on up to so many bytes are tried.
@@ -190,18 +191,23 @@ fn graft_refused_gives_both_trees_back(rt: HostRuntime) -> Result<(), AllocError
 }
 
 // Whether the plan is refused at each of its allocations in turn, and then is the same as without refusal.
-fn plans_in_turn(alloc: Global, survivors: PlaceSet, target: Place) -> Result<bool, AllocError> {
-    if survivors.has(target) || !Code::Narrow.has(target) {
+fn plans_in_turn(
+    alloc: Global,
+    code: Code,
+    survivors: PlaceSet,
+    target: Place,
+) -> Result<bool, AllocError> {
+    if survivors.has(target) || !code.has(target) {
         return Ok(false);
     }
-    let same = plan(alloc, survivors, target)?;
+    let same = plan_in(alloc, code, survivors, target)?;
     let mut refused = Refused { next: 0 };
     for size in (0..LARGEST).step_by(8) {
         let Ok(heap) = LocalHeap::new(alloc, size) else {
             continue;
         };
         let number = fitting(&heap, same.checks.len());
-        match plan_in_heap(&heap, survivors, target, &same) {
+        match plan_in_heap(&heap, code, survivors, target, &same) {
             Ended::Granted => return Ok(refused.next == allocations(&same)),
             Ended::Refused if refused.follows(number) => {}
             _ => return Ok(false),
@@ -213,14 +219,15 @@ fn plans_in_turn(alloc: Global, survivors: PlaceSet, target: Place) -> Result<bo
 // How planning ends in this heap, where the plan is to be the same as another.
 fn plan_in_heap<A: Allocator>(
     heap: &LocalHeap,
+    code: Code,
     survivors: PlaceSet,
     target: Place,
     same: &Plan<A>,
 ) -> Ended {
-    if survivors.has(target) || !Code::Narrow.has(target) {
+    if survivors.has(target) || !code.has(target) {
         return Ended::Wrongly;
     }
-    match plan(heap, survivors, target) {
+    match plan_in(heap, code, survivors, target) {
         Ok(plan) if are_same_plans(&plan, same) => Ended::Granted,
         Ok(_) => Ended::Wrongly,
         Err(AllocError) => Ended::Refused,
@@ -230,7 +237,7 @@ fn plan_in_heap<A: Allocator>(
 // Whether the plan of a case is.
 fn case_in_turn(alloc: Global, case: &Case) -> Result<bool, AllocError> {
     match request_of(alloc, case)? {
-        Some(request) => plans_in_turn(alloc, request.survivors(), case.target),
+        Some(request) => plans_in_turn(alloc, case.code, request.survivors(), case.target),
         None => Ok(false),
     }
 }
@@ -238,6 +245,9 @@ fn case_in_turn(alloc: Global, case: &Case) -> Result<bool, AllocError> {
 #[test]
 fn refused_plan_answers_out_of_memory(rt: HostRuntime) -> Result<(), AllocError> {
     for case in &CASES {
+        assert!(&rt; case_in_turn(rt.alloc(), case)?, "{}", case.name);
+    }
+    for case in &WIDE_CASES {
         assert!(&rt; case_in_turn(rt.alloc(), case)?, "{}", case.name);
     }
     Ok(())
@@ -258,10 +268,10 @@ fn solves_in_turn(alloc: Global, case: &Case) -> Result<bool, AllocError> {
         return Ok(false);
     };
     let survivors = request.survivors();
-    if survivors.has(case.target) || !Code::Narrow.has(case.target) {
+    if survivors.has(case.target) || !case.code.has(case.target) {
         return Ok(false);
     }
-    let same = plan(alloc, survivors, case.target)?;
+    let same = plan_in(alloc, case.code, survivors, case.target)?;
     let mut refused = Refused { next: 0 };
     for size in (0..LARGEST).step_by(8) {
         let Ok(heap) = LocalHeap::new(alloc, size) else {
@@ -281,6 +291,9 @@ fn solves_in_turn(alloc: Global, case: &Case) -> Result<bool, AllocError> {
 #[test]
 fn plans_of_answers_are_made_where_asked(rt: HostRuntime) -> Result<(), AllocError> {
     for case in &CASES {
+        assert!(&rt; solves_in_turn(rt.alloc(), case)?, "{}", case.name);
+    }
+    for case in &WIDE_CASES {
         assert!(&rt; solves_in_turn(rt.alloc(), case)?, "{}", case.name);
     }
     Ok(())

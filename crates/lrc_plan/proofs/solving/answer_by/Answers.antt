@@ -1,43 +1,54 @@
 use Rattle.lrc_field.proofs.Tests.{fails}
-use Rattle.std.proofs.Common.{ℕ, Bool, List, Option, Some, None, refl, sym, subst}
-use Rattle.lrc_code.specs.declared.places.Place.{Place}
+use Rattle.std.proofs.Common.{◌↔◌, ◌∙◌, Some, None, All, refl, sym, subst}
+use Rattle.std.specs.Bool.{IsTrue}
+use Rattle.std.specs.Option.{option_map}
 use Rattle.lrc_code.specs.declared.outcomes.Outcome.TheVariants.{Rebuilt}
 use Rattle.lrc_code.specs.Answers.{IsAnswer}
-use Rattle.lrc_code.specs.Code.{Code}
 use Rattle.lrc_code.specs.Codes.{tables_of}
 use Rattle.lrc_code.specs.Requests.{is_among}
-use Rattle.lrc_plan.specs.RowPlans.{AnswerBy, DecideExtensions}
-use Rattle.lrc_plan.proofs.FittingStripes.{contradiction, rebuilt, several}
+use Rattle.lrc_plan.specs.EvaluationParts.{IsZeroTree}
+use Rattle.lrc_plan.specs.Planned.{IsTargetValue, check_forms}
+use Rattle.lrc_plan.specs.Tree.{form_of}
+use Rattle.lrc_plan.proofs.FittingStripes.{ZeroTrees, contradiction, rebuilt, several, trees_along, trees_at}
 use Rattle.lrc_plan.proofs.solving.answer_by.Goals as goal
 
-decide : (code : Code) (survives : Place → Bool) (t : Place) (value : Option (List ℕ)) (checks : List (List ℕ))
-    → AnswerBy code survives t value checks → DecideExtensions code survives checks
-decide code survives t None checks h = h.1
-decide code survives t (Some row) checks h = h.1
-
 pub returns-then-not-possible : goal.returns-then-not-possible
-returns-then-not-possible c =
+returns-then-not-possible g c =
     let r = c.args.request.now in
-    contradiction r c.recall_invariant.ensures.accepted c.recall_invariant.ensures.bytes
-    (λ p. is_among p r.survivors) (λ p. refl) c.args.plan.now.checks
-    (decide (tables_of r.code) (λ p. is_among p r.survivors) r.target c.args.plan.now.value c.args.plan.now.checks c.requires)
-    (fails c.are_zero-possible.ensures c.if-not-possible.true)
+    let trees = c.args.plan.now.checks.items in
+    let zero : IsTrue c.are_zero_trees-possible.result ↔ All (λ t. IsZeroTree r (form_of t)) trees =
+    subst (λ ts. IsTrue c.are_zero_trees-possible.result ↔ All (λ t. IsZeroTree r (form_of t)) ts) c.as_slice.ensures.value
+    c.are_zero_trees-possible.ensures in
+    contradiction r c.recall_invariant.ensures.accepted c.recall_invariant.ensures.bytes (λ p. is_among p r.survivors) (λ p. refl)
+    (ZeroTrees (check_forms c.args.plan.now)) c.requires.of_survivors.possible
+    (λ all. fails zero c.if-not-possible.true (trees_along form_of r trees all))
 
 pub returns-in_ok-bytes-in-Some : goal.returns-in_ok-bytes-in-Some
-returns-in_ok-bytes-in-Some c =
+returns-in_ok-bytes-in-Some g c =
     let r = c.args.request.now in
-    let by = subst (λ v. AnswerBy (tables_of r.code) (λ p. is_among p r.survivors) r.target v c.args.plan.now.checks) c.in-Some.is
-    c.requires in
+    let trees = c.args.plan.now.checks.items in
+    let zero : IsTrue c.are_zero_trees-possible.result ↔ All (λ t. IsZeroTree r (form_of t)) trees =
+    subst (λ ts. IsTrue c.are_zero_trees-possible.result ↔ All (λ t. IsZeroTree r (form_of t)) ts) c.as_slice.ensures.value
+    c.are_zero_trees-possible.ensures in
+    let value : IsTargetValue (tables_of r.code) (λ p. is_among p r.survivors) r.target (Some (form_of c.in-Some.tree)) =
+    subst (λ o. IsTargetValue (tables_of r.code) (λ p. is_among p r.survivors) r.target (option_map form_of o)) c.in-Some.is
+    c.requires.of_target in
     subst (λ f. IsAnswer r (Rebuilt f)) (sym c.new.ensures)
-    (rebuilt r c.recall_invariant.ensures.accepted c.recall_invariant.ensures.bytes
-    (λ p. is_among p r.survivors) (λ p. refl) c.args.plan.now.checks by.1
-    (c.are_zero-possible.ensures.0 c.if-not-possible.false) _ _ by.0 c.in_ok-bytes-in-Some.ensures)
+    (rebuilt r c.recall_invariant.ensures.accepted c.recall_invariant.ensures.bytes (λ p. is_among p r.survivors) (λ p. refl)
+    (ZeroTrees (check_forms c.args.plan.now)) c.requires.of_survivors.possible
+    (trees_at form_of r trees (zero.0 c.if-not-possible.false)) c.coefficients-row.result _
+    (λ s e h x. c.coefficients-row.ensures s h ∙ value.right s e h x) c.in_ok-bytes-in-Some.ensures)
 
 pub returns-in-None : goal.returns-in-None
-returns-in-None c =
+returns-in-None g c =
     let r = c.args.request.now in
-    let by = subst (λ v. AnswerBy (tables_of r.code) (λ p. is_among p r.survivors) r.target v c.args.plan.now.checks) c.in-None.is
-    c.requires in
-    several r c.recall_invariant.ensures.accepted c.recall_invariant.ensures.bytes
-    (λ p. is_among p r.survivors) (λ p. refl) c.args.plan.now.checks by.1
-    (c.are_zero-possible.ensures.0 c.if-not-possible.false) by.0
+    let trees = c.args.plan.now.checks.items in
+    let zero : IsTrue c.are_zero_trees-possible.result ↔ All (λ t. IsZeroTree r (form_of t)) trees =
+    subst (λ ts. IsTrue c.are_zero_trees-possible.result ↔ All (λ t. IsZeroTree r (form_of t)) ts) c.as_slice.ensures.value
+    c.are_zero_trees-possible.ensures in
+    let value : IsTargetValue (tables_of r.code) (λ p. is_among p r.survivors) r.target None =
+    subst (λ o. IsTargetValue (tables_of r.code) (λ p. is_among p r.survivors) r.target (option_map form_of o)) c.in-None.is
+    c.requires.of_target in
+    several r c.recall_invariant.ensures.accepted c.recall_invariant.ensures.bytes (λ p. is_among p r.survivors) (λ p. refl)
+    (ZeroTrees (check_forms c.args.plan.now)) c.requires.of_survivors.possible
+    (trees_at form_of r trees (zero.0 c.if-not-possible.false)) (value.several.0 refl)

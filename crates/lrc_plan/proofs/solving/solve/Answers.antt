@@ -1,14 +1,11 @@
-use Rattle.std.proofs.Common.{sym}
+use Rattle.std.proofs.Common.{◌≡◌, sym, subst}
+use Rattle.std.specs.Prelude.{Bool}
+use Rattle.lrc_code.specs.declared.places.Place.{Place}
 use Rattle.lrc_code.specs.Sets.{is_in}
 use Rattle.lrc_code.specs.Codes.{tables_of}
 use Rattle.lrc_code.specs.Requests.{is_among}
 use Rattle.lrc_plan.specs.Planned.{IsPlan, check_forms, value_form}
-use Rattle.lrc_plan.proofs.CheckCounts.{few_checks}
-use Rattle.lrc_plan.proofs.RowTrees.{answer_rows}
 use Rattle.lrc_plan.proofs.solving.solve.Goals as goal
-
-pub coefficients_of-rows-requires : goal.coefficients_of-rows-requires
-coefficients_of-rows-requires g c = few_checks c.code.result (is_in c.survivors.result) _ c.in_ok-plan.ensures.count
 
 pub answer_by-requires : goal.answer_by-requires
 answer_by-requires g c =
@@ -16,6 +13,6 @@ answer_by-requires g c =
     let plan : IsPlan (tables_of r.code) (is_in c.survivors.result) r.target (value_form c.in_ok-plan.plan)
     (check_forms c.in_ok-plan.plan) =
     rw (sym c.code.ensures, sym c.target.ensures) c.in_ok-plan.ensures.plan in
-    answer_rows r.code (is_in c.survivors.result) (λ p. is_among p r.survivors) c.survivors.ensures r.target
-    c.coefficients_of-rows.result.value _ c.coefficients_of-rows.result.checks _ plan c.coefficients_of-rows.ensures.value
-    c.coefficients_of-rows.ensures.checks
+    let same : is_in c.survivors.result ≡ (λ p. is_among p r.survivors) = λ i p. c.survivors.ensures p i in
+    subst (λ (s : Place → Bool). IsPlan (tables_of r.code) s r.target (value_form c.in_ok-plan.plan) (check_forms c.in_ok-plan.plan))
+    same plan

@@ -6,8 +6,8 @@ use Rattle.lrc_plan.specs.RowPlans.{IsRowPlan}
 use Rattle.lrc_plan.proofs.RowPlanLaws.{rows_answer}
 use Rattle.lrc_plan.proofs.plans.remembered.RememberedPlans.solve.Goals as goal
 
-pub answer_by-requires : goal.answer_by-requires
-answer_by-requires c =
+pub answer_by_rows-requires : goal.answer_by_rows-requires
+answer_by_rows-requires c =
     let r = c.args.request.now in
     let plan : IsRowPlan (tables_of r.code) (is_in c.survivors.result) r.target c.plan-plan.result.value c.plan-plan.result.checks =
     rw (sym c.code.ensures, sym c.target.ensures) c.plan-plan.ensures in
