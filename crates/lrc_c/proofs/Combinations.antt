@@ -5,7 +5,7 @@ use Rattle.std.proofs.lemmas.List.{get_or_default, get_or_past}
 use Rattle.lrc_field.specs.declared.terms.Term.{Term}
 use Rattle.lrc_field.specs.Combined.{AreZeroBetween}
 use Rattle.lrc_field.specs.Terms.{AreTermsOf, HaveLengthWhereUsed}
-use Rattle.lrc_plan.specs.Stripes.{AreUsed, IsUsedAt, AreZeroRows, IsZeroRow}
+use Rattle.lrc_plan.specs.Stripes.{AreUsed, AreZeroRows, IsZeroRow}
 
 -- bytes whose coefficient is not 0 have the length
 pub used_at : (row : List ℕ) (xss : List (List ℕ)) (len k : ℕ) → AreUsed row xss len → k < length xss → ¬ (get_or row k 0 ≡ 0)

@@ -1,5 +1,5 @@
 -- What the numbers mean that C passes.
-use Rattle.std.specs.Prelude.{◌≡◌, ℕ, List, length, Bool, true, false, ◌<◌, ◌≤◌, not, ◌&&◌, ◌||◌, ◌==◌, Option, Some, None, if◌then◌else◌}
+use Rattle.std.specs.Prelude.{◌≡◌, ℕ, List, length, Bool, true, false, ◌<◌, ◌≤◌, ◌==◌, Option, Some, None, if◌then◌else◌}
 use Rattle.std.specs.Int.{bit_at}
 use Rattle.lrc_code.specs.declared.places.Place.{Place}
 use Rattle.lrc_code.specs.declared.codes.Code.{Code as CodeName}
@@ -7,7 +7,7 @@ use Rattle.lrc_code.specs.declared.codes.Code.TheVariants.{Narrow, Wide}
 use Rattle.lrc_code.specs.Places.{index_of}
 use Rattle.lrc_code.specs.Code.{has_place}
 use Rattle.lrc_code.specs.Codes.{tables_of}
-use Rattle.lrc_plan.specs.Stripes.{at_place, AreUsed, AreWhole}
+use Rattle.lrc_plan.specs.Stripes.{AreUsed, AreWhole}
 
 -- the code of a number
 abbrev pub code_numbered : ℕ → Option CodeName

@@ -1,8 +1,8 @@
 -- From plans to answers: stripes made of extensions at each position.
-use Rattle.std.proofs.Common.{◌≡◌, ℕ, suc, ◌<◌, ◌≤◌, List, [], ◌∷◌, length, map, get_or, Bool, true, cond, None, refl, ap, ap₂, sym, ◌∙◌}
+use Rattle.std.proofs.Common.{◌≡◌, ℕ, suc, ◌<◌, ◌≤◌, List, [], ◌∷◌, length, map, get_or, Bool, true, cond, None, ap, ap₂, sym, ◌∙◌}
 use Rattle.std.proofs.Common.{subst, arith, inl, inr, ◌⊎◌, All, lit<, zero-add}
 use Rattle.std.specs.Prelude.{◌↔◌, ◌||◌}
-use Rattle.std.specs.List.{range_with_len, list_any}
+use Rattle.std.specs.List.{range_with_len}
 use Rattle.std.specs.Int.Bits.{bit_xor, xor_self, xor_zero_r}
 use Rattle.std.proofs.lemmas.Nat.{xor_lt}
 use Rattle.std.proofs.lemmas.Bool.{cases_lt, cases_Bool}
@@ -14,7 +14,7 @@ use Rattle.lrc_code.specs.declared.places.Place.{Place}
 use Rattle.lrc_code.specs.declared.outcomes.Outcome.TheVariants.{Rebuilt, Contradiction, Several}
 use Rattle.lrc_code.specs.Places.{same_place, all_places}
 use Rattle.lrc_field.specs.Sums.{combination}
-use Rattle.lrc_code.specs.Code.{Code, AreBytes, has_place, Solves, bytes_at}
+use Rattle.lrc_code.specs.Code.{Code, AreBytes, has_place, bytes_at}
 use Rattle.lrc_code.specs.Codes.{tables_of}
 use Rattle.lrc_code.proofs.CodeTables.{own_places}
 use Rattle.lrc_code.specs.Requests.{Asked, Survivor, is_among, bytes_of, refusal}

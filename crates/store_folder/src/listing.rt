@@ -114,14 +114,21 @@ impl Listing {
     }
 
     // Notes what is under the name of a fragment.
-    fn note(&mut self, alloc: Global, stripe: &str, place: Place, found: Found) -> Result<(), AllocError> {
+    fn note(
+        &mut self,
+        alloc: Global,
+        stripe: &str,
+        place: Place,
+        found: Found,
+    ) -> Result<(), AllocError> {
         if let Some(files) = self.stripes.get_mut(stripe) {
             files.found[place.index()] = found;
             return Ok(());
         }
         let mut files = StripeFiles::new();
         files.found[place.index()] = found;
-        self.stripes.insert(String::from_str(alloc, stripe)?, files)?;
+        self.stripes
+            .insert(String::from_str(alloc, stripe)?, files)?;
         Ok(())
     }
 }

@@ -42,7 +42,12 @@ impl NewFragment for NewFile {
 
 impl NewFile {
     /// A new file in a folder, whose name has a number that no other of this run has. Nobody but its owner can read it.
-    pub fn create(rt: &HostRuntime, alloc: Global, folder: &str, number: u64) -> io::Result<NewFile> {
+    pub fn create(
+        rt: &HostRuntime,
+        alloc: Global,
+        folder: &str,
+        number: u64,
+    ) -> io::Result<NewFile> {
         let name = format!(in alloc; "{UNFINISHED}{number}")?;
         let path = path_in(alloc, folder, name.as_str())?;
         let mut options = File::options();
@@ -93,13 +98,21 @@ pub fn place_over(rt: &HostRuntime, file: NewFile, path: &str, kept: &str) -> io
         }
         Err(error) => return Err(error),
     }
-    let NewFile { file: _file, path: unfinished } = file;
+    let NewFile {
+        file: _file,
+        path: unfinished,
+    } = file;
     fs::rename(rt, unfinished.as_str(), path)?;
     Ok(Placed::Placed)
 }
 
 /// Removes files that a run which was killed has left, by their names.
-pub fn remove_leftovers(rt: &HostRuntime, alloc: Global, folder: &str, names: &[String]) -> io::Result<()> {
+pub fn remove_leftovers(
+    rt: &HostRuntime,
+    alloc: Global,
+    folder: &str,
+    names: &[String],
+) -> io::Result<()> {
     for name in names {
         let path = path_in(alloc, folder, name.as_str())?;
         fs::remove_file(rt, path.as_str())?;

@@ -23,7 +23,10 @@ impl NewFragment for NoFile {
 }
 
 /// Whether some stripe of the code has the survivors' bytes.
-pub fn are_consistent<F: Fragment>(alloc: Global, survivors: &Survivors<'_, F>) -> Result<bool, MendFault>
+pub fn are_consistent<F: Fragment>(
+    alloc: Global,
+    survivors: &Survivors<'_, F>,
+) -> Result<bool, MendFault>
     requires { length survivors.now.fragments.now ≡ 16 }
     ensures { (at : List (List ℕ)) → AreShown F.shown survivors.now.fragments.now at
         → AreWhole survivors.now.code (is_in survivors.now.set) at survivors.now.length

@@ -4,12 +4,14 @@
 #![tactic(auto)]
 
 mod consistency;
+mod damage;
 mod losses;
 mod mending;
 mod store;
 mod windows;
 
 pub use consistency::are_consistent;
+pub use damage::{find_damaged, without};
 pub use losses::{LostPlaces, have_checks, lost_places};
 pub use mending::{MendFault, Survivors, mend};
 pub use store::{Fragment, NewFragment};

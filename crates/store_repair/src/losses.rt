@@ -20,11 +20,7 @@ pub struct LostPlaces {
 }
 
 /// The lost places of a stripe of which the fragments at some places survive.
-pub fn lost_places(
-    alloc: Global,
-    code: Code,
-    survivors: PlaceSet,
-) -> Result<LostPlaces, AllocError>
+pub fn lost_places(alloc: Global, code: Code, survivors: PlaceSet) -> Result<LostPlaces, AllocError>
     ensures determined { IfOk result (λ lost. AreLost code (is_in survivors) lost.determined.items) }
     ensures several { IfOk result (λ lost. AreLost code (is_in survivors) lost.several.items) }
 {
@@ -72,7 +68,7 @@ fn is_lost_and(
 
 /// Whether survivors are more than a stripe is determined by, so that some contradict each other if one is damaged.
 pub fn have_checks(code: Code, survivors: PlaceSet) -> bool {
-    check_rows(code, survivors)
+    check_rows(code, survivors).iter().any(|row| row
         .iter()
-        .any(|row| row.iter().any(|coefficient| coefficient.byte() != 0))
+        .any(|coefficient| coefficient.byte() != 0))
 }

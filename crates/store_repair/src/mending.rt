@@ -52,6 +52,7 @@ impl<T: Drop> From<AllocFailed<T>> for MendFault {
 }
 
 /// The fragments of a stripe that survive: sixteen, listed by the places' indexes, of which those at the places of the set are there.
+#[derive(Drop)]
 pub struct Survivors<'f, F> {
     pub code: Code,
     /// How many bytes each fragment of the stripe has.
