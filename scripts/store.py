@@ -59,4 +59,5 @@ def main():
             lines.write(f"code={code} s{k} {lost[0]} {length} {' '.join(p + '=' + fragments[p].hex() for p in there)}\n")
 
 
-main()
+if __name__ == "__main__":
+    main()

@@ -357,7 +357,8 @@ fn place_one(
     }
     // A file of the stripe's length is noted already, since it is damaged or can't be read.
     let is_noted = found == (Found::File { length });
-    if !repair.replace_damaged || found == Found::Dangling {
+    let is_file = matches!(found, Found::File { .. });
+    if !repair.replace_damaged || !is_file {
         file.discard(rt)?;
         if !is_noted {
             outcome.leave(alloc, stripe.name, place, why(found))?;

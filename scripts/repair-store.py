@@ -1,0 +1,196 @@
+#!/usr/bin/env python3
+"""Tries rebuild-store on stores that an independent encoder makes: fragments are lost, damaged, cut short or put out of reach, and what
+the program leaves is compared byte by byte with what was there.
+
+    repair-store.py [PROGRAM]
+
+Each expected line, status and file is worked out here; nothing is taken from the program's own output."""
+
+import os
+import pathlib
+import random
+import shutil
+import subprocess
+import sys
+import tempfile
+
+# No compiled copy of the modules is left beside them.
+sys.dont_write_bytecode = True
+from store import stripe
+
+ROOT = pathlib.Path(__file__).resolve().parent.parent
+PROGRAM = pathlib.Path(sys.argv[1] if sys.argv[1:] else ROOT / "crates/rebuild_store/out/rebuild_store").resolve()
+CODES = ("6-2-2", "12-2-2")
+# The windows in which the program reads fragments have so many bytes; lengths around them are tried.
+WINDOW = 65_536
+passed = 0
+
+
+def check(holds, what):
+    """Counts what holds, and ends with what doesn't."""
+    global passed
+    if not holds:
+        sys.exit(f"repair-store: {what}")
+    passed += 1
+
+
+def run(*arguments, status):
+    """Runs the program, holds its status to this one, and gives what it says on standard output and on standard error."""
+    done = subprocess.run([PROGRAM, *map(str, arguments)], capture_output=True, text=True, timeout=300)
+    check(done.returncode == status, f"{' '.join(map(str, arguments))}: status {done.returncode}, not {status}:\n{done.stdout}{done.stderr}")
+    return done.stdout, done.stderr
+
+
+def make(folder, code, lengths, choose):
+    """Makes a store of stripes with these lengths, and gives each one's fragments by their places."""
+    folder.mkdir()
+    stripes = {f"s{k:03}": stripe(code, length, choose) for k, length in enumerate(lengths)}
+    for name, fragments in stripes.items():
+        for place, data in fragments.items():
+            (folder / f"{name}.{place}").write_bytes(data)
+    return stripes
+
+
+def is_whole(folder, stripes):
+    """Whether the folder holds each fragment with its bytes, and nothing else."""
+    there = {path.name: path.read_bytes() for path in folder.iterdir()}
+    return there == {f"{name}.{place}": data for name, fragments in stripes.items() for place, data in fragments.items()}
+
+
+def test_losses(folder, code, choose):
+    """Up to three fragments of each stripe are lost, of lengths around a window's; all come back."""
+    lengths = [1, 2, 1000, WINDOW - 1, WINDOW, WINDOW + 1, 3 * WINDOW + 7, *(choose.randrange(1, 5000) for _ in range(20))]
+    stripes = make(folder, code, lengths, choose)
+    lost = 0
+    for name, fragments in stripes.items():
+        for place in choose.sample(list(fragments), choose.randrange(4)):
+            (folder / f"{name}.{place}").unlink()
+            lost += 1
+    before = sorted(path.name for path in folder.iterdir())
+    output, _ = run("repair", folder, "--dry-run", "--code", code, status=1)
+    check(output.startswith(f"would repair {lost} fragments "), output)
+    check(sorted(path.name for path in folder.iterdir()) == before, "a dry run changed the store")
+    output, errors = run("repair", folder, "--code", code, "--workers", choose.choice([1, 4, 16]), status=0)
+    check(output.startswith(f"repaired {lost} fragments ") and output.endswith("damaged: 0; not possible: 0\n"), output + errors)
+    check(is_whole(folder, stripes), "the store isn't what it was")
+    run("scrub", folder, "--code", code, status=0)
+    output, _ = run("repair", folder, "--code", code, status=0)
+    check(output.startswith("repaired 0 fragments "), output)
+
+
+def test_damage(folder, code, choose):
+    """One survivor of a stripe is changed at one byte: it is named, stays, and the lost ones come back; with --replace-damaged it is
+    replaced, and kept."""
+    stripes = make(folder, code, [3 * WINDOW] * 3, choose)
+    name, fragments = "s001", stripes["s001"]
+    damaged, lost = choose.sample([place for place in fragments if place[0] in "xy"], 2)
+    path = folder / f"{name}.{damaged}"
+    wrong = bytearray(fragments[damaged])
+    wrong[choose.randrange(len(wrong))] ^= 1 << choose.randrange(8)
+    path.write_bytes(wrong)
+    output, _ = run("scrub", folder, "--code", code, status=1)
+    check(f"{name}.{damaged}: is damaged" in output, output)
+    (folder / f"{name}.{lost}").unlink()
+    output, errors = run("repair", folder, "--code", code, status=1)
+    check(f"{name}.{damaged}: is damaged" in errors and "damaged: 1" in output, output + errors)
+    check(path.read_bytes() == wrong, "a damaged fragment was replaced unasked")
+    check((folder / f"{name}.{lost}").read_bytes() == fragments[lost], "a lost fragment didn't come back beside a damaged one")
+    output, errors = run("repair", folder, "--code", code, "--replace-damaged", status=0)
+    kept = folder / f"{name}.{damaged}.damaged"
+    check(kept.read_bytes() == wrong, "the damaged fragment wasn't kept")
+    kept.unlink()
+    check(is_whole(folder, stripes), "the damaged fragment wasn't replaced")
+
+
+def test_too_many(folder, code, choose):
+    """More is lost than can be rebuilt: what is determined comes back, the rest is named, and other stripes are repaired."""
+    stripes = make(folder, code, [100, 200, 300], choose)
+    for place in ("y0", "y1", "y2", "py", "x0"):
+        (folder / f"s001.{place}").unlink()
+    (folder / "s002.x1").unlink()
+    _, errors = run("repair", folder, "--code", code, status=1)
+    whole = ["x0"]
+    for place in ("y0", "y1", "y2", "py"):
+        check(f"s001.{place}: can't be rebuilt" in errors and not (folder / f"s001.{place}").exists(), errors)
+    for place in whole:
+        check((folder / f"s001.{place}").read_bytes() == stripes["s001"][place], f"{place} didn't come back")
+    check((folder / "s002.x1").read_bytes() == stripes["s002"]["x1"], "another stripe wasn't repaired")
+
+
+def test_odd_files(folder, code, choose):
+    """Fragments of another length, folders, FIFOs and links to nothing are lost and named, and stay; a FIFO holds nothing up."""
+    stripes = make(folder, code, [500] * 5, choose)
+    (folder / "s000.x0").write_bytes(b"short")
+    (folder / "s001.x1").unlink()
+    (folder / "s001.x1").mkdir()
+    (folder / "s002.px").unlink()
+    os.mkfifo(folder / "s002.px")
+    (folder / "s003.p0").unlink()
+    (folder / "s003.p0").symlink_to("nowhere")
+    (folder / "s004.y2").unlink()
+    _, errors = run("repair", folder, "--code", code, status=1)
+    for name in ("s000.x0", "s001.x1", "s002.px", "s003.p0"):
+        check(f"{name}: " in errors, errors)
+    check((folder / "s004.y2").read_bytes() == stripes["s004"]["y2"], "a lost fragment didn't come back beside odd files")
+    check((folder / "s000.x0").read_bytes() == b"short", "a file of another length was replaced unasked")
+    _, errors = run("repair", folder, "--code", code, "--replace-damaged", status=1)
+    check((folder / "s000.x0").read_bytes() == stripes["s000"]["x0"], "a file of another length wasn't replaced")
+    check((folder / "s000.x0.damaged").read_bytes() == b"short", "a file of another length wasn't kept")
+
+
+def test_owner_and_mode(folder, code, choose):
+    """A rebuilt fragment has the mode of a neighbour, and no other run's leftovers stay."""
+    stripes = make(folder, code, [64], choose)
+    for path in folder.iterdir():
+        path.chmod(0o640)
+    (folder / "s000.x0").unlink()
+    (folder / ".rebuild-store-7").write_bytes(b"half")
+    run("repair", folder, "--code", code, status=0)
+    check((folder / "s000.x0").stat().st_mode & 0o777 == 0o640, "the mode isn't the neighbour's")
+    check(is_whole(folder, stripes), "something is left")
+
+
+def test_requests(folder, code, choose):
+    """The list of what is lost asks for each lost fragment, with all that survive."""
+    stripes = make(folder, code, [10, 20], choose)
+    places = list(stripes["s000"])
+    (folder / "s001.x2").unlink()
+    output, _ = run("lost", folder, "--code", code, status=1)
+    others = " ".join(place for place in places if place != "x2")
+    wide = code == "12-2-2"
+    header = "order,stripe,target,length,survivors" + ",code" * wide
+    check(output == f"{header}\nrebuild,s001,x2,20,{others}{',12-2-2' * wide}\n", output)
+
+
+def test_refusals(folder):
+    """Mistakes of arguments, a folder that is no store, and one that isn't there."""
+    run(status=2)
+    run("repair", status=2)
+    run("repair", folder, "--workers", "0", status=2)
+    run("repair", folder, "--workers", "17", status=2)
+    run("repair", folder, "--code", "8-2-2", status=2)
+    run("mend", folder, status=2)
+    run("repair", folder / "absent", status=3)
+    folder.mkdir()
+    (folder / "a.txt").write_text("no fragment")
+    _, errors = run("repair", folder, status=1)
+    check("is this the store?" in errors, errors)
+    output, _ = run("--version", status=0)
+    check(output == "rebuild-store 0.1.0\n", output)
+
+
+def main():
+    choose = random.Random(2026)
+    tests = (test_losses, test_damage, test_too_many, test_odd_files, test_owner_and_mode, test_requests)
+    with tempfile.TemporaryDirectory() as scratch:
+        place = pathlib.Path(scratch)
+        for code in CODES:
+            for test in tests:
+                folder = place / f"{test.__name__}-{code}"
+                test(folder, code, choose)
+                shutil.rmtree(folder)
+        test_refusals(place / "refusals")
+    print(f"repair-store: {passed} passed, 0 failed")
+
+
+main()
