@@ -55,7 +55,10 @@ fn assert_answer(
         );
         assert_eq!(rt; output.len(), 0, "{mode:?} {left} bytes, {most} at a call");
         let reads = GREATEST / BLOCK.min(most) + 1;
-        assert!(rt; input.calls <= reads, "{mode:?} {left} bytes, {most} at a call");
+        assert!(rt;
+            input.calls <= reads,
+            "{mode:?} {left} bytes, {most} at a call"
+        );
     }
 }
 

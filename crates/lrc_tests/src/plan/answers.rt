@@ -93,7 +93,11 @@ fn long_answers_have_no_room_left(rt: HostRuntime) -> Result<(), AllocError> {
     for length in LENGTHS {
         // The sum of three as they are, a sum of products, and the sum of six.
         for case in [&CASES[0], &CASES[4], &WIDE_CASES[0], &WIDE_CASES[3]] {
-            assert!(&rt; is_repeated(rt.alloc(), case, *length)?, "{} {length}", case.name);
+            assert!(&rt;
+                is_repeated(rt.alloc(), case, *length)?,
+                "{} {length}",
+                case.name
+            );
         }
     }
     Ok(())
