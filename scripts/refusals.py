@@ -467,11 +467,12 @@ def test_walks(library):
             yield Walk(name, "thread", False, test, set(), {"answered"} if name in PASSING else None)
 
 
-def worker_walk(library):
-    """A worker that is refused the memory of its plan's arena, and that of its answer, and nothing else: one that plans elsewhere than in
-    its arena is refused each node of a plan."""
-    test = Test(library, "farm_tests", "a_worker_without_memory")
-    return Walk("a_worker_without_memory", "allocation", False, test, {"AllocError", "starved"}, exact={"starved": 2})
+def worker_walks(library):
+    """A worker that is refused the memory of its plan's arena, and that of its answer, and nothing else, at each job: one that plans
+    elsewhere than in its arena is refused each node of a plan, and one with an arena for all jobs is refused it once."""
+    for name, jobs in [("a_worker_without_memory", 1), ("two_jobs_without_memory", 2)]:
+        test = Test(library, "farm_tests", name)
+        yield Walk(name, "allocation", False, test, {"AllocError", "starved"}, exact={"starved": 2 * jobs})
 
 
 def rack_of(folder, survivors, length):
@@ -546,7 +547,7 @@ def main():
             count_threads(library)
             count_threads_of_lines(library)
             compare_queues(library)
-            for walk in itertools.chain(text_walks(library), farm_walks(library), test_walks(library), [worker_walk(library)]):
+            for walk in itertools.chain(text_walks(library), farm_walks(library), test_walks(library), worker_walks(library)):
                 make(walk, pool)
             limit_rooms(pool, library)
         except Fault as fault:

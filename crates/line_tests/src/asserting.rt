@@ -54,8 +54,16 @@ pub(crate) fn assert_replies(
     for mode in MODES {
         let (output, answer) = run(rt, mode, rt.alloc(), input);
         let given = str::from_utf8(input);
-        assert_eq!(rt; str::from_utf8(&output), str::from_utf8(text), "{mode:?} {given:?}");
-        assert_eq!(rt; answer, Ok(LineCount { answered, refused }), "{mode:?} {given:?}");
+        assert_eq!(rt;
+            str::from_utf8(&output),
+            str::from_utf8(text),
+            "{mode:?} {given:?}"
+        );
+        assert_eq!(rt;
+            answer,
+            Ok(LineCount { answered, refused }),
+            "{mode:?} {given:?}"
+        );
     }
 }
 

@@ -22,7 +22,10 @@ fn cycled(alloc: Global, text: &str, count: usize) -> Result<String, AllocError>
 }
 
 // Asserts that digits are read and written at this length.
-fn assert_digits(rt: &(impl Abort + AllocGlobal + Threads + Sync), length: usize) -> Result<(), AllocError> {
+fn assert_digits(
+    rt: &(impl Abort + AllocGlobal + Threads + Sync),
+    length: usize,
+) -> Result<(), AllocError> {
     let alloc = rt.alloc();
     let zeros = cycled(alloc, "0", length.wrapping_mul(2))?;
     let digits = cycled(alloc, GIVEN, length.wrapping_mul(2))?;
@@ -58,7 +61,10 @@ fn bad_digit_at_each_place(rt: HostRuntime) -> Result<(), AllocError> {
 }
 
 // Asserts that a byte is read as a digit just where it is one.
-fn assert_digit(rt: &(impl Abort + AllocGlobal + Threads + Sync), byte: u8) -> Result<(), AllocError> {
+fn assert_digit(
+    rt: &(impl Abort + AllocGlobal + Threads + Sync),
+    byte: u8,
+) -> Result<(), AllocError> {
     let mut line = Vec::from_slice(rt.alloc(), b"a x0 1 x1=00 x2=00 px=0")?;
     line.push(byte)?;
     line.push(b'\n')?;

@@ -36,6 +36,7 @@ fn assert_answer(
     rt: &(impl Abort + AllocGlobal + Threads + Sync),
     left: usize,
     most: usize,
+    reads: usize,
     wanted: Result<LineCount, LineFault>,
     status: u8,
 ) {
@@ -54,8 +55,10 @@ fn assert_answer(
             "{mode:?} {left} bytes, {most} at a call"
         );
         assert_eq!(rt; output.len(), 0, "{mode:?} {left} bytes, {most} at a call");
-        let reads = GREATEST / BLOCK.min(most) + 1;
-        assert!(rt; input.calls <= reads, "{mode:?} {left} bytes, {most} at a call");
+        assert!(rt;
+            input.calls <= reads,
+            "{mode:?} {left} bytes, {most} at a call"
+        );
     }
 }
 
@@ -66,9 +69,10 @@ fn stops_past_the_limit(rt: HostRuntime) {
         answered: 0,
         refused: 0,
     };
-    for most in [1, 1_000_000] {
-        assert_answer(&rt, GREATEST, most, Ok(none), 0);
-        assert_answer(&rt, GREATEST + 1, most, Err(LineFault::InputTooLong), 1);
+    for (most, reads) in [(1, GREATEST + 1), (1_000_000, GREATEST / BLOCK + 1)] {
+        assert_answer(&rt, GREATEST, most, reads, Ok(none), 0);
+        let too_long = Err(LineFault::InputTooLong);
+        assert_answer(&rt, GREATEST + 1, most, reads, too_long, 1);
     }
 }
 

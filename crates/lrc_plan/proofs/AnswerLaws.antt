@@ -41,4 +41,5 @@ one_answer r accepted bytes survives same (Some row) checks plan true zero other
     alone r (Rebuilt (row_sums r row)) (rebuilt r accepted bytes survives same (ZeroRows checks) plan.of_survivors.possible
     (rows_at r checks (zero refl)) row (row_sums r row) plan.of_target.right (are_sums r row))
 one_answer r accepted bytes survives same None checks plan true zero other =
-    alone r Several (several r accepted bytes survives same (ZeroRows checks) plan.of_survivors.possible (rows_at r checks (zero refl)) plan.of_target)
+    alone r Several (several r accepted bytes survives same (ZeroRows checks) plan.of_survivors.possible
+    (rows_at r checks (zero refl)) plan.of_target)

@@ -6,6 +6,7 @@ use lrc_code::{
     Bytes, Code, Fragment, Group, Place, PlaceSet, Request, RequestFault, encode, encode_wide,
     first_refusal, is_stripe_name, reduce, reduce_in,
 };
+use lrc_field::Gf;
 use std::alloc::{AllocError, Global};
 use std::array;
 
@@ -330,16 +331,30 @@ const WIDE_ROWS: [[u8; 12]; 4] = [
     [29, 116, 105, 205, 208, 185, 1, 4, 5, 16, 17, 20],
 ];
 
-// Whether a code's parities have these coefficients.
-fn has_parities(code: Code, rows: [[u8; 12]; 4]) -> bool {
+// Whether a parity has these coefficients.
+fn has_coefficients(found: &[Gf; 12], row: &[u8; 12]) -> bool {
+    for k in 0..12usize {
+        if found[k].byte() != row[k] {
+            return false;
+        }
+    }
+    true
+}
+
+// Whether a code's parities have these.
+fn has_parities(code: Code, rows: &[[u8; 12]; 4]) -> bool {
+    let [px, py, p0, p1] = rows;
     let found = code.parities();
-    [found.px, found.py, found.p0, found.p1].map(|row| row.map(|c| c.byte())) == rows
+    has_coefficients(&found.px, px)
+        && has_coefficients(&found.py, py)
+        && has_coefficients(&found.p0, p0)
+        && has_coefficients(&found.p1, p1)
 }
 
 #[test]
 fn parities_of_the_codes(rt: HostRuntime) {
-    assert!(&rt; has_parities(Code::Narrow, NARROW_ROWS));
-    assert!(&rt; has_parities(Code::Wide, WIDE_ROWS));
+    assert!(&rt; has_parities(Code::Narrow, &NARROW_ROWS));
+    assert!(&rt; has_parities(Code::Wide, &WIDE_ROWS));
 }
 
 const WIDE_STRIPE: &[&[u8]; 16] = &[

@@ -2,8 +2,8 @@
 ghost use Rattle.std.specs.Prelude.{◌≡◌};
 
 use lrc_field::{
-    Gf, Pair, SUMMED_AT_ONCE, TESTED_AT_ONCE, Term, add_into, combine_into, combine_pairs_into, no_pairs,
-    no_terms, pairs_in, scale_add_into, sums_are_zero, sums_are_zero_between, terms_in,
+    Gf, Pair, SUMMED_AT_ONCE, TESTED_AT_ONCE, Term, add_into, combine_into, combine_pairs_into,
+    no_pairs, no_terms, pairs_in, scale_add_into, sums_are_zero, sums_are_zero_between, terms_in,
 };
 use std::alloc::{AllocError, Global};
 
@@ -93,8 +93,14 @@ fn terms_of_sources(rt: HostRuntime) {
 // Rooms have nothing in them at first, so that what is read of one by mistake adds nothing.
 #[test]
 fn rooms_have_nothing_at_first(rt: HostRuntime) {
-    assert!(&rt; no_terms().iter().all(|t| t.scalar.byte() == 0 && t.bytes.is_empty()));
-    assert!(&rt; no_pairs().iter().all(|p| p.first.byte() == 0 && p.second.byte() == 0 && p.bytes.is_empty()));
+    assert!(&rt;
+        no_terms()
+            .iter()
+            .all(|t| t.scalar.byte() == 0 && t.bytes.is_empty())
+    );
+    assert!(&rt;
+        no_pairs().iter().all(|p| p.first.byte() == 0 && p.second.byte() == 0 && p.bytes.is_empty())
+    );
 }
 
 #[test]
@@ -106,17 +112,7 @@ fn pairs_of_sources(rt: HostRuntime) {
     assert_eq!(&rt; pair_sums_at(1, pairs), Some((0x18 ^ 0x5e, 0x10 ^ 0x61)));
 }
 
-const LENGTHS: &[usize] = &[
-    0,
-    1,
-    31,
-    32,
-    33,
-    64,
-    TESTED_AT_ONCE + 1,
-    4_100,
-    65_536,
-];
+const LENGTHS: &[usize] = &[0, 1, 31, 32, 33, 64, TESTED_AT_ONCE + 1, 4_100, 65_536];
 
 const PRODUCTS: &[(u8, u8, u8)] = &[
     (0x02, 0x80, 0x1d),

@@ -126,29 +126,45 @@ fn a_feeder_and_two_workers(rt: HostRuntime) -> Result<(), Fail> {
     Ok(())
 }
 
-// How a worker replies to one request, by two lanes and a stop.
-fn reply_to_one<R: Abort + Wait>(rt: &R, alloc: Global) -> Result<ReplyResult, Fail> {
-    let list = list_of(rt, alloc, &[LOCAL])?;
+// Asserts that a worker answers each of these requests, by two lanes and a stop, or says that one of them starved.
+fn answers_each<R: Abort + Wait>(rt: &R, alloc: Global, entries: &[Entry]) -> Result<(), Fail> {
+    let list = list_of(rt, alloc, entries)?;
     let jobs = two_to_two(alloc)?;
     let replies = two_to_two(alloc)?;
     let Ok(_fed) = feed_alone(rt, alloc, &list, jobs.first) else {
         return Err(Fail::from(AllocError));
     };
     stops_both(rt, jobs.second);
-    works(rt, alloc, jobs.taker, replies.first, 3, 2);
+    let count = entries.len() as u64;
+    works(
+        rt,
+        alloc,
+        jobs.taker,
+        replies.first,
+        count.saturating_add(2),
+        count.saturating_add(1),
+    );
     let mut taker = replies.taker;
-    match taker.take(rt) {
-        Item::Value { value, .. } => Ok(value.result),
-        Item::End { .. } => panic!(rt; "no reply"),
+    for _ in entries {
+        match taker.take(rt) {
+            Item::Value { value, .. } => match value.result {
+                ReplyResult::Done(outcome) => assert!(rt; is_answer(&outcome, Some(0x01))),
+                ReplyResult::Starved => return Err(Fail::from("starved")),
+            },
+            Item::End { .. } => panic!(rt; "no reply"),
+        }
     }
+    Ok(())
 }
 
 // Where a script refuses the memory of the plan's arena or that of the answer, the reply says so.
 #[test]
 fn a_worker_without_memory(rt: HostRuntime) -> Result<(), Fail> {
-    match reply_to_one(&rt, rt.alloc())? {
-        ReplyResult::Done(outcome) => assert!(rt; is_answer(&outcome, Some(0x01))),
-        ReplyResult::Starved => return Err(Fail::from("starved")),
-    }
-    Ok(())
+    answers_each(&rt, rt.alloc(), &[LOCAL])
+}
+
+// Each job has an arena of its own, so twice as many refusals starve one of two jobs.
+#[test]
+fn two_jobs_without_memory(rt: HostRuntime) -> Result<(), Fail> {
+    answers_each(&rt, rt.alloc(), &[LOCAL, LOCAL])
 }

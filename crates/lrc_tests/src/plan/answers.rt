@@ -55,20 +55,39 @@ const LENGTHS: &[u32] = &[
     1, 31, 32, 33, 4_095, 4_096, 4_097, 8_191, 8_192, 8_193, 12_288, 65_536,
 ];
 
-// Bytes of so many times one byte.
-fn repeated(alloc: Global, byte: u8, length: u32) -> Result<Vec<u8>, AllocError> {
-    vec![in alloc; byte; length as usize]
+// The byte at each position of a long fragment: one byte at every third, so that no two parts of an answer are alike, and 00 elsewhere.
+fn byte_at(byte: u8, position: u32) -> u8 {
+    if position % 3 == 0 { byte } else { 0 }
 }
 
-// Whether x0 of survivors whose bytes are each a case's first byte so many times has the answer's byte so many times, in a vector with
-// no more room than that.
-fn is_repeated(alloc: Global, case: &Case, length: u32) -> Result<bool, AllocError> {
+// A long fragment.
+fn spread(alloc: Global, byte: u8, length: u32) -> Result<Vec<u8>, AllocError> {
+    let mut bytes = Vec::with_capacity(alloc, length as usize)?;
+    for position in 0..length {
+        bytes.push(byte_at(byte, position))?;
+    }
+    Ok(bytes)
+}
+
+// Whether a vector has so much room and no more, and the answer's byte at every third position.
+fn is_spread(bytes: &Vec<u8>, byte: u8, length: u32) -> bool {
+    let mut position = 0u32;
+    for found in bytes {
+        if *found != byte_at(byte, position) {
+            return false;
+        }
+        position = position.wrapping_add(1);
+    }
+    position == length && bytes.capacity() == bytes.len()
+}
+
+// Whether survivors with a case's bytes at every third position have its answer there.
+fn is_answered_at_length(alloc: Global, case: &Case, length: u32) -> Result<bool, AllocError> {
     let mut survivors = Vec::new(alloc);
     for (place, bytes) in case.survivors {
-        let bytes = repeated(alloc, *bytes.first().unwrap_or(&0), length)?;
         survivors.push(Fragment {
             place: *place,
-            bytes,
+            bytes: spread(alloc, *bytes.first().unwrap_or(&0), length)?,
         })?;
     }
     let stripe = "a".to_string(alloc)?;
@@ -77,12 +96,7 @@ fn is_repeated(alloc: Global, case: &Case, length: u32) -> Result<bool, AllocErr
     };
     match (solve(alloc, alloc, &request)?, case.answer) {
         (Outcome::Rebuilt(bytes), Answer::Rebuilt([byte])) => {
-            let bytes = bytes.into_vec();
-            Ok(
-                bytes.len() == length as usize
-                    && bytes.capacity() == bytes.len()
-                    && bytes.iter().all(|b| *b == *byte),
-            )
+            Ok(is_spread(&bytes.into_vec(), *byte, length))
         }
         _ => Ok(false),
     }
@@ -93,7 +107,11 @@ fn long_answers_have_no_room_left(rt: HostRuntime) -> Result<(), AllocError> {
     for length in LENGTHS {
         // The sum of three as they are, a sum of products, and the sum of six.
         for case in [&CASES[0], &CASES[4], &WIDE_CASES[0], &WIDE_CASES[3]] {
-            assert!(&rt; is_repeated(rt.alloc(), case, *length)?, "{} {length}", case.name);
+            assert!(&rt;
+                is_answered_at_length(rt.alloc(), case, *length)?,
+                "{} {length}",
+                case.name
+            );
         }
     }
     Ok(())

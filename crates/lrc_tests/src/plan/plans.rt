@@ -88,7 +88,8 @@ fn local_plans_and_grafts(rt: HostRuntime) -> Result<(), AllocError> {
     Ok(())
 }
 
-// Whether the target's plan has a value, and how many checks; none where the target survives or isn't in the code.
+// Whether the target's plan has a value that reads no more fragments than the code has data, and how many checks; none where the target
+// survives or isn't in the code.
 fn counts<A: Allocator + Clone>(
     alloc: A,
     code: Code,
@@ -99,7 +100,11 @@ fn counts<A: Allocator + Clone>(
         return Ok(None);
     }
     let plan = plan_in(alloc, code, survivors, target)?;
-    Ok(Some((plan.value.is_some(), plan.checks.len())))
+    let has_value = match &plan.value {
+        Some(value) => value.leaf_count() as usize <= code.data_count(),
+        None => false,
+    };
+    Ok(Some((has_value, plan.checks.len())))
 }
 
 #[test]
