@@ -124,6 +124,7 @@ library.sh $(AFTER):
 
 wrong-bodies:
 	scripts/try-wrong-bodies.sh
+	scripts/tested-wrong-bodies.py
 
 # Builds the program for each level that the processor has, and runs the gate's scripts over each. It is no part of the gate.
 levels:
