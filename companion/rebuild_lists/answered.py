@@ -51,7 +51,8 @@ def hold_to_lists(out: pathlib.Path, folder: pathlib.Path) -> None:
     """Refuses the reports of a served folder that aren't those of its lists, or not all of them: the program writes them in place, so
     one of a run that was ended may end with a line. A close of one feed may leave requests of the others without an answer."""
     for report in reports_of(out)[racks_of(folder):]:
-        raise Refused(f"{report}: {folder} has lists of {counted(racks_of(folder), 'rack')}: the report is of an earlier run, or of other lists")
+        raise Refused(f"{report}: {folder} has lists of {counted(racks_of(folder), 'rack')}: the report is of an earlier run, "
+                      "or of other lists")
     for rack in range(racks_of(folder)):
         report = out / report_name(rack)
         if not report.is_file():

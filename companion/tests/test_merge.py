@@ -81,8 +81,10 @@ class Merge(SplitStore):
         for text, said in [
             ([first.replace(",abc,", ",abd,"), second], not_the), ([first.replace(",x0,", ",x1,"), second], not_the),
             ([first.replace(",3,", ",2,"), second], not_the), ([first.replace("0,", "1,", 1), second], "line 2: not an answer"),
-            ([first, second.replace("1,", "0,", 1)], "line 3: not an answer"), ([second.replace("1,", "0,", 1), first.replace("0,", "1,", 1)], not_the),
-            ([first], "1 answer, and its list has 2 requests"), ([first, second, second.replace("1,", "2,", 1)], "3 answers, and its list has 2 requests"),
+            ([first, second.replace("1,", "0,", 1)], "line 3: not an answer"),
+            ([second.replace("1,", "0,", 1), first.replace("0,", "1,", 1)], not_the),
+            ([first], "1 answer, and its list has 2 requests"),
+            ([first, second, second.replace("1,", "2,", 1)], "3 answers, and its list has 2 requests"),
             ([first, second.replace(",y0,", ",y1,")], "line 3: not the answer to request 1 of work/in/0/rack0.csv")]:
             with self.subTest(text):
                 report.write_text(header + "".join(text))

@@ -22,6 +22,7 @@ from .base import COMPANION, FIVE, SIX, Folder
 
 # Fragments of two stripes, of which x0 and y0 are lost: both are their local parity's bytes.
 ABC = {"x1": b"\0\0\0", "x2": b"\0\0\0", "px": b"abc", "y1": b"\0\0\0", "y2": b"\0\0\0", "py": b"xyz"}
+UNENDED = "the run has not ended, or is of other lists"
 TWO = "rebuild,abc,x0,3,x1 x2 px\nrebuild,abc,y0,3,y1 y2 py\n"
 
 
@@ -83,8 +84,8 @@ class Put(Folder):
         report = self.at / "out/rack0.report.csv"
         whole = report.read_text().splitlines(keepends=True)
         for text, said in [
-            (whole[:2], "out/rack0.report.csv: 1 answer to in/rack0.csv, which has 2 requests: the run has not ended, or is of other lists"),
-            (whole[:1], "out/rack0.report.csv: 0 answers to in/rack0.csv, which has 2 requests: the run has not ended, or is of other lists"),
+            (whole[:2], f"out/rack0.report.csv: 1 answer to in/rack0.csv, which has 2 requests: {UNENDED}"),
+            (whole[:1], f"out/rack0.report.csv: 0 answers to in/rack0.csv, which has 2 requests: {UNENDED}"),
             ([*whole, "2,abc,x0,3,several,,\n"], "out/rack0.report.csv: line 4: an answer to no request of in/rack0.csv"),
             ([whole[0], whole[1].replace("x0", "x1")], "out/rack0.report.csv: line 2: not the answer to request 0 of in/rack0.csv"),
             ([whole[0], whole[1].replace("abc", "abd")], "out/rack0.report.csv: line 2: not the answer to request 0 of in/rack0.csv"),
@@ -107,8 +108,7 @@ class Put(Folder):
         self.list(FIVE, "rack1.csv")
         self.list(FIVE, "rack2.csv")
         (self.at / "out/rack1.report.csv").write_text("number,stripe,target,length,outcome,digest,unread\n")
-        self.refused(self.call("put", "in", "out"), "out/rack2.report.csv: missing, and in/rack2.csv is there: the run has not ended, or is "
-                     "of other lists")
+        self.refused(self.call("put", "in", "out"), f"out/rack2.report.csv: missing, and in/rack2.csv is there: {UNENDED}")
 
     def test_feeds_and_closes(self):
         self.list(FIVE + "rebuild,abc,x0,3,x1 x2 px\n" * 3)
@@ -122,8 +122,8 @@ class Put(Folder):
         (self.at / "out/rack0.report.csv").write_text(header + "".join(answers))
         self.wrote("2 fragments", self.call("put", "in", "out"))
         (self.at / "out/rack0.report.csv").write_text(header + answers[1].replace("1,0", "0,0", 1))
-        self.refused(self.call("put", "in", "out"), "out/rack0.report.csv: 0 answers to in/rack0.feed1.csv, which has 1 request: the run has "
-                     "not ended, or is of other lists")
+        self.refused(self.call("put", "in", "out"),
+                     f"out/rack0.report.csv: 0 answers to in/rack0.feed1.csv, which has 1 request: {UNENDED}")
         (self.at / "out/rack0.report.csv").write_text(header + answers[0] + "1,1,abc,p0,3,several,,\n")
         self.refused(self.call("put", "in", "out"), "out/rack0.report.csv: line 3: an answer to no request of in/rack0.feed1.csv")
         (self.at / "out/rack0.report.csv").write_text(header + answers[0] + "1,2,abc,p0,3,several,,\n")
@@ -144,7 +144,8 @@ class Put(Folder):
         (self.at / "list.csv").write_text(FIVE + TWO)
         self.call("split", "list.csv", "store", "work")
         self.call("serve", "work", 0)
-        self.done(self.call("put", "store", "work/out/0"), "wrote 0 fragments to store (0 replaced, 2 already present); 0 requests not rebuilt")
+        self.done(self.call("put", "store", "work/out/0"),
+                  "wrote 0 fragments to store (0 replaced, 2 already present); 0 requests not rebuilt")
 
     def test_merged_results(self):
         (self.at / "list.csv").write_text(FIVE + TWO)
@@ -173,8 +174,8 @@ class Put(Folder):
         (self.at / "other/abc.x1").write_bytes(b"\0\0")
         (self.at / "other/abc.px").mkdir()
         before = self.names("other")
-        self.refused(self.call("put", "other", "out", "--lists", "in"), "other: has no other fragment of the stripe abc, so it isn't the store "
-                     "that was rebuilt; nothing was written")
+        self.refused(self.call("put", "other", "out", "--lists", "in"),
+                     "other: has no other fragment of the stripe abc, so it isn't the store that was rebuilt; nothing was written")
         self.assertEqual(self.names("other"), before)
 
     def test_one_with_other_bytes_keeps_none_back(self):
@@ -263,7 +264,8 @@ class Put(Folder):
         (self.store / f"{UNNAMED}abcd1234").write_bytes(b"ab")
         with mock.patch.object(files.fcntl, "flock", side_effect=OSError(95, "Operation not supported")):
             status, said = self.in_process("put", self.store, self.at / "out")
-        self.assertEqual((status, said), (0, f"wrote 2 fragments to {self.store} (0 replaced, 0 already present); 0 requests not rebuilt\n"))
+        self.assertEqual((status, said),
+                         (0, f"wrote 2 fragments to {self.store} (0 replaced, 0 already present); 0 requests not rebuilt\n"))
         self.assertTrue((self.store / f"{UNNAMED}abcd1234").exists())
 
     def test_a_name_that_comes_meanwhile(self):

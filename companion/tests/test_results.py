@@ -53,7 +53,8 @@ in/rack1.feed1.csv: line 4: abc.x0: no answer
         self.assertEqual(self.call("tell", "out", "--lists", "in").stdout.splitlines()[-2:], [
             "in/rack2.csv: line 2: abc.p0: no answer",
             "4 answers: 4 rebuilt, 0 contradiction, 0 several; 0 with unread survivors; 4 requests without an answer"])
-        self.refused(self.call("tell", "out", "out", "--lists", "in"), "--lists takes a single OUT, the one that the folder was served into")
+        self.refused(self.call("tell", "out", "out", "--lists", "in"),
+                     "--lists takes a single OUT, the one that the folder was served into")
 
     def test_a_run_that_was_ended(self):
         (self.at / "out").mkdir()

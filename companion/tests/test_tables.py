@@ -133,7 +133,7 @@ class Tables(Folder):
         *named, last = ended.stdout.splitlines()
         self.assertEqual(last, tally_of([answer for _, answer in asked]) + "; 0 requests without an answer")
         found = [re.fullmatch(r"out/(rack\d+)\.report\.csv: request \d+: (.*)", line).groups() for line in named]
-        wanted = [(f"rack{rack}", f"{name_of(request)}: {answer.outcome}" + (f"; left out: {' '.join(answer.unread)}" if answer.unread else ""))
+        wanted = [(f"rack{rack}", f"{name_of(request)}: {answer.outcome}" + "; left out: " * bool(answer.unread) + " ".join(answer.unread))
                   for rack, feeds in enumerate(answered) for feed in feeds for request, answer in feed
                   if answer.unread or answer.outcome != "rebuilt"]
         self.assertEqual(sorted(found), sorted(wanted))
@@ -179,7 +179,8 @@ class Tables(Folder):
             there = {name for name in named if (self.store / name).exists()}
             found, missing = found + len(there), missing + len(named - there)
             given = {path.name: path for path in (self.at / f"work/in/{number}").iterdir() if not path.name.endswith(".csv")}
-            self.assertEqual({name: path.read_bytes() for name, path in given.items()}, {name: (self.store / name).read_bytes() for name in there})
+            self.assertEqual({name: path.read_bytes() for name, path in given.items()},
+                             {name: (self.store / name).read_bytes() for name in there})
             self.assertEqual({path.is_symlink() for path in given.values()} - {not options}, set())
         self.assertEqual(ended.stdout.splitlines()[0], f"split {len(asked)} requests into {folders} folder{'s' * (folders != 1)}; "
                          f"fragments that they name: {found} found, {missing} missing")
@@ -196,15 +197,17 @@ class Tables(Folder):
         self.done(ended, f"merged {tally_of([answer for _, answer in asked])}")
         coded = any(request.code == "12-2-2" for request, _ in asked)
         rows = [f"{number},{fields_of(request, answer, coded)}\n" for number, (request, answer) in enumerate(asked)]
-        self.assertEqual(self.text("result/report.csv"), f"number,stripe,target,length,outcome,digest,unread{',code' * coded}\n" + "".join(rows))
+        self.assertEqual(self.text("result/report.csv"),
+                         f"number,stripe,target,length,outcome,digest,unread{',code' * coded}\n" + "".join(rows))
         rebuilt = {name_of(request): answer.data for request, answer in asked if answer.outcome == "rebuilt"}
         self.assertEqual({path.name: path.read_bytes() for path in (self.at / "result").iterdir() if path.suffix != ".csv"
                           and path.name != "SHA256SUMS"}, rebuilt)
-        self.assertEqual(sorted(line.split("  ")[1] for line in self.text("result/SHA256SUMS").splitlines()), sorted([*rebuilt, "report.csv"]))
+        self.assertEqual(sorted(line.split("  ")[1] for line in self.text("result/SHA256SUMS").splitlines()),
+                         sorted([*rebuilt, "report.csv"]))
         self.put(asked, "result")
 
     def damaged(self, chance, answered):
-        """The survivor without which alone the answer isn't a contradiction, where there is one, by the list's number and the merged one."""
+        """The survivor without which alone the answer isn't a contradiction, where there is one; by the list's number and the merged."""
         places, number = [], 0
         for rack, feeds in enumerate(answered):
             for feed, asked in enumerate(feeds):
@@ -227,7 +230,8 @@ class Tables(Folder):
             return f"{name_of(request)}: a contradiction without each single survivor too: several are damaged, " \
                 "or the stripe, the length or the code is wrong", 1
         if len(suspects) > 1 or without[suspects[0]] == "several":
-            return f"{name_of(request)}: these can't be told apart, since the answer isn't a contradiction without any one of them: {names}", 1
+            return f"{name_of(request)}: these can't be told apart, since the answer isn't a contradiction without any one of them: " \
+                f"{names}", 1
         return f"{names}: {name_of(request)} is rebuilt without it, and is a contradiction without any other", 0
 
     def test_folders(self):
