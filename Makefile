@@ -110,6 +110,7 @@ test:
 	scripts/wrong-bodies.sh
 	scripts/architecture.py
 	scripts/sweep.py
+	scripts/documented.py
 	@$(MAKE) --no-print-directory -j2 proofs library.sh
 	@$(MAKE) --no-print-directory --output-sync=target -j$(shell nproc) $(AFTER)
 
