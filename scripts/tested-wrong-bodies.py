@@ -24,24 +24,25 @@ COPIED = {"library": ["include", "library", "scripts"], "companion": ["companion
 SECONDS = 120
 
 
-def command_for(kind, edit):
+def tests_of(kind, edits):
+    """What runs the tests that notice these edits."""
     if kind == "library":
         return ["scripts/inline-calls.py"]
-    return ["scripts/companion-test.py", *re.findall(r"^tests: (.*)$", edit.read_text(), re.M)]
+    named = [re.search(r"^tests: (.*)$", edit.read_text(), re.M) for edit in edits]
+    return ["scripts/companion-test.py", *sorted({found[1] for found in named})]
 
 
 def why_failed(command, folder):
     """The last line of what the tests say where they fail, and None where they pass."""
     try:
-        ran = subprocess.run(command, cwd=folder, capture_output=True, text=True, errors="replace", timeout=SECONDS,
-                             env={**os.environ, "FOLDERS": "5"})
+        ran = subprocess.run(command, cwd=folder, capture_output=True, text=True, errors="replace", timeout=SECONDS)
     except subprocess.TimeoutExpired:
         return "the tests did not end"
     return None if ran.returncode == 0 else ((ran.stdout + ran.stderr).strip().splitlines() or ["no word"])[-1]
 
 
-def tried(kind, edit):
-    """Why the tests fail with an edit; None where they pass."""
+def tried(kind, edits, edit=None):
+    """Why the tests of these edits fail in a copy, in which one of them is made or none; None where they pass."""
     with tempfile.TemporaryDirectory() as scratch:
         copy = pathlib.Path(scratch)
         for name in COPIED[kind]:
@@ -49,25 +50,32 @@ def tried(kind, edit):
         if kind == "companion":
             (copy / PROGRAM).parent.mkdir(parents=True)
             (copy / PROGRAM).symlink_to(ROOT / PROGRAM)
-        edited(edit, copy)
-        return why_failed(command_for(kind, edit), copy)
+        if edit:
+            edited(edit, copy)
+        return why_failed(tests_of(kind, edits), copy)
+
+
+def unnoticed(kind, edits, threads):
+    """The edits with which the tests pass, or aren't built."""
+    for edit, why in zip(edits, threads.map(lambda it: tried(kind, [it], it), edits)):
+        if os.environ.get("SHOW"):
+            print(f"{edit.stem}: {why}", flush=True)
+        if why is None or "isn't built" in why:
+            yield edit.stem
 
 
 def main():
-    kinds = sys.argv[1:] or ["library", "companion"]
     with concurrent.futures.ThreadPoolExecutor(os.cpu_count()) as threads:
-        for kind in kinds:
+        for kind in sys.argv[1:] or ["library", "companion"]:
             edits = sorted((ROOT / kind / "wrong-bodies").glob("*.edit"))
-            if not edits:
-                sys.exit(f"{kind}: there are no wrong bodies")
-            unnoticed = []
-            for edit, why in zip(edits, threads.map(lambda it, of=kind: tried(of, it), edits)):
-                if os.environ.get("SHOW"):
-                    print(f"{edit.stem}: {why}", flush=True)
-                if why is None or "isn't built" in why:
-                    unnoticed.append(edit.stem)
-            if unnoticed:
-                sys.exit(f"{kind}: no test notices {' '.join(unnoticed)}")
+            if kind == "companion" and not (ROOT / PROGRAM).exists():
+                sys.exit(f"{kind}: {PROGRAM} isn't there: make build makes it")
+            why = tried(kind, edits)
+            if not edits or why:
+                sys.exit(f"{kind}: the tests fail without an edit: {why}" if edits else f"{kind}: there are no wrong bodies")
+            names = list(unnoticed(kind, edits, threads))
+            if names:
+                sys.exit(f"{kind}: no test notices {' '.join(names)}")
             print(f"{kind}: tests notice each of {len(edits)} wrong bodies", flush=True)
 
 
