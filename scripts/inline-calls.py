@@ -258,7 +258,7 @@ def plan_rows():
     rows = [[1 << p if r == k else 0 for r in range(5)] for k in range(5) for p in range(16)]
     rows += [[value] + [0x3ff if some >> r & 1 else 0 for r in range(4)] for some in range(16) for value in (0, 1, 0x8001, 0xffff)]
     for row in rows:
-        yield f"{{{', '.join(map(str, row))}}}, {row[0].bit_count()}, {sum(map(bool, row[1:]))}"
+        yield f"{{{', '.join(map(str, row))}}}, {bin(row[0]).count('1')}, {sum(map(bool, row[1:]))}"
 
 
 def all_rows():

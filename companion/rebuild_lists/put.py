@@ -129,7 +129,7 @@ def write_all(store: pathlib.Path, plan: Plan, overwrite: bool) -> int:
                     plan.others.append(name)
                 continue
             except OSError as error:
-                why = said_of(error) if error.filename == answer.fragment else f"{store / name}: {error.strerror}"
+                why = said_of(error) if error.filename == os.fspath(answer.fragment) else f"{store / name}: {error.strerror}"
                 raise Failed(f"{why}; wrote {written} of {counted(len(plan.write), 'fragment')}") from None
             written += 1
             shown(written)

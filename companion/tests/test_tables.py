@@ -120,10 +120,10 @@ class Tables(Folder):
                         why = f"has {path.stat().st_size} bytes and not {request.length}" if path.exists() else "isn't there"
                         wanted[f"rack{rack}.feed{feed}.csv" if feed else f"rack{rack}.csv", str(number), path.name, why] += 1
         self.assertEqual(collections.Counter(found), wanted)
-        lists = sum(map(len, answered))
+        lists, notes = sum(map(len, answered)), sum(wanted.values())
         requests = sum(len(feed) for feeds in answered for feed in feeds)
         self.assertEqual(ended.stdout.splitlines()[-1], f"in: good: {len(answered)} racks, {lists} lists, {requests} requests; "
-                         f"{wanted.total()} note{'s' * (wanted.total() != 1)}")
+                         f"{notes} note{'s' * (notes != 1)}")
         self.assertEqual(ended.returncode, 0)
 
     def tell(self, answered):
