@@ -19,7 +19,7 @@ CRATES = ROOT / "crates"
 SIGNATURE = re.compile(r"^(?:(?:abbrev|unfoldable|pub|record|data) )*([^\s:({]+)(?: .*)? : ", re.M)
 # Records, also those whose parameters are in further lines, what they hold, and definitions inside a module.
 MEMBER = re.compile(r"^ *(?:pub (?:record |data )?|abbrev pub )([^\s:({]+)", re.M)
-FUNCTION = re.compile(r'^(\s*)(?:pub )?(?:const |unsafe |extern "C" )*fn (\w+)')
+FUNCTION = re.compile(r'^(\s*)(?:pub(?:\(crate\))? )?(?:const |unsafe |extern "C" )*fn (\w+)')
 CLAUSE = re.compile(r"^\s*(?:requires|ensures)\b")
 # What pages call by a name that is no definition of a crate here: a crate of the toolchain has it.
 ELSEWHERE = {"Sha256.sha256", "sha2"}
@@ -133,8 +133,21 @@ def missing_definitions():
                 yield f"docs/DEFINITIONS.md names {span}, which no crate defines"
 
 
+def gone_calls(page, there):
+    """What the heads of a crate's lines name, by a single word or a type's and a function's, and isn't there."""
+    known = definitions().keys() | {word for crate in crates() for names in handed_out(crate)[1:] for word in names}
+    for crate in crates():
+        for file in (crate / "src").rglob("*.rt"):
+            known |= {found[2] for found in map(FUNCTION.match, file.read_text().splitlines()) if found}
+    for line in re.findall(r"^- (.*(?:\n  .*)*)", page[page.index("## Crate by crate"):], re.M):
+        for span in spans(line.partition(": ")[0]):
+            if re.fullmatch(r"[\w:]+", span) and span not in there and ("::" in span or span not in known):
+                yield f"docs/PROOFS.md names {span}, which isn't there"
+
+
 def missing_calls():
     page = (ROOT / "docs/PROOFS.md").read_text()
+    yield from gone_calls(page, {call for _, call, *_ in calls()})
     words = {word for span in spans(page) for word in re.findall(r"\w+", span)}
     alone = {span for span in spans(page) if re.fullmatch(r"\w+", span)}
     for crate, call, _, _, module in calls():
