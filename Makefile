@@ -110,6 +110,7 @@ test:
 	scripts/wrong-bodies.sh
 	scripts/architecture.py
 	scripts/sweep.py
+	scripts/documented.py
 	@$(MAKE) --no-print-directory -j2 proofs library.sh
 	@$(MAKE) --no-print-directory --output-sync=target -j$(shell nproc) $(AFTER)
 
@@ -124,6 +125,7 @@ library.sh $(AFTER):
 
 wrong-bodies:
 	scripts/try-wrong-bodies.sh
+	scripts/tested-wrong-bodies.py
 
 # Builds the program for each level that the processor has, and runs the gate's scripts over each. It is no part of the gate.
 levels:

@@ -36,7 +36,7 @@ _rebuild_lists() {
     serve) kinds='folder number' options='--workers --program' ;;
     merge) kinds='folder folder' ;;
     tell) kinds='folder+' options='--lists' ;;
-    put) kinds='folder folder+' options='--overwrite' ;;
+    put) kinds='folder folder+' options='--overwrite --lists' ;;
     damaged) kinds='folder number number' options='--feed --program' ;;
     cut) kinds='list folder folder' ;;
     join) kinds='folder folder folder' ;;

@@ -43,7 +43,9 @@ complete -c rebuild-lists -n '__rebuild_lists_word_is serve' -l workers -x -a '(
 complete -c rebuild-lists -n '__rebuild_lists_word_is serve damaged' -l program -r -F -d 'The program'
 complete -c rebuild-lists -n '__rebuild_lists_word_is tell' -l lists -x -a '(__fish_complete_directories (commandline -ct) "Folder")' \
     -d 'Name the unanswered requests of this folder'
-complete -c rebuild-lists -n '__rebuild_lists_word_is put' -l overwrite -d 'Replace fragments that have other bytes'
+complete -c rebuild-lists -n '__rebuild_lists_word_is put' -l lists -x -a '(__fish_complete_directories (commandline -ct) "Folder")' \
+    -d 'The folder of the lists that OUT answers'
+complete -c rebuild-lists -n '__rebuild_lists_word_is put' -l overwrite -d 'Replace fragments that have different contents'
 complete -c rebuild-lists -n '__rebuild_lists_word_is damaged' -l feed -x -a '0 1 2 3' -d 'The feed whose list it is'
 complete -c rebuild-lists -n '__rebuild_lists_place_is 1 1 split cut' -F
 for places in '1 1 check serve damaged' '1 2 merge' '2 3 split cut' '1 3 join' '1 999 tell put'

@@ -1,10 +1,10 @@
 /* Local Reconstruction Codes with six or twelve data fragments, two local and two global parities: encoding, updating, plans,
  * rebuilding and verifying over the caller's buffers. docs/LIBRARY.md says how to link it and what is proved of it.
  *
- * A stripe has a fragment of equal length, at least one byte, at each place of its code. Lengths are in bytes, and have no limit
- * but memory. Codes are those of Huang et al., "Erasure Coding in Windows Azure Storage" (USENIX ATC 2012), over the field of
- * 256 elements with the polynomial 11D; what holds of a stripe holds position by position, so fragments can be cut
- * anywhere, and all pieces of one position are a stripe again.
+ * A stripe has a fragment of equal length at each place of its code. Lengths are in bytes, and have no limit but memory. Codes
+ * are those of Huang et al., "Erasure Coding in Windows Azure Storage" (USENIX ATC 2012), over the field of 256 elements with the
+ * polynomial 11D; what holds of a stripe holds position by position, so fragments can be cut anywhere, and all pieces of one
+ * position are a stripe again.
  *
  *     uint8_t *stripe[LRC_PLACES] = {0};          // 16 pointers by place; NULL where the code has no place
  *     ..                                          // the data, and room for LRC_PX to LRC_P1
@@ -25,17 +25,19 @@
  * Statuses. Each function tests its numbers and lengths, and answers LRC_BAD_ARGUMENT, with nothing written, where they are
  * not what it asks. No function aborts, and each returns.
  *
- * Sets of places are bits: bit p of a mask is that of place p. Bits 16 and higher play no part in any call.
+ * Sets of places are bits: bit p of a mask is that of place p. Bits 16 and higher are ignored by every call.
+ *
+ * Numbers of no code, place, layout or status, such as (enum lrc_code)2, are answered too: each call says how.
  *
  * Length 0. The calls that rebuild refuse it; the others answer LRC_OK, and write no byte of a fragment.
  *
- * What it cannot test is the caller's part:
+ * The caller must ensure:
  *   - a pointer points to as many bytes as the length beside it says, and is not null, also where that length is 0 or where it
  *     is not read: of the sixteen entries of a table `at` none is null;
  *   - a buffer that is written overlaps no other argument.
- * Of the functions in "the library's functions" the answers are proved. Those after it count places or fill the tables, and are
- * tested. Those that only read fragments take an array of pointers to const; in C, unlike C++, an array of other pointers needs
- * LRC_READ:
+ * Of the functions in "the library's functions" the answers are proved, but for what is said there to be tested. Those after it
+ * count places or fill the tables, and are tested. Those that only read fragments take an array of pointers to const; in C, unlike
+ * C++, an array of other pointers needs LRC_READ:
  *     lrc_verify(code, LRC_READ(stripe), length) */
 #ifndef LRC_H
 #define LRC_H
@@ -81,10 +83,10 @@ enum lrc_status {
     LRC_OK = 0,            /* done: written, rebuilt, determined, those of a stripe */
     LRC_CONTRADICTION = 1, /* no stripe has these fragments: one is damaged, or of another stripe or code */
     LRC_SEVERAL = 2,       /* two stripes have these fragments and differ at the target or a wanted place: more are needed */
-    LRC_BAD_ARGUMENT = 3   /* a number or a length is not what the function asks; nothing was written */
+    LRC_BAD_ARGUMENT = 3   /* invalid argument: a number or a length is not what the function asks; nothing was written */
 };
 
-/* Bytes that are lent for reading. */
+/* A read-only buffer. */
 typedef struct lrc_bytes {
     const uint8_t *at;
     size_t length;
@@ -92,8 +94,8 @@ typedef struct lrc_bytes {
 
 /* Coefficients by place, for a lost target and a set of survivors. At each position the target's byte is the sum of value[p]
  * times the byte at p, over all places p; the survivors are those of a stripe exactly where, at every position and for each
- * r, the sum of checks[r][p] times the byte at p is 0. Places that do not survive have 0 in all rows. A row of zeros asks
- * nothing, so there are as many checks as other rows. */
+ * r, the sum of checks[r][p] times the byte at p is 0. Places that do not survive have 0 in all rows. All-zero rows are unused:
+ * there are as many checks as other rows. */
 typedef struct lrc_plan {
     uint8_t value[LRC_PLACES];
     uint8_t checks[4][LRC_PLACES];
@@ -128,53 +130,55 @@ uint32_t lrc_encode_into(uint8_t code, const lrc_bytes *data, size_t count, uint
 uint32_t lrc_update_into(uint8_t code, uint8_t place, const uint8_t *difference, size_t length, uint8_t *px, size_t px_length,
                          uint8_t *py, size_t py_length, uint8_t *p0, size_t p0_length, uint8_t *p1, size_t p1_length);
 
-/* What to read for wanted places: writes the bits of as few available places as determine all wanted ones. A wanted place that is
- * available is read itself; for one lost place whose group's others are available these are the group's others. None of the places
- * can be left out. LRC_OK, or LRC_SEVERAL where the available places do not determine a wanted one; then nothing is written.
- * LRC_BAD_ARGUMENT where the number is no code's, or a wanted place is not the code's. Available places that the code has not
- * play no part. */
+/* What to read for wanted places: writes the bits of available places that determine all wanted ones. A wanted place that is
+ * available is among them; of the others none can be left out, and they are as few as do. For one lost place whose group's others
+ * are available these are the group's others. That they are as few, and the group's, is tested and not proved. LRC_OK, or
+ * LRC_SEVERAL where the available places do not determine a wanted one; then nothing is written. LRC_BAD_ARGUMENT where the number
+ * is no code's, or a wanted place is not in the code. Available places that are not in the code are ignored. */
 uint32_t lrc_reads_into(uint8_t code, uint32_t wanted, uint32_t available, uint32_t *reads);
 
-/* The same with a cost for each place: the sum of costs[p] over the places p that are written is the least that does. */
+/* The same with a cost for each place: the sum of costs[p] over the places p that are written is the least that does, which is
+ * tested and not proved. */
 uint32_t lrc_cheapest_reads_into(uint8_t code, uint32_t wanted, uint32_t available, const uint32_t costs[LRC_PLACES],
                                  uint32_t *reads);
 
 /* Writes the plan for a lost place: bit p of `survivors` says that place p survives. LRC_OK, or LRC_SEVERAL where the
  * survivors do not determine the target; then the checks alone are written, and `value` keeps its bytes. LRC_BAD_ARGUMENT where
- * the number is no code's, the code has no such place, or it survives. Survivors that the code has not play no part. */
+ * the number is no code's, the code has no such place, or it survives. Survivors that are not in the code are ignored. */
 uint32_t lrc_plan_into(uint8_t code, uint32_t survivors, uint8_t target, lrc_plan *plan);
 
 /* Writes what a row of a plan gives: the sum of row[p] times the bytes at[p]. With a plan's value these are the target's bytes
- * in each stripe that has the survivors' bytes; with a check they are all 0 where there is such a stripe. Pieces of any length
- * may be passed. Bytes whose coefficient is 0 are not read, and may have any length; all sixteen pointers are not null.
- * LRC_BAD_ARGUMENT where others have another length than `out`. Nothing is tested of the bytes, so with a plan's value this rebuilds
- * without checks. */
+ * in each stripe that has the survivors' bytes; with a check they are all 0 where there is such a stripe, which follows from what
+ * lrc_plan says of checks and is tested. Pieces of any length may be passed. Bytes whose coefficient is 0 are not read, and may have
+ * any length; all sixteen pointers are not null. LRC_BAD_ARGUMENT where others have another length than `out`. Nothing is tested of
+ * the bytes, so with a plan's value this rebuilds without checks. */
 uint32_t lrc_apply(const uint8_t row[LRC_PLACES], const lrc_bytes at[LRC_PLACES], uint8_t *out, size_t length);
 
 /* Writes the fragment at a lost place: LRC_OK, and each stripe that has the survivors' bytes has those in `out` there, and there
- * is one; LRC_CONTRADICTION, and there is none; or LRC_SEVERAL. All checks are tested in any case. With the last two `out`
- * holds anything. at[p] is read where bit p of `survivors` is set. LRC_BAD_ARGUMENT where it then has another length than
- * `out`, that length is 0, a bit is set of a place that the code has not, or lrc_plan_into answers it. */
+ * is one; LRC_CONTRADICTION, and there is none; or LRC_SEVERAL. All checks are tested in any case. With the last two the contents
+ * of `out` are unspecified. at[p] is read where bit p of `survivors` is set. LRC_BAD_ARGUMENT where it then has another length than
+ * `out`, that length is 0, a bit is set of a place not in the code, or lrc_plan_into answers it. */
 uint32_t lrc_rebuild_into(uint8_t code, uint32_t survivors, const lrc_bytes at[LRC_PLACES], uint8_t target, uint8_t *out,
                           size_t length);
 
 /* The same for up to four targets, with the survivors' checks tested once: targets[0] is written to `a`, and so on. Each has its
- * status as lrc_rebuild_into would give it; LRC_NO_PLACE means no target, whose status is 0, whose room may have any
- * length and holds anything then. The answer is the greatest status. LRC_BAD_ARGUMENT where one of the targets, or its room's
- * length, is not as lrc_rebuild_into asks, or `length` is 0. */
+ * status as lrc_rebuild_into would give it; LRC_NO_PLACE means no target, whose status is 0, and whose room may have any length and
+ * is then unspecified. The answer is the greatest status. LRC_BAD_ARGUMENT, with no status written, where the number is no code's, a
+ * bit of `survivors` is set of a place not in the code, a survivor's length or a target's room's is not `length`, `length` is 0, or
+ * a target is neither LRC_NO_PLACE nor a lost place of the code. */
 uint32_t lrc_rebuild_many_into(uint8_t code, uint32_t survivors, const lrc_bytes at[LRC_PLACES], size_t length,
                                const uint8_t targets[4], uint8_t *a, size_t a_length, uint8_t *b, size_t b_length, uint8_t *c,
                                size_t c_length, uint8_t *d, size_t d_length, uint32_t statuses[4]);
 
 /* Whether the survivors are those of a stripe, or with all places of the code, whether they are a stripe: LRC_OK or
- * LRC_CONTRADICTION. LRC_BAD_ARGUMENT where the number is no code's, a bit is set of a place that the code has not, or the
+ * LRC_CONTRADICTION. LRC_BAD_ARGUMENT where the number is no code's, a bit is set of a place not in the code, or the
  * bytes of one have another length. Where the survivors have no check, as any six of the (6,2,2) code that determine the others,
  * all bytes are those of a stripe: LRC_OK then says nothing of them. */
 uint32_t lrc_verify_at(uint8_t code, uint32_t survivors, const lrc_bytes at[LRC_PLACES], size_t length);
 
 /* ---- names and numbers */
 
-/* What a status says, in English. */
+/* What a status says, in English; "unknown status" of another number. */
 static inline const char *lrc_status_text(uint32_t status)
 {
     switch (status) {
@@ -185,9 +189,9 @@ static inline const char *lrc_status_text(uint32_t status)
     case LRC_SEVERAL:
         return "the fragments that are left do not determine the lost one";
     case LRC_BAD_ARGUMENT:
-        return "an argument is not as it has to be";
+        return "invalid argument";
     default:
-        return "no status";
+        return "unknown status";
     }
 }
 
@@ -212,35 +216,32 @@ static inline enum lrc_place lrc_place_named(const char *name)
     return (enum lrc_place)p;
 }
 
-/* How many data fragments a code has: 6 or 12. */
+/* How many data fragments a code has: 6 or 12; 0 of no code. */
 static inline size_t lrc_data_count(enum lrc_code code)
 {
-    return code == LRC_6_2_2 ? 6 : 12;
+    return code == LRC_6_2_2 ? 6 : code == LRC_12_2_2 ? 12 : 0;
 }
 
-/* The place of the i-th data fragment, in the order x0, x1, .., y0, y1, ..; LRC_PLACES where there are not as many. */
+/* The place of the i-th data fragment, in the order x0, x1, .., y0, y1, ..; LRC_PLACES where there are not as many, or no code. */
 static inline enum lrc_place lrc_data_place(enum lrc_code code, size_t i)
 {
     static const uint8_t places[2][12] = {
-        {LRC_X0, LRC_X1, LRC_X2, LRC_Y0, LRC_Y1, LRC_Y2, LRC_PLACES, LRC_PLACES, LRC_PLACES, LRC_PLACES, LRC_PLACES, LRC_PLACES},
+        {LRC_X0, LRC_X1, LRC_X2, LRC_Y0, LRC_Y1, LRC_Y2},
         {LRC_X0, LRC_X1, LRC_X2, LRC_X3, LRC_X4, LRC_X5, LRC_Y0, LRC_Y1, LRC_Y2, LRC_Y3, LRC_Y4, LRC_Y5}};
-    if (i >= 12)
-        return LRC_PLACES;
-    return (enum lrc_place)places[code != LRC_6_2_2][i];
+    return i < lrc_data_count(code) ? (enum lrc_place)places[code][i] : LRC_PLACES;
 }
 
-/* How many fragments a stripe has: 10 or 16. */
+/* How many fragments a stripe has: 10 or 16; 0 of no code. */
 static inline size_t lrc_fragment_count(enum lrc_code code)
 {
-    return lrc_data_count(code) + 4;
+    return lrc_data_count(code) != 0 ? lrc_data_count(code) + 4 : 0;
 }
 
 /* The place of a fragment's number in a layout; LRC_PLACES where there is no such number, code or layout. */
 static inline enum lrc_place lrc_shard_place(enum lrc_code code, enum lrc_layout layout, size_t shard)
 {
     size_t data = lrc_data_count(code), half = data / 2;
-    if ((code != LRC_6_2_2 && code != LRC_12_2_2) || (layout != LRC_PLAIN && layout != LRC_GROUPS) ||
-        shard >= lrc_fragment_count(code))
+    if ((layout != LRC_PLAIN && layout != LRC_GROUPS) || shard >= lrc_fragment_count(code))
         return LRC_PLACES;
     if (layout == LRC_PLAIN)
         return shard < data ? lrc_data_place(code, shard) : (enum lrc_place)(LRC_PX + (shard - data));
@@ -260,22 +261,22 @@ static inline size_t lrc_place_shard(enum lrc_code code, enum lrc_layout layout,
     return LRC_PLACES;
 }
 
-/* The length of fragments for so many bytes: the least multiple of `alignment` at which the data fragments hold them all. 0 where
- * there are no bytes, `alignment` is 0, or a size_t can't hold the length. */
+/* The length of fragments for so many bytes: the least multiple of `alignment` at which the data fragments hold them all, which is
+ * never too great for a size_t. 0 where there are no bytes, `alignment` is 0, or there is no such code. */
 static inline size_t lrc_fragment_length(enum lrc_code code, size_t bytes, size_t alignment)
 {
-    size_t count = lrc_data_count(code), length = bytes / count + (bytes % count != 0), over, missing;
-    if (alignment == 0)
+    size_t count = lrc_data_count(code), length, over;
+    if (count == 0 || alignment == 0)
         return 0;
+    length = bytes / count + (bytes % count != 0);
     over = length % alignment;
-    missing = over != 0 ? alignment - over : 0;
-    return length <= SIZE_MAX - missing ? length + missing : 0;
+    return over != 0 ? length + (alignment - over) : length;
 }
 
-/* Whether the code has the place. */
+/* Whether the code has the place; 0 of no code, as of no place. */
 static inline int lrc_has_place(enum lrc_code code, enum lrc_place place)
 {
-    return (unsigned)place < LRC_PLACES && (code == LRC_12_2_2 || place <= LRC_P1);
+    return (code == LRC_6_2_2 && (unsigned)place <= LRC_P1) || (code == LRC_12_2_2 && (unsigned)place < LRC_PLACES);
 }
 
 /* How many survivors a plan's value reads. */
@@ -300,7 +301,7 @@ static inline unsigned lrc_plan_checks(const lrc_plan *plan)
     return checks;
 }
 
-/* ---- the same over arrays of pointers by place, with one length; a null pointer is a fragment that is lost */
+/* ---- the same over arrays of pointers by place, with one length; a null pointer is a lost fragment, which lrc_encode refuses */
 
 /* Fills the table that the functions above read, and answers the survivors' bits. */
 static inline uint32_t lrc_survivors(const uint8_t *const fragments[LRC_PLACES], lrc_bytes at[LRC_PLACES], size_t length)
@@ -365,7 +366,8 @@ static inline uint32_t lrc_rebuild(enum lrc_code code, const uint8_t *const frag
 }
 
 /* lrc_rebuild_many_into for one target or more, four in a pass: targets[i] goes to outs[i], and its status to statuses[i]. The
- * answer is the greatest status. LRC_BAD_ARGUMENT where there is no target, or lrc_rebuild answers it of one of them. */
+ * answer is the greatest status. LRC_BAD_ARGUMENT, with no status written, where there is no target, or lrc_rebuild answers it of
+ * one of them. */
 static inline uint32_t lrc_rebuild_many(enum lrc_code code, const uint8_t *const fragments[LRC_PLACES],
                                         const enum lrc_place *targets, uint8_t *const *outs, uint32_t *statuses, size_t count,
                                         size_t length)

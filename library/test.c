@@ -338,6 +338,13 @@ static void reads(enum lrc_code code)
 {
     uint32_t all = code == LRC_6_2_2 ? 0x3ff : 0xffff;
     unsigned plans = 0, local = 0;
+    for (int p = 0; p < LRC_PLACES; p++) {
+        uint32_t group = group_of(code, p), own = UINT32_C(1) << p, found = 0;
+        if (group == 0)
+            continue;
+        test(lrc_reads_into((uint8_t)code, own, all & ~own, &found) == LRC_OK && found == (group & ~own), "a group's others are read");
+        test(lrc_reads_into((uint8_t)code, own, group & ~own, &found) == LRC_OK && found == (group & ~own), "a group's others alone");
+    }
     for (uint32_t lost = 1; lost <= all; lost += STEP)
         for (int target = 0; target < LRC_PLACES; target++) {
             lrc_plan plan;

@@ -63,7 +63,8 @@ rebuild-lists tell --lists lists s:served
 rebuild-lists tell -:--help --lists -h
 rebuild-lists put lists served :lists served
 rebuild-lists put lists served --o:--overwrite
-rebuild-lists put -:--help --overwrite -h
+rebuild-lists put -:--help --lists --overwrite -h
+rebuild-lists put --lists l:lists
 rebuild-lists damaged :lists served
 rebuild-lists damaged lists s:
 rebuild-lists damaged -:--feed --help --program -h

@@ -1,9 +1,9 @@
 #!/usr/bin/env bash
-# Builds the C library, which the gate proves and doesn't build, and tries it: what the archive asks of a linker, the header by
-# several compilers and standards, the tests in C, `make install-library`, the shared object, the commands of docs/LIBRARY.md as a user
-# runs them, the examples in C, Python, Go and Rust, and the library for ARM under qemu. All this is done with the build for x86-64-v2, and
-# the tests again with that for x86-64-v3 where the processor has AVX2. What isn't installed is left out with a word. All this is done in a
-# copy of the repository, since the gate runs it beside `rt ci`, which holds the crates.
+# Builds the C library, which the gate proves and doesn't build, and tries it: what the archive asks of a linker, the header by several
+# compilers and standards, its inline calls, the tests in C, `make install-library`, the shared object, the commands of docs/LIBRARY.md as
+# a user runs them, the examples in C, Python, Go and Rust, and the library for ARM under qemu. All this is done with the build for
+# x86-64-v2, and the tests again with that for x86-64-v3 where the processor has AVX2. What isn't installed is left out with a word. All
+# this is done in a copy of the repository, since the gate runs it beside `rt ci`, which holds the crates.
 set -euo pipefail
 cd "$(dirname "$0")/.."
 scratch=$(mktemp -d)
@@ -64,6 +64,9 @@ done
 if has clang 'the header by clang'; then
   quietly 'the header by clang' clang -std=c11 "${warnings[@]}" -Iinclude -c -o "$scratch/test.o" library/test.c
 fi
+
+quietly 'the inline calls' scripts/inline-calls.py
+echo "library: $(cat "$scratch/said")"
 
 # ---- the tests
 # tests LEVEL: the tests in C with the archive as it is built for a level of the processor.

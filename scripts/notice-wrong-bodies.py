@@ -11,6 +11,9 @@ import subprocess
 import sys
 import tempfile
 
+sys.dont_write_bytecode = True
+from edits import edited  # noqa: E402
+
 ROOT = pathlib.Path(__file__).resolve().parent.parent
 
 # The crates in which the tests of a crate's calls are, if not in the crate itself.
@@ -30,24 +33,6 @@ TESTS = {
 
 # Tests that a wrong body keeps from ending are stopped after so many seconds, and have noticed it.
 SECONDS = 300
-
-
-def edited(edit, crate):
-    """Makes an edit in the folder of its crate, and gives the texts that were there."""
-    kept, path, old = {}, None, None
-    for line in edit.read_text().splitlines():
-        key, _, value = line.partition(": ")
-        if key == "file":
-            path = crate / value
-            kept.setdefault(path, path.read_text())
-        elif key == "old":
-            old = value
-        elif key == "new" or line == "new:":
-            text = path.read_text()
-            if text.count(old) != 1:
-                sys.exit(f"{edit}: the text is in {path.name} {text.count(old)} times: {old}")
-            path.write_text(text.replace(old, value))
-    return kept
 
 
 class NotRun(Exception):

@@ -50,7 +50,8 @@ compare() {
     cmp "$file" "$result/$(basename "$file" | cut -d . -f 2-)"
     number=$((number + 1))
   done
-  [ "$(find "$result" -type f | wc -l)" = $((number + 1)) ] || fail "$name: not as many files as of a single run"
+  (cd "$result" && sha256sum --quiet -c SHA256SUMS)
+  [ "$(find "$result" -type f | wc -l)" = $((number + 2)) ] || fail "$name: not as many files as of a single run"
   echo "$name: the report and $number rebuilt fragments are those of a single run"
 }
 

@@ -1,17 +1,20 @@
 #!/usr/bin/env bash
-# Tests the edits in must-fail, wrong-bodies and no-compile of crates/*: the text that an edit replaces is in its file once, and each
-# edit that docs/WRONG_BODIES.md names in quotes is there. With the argument `rows` it prints them all, each with its kind and its file.
+# Tests the edits in must-fail, wrong-bodies and no-compile of crates/*, and in wrong-bodies of library/ and companion/: the text that an
+# edit replaces is in its file once, and each edit that docs/WRONG_BODIES.md names in quotes is there. With the argument `rows` it prints
+# them all, each with its kind and its file.
 set -euo pipefail
 cd "$(dirname "$0")/.."
 scratch=$(mktemp -d)
 trap 'rm -rf "$scratch"' EXIT
 
 rows() {
-  local kind edit name
+  local kind edit name below
   for kind in must-fail wrong-bodies no-compile; do
-    for edit in crates/*/"$kind"/*.edit; do
+    for edit in crates/*/"$kind"/*.edit {library,companion}/"$kind"/*.edit; do
+      [ -e "$edit" ] || continue
       name=$(basename "$edit" .edit)
-      printf '%-12s %-12s %-60s %s\n' "$(cut -d / -f 2 <<< "$edit")" "$kind" "${name//_/ }" "$(sed -n '1s/^file: //p' "$edit")"
+      below=${edit#crates/}
+      printf '%-12s %-12s %-60s %s\n' "${below%%/*}" "$kind" "${name//_/ }" "$(sed -n '1s/^file: //p' "$edit")"
     done
   done
 }
@@ -21,22 +24,8 @@ if [ "${1:-}" = rows ]; then
   cat "$scratch/edits"
   exit
 fi
-python3 - crates/*/{must-fail,wrong-bodies,no-compile}/*.edit <<'PY'
-import pathlib, sys
-for edit in map(pathlib.Path, sys.argv[1:]):
-    texts, path = {}, None
-    for line in edit.read_text(encoding='utf-8').splitlines():
-        key, _, value = line.partition(': ')
-        if key == 'file':
-            path = edit.parent.parent / value
-            texts.setdefault(path, path.read_text(encoding='utf-8'))
-        elif key == 'old':
-            old = value
-            if texts[path].count(old) != 1:
-                sys.exit(f'{edit}: its old text is in {path} {texts[path].count(old)} times: {old}')
-        elif key == 'new' or line == 'new:':
-            texts[path] = texts[path].replace(old, value)
-PY
+shopt -s nullglob
+scripts/edits.py crates/*/{must-fail,wrong-bodies,no-compile}/*.edit {library,companion}/wrong-bodies/*.edit
 
 while read -r name; do
   grep -qF " $name  " "$scratch/edits" || { echo "docs/WRONG_BODIES.md: there is no edit \"$name\""; exit 1; }

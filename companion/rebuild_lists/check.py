@@ -15,6 +15,10 @@ from .progress import Progress
 from .records import Record, as_program
 
 
+# What helps where a list is too long.
+LONG = "; `rebuild-lists split` makes folders of a long list"
+
+
 @dataclasses.dataclass
 class Checked:
     """What was found in a folder. Mistakes are what `rebuild farm` refuses, and notes what it leaves out."""
@@ -50,7 +54,7 @@ def check_list(found: Checked, name: str) -> bool:
         found.mistake(f"{name}: E24: {why or 'cannot be read'}")
         return False
     if len(data) > LIST_BYTES:
-        found.mistake(f"{name}: E25: has {os.stat(found.folder / name).st_size} bytes, and a list at most {LIST_BYTES}")
+        found.mistake(f"{name}: E25: has {os.stat(found.folder / name).st_size} bytes, and a list at most {LIST_BYTES}{LONG}")
         return False
     read = list(as_program(data)) or [Record(1, [])]
     header = read.pop(0)
@@ -67,7 +71,7 @@ def check_records(found: Checked, name: str, read: list[Record], fields: int) ->
     for number, record in enumerate(read, 1):
         where = f"{name}: line {record.line}, record {number}"
         if number == REQUESTS + 1:
-            found.mistake(f"{where}: E26: a list has at most {REQUESTS} records, and this one has {len(read)}")
+            found.mistake(f"{where}: E26: a list has at most {REQUESTS} records, and this one has {len(read)}{LONG}")
         wrong = faults(record.fields, fields)
         for fault in wrong:
             found.mistake(f"{where}: {fault.number}: {fault.text}")

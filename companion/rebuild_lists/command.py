@@ -11,7 +11,8 @@ import sys
 from . import VERSION
 from .check import check
 from .damaged import damaged
-from .formats import FEEDS, RACKS, REQUESTS, WORKERS, Refused
+from .files import said_of
+from .formats import FEEDS, RACKS, REQUESTS, WORKERS, Failed, Refused
 from .merge import merge
 from .pieces import cut, join
 from .put import put
@@ -19,8 +20,9 @@ from .serve import serve
 from .split import split
 from .tell import tell
 
-STATUSES = """The exit status is 0 where all was done, 1 where something is refused or found wrong, 2 for a mistake in the words and
-3 where a file can't be read or written; that of `serve` is the program's where its run failed. rebuild-lists(1) says more."""
+STATUSES = """The exit status is 0 where all was done, 1 where something is refused or found wrong, or `tell` or `put` find requests that
+weren't rebuilt, 2 for a mistake in the arguments and 3 where a file can't be read or written; that of `serve` is the program's where its
+run failed. rebuild-lists(1) says more."""
 FOLDER = "the folder of the lists and the surviving fragments"
 STORE = "the folder of the surviving fragments"
 OUT = "a served folder, or one that merge or join made"
@@ -35,8 +37,21 @@ def number(least: int, most: int):
     return read
 
 
+class RackAndNumber(argparse.Action):
+    """Reads the number of a rack and of a request in its list, or that of a request alone."""
+
+    def __call__(self, parser, namespace, values, option_string=None):
+        if len(values) > 2:
+            parser.error("RACK and NUMBER, or NUMBER alone, come after the folder")
+        limits = [RACKS - 1, REQUESTS - 1] if len(values) == 2 else [10**9 - 1]
+        try:
+            setattr(namespace, self.dest, [number(0, most)(text) for most, text in zip(limits, values)])
+        except argparse.ArgumentTypeError as error:
+            parser.error(str(error))
+
+
 def add(commands, run, name: str, says: str, **words: str) -> argparse.ArgumentParser:
-    """Adds a word of the command with the words that follow it, each with its help. Options are added to what comes back."""
+    """Adds a command with the arguments that follow it, each with its help. Options are added to what comes back."""
     command = commands.add_parser(name, help=says, description=f"{says[0].upper()}{says[1:]}.", allow_abbrev=False)
     for word, text in words.items():
         command.add_argument(word, metavar="IN" if word == "folder" else word.upper(), help=text)
@@ -53,7 +68,7 @@ def add_outs(command: argparse.ArgumentParser) -> None:
 
 
 def add_jobs(commands) -> None:
-    """The words for a long list in many jobs."""
+    """The commands for a long list in many jobs."""
     command = add(commands, split, "split", "make folders of the requests of a long list",
                   list="the request list: records of rebuild, and no close", store=STORE,
                   work="the folder to make, with in/0, in/1 .. and an empty out")
@@ -72,19 +87,24 @@ def add_jobs(commands) -> None:
 
 
 def add_results(commands) -> None:
-    """The words for what came of a run."""
+    """The commands for what came of a run."""
     command = add(commands, tell, "tell", "count the outcomes in reports, and name what wasn't rebuilt")
     add_outs(command)
     command.add_argument("--lists", metavar="IN", help="also name the requests of this folder that OUT doesn't answer")
     command = add(commands, put, "put", "copy rebuilt fragments into the store, after their digests are compared", store=STORE)
     add_outs(command)
-    command.add_argument("--overwrite", action="store_true", help="replace fragments of the store that have other bytes")
-    command = add(commands, damaged, "damaged", "find the survivor without which a contradiction is rebuilt", folder=FOLDER)
-    command.add_argument("rack", metavar="RACK", type=number(0, RACKS - 1), help="the number of the rack")
-    command.add_argument("number", metavar="NUMBER", type=number(0, REQUESTS - 1),
-                         help="the number of the request in its list, from 0")
+    command.add_argument("--overwrite", action="store_true", help="replace fragments of the store that have different contents")
+    command.add_argument("--lists", metavar="IN", action="append",
+                         help="the folder of the lists that OUT answers, once for each OUT [default: WORK/in/N for WORK/out/N, or STORE]")
+    command = add(commands, damaged, "damaged", "find the survivor without which a contradiction is rebuilt",
+                  folder=f"{FOLDER}, or one that split made")
+    command.usage = "rebuild-lists damaged [-h] [--feed N] [--program PATH] IN RACK NUMBER\n" \
+                    "       rebuild-lists damaged [-h] [--program PATH] WORK NUMBER"
+    command.add_argument("numbers", metavar="NUMBER", nargs="+", action=RackAndNumber,
+                         help="the number of the rack, and of the request in its list, from 0; with WORK that of the merged report alone")
     command.add_argument("--feed", metavar="N", type=number(0, FEEDS - 1), default=0,
                          help="the feed whose list it is [default: 0]")
+    command.set_defaults(wrong=command.error)
     add_program(command)
 
 
@@ -92,7 +112,7 @@ def parser() -> argparse.ArgumentParser:
     whole = argparse.ArgumentParser(prog="rebuild-lists", epilog=STATUSES, allow_abbrev=False,
                                     description="Reads and writes the lists, reports and fragments of `rebuild farm`.")
     whole.add_argument("--version", "-V", action="version", version=f"rebuild-lists {VERSION}")
-    commands = whole.add_subparsers(dest="command", metavar="WORD", required=True)
+    commands = whole.add_subparsers(dest="command", metavar="COMMAND", required=True)
     add(commands, check, "check", "say what is wrong with the lists of a folder", folder=FOLDER)
     add_jobs(commands)
     add_results(commands)
@@ -105,7 +125,7 @@ def parser() -> argparse.ArgumentParser:
 
 
 def run(words: argparse.Namespace) -> int:
-    """Does what the words ask, and answers the exit status."""
+    """Does what the arguments ask, and answers the exit status."""
     try:
         status = words.run(words)
         sys.stdout.flush()
@@ -116,8 +136,11 @@ def run(words: argparse.Namespace) -> int:
     except BrokenPipeError:
         os.dup2(os.open(os.devnull, os.O_WRONLY), sys.stdout.fileno())
         return 3
+    except Failed as failed:
+        print(failed, file=sys.stderr)
+        return 3
     except OSError as error:
-        print(error, file=sys.stderr)
+        print(said_of(error), file=sys.stderr)
         return 3
     except KeyboardInterrupt:
         return 130

@@ -8,7 +8,8 @@ import tempfile
 
 from .files import folder_named, why_left_out
 from .formats import CODED_HEADER, Refused, counted, list_name, report_name
-from .lists import code_of, served_requests, survivors_of
+from .lists import code_of, served_list, survivors_of
+from .merge import folders_of, lists_of
 from .program import farm, status_of
 from .records import write_records
 from .reports import read_report
@@ -16,12 +17,9 @@ from .reports import read_report
 
 def damaged(words: argparse.Namespace) -> int:
     """Runs the program on a request without each of its survivors in turn, and names the one without which it is rebuilt."""
-    folder = folder_named(words.folder)
-    path = folder / list_name(words.rack, words.feed)
-    asked = served_requests(path)
-    if words.number >= len(asked):
-        raise Refused(f"{path}: has no request {words.number}: it has {counted(len(asked), 'request')}, counted from 0")
-    row = asked[words.number][1]
+    if len(words.numbers) == 1 and words.feed:
+        words.wrong("--feed comes with a RACK and a NUMBER")
+    folder, row = merged_request(words) if len(words.numbers) == 1 else listed_request(words)
     read = [place for place in survivors_of(row) if not why_left_out(folder / f"{row[1]}.{place}", int(row[3]))]
     found, *without = outcomes_without(folder, row, read, words.program)
     name = f"{row[1]}.{row[2]}"
@@ -36,6 +34,31 @@ def damaged(words: argparse.Namespace) -> int:
                       + " ".join(suspects))
     print(f"{suspects[0]}: {name} is rebuilt without it, and is a contradiction without any other")
     return 0
+
+
+def listed_request(words: argparse.Namespace) -> tuple[pathlib.Path, list[str]]:
+    """The request with a number of a list, and the folder of its survivors."""
+    folder = folder_named(words.folder)
+    rack, number = words.numbers
+    path = folder / list_name(rack, words.feed)
+    asked = served_list(path).requests
+    if number >= len(asked):
+        raise Refused(f"{path}: has no request {number}: it has {counted(len(asked), 'request')}, counted from 0")
+    return folder, asked[number][1]
+
+
+def merged_request(words: argparse.Namespace) -> tuple[pathlib.Path, list[str]]:
+    """The request with a number of the report that merge makes, over all folders that split made, and the folder of its survivors."""
+    work = pathlib.Path(words.folder)
+    number = words.numbers[0]
+    before = 0
+    for folder in range(folders_of(work)):
+        for path, _ in lists_of(work, folder):
+            asked = served_list(path).requests
+            if number < before + len(asked):
+                return path.parent, asked[number - before][1]
+            before += len(asked)
+    raise Refused(f"{work}: has no request {number}: its lists have {counted(before, 'request')}, counted from 0")
 
 
 def outcomes_without(folder: pathlib.Path, row: list[str], read: list[str], program: str) -> list[str]:

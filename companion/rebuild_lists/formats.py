@@ -47,3 +47,7 @@ def counted(number: int, noun: str) -> str:
 
 class Refused(Exception):
     """What is wrong with a list, a folder or a report, in words."""
+
+
+class Failed(Exception):
+    """What a device didn't do, in words."""

@@ -125,12 +125,24 @@ def requests(path: str | pathlib.Path) -> Iterator[tuple[int, list[str]]]:
     return rows_of(path, wrong_with)
 
 
-def served_requests(path: pathlib.Path) -> list[tuple[int, list[str]]]:
-    """The requests of a list that the program serves, also those after a close, each with the number of its line."""
+@dataclasses.dataclass
+class Served:
+    """A list that the program serves: its requests, also those after a close, each with the number of its line, and how many come
+    before the first close, or None where there is no close."""
+
+    path: pathlib.Path
+    requests: list[tuple[int, list[str]]]
+    closed: int | None
+
+
+def served_list(path: pathlib.Path) -> Served:
+    """A list that the program serves."""
     data = contents(path, LIST_BYTES)
     if data is None:
         raise Refused(f"{path}: not a regular file that can be read")
     read = list(as_program(data))
     if not read or header_fault(read[0].fields) or any(faults(it.fields, len(read[0].fields)) for it in read[1:]):
         raise Refused(f"{path}: has mistakes, which `rebuild-lists check {path.parent}` names")
-    return [(it.line, it.fields) for it in read[1:] if it.fields[0] == "rebuild"]
+    orders = [it.fields[0] for it in read[1:]]
+    closed = orders.index("close") if "close" in orders else None
+    return Served(path, [(it.line, it.fields) for it in read[1:] if it.fields[0] == "rebuild"], closed)

@@ -12,7 +12,7 @@ from .formats import REPORT, Refused, counted, list_name, report_name
 from .lists import code_of, requests
 from .progress import Progress
 from .records import records
-from .reports import Answer, Tally, read_report
+from .reports import Answer, Tally, read_report, write_sums
 
 
 def folders_of(work: pathlib.Path) -> int:
@@ -78,8 +78,9 @@ def keep(answer: Answer, number: int, kept: pathlib.Path, report) -> None:
 
 
 def merge_into(part: pathlib.Path, work: pathlib.Path, count: int) -> Tally:
-    """Writes the report and the fragments into a folder, and answers how many there are of each outcome."""
+    """Writes the report, the fragments and their digests into a folder, and answers how many there are of each outcome."""
     tally = Tally()
+    digests: dict[str, str] = {}
     code = ["code"] * is_coded(work, count)
     with open(part / "report.csv", "x", encoding="ascii", newline="") as file, Progress("answers merged") as shown:
         rows = csv.writer(file, lineterminator="\n")
@@ -87,9 +88,11 @@ def merge_into(part: pathlib.Path, work: pathlib.Path, count: int) -> Tally:
         for number, answer in enumerate(answers(work, count)):
             if answer.rebuilt:
                 keep(answer, number, part / answer.name, file)
+                digests[answer.name] = answer.digest
             rows.writerow([number] + answer.fields + [answer.code] * len(code))
             tally.add(answer.outcome, answer.unread)
             shown(number + 1)
+    write_sums(part, digests)
     return tally
 
 

@@ -14,7 +14,7 @@ from .formats import LONGEST, REPORT, Refused, counted
 from .lists import faults, rows_of, survivors_of
 from .progress import Progress
 from .records import records, write_records
-from .reports import Answer, Tally, read_report
+from .reports import Answer, Tally, read_report, write_sums
 
 # A file's name has at most 255 bytes, of which 3 are the dot and the place.
 NAME_BYTES = 252
@@ -133,5 +133,6 @@ def join(words: argparse.Namespace) -> int:
         if next(read, None):
             raise Refused(where)
         write_records(part / "report.csv", report)
+        write_sums(part, {})
     print(f"joined {tally}")
     return 0

@@ -12,6 +12,11 @@ from collections.abc import Iterator, Sequence
 from .formats import FED_REPORT, NARROW, OUTCOMES, PLACES, REPORT, Refused, counted
 from .records import records
 
+# The digests of a merged result's files, as sha256sum writes and checks them.
+SUMS = "SHA256SUMS"
+# What a rebuilt fragment's name begins with in a served folder: its rack and its number.
+SERVED_FRAGMENT = re.compile(r"rack(0|[1-9][0-9]*)-(0|[1-9][0-9]*)\.")
+
 
 @dataclasses.dataclass
 class Answer:
@@ -86,6 +91,10 @@ class Tally:
     def answers(self) -> int:
         return sum(self.outcomes.values())
 
+    @property
+    def not_rebuilt(self) -> int:
+        return self.answers - self.outcomes["rebuilt"]
+
     def __str__(self) -> str:
         counts = ", ".join(f"{count} {outcome}" for outcome, count in self.outcomes.items())
         return f"{counted(self.answers, 'answer')}: {counts}; {self.unread} with unread survivors"
@@ -95,10 +104,39 @@ def reports_of(out: pathlib.Path) -> list[pathlib.Path]:
     """The reports of a served folder in the order of its racks, or the one that `merge` or `join` made."""
     named = {re.fullmatch(r"rack(0|[1-9][0-9]*)\.report\.csv", entry.name): entry.name for entry in os.scandir(out)}
     racks = sorted((int(found[1]), name) for found, name in named.items() if found)
-    found = [out / "report.csv"] * (out / "report.csv").is_file() + [out / name for _, name in racks]
-    if not found:
-        raise Refused(f"{out}: has no report")
-    return found
+    if (out / "report.csv").is_file():
+        compare_sum(out / "report.csv")
+        return [out / "report.csv"]
+    if not racks:
+        left = sum(SERVED_FRAGMENT.match(entry.name) is not None for entry in os.scandir(out))
+        raise Refused(f"{out}: {counted(left, 'fragment')} and no report: the run that wrote them has not ended, so serve the folder "
+                      "again into an empty one" if left else f"{out}: has no report")
+    return [out / name for _, name in racks]
+
+
+def digest_of(path: pathlib.Path) -> str:
+    found = hashlib.sha256()
+    with open(path, "rb") as file:
+        for piece in iter(lambda: file.read(2**20), b""):
+            found.update(piece)
+    return found.hexdigest()
+
+
+def write_sums(folder: pathlib.Path, digests: dict[str, str]) -> None:
+    """Writes the digest of the report of a merged result, and those of its fragments by their names."""
+    with open(folder / SUMS, "x", encoding="ascii") as file:
+        for name, digest in {"report.csv": digest_of(folder / "report.csv"), **digests}.items():
+            file.write(f"{digest}  {name}\n")
+
+
+def compare_sum(report: pathlib.Path) -> None:
+    """Refuses a merged report that isn't the whole one: a copy that was cut short may end with a line."""
+    try:
+        sums = report.with_name(SUMS).read_text(encoding="ascii").splitlines()
+    except FileNotFoundError:
+        raise Refused(f"{report.parent}: has no {SUMS}, which merge makes beside report.csv") from None
+    if [line[:64] for line in sums if line[64:] == "  report.csv"] != [digest_of(report)]:
+        raise Refused(f"{report}: not the report that {report.with_name(SUMS)} has the digest of")
 
 
 def read_report(path: pathlib.Path) -> Iterator[Answer]:

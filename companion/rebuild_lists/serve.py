@@ -6,11 +6,10 @@ import argparse
 import os
 import pathlib
 import shutil
-import subprocess
 import sys
 import tempfile
 
-from .files import UMASK, folder_named
+from .files import folder_named, name_folder
 from .program import farm, status_of
 
 
@@ -20,7 +19,7 @@ def serve(words: argparse.Namespace) -> int:
     given = folder_named(os.path.join(words.work, "in", str(words.number)))
     out = folder_named(os.path.join(words.work, "out")) / str(words.number)
     if out.exists():
-        print(f"folder {words.number}: served already")
+        print(f"folder {words.number}: already served")
         return 0
     part = pathlib.Path(tempfile.mkdtemp(prefix=f"{words.number}.", dir=out.parent))
     try:
@@ -28,22 +27,9 @@ def serve(words: argparse.Namespace) -> int:
         if ended.returncode:
             print(f"folder {words.number}: {ended.stderr.strip() or f'status {status_of(ended)}'}", file=sys.stderr)
             return status_of(ended)
-        said = name_folder(part, out, ended.stdout.strip())
+        # Another run that came first has the name already, with the same files.
+        said = ended.stdout.strip() if name_folder(part, out) else "already served"
     finally:
         shutil.rmtree(part, ignore_errors=True)
     print(f"folder {words.number}: {said}")
     return 0
-
-
-def name_folder(part: pathlib.Path, out: pathlib.Path, said: str) -> str:
-    """Gives a served folder its name when its files are on their disk. Another run that came first has the name already, with the
-    same files."""
-    subprocess.run(["sync", "-f", part], check=True)
-    part.chmod(0o777 & ~UMASK)
-    try:
-        part.rename(out)
-    except OSError:
-        if not out.exists():
-            raise
-        return "served already"
-    return said

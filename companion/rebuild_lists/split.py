@@ -91,6 +91,6 @@ def split(words: argparse.Namespace) -> int:
             fill_folder(made, work / "in" / str(number), racks, header, bring)
             shown(made.folders)
     print(f"split {counted(total, 'request')} into {counted(made.folders, 'folder')}; "
-          f"of the fragments that they name {made.there} are there and {made.absent} are not")
+          f"fragments that they name: {made.there} found, {made.absent} missing")
     print(f"the run of a folder holds at most {-(-made.held // 2**20)} MiB of fragments in memory")
     return 0

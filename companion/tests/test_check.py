@@ -63,10 +63,12 @@ in: good: 1 rack, 1 list, 2 requests; 13 notes""")
         (self.store / "rack2.csv").mkdir()
         mistakes = [line for line in self.call("check", "in").stdout.splitlines() if line.startswith("mistake: ")]
         self.assertEqual(mistakes, [
-            "mistake: rack0.csv: line 4098, record 4097: E26: a list has at most 4096 records, and this one has 4098",
+            "mistake: rack0.csv: line 4098, record 4097: E26: a list has at most 4096 records, and this one has 4098"
+            "; `rebuild-lists split` makes folders of a long list",
             "mistake: rack0.csv: line 4099, record 4098: E21 E1: the stripe 'A' isn't 1 to 32 characters of a to z, 0 to 9 and -",
             "mistake: rack0.feed4.csv: E28: a rack has at most 4 feeds, the last of them rack0.feed3.csv",
-            "mistake: rack1.csv: E25: has 1048613 bytes, and a list at most 1048576",
+            "mistake: rack1.csv: E25: has 1048613 bytes, and a list at most 1048576"
+            "; `rebuild-lists split` makes folders of a long list",
             "mistake: rack2.csv: E24: is a folder and not a regular file",
             "mistake: rack16.csv: E18: a folder has at most 16 racks, the last of them rack15.csv"])
 

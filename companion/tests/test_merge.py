@@ -27,7 +27,7 @@ class Merge(SplitStore):
                          "number,stripe,target,length,outcome,digest,unread,code\n"
                          f"0,abc,x0,3,rebuilt,{abc},,6-2-2\n1,abc,y0,3,several,,y1,6-2-2\n"
                          f"2,wide,x0,2,rebuilt,{wide},,12-2-2\n3,abc,x0,3,rebuilt,{abc},,6-2-2\n")
-        self.assertEqual(self.names("result"), ["abc.x0", "report.csv", "wide.x0"])
+        self.assertEqual(self.names("result"), ["SHA256SUMS", "abc.x0", "report.csv", "wide.x0"])
         self.assertEqual((self.text("result/abc.x0"), self.text("result/wide.x0")), ("abc", "\3\7"))
 
     def test_as_one_run(self):
@@ -72,14 +72,58 @@ class Merge(SplitStore):
             self.refused(self.call("merge", "work", "result"), f"work/out/2/rack0.report.csv: {said}")
         self.assertEqual(self.names("."), ["list.csv", "store", "work"])
 
+    def test_each_column(self):
+        """An answer of another request isn't taken, nor one with another number."""
+        self.served(self.LIST, ["--racks", "1", "--requests", "2"])
+        report = self.at / "work/out/0/rack0.report.csv"
+        header, first, second = report.read_text().splitlines(keepends=True)
+        not_the = "line 2: not the answer to request 0 of work/in/0/rack0.csv"
+        for text, said in [
+            ([first.replace(",abc,", ",abd,"), second], not_the), ([first.replace(",x0,", ",x1,"), second], not_the),
+            ([first.replace(",3,", ",2,"), second], not_the), ([first.replace("0,", "1,", 1), second], "line 2: not an answer"),
+            ([first, second.replace("1,", "0,", 1)], "line 3: not an answer"),
+            ([second.replace("1,", "0,", 1), first.replace("0,", "1,", 1)], not_the),
+            ([first], "1 answer, and its list has 2 requests"),
+            ([first, second, second.replace("1,", "2,", 1)], "3 answers, and its list has 2 requests"),
+            ([first, second.replace(",y0,", ",y1,")], "line 3: not the answer to request 1 of work/in/0/rack0.csv")]:
+            with self.subTest(text):
+                report.write_text(header + "".join(text))
+                self.refused(self.call("merge", "work", "result"), f"work/out/0/rack0.report.csv: {said}")
+        self.assertEqual(self.names("."), ["list.csv", "store", "work"])
+
+    def test_a_second_fragment_is_compared(self):
+        self.served(FIVE + "rebuild,abc,x0,3,x1 x2 px\n" * 2, ())
+        (self.at / "work/out/0/rack0-1.abc.x0").write_bytes(b"abd")
+        self.refused(self.call("merge", "work", "result"), "work/out/0/rack0-1.abc.x0: not the bytes that its report says")
+        (self.at / "work/out/0/rack0-1.abc.x0").unlink()
+        self.refused(self.call("merge", "work", "result"), "work/out/0/rack0-1.abc.x0: missing, and its report says rebuilt")
+
+    def test_a_survivor_that_was_left_out(self):
+        self.fragments(p0=b"longer")
+        self.served(FIVE + "rebuild,abc,x0,3,x1 x2 px p0\nrebuild,abc,x1,3,p0\n")
+        self.done(self.call("merge", "work", "result"), "merged 2 answers: 1 rebuilt, 0 contradiction, 1 several; 2 with unread survivors")
+        self.assertEqual(self.names("result"), ["SHA256SUMS", "abc.x0", "report.csv"])
+        self.assertEqual([row.split(",")[-1] for row in self.text("result/report.csv").splitlines()[1:]], ["p0", "p0"])
+
+    def test_workers(self):
+        self.split(self.LIST)
+        program = self.at / "program"
+        program.write_text("#!/bin/sh\necho \"$@\"\n")
+        program.chmod(0o755)
+        ended = self.call("serve", "work", 0, "--workers", 7, "--program", program)
+        self.assertRegex(ended.stdout, r"^folder 0: farm work/in/0 work/out/0\.\w+ --workers 7\n$")
+        (self.at / "work/out/0").rmdir()
+        ended = self.call("serve", "work", 0, "--program", program)
+        self.assertRegex(ended.stdout, r"--workers 1\n$")
+
     def test_nothing_is_overwritten(self):
         self.served()
         (self.at / "result").mkdir()
-        self.refused(self.call("merge", "work", "result"), "result: is there already, and nothing is overwritten")
+        self.refused(self.call("merge", "work", "result"), "result: already exists; not overwritten")
 
     def test_served_again(self):
         self.served()
-        self.done(self.call("serve", "work", 2), "folder 2: served already")
+        self.done(self.call("serve", "work", 2), "folder 2: already served")
         (self.at / "work/in/2/rack0.csv").write_text("order\n")
         (self.at / "work/out/2").rename(self.at / "aside")
         self.refused(self.call("serve", "work", 2), "folder 2: rack0.csv: E19")
@@ -137,6 +181,6 @@ class Merge(SplitStore):
         self.waited(lambda: len(self.names("work/out")) == 2)
         ready.touch()
         said = sorted(job.communicate()[0] for job in jobs)
-        self.assertEqual(said, ["folder 0: served 1 racks, 4 answers\n", "folder 0: served already\n"])
+        self.assertEqual(said, ["folder 0: already served\n", "folder 0: served 1 racks, 4 answers\n"])
         self.assertEqual([job.returncode for job in jobs], [0, 0])
         self.assertEqual(self.names("work/out"), ["0"])

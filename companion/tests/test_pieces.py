@@ -25,7 +25,7 @@ class Pieces(SplitStore):
         self.assertEqual(self.text("whole/report.csv"), "number,stripe,target,length,outcome,digest,unread,code\n"
                          f"0,{name},x0,131073,rebuilt,{hashlib.sha256(data).hexdigest()},,6-2-2\n1,My,x0,2,several,,x2,6-2-2\n")
         self.done(self.call("put", "store", "whole"),
-                  "put 1 fragment into store, 0 of them over other bytes; 0 were there already; not rebuilt: 1 request")
+                  "wrote 1 fragment to store (0 replaced, 0 already present); 1 request not rebuilt", 1)
         self.assertEqual((self.store / f"{name}.x0").read_bytes(), data)
 
     def test_refused_lists(self):

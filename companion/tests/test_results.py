@@ -14,13 +14,13 @@ class Tell(Folder):
 out/rack0.report.csv: request 1: abc.y0: several; left out: y1
 out/rack0-1.abc.y0: of an earlier run: no report says that it is rebuilt
 in/rack0.csv: line 5: abc.py: no answer
-2 answers: 1 rebuilt, 0 contradiction, 1 several; 1 with unread survivors; 1 request without an answer""")
+2 answers: 1 rebuilt, 0 contradiction, 1 several; 1 with unread survivors; 1 request without an answer""", 1)
         self.done(self.call("tell", "out", "out"), """\
 out/rack0.report.csv: request 1: abc.y0: several; left out: y1
 out/rack0-1.abc.y0: of an earlier run: no report says that it is rebuilt
 out/rack0.report.csv: request 1: abc.y0: several; left out: y1
 out/rack0-1.abc.y0: of an earlier run: no report says that it is rebuilt
-4 answers: 2 rebuilt, 0 contradiction, 2 several; 2 with unread survivors""")
+4 answers: 2 rebuilt, 0 contradiction, 2 several; 2 with unread survivors""", 1)
 
     def test_feeds(self):
         self.list(FIVE + "rebuild,abc,x0,3,x1 x2 px\n")
@@ -28,6 +28,47 @@ out/rack0-1.abc.y0: of an earlier run: no report says that it is rebuilt
         self.farm()
         self.done(self.call("tell", "out", "--lists", "in"),
                   "2 answers: 2 rebuilt, 0 contradiction, 0 several; 0 with unread survivors; 0 requests without an answer")
+
+    def test_racks_feeds_and_closes(self):
+        self.list(FIVE + "rebuild,abc,x0,3,x1 x2 px\n")
+        self.list(FIVE + "rebuild,abc,x0,3,x1 x2 px\n" * 2 + "close,,,,\nrebuild,abc,p1,3,\n", "rack1.csv")
+        self.list(FIVE + "rebuild,abc,x0,3,x1 x2 px\n" * 3, "rack1.feed1.csv")
+        self.list(FIVE + "rebuild,abc,p0,3,\n", "rack2.csv")
+        self.list(FIVE, "rack3.csv")
+        (self.at / "out").mkdir()
+        rebuilt = f"abc,x0,3,rebuilt,{hashlib.sha256(b'abc').hexdigest()},\n"
+        header = "number,stripe,target,length,outcome,digest,unread\n"
+        fed = header.replace("number,", "number,feed,")
+        for name, text in [("rack0", f"{header}0,{rebuilt}"), ("rack1", f"{fed}0,1,{rebuilt}1,0,{rebuilt}2,0,{rebuilt}"),
+                           ("rack2", f"{header}0,abc,p0,3,several,,\n"), ("rack3", header)]:
+            (self.at / f"out/{name}.report.csv").write_text(text)
+        self.done(self.call("tell", "out", "--lists", "in"), """\
+out/rack2.report.csv: request 0: abc.p0: several
+in/rack1.csv: line 5: abc.p1: no answer
+in/rack1.feed1.csv: line 3: abc.x0: no answer
+in/rack1.feed1.csv: line 4: abc.x0: no answer
+5 answers: 4 rebuilt, 0 contradiction, 1 several; 0 with unread survivors; 3 requests without an answer""", 1)
+        (self.at / "out/rack2.report.csv").unlink()
+        self.done(self.call("tell", "out"), "4 answers: 4 rebuilt, 0 contradiction, 0 several; 0 with unread survivors")
+        self.assertEqual(self.call("tell", "out", "--lists", "in").stdout.splitlines()[-2:], [
+            "in/rack2.csv: line 2: abc.p0: no answer",
+            "4 answers: 4 rebuilt, 0 contradiction, 0 several; 0 with unread survivors; 4 requests without an answer"])
+        self.refused(self.call("tell", "out", "out", "--lists", "in"),
+                     "--lists takes a single OUT, the one that the folder was served into")
+
+    def test_a_run_that_was_ended(self):
+        (self.at / "out").mkdir()
+        (self.at / "out/rack0-0.abc.x0").write_bytes(b"a")
+        self.refused(self.call("tell", "out"), "out: 1 fragment and no report: the run that wrote them has not ended, so serve the folder "
+                     "again into an empty one")
+        (self.at / "out/rack0.report.csv").write_text("number,stripe,target,length,outcome,digest,unread\n")
+        for name in "rack1-0.abc.x0", "rack1-11.abc.y0", "rack12-3.abc.x0", "rack1-x.abc.x0", "other":
+            (self.at / "out" / name).touch()
+        self.done(self.call("tell", "out"), """\
+out/rack0-0.abc.x0: of an earlier run: no report says that it is rebuilt
+out: 2 fragments of rack 1 and no report of it: the run that wrote them has not ended
+out: 1 fragment of rack 12 and no report of it: the run that wrote them has not ended
+0 answers: 0 rebuilt, 0 contradiction, 0 several; 0 with unread survivors""", 1)
 
     def test_refused_reports(self):
         (self.at / "out").mkdir()
@@ -45,18 +86,24 @@ class Put(Folder):
         self.list(FIVE + "rebuild,abc,x0,3,x1 x2 px\nrebuild,abc,y0,3,\n")
         self.farm()
 
+    def left(self, said):
+        """The fragment of the store has other bytes, and is left."""
+        ended = self.call("put", "in", "out")
+        self.assertEqual((ended.stdout, ended.stderr, ended.returncode),
+                         (said + "\n", "in/abc.x0: exists with different contents; not overwritten (--overwrite replaces it)\n", 1))
+
     def test_put_twice_and_over_other_bytes(self):
         self.served()
         self.done(self.call("put", "in", "out"),
-                  "put 1 fragment into in, 0 of them over other bytes; 0 were there already; not rebuilt: 1 request")
+                  "wrote 1 fragment to in (0 replaced, 0 already present); 1 request not rebuilt", 1)
         self.assertEqual((self.store / "abc.x0").read_bytes(), b"abc")
         self.done(self.call("put", "in", "out"),
-                  "put 0 fragments into in, 0 of them over other bytes; 1 were there already; not rebuilt: 1 request")
+                  "wrote 0 fragments to in (0 replaced, 1 already present); 1 request not rebuilt", 1)
         (self.store / "abc.x0").write_bytes(b"abd")
-        self.refused(self.call("put", "in", "out"), "in/abc.x0: is there with other bytes; nothing was written (--overwrite replaces them)")
+        self.left("wrote 0 fragments to in (0 replaced, 0 already present, 1 with different contents); 1 request not rebuilt")
         self.assertEqual((self.store / "abc.x0").read_bytes(), b"abd")
         self.done(self.call("put", "in", "out", "--overwrite"),
-                  "put 1 fragment into in, 1 of them over other bytes; 0 were there already; not rebuilt: 1 request")
+                  "wrote 1 fragment to in (1 replaced, 0 already present); 1 request not rebuilt", 1)
         self.assertEqual((self.store / "abc.x0").read_bytes(), b"abc")
         self.assertEqual([name for name in self.names("in") if name.startswith(".")], [])
 
@@ -81,9 +128,9 @@ class Put(Folder):
     def test_over_what_is_no_file(self):
         self.served()
         (self.store / "abc.x0").symlink_to("nothing")
-        self.refused(self.call("put", "in", "out"), "in/abc.x0: is there with other bytes; nothing was written (--overwrite replaces them)")
+        self.left("wrote 0 fragments to in (0 replaced, 0 already present, 1 with different contents); 1 request not rebuilt")
         self.done(self.call("put", "in", "out", "--overwrite"),
-                  "put 1 fragment into in, 1 of them over other bytes; 0 were there already; not rebuilt: 1 request")
+                  "wrote 1 fragment to in (1 replaced, 0 already present); 1 request not rebuilt", 1)
         self.assertEqual((self.store / "abc.x0").read_bytes(), b"abc")
         self.assertFalse((self.store / "abc.x0").is_symlink())
 
@@ -100,6 +147,37 @@ class Damaged(Folder):
         self.refused(self.call("damaged", "in", "0", "2"), "in/rack0.csv: has no request 2: it has 2 requests, counted from 0")
         self.refused(self.call("damaged", "in", "0", "0", "--program", "./none"),
                      "./none: can't be run (No such file or directory); --program names the program")
+
+    def test_a_wide_stripe_of_a_further_feed(self):
+        places = "x0 x1 x2 x3 x4 x5 y0 y1 y2 y3 y4 y5 px py p0 p1".split()
+        self.fragments("w", **{place: b"\0" for place in places[1:]})
+        self.fragments("w", y3=b"\5")
+        self.list(FIVE + "rebuild,abc,x0,3,x1 x2 px\n")
+        self.list(SIX + f"rebuild,abc,x0,3,x1 x2 px,6-2-2\nrebuild,w,x0,1,{' '.join(places[1:])},12-2-2\n", "rack0.feed1.csv")
+        self.list(FIVE, "rack1.csv")
+        said = "w.y3: w.x0 is rebuilt without it, and is a contradiction without any other"
+        self.done(self.call("damaged", "in", "0", "1", "--feed", "1"), said)
+        self.refused(self.call("damaged", "in", "0", "1"), "in/rack0.csv: has no request 1: it has 1 request, counted from 0")
+        self.refused(self.call("damaged", "in", "1", "1"), "in/rack1.csv: has no request 1: it has 0 requests, counted from 0")
+        # The same request among those of a split list.
+        (self.at / "list.csv").write_text(SIX + "rebuild,abc,x0,3,x1 x2 px,6-2-2\n" * 5
+                                          + f"rebuild,w,x0,1,{' '.join(places[1:])},12-2-2\n")
+        self.call("split", "list.csv", "in", "work", "--racks", "2", "--requests", "2")
+        self.done(self.call("damaged", "work", "5"), said)
+        self.refused(self.call("damaged", "work", "4"), "abc.x0: the answer is rebuilt, so nothing shows that a survivor is damaged")
+        self.refused(self.call("damaged", "work", "6"), "work: has no request 6: its lists have 6 requests, counted from 0")
+        self.refused(self.call("damaged", "in", "6"), "in/in: not a folder of split lists")
+        for words, wrong in (["work", "6", "--feed", "1"], "--feed comes with a RACK and a NUMBER"), \
+                (["work", "1", "2", "3"], "RACK and NUMBER, or NUMBER alone, come after the folder"):
+            ended = self.call("damaged", *words)
+            self.assertEqual((ended.returncode, ended.stderr.splitlines()[-1]), (2, f"rebuild-lists damaged: error: {wrong}"))
+
+    def test_several_without_the_damaged_one(self):
+        # The target isn't determined with any of them: the only check is that of the other group.
+        self.fragments("z", x1=b"\0", x2=b"\0", px=b"\7", x0=b"\0")
+        self.list(FIVE + "rebuild,z,y0,1,x0 x1 x2 px\n")
+        self.refused(self.call("damaged", "in", "0", "0"),
+                     "z.y0: these can't be told apart, since the answer isn't a contradiction without any one of them: z.x0 z.x1 z.x2 z.px")
 
     def test_survivors_that_cannot_be_told_apart(self):
         self.fragments("z", x1=b"\0", x2=b"\0", px=b"\0", y0=b"\0", y1=b"\0", y2=b"\0", p0=b"\7")

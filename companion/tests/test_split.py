@@ -12,7 +12,7 @@ class Split(SplitStore):
         self.assertEqual(self.names("."), ["list.csv", "store"])
 
     def test_empty_list(self):
-        self.cut(self.split(FIVE), "split 0 requests into 0 folders; of the fragments that they name 0 are there and 0 are not", 0)
+        self.cut(self.split(FIVE), "split 0 requests into 0 folders; fragments that they name: 0 found, 0 missing", 0)
         self.assertEqual((self.names("work/in"), self.names("work/out")), ([], []))
         self.done(self.call("merge", "work", "result"),
                   "merged 0 answers: 0 rebuilt, 0 contradiction, 0 several; 0 with unread survivors")
@@ -21,7 +21,7 @@ class Split(SplitStore):
     def test_exactly_one_folder(self):
         rows = [f"rebuild,s{k},x0,3,\n" for k in range(6)]
         self.cut(self.split(FIVE + "".join(rows), "--racks", "2", "--requests", "3"),
-                 "split 6 requests into 1 folder; of the fragments that they name 0 are there and 0 are not", 1)
+                 "split 6 requests into 1 folder; fragments that they name: 0 found, 0 missing", 1)
         self.assertEqual(self.names("work/in"), ["0"])
         self.assertEqual(self.names("work/in/0"), ["rack0.csv", "rack1.csv"])
         self.assertEqual(self.text("work/in/0/rack0.csv"), FIVE + "".join(rows[:3]))
@@ -46,7 +46,7 @@ class Split(SplitStore):
 
     def test_both_codes(self):
         self.cut(self.split(SIX + "rebuild,abc,x0,3,x1 x2 px,6-2-2\nrebuild,wide,x0,2,x1 x2 x3 x4 x5 px,12-2-2\n", "--requests", "1"),
-                 "split 2 requests into 1 folder; of the fragments that they name 9 are there and 0 are not", 1)
+                 "split 2 requests into 1 folder; fragments that they name: 9 found, 0 missing", 1)
         self.assertEqual(self.text("work/in/0/rack1.csv"), SIX + "rebuild,wide,x0,2,x1 x2 x3 x4 x5 px,12-2-2\n")
 
     def test_links_and_copies(self):
@@ -56,9 +56,20 @@ class Split(SplitStore):
             self.assertEqual((fragment.is_symlink(), fragment.read_bytes()), (linked, b"\0\0\0"))
             (self.at / "work").rename(self.at / f"work-{linked}")
 
+    def test_survivors_of_another_length(self):
+        # They are brought as they are: the program leaves them out, and its report names them.
+        self.fragments(x1=b"\0\0\0\0", px=b"ab")
+        for options in [], ["--copy"]:
+            self.split(FIVE + "rebuild,abc,x0,3,x1 x2 px\n", *options)
+            self.assertEqual([(self.at / f"work/in/0/abc.{place}").read_bytes() for place in ("x1", "x2", "px")],
+                             [b"\0\0\0\0", b"\0\0\0", b"ab"])
+            self.serve()
+            self.assertEqual(self.text("work/out/0/rack0.report.csv").splitlines()[1], "0,abc,x0,3,several,,x1 px")
+            (self.at / "work").rename(self.at / f"work-{len(options)}")
+
     def test_missing_fragments(self):
         self.cut(self.split(FIVE + "rebuild,abc,x0,65536,x1 x2 p0\nrebuild,abc,px,65536," + "x0 x1 x2 y0 y1 y2 py p0 p1\n"),
-                 "split 2 requests into 1 folder; of the fragments that they name 2 are there and 7 are not", 1)
+                 "split 2 requests into 1 folder; fragments that they name: 2 found, 7 missing", 1)
 
         self.assertEqual(self.names("work/in/0"), ["abc.x1", "abc.x2", "rack0.csv"])
 
@@ -83,7 +94,7 @@ class Split(SplitStore):
 
     def test_nothing_is_overwritten(self):
         (self.at / "work").mkdir()
-        self.refused(self.split(FIVE), "work: is there already, and nothing is overwritten")
+        self.refused(self.split(FIVE), "work: already exists; not overwritten")
         self.assertEqual(self.names("work"), [])
 
     def test_refused_lists(self):

@@ -1,4 +1,4 @@
-"""Tests of what is shown on a terminal, and of the words of the command."""
+"""Tests of what is shown on a terminal, and of the arguments."""
 
 import os
 import pty
@@ -47,7 +47,7 @@ class Terminal(SplitStore):
         self.assertEqual(ended.stderr, "")
 
     def test_words(self):
-        for words, said in [([], "the following arguments are required: WORD"), (["other"], "invalid choice: 'other'"),
+        for words, said in [([], "the following arguments are required: COMMAND"), (["other"], "invalid choice: 'other'"),
                             (["check"], "the following arguments are required: IN"),
                             (["serve", "work", "-1"], "'-1' isn't a number from 0 to"),
                             (["serve", "work", "x"], "'x' isn't a number from 0 to"),
@@ -65,7 +65,7 @@ class Terminal(SplitStore):
         (self.at / "store/rack0.csv").write_text(FIVE)
         with open("/dev/full", "w", encoding="ascii") as full:
             ended = subprocess.run([COMPANION, "check", "store"], cwd=self.at, stdout=full, stderr=subprocess.PIPE, text=True, check=False)
-        self.assertEqual((ended.returncode, ended.stderr), (3, "[Errno 28] No space left on device\n"))
+        self.assertEqual((ended.returncode, ended.stderr), (3, "No space left on device\n"))
         ended = subprocess.run(f"{COMPANION} check store | true; exit ${{PIPESTATUS[0]}}", cwd=self.at, shell=True, executable="/bin/bash",
                                stderr=subprocess.PIPE, text=True, check=False)
         self.assertEqual(ended.stderr, "")

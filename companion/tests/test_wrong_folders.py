@@ -8,6 +8,7 @@ from .base import FIVE, HEADER_WANTED, SIX, Folder
 GOOD = "rebuild,abc,x0,3,x1 x2 px\n"
 NAME = "1 to 32 characters of a to z, 0 to 9 and -"
 LINE = "rack0.csv: line 3, record 2"
+LONG = "; `rebuild-lists split` makes folders of a long list"
 # The second record of a list with five fields whose first is good; the number and the text of its mistake.
 RECORDS = [
     ("rebuild,abc,x3,3,", "E20", "the target 'x3' isn't a place of the code 6-2-2"),
@@ -86,11 +87,12 @@ class WrongFolders(Folder):
 
     def test_a_list_that_is_too_long(self):
         self.list(FIVE + "\n" * (1048577 - len(FIVE)))
-        self.wrong("rack0.csv: E25: has 1048577 bytes, and a list at most 1048576", "rack0.csv: E25")
+        self.wrong("rack0.csv: E25: has 1048577 bytes, and a list at most 1048576" + LONG, "rack0.csv: E25")
 
     def test_a_list_of_too_many_records(self):
         self.list(FIVE + GOOD * 4097)
-        self.wrong("rack0.csv: line 4098, record 4097: E26: a list has at most 4096 records, and this one has 4097", "rack0.csv: E26")
+        self.wrong("rack0.csv: line 4098, record 4097: E26: a list has at most 4096 records, and this one has 4097" + LONG,
+                   "rack0.csv: E26")
 
     def test_too_many_feeds(self):
         for name in "rack0.csv", "rack0.feed1.csv", "rack0.feed2.csv", "rack0.feed3.csv", "rack0.feed4.csv":

@@ -85,7 +85,8 @@ class Library:
         return {name: rooms[name].raw for name in parities}
 
     def reads(self, code, wanted, available):
-        """The names of the fewest available places that determine all wanted ones; none where they don't."""
+        """The names of available places that determine all wanted ones: those that are wanted, and the fewest others that do. None where
+        they don't."""
         found = ctypes.c_uint32()
         status = self.lrc.lrc_reads_into(self.known(code), self.bits(wanted), self.bits(available), found)
         if status == BAD_ARGUMENT:
@@ -105,15 +106,21 @@ class Library:
         return {PLACES[p]: c for p, c in enumerate(plan.value) if c} if status == OK else None
 
     def rebuild(self, code, fragments, target):
-        """A status, and the bytes at the target, which are those of each stripe with these fragments where it is OK."""
-        length = len(next(iter(fragments.values())))
+        """A status, and the bytes at the target, which are those of each stripe with these fragments where it is OK. Without fragments
+        there is no length, and the status is BAD_ARGUMENT."""
+        length = self.length_of(fragments)
         table, survivors = self.table(fragments)
-        room = ctypes.create_string_buffer(length)
-        return self.lrc.lrc_rebuild_into(self.known(code), survivors, table, PLACES.index(target), room, length), room.raw
+        room = ctypes.create_string_buffer(max(length, 1))
+        return self.lrc.lrc_rebuild_into(self.known(code), survivors, table, PLACES.index(target), room, length), room.raw[:length]
 
     def verify(self, code, fragments):
+        """A status: whether these fragments are those of a stripe. Of none there is nothing to say, and the status is OK."""
         table, survivors = self.table(fragments)
-        return self.lrc.lrc_verify_at(self.known(code), survivors, table, len(next(iter(fragments.values()))))
+        return self.lrc.lrc_verify_at(self.known(code), survivors, table, self.length_of(fragments))
+
+    @staticmethod
+    def length_of(fragments):
+        return len(next(iter(fragments.values()), b""))
 
 
 def main():
@@ -142,6 +149,7 @@ def main():
         assert library.update(code, {"p1": stripe["p1"]}, "y1", difference) == {"p1": library.encode(code, after)["p1"]}
         changed = left | {"y1": bytes([left["y1"][0] ^ 1]) + left["y1"][1:]}
         assert library.rebuild(code, changed, "x0")[0] == CONTRADICTION
+        assert library.rebuild(code, {}, "x0") == (BAD_ARGUMENT, b"") and library.verify(code, {}) == OK
         few = {name: left[name] for name in ("x1", "y0", "p0")}
         assert library.plan(code, few, "x0") is None and library.rebuild(code, few, "x0")[0] == SEVERAL
 

@@ -209,7 +209,7 @@ Files of IN:
   <stripe>.<place>               a surviving fragment, as abc.x1
 Files written to OUT, those of these names replaced:
   rack<k>-<n>.<stripe>.<place>   the fragment rebuilt for request n of rack k
-  rack<k>.report.csv             the answers to the requests of rack k
+  rack<k>.report.csv             the answers of rack k, each with its request
 Exit status: 0 served, 1 lists refused, 2 usage, 3 device, 4 memory or threads.
 A fault is reported in one line, as 'rack0.csv: record 2: E20':
   E11 the workers are not 1 to 16         E21 a record's request is refused: E1 its

@@ -22,7 +22,7 @@ import (
 var (
 	ErrContradiction = errors.New("no stripe has these fragments")
 	ErrSeveral       = errors.New("the fragments that are left do not determine the lost one")
-	ErrBadArgument   = errors.New("an argument is not as it has to be")
+	ErrBadArgument   = errors.New("invalid argument")
 )
 
 func toError(status C.uint32_t) error {
@@ -93,7 +93,7 @@ func (s *Stripe) Rebuild(place int) error {
 	return err
 }
 
-// Reads are the fewest places to read for the lost ones.
+// Reads are the fewest available places that determine the lost ones.
 func (s *Stripe) Reads() ([]int, error) {
 	var wanted, available, reads C.uint32_t
 	for p := 0; p <= C.LRC_P1; p++ {
@@ -120,7 +120,11 @@ func (s *Stripe) Update(place int, difference []byte) error {
 	if len(difference) != s.length {
 		return ErrBadArgument
 	}
-	at := (*C.uint8_t)(unsafe.Pointer(&difference[0]))
+	var none C.uint8_t
+	at := &none
+	if len(difference) > 0 {
+		at = (*C.uint8_t)(unsafe.Pointer(&difference[0]))
+	}
 	return toError(C.lrc_update(C.LRC_6_2_2, C.enum_lrc_place(place), at, &s.fragments[C.LRC_PX], C.size_t(s.length)))
 }
 
@@ -165,6 +169,14 @@ func main() {
 	stripe.Lose(C.LRC_Y0)
 	if err := stripe.Rebuild(C.LRC_Y0); err != nil {
 		log.Fatal(err)
+	}
+	empty := NewStripe(0)
+	defer empty.Free()
+	if err := empty.Update(C.LRC_Y0, nil); err != nil {
+		log.Fatalf("an update of no bytes: %v", err)
+	}
+	if err := empty.Update(C.LRC_PX, nil); err != ErrBadArgument {
+		log.Fatalf("an update of a parity: %v", err)
 	}
 	stripe.Bytes(C.LRC_X1)[0] ^= 1
 	stripe.Lose(C.LRC_X0)

@@ -68,7 +68,7 @@ pub enum Error {
     Contradiction,
     /// Two stripes have these fragments and differ at the target.
     Several,
-    /// A number or a length is not as it has to be.
+    /// A number or a length is not what the call asks.
     BadArgument,
 }
 
@@ -77,7 +77,7 @@ impl fmt::Display for Error {
         f.write_str(match self {
             Error::Contradiction => "no stripe has these fragments",
             Error::Several => "the fragments that are left do not determine the lost one",
-            Error::BadArgument => "an argument is not as it has to be",
+            Error::BadArgument => "invalid argument",
         })
     }
 }
@@ -197,7 +197,7 @@ pub fn update(code: Code, place: Place, difference: &[u8], parities: [Option<&mu
     Ok(())
 }
 
-/// The fewest available places that determine all wanted ones; those that are wanted are among them.
+/// Available places that determine all wanted ones: those that are wanted, and the fewest others that do.
 pub fn reads(code: Code, wanted: &[Place], available: &[Place]) -> Result<Vec<Place>, Error> {
     let mut found = 0;
     // SAFETY: the room for the answer is borrowed alone.
