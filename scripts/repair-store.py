@@ -37,7 +37,8 @@ def check(holds, what):
 def run(*arguments, status):
     """Runs the program, holds its status to this one, and gives what it says on standard output and on standard error."""
     done = subprocess.run([PROGRAM, *map(str, arguments)], capture_output=True, text=True, timeout=300)
-    check(done.returncode == status, f"{' '.join(map(str, arguments))}: status {done.returncode}, not {status}:\n{done.stdout}{done.stderr}")
+    asked = " ".join(map(str, arguments))
+    check(done.returncode == status, f"{asked}: status {done.returncode}, not {status}:\n{done.stdout}{done.stderr}")
     return done.stdout, done.stderr
 
 

@@ -1,20 +1,15 @@
-//! The command `repair`: each lost fragment is rebuilt, compared with what the other fragments allow, and put in its place.
+//! Repairing a stripe: each lost fragment is rebuilt, with all checks that the survivors allow, and put in its place.
 ghost use Rattle.std.specs.Prelude.{◌≡◌, IfOk, length};
 
-use crate::arguments::Options;
 use crate::findings::{note_damage, note_fault, why};
-use crate::outcomes::{Outcome, totals_of};
-use crate::statuses::{DEVICE, DONE, LEFT};
-use crate::stores::{Store, Stripe, lock};
+use crate::outcomes::Outcome;
+use crate::stores::Stripe;
 use crate::survivors::{Opened, open_survivors};
-use crate::workers::{Work, work_on};
 use lrc_code::{Code, Place, PlaceSet};
 use std::alloc::{AllocError, Global};
 use std::io;
-use std::thread::Threads;
 use store_folder::{
-    FileFragment, Found, NewFile, Placed, file_name, path_in, place_new, place_over,
-    remove_leftovers, sync_folder,
+    FileFragment, Found, NewFile, Placed, file_name, path_in, place_new, place_over, sync_folder,
 };
 use store_repair::{Survivors, have_checks, lost_places, mend, without};
 
@@ -25,67 +20,6 @@ pub struct Repair<'a> {
     pub code: Code,
     pub dry_run: bool,
     pub replace_damaged: bool,
-}
-
-/// Repairs all stripes, says what was done and what is left, and gives the exit status.
-pub fn repair_all<R: Threads + Sync>(
-    rt: &R,
-    system: &HostRuntime,
-    store: &Store,
-    options: &Options,
-) -> io::Result<u8> {
-    let alloc = system.alloc();
-    let folder = store.folder.as_str();
-    let _lock = match lock(system, folder) {
-        Ok(lock) => lock,
-        Err(fault) => {
-            eprintln!(system; "rebuild-store: {fault}")?;
-            return Ok(LEFT);
-        }
-    };
-    if !options.dry_run {
-        remove_leftovers(system, alloc, folder, store.listing.leftovers.as_slice())?;
-    }
-    let stripes = store.stripes(system)?;
-    let work = Work::Repair(Repair {
-        folder,
-        code: store.code,
-        dry_run: options.dry_run,
-        replace_damaged: options.replace_damaged,
-    });
-    let outcomes = work_on(rt, system, &work, stripes.as_slice(), options.workers)?;
-    say_outcomes(system, outcomes.as_slice(), options.dry_run)
-}
-
-// Says what became of the stripes, and gives the exit status.
-fn say_outcomes(rt: &HostRuntime, outcomes: &[Outcome], dry_run: bool) -> io::Result<u8> {
-    for outcome in outcomes {
-        for line in &outcome.lines {
-            eprintln!(rt; "{line}")?;
-        }
-        for name in &outcome.unchecked {
-            eprintln!(rt;
-                "{name}: rebuilt without any check: as many fragments survive as it takes, so damage among them can't show"
-            )?;
-        }
-    }
-    let all = totals_of(outcomes);
-    let verb = if dry_run { "would repair" } else { "repaired" };
-    let rebuilt = all.rebuilt;
-    let bytes = all.bytes;
-    let unchecked = all.unchecked;
-    let damaged = all.damaged;
-    let left = all.left;
-    println!(rt;
-        "{verb} {rebuilt} fragments of {bytes} bytes ({unchecked} unchecked); damaged: {damaged}; not possible: {left}"
-    )?;
-    if all.device {
-        return Ok(DEVICE);
-    }
-    if left > 0 || (dry_run && rebuilt > 0) {
-        return Ok(LEFT);
-    }
-    Ok(DONE)
 }
 
 /// Repairs a stripe. A survivor that is damaged or can't be read is left out, and the others are tried again.

@@ -1,51 +1,12 @@
-//! The command `scrub`: whether the fragments of each stripe belong together, and which one is damaged where that can be told.
-use crate::arguments::Options;
+//! Scrubbing a stripe: whether its fragments belong together, and which one is damaged where that can be told.
 use crate::findings::{note_damage, note_fault, why};
-use crate::outcomes::{Outcome, totals_of};
-use crate::statuses::{DEVICE, DONE, LEFT};
-use crate::stores::{Store, Stripe};
+use crate::outcomes::Outcome;
+use crate::stores::Stripe;
 use crate::survivors::open_survivors;
-use crate::workers::{Work, work_on};
 use lrc_code::Code;
 use std::io;
-use std::thread::Threads;
 use store_folder::Found;
 use store_repair::{Survivors, are_consistent, have_checks};
-
-/// Tests all stripes, says what isn't as it should be, and gives the exit status.
-pub fn scrub<R: Threads + Sync>(
-    rt: &R,
-    system: &HostRuntime,
-    store: &Store,
-    options: &Options,
-) -> io::Result<u8> {
-    let stripes = store.stripes(system)?;
-    let work = Work::Scrub {
-        folder: store.folder.as_str(),
-        code: store.code,
-    };
-    let outcomes = work_on(rt, system, &work, stripes.as_slice(), options.workers)?;
-    for outcome in &outcomes {
-        for line in &outcome.lines {
-            println!(system; "{line}")?;
-        }
-    }
-    let all = totals_of(outcomes.as_slice());
-    let count = stripes.len();
-    let damaged = all.damaged;
-    let left = all.left;
-    let unchecked = all.unchecked;
-    println!(system;
-        "scrubbed {count} stripes: {damaged} damaged, {left} lost or contradictory, {unchecked} stripes without any check"
-    )?;
-    if all.device {
-        return Ok(DEVICE);
-    }
-    if left > 0 || damaged > 0 {
-        return Ok(LEFT);
-    }
-    Ok(DONE)
-}
 
 /// Tests a stripe.
 pub fn scrub_stripe(

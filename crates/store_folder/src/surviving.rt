@@ -20,8 +20,8 @@ impl Fragment for FileFragment {
     }
 }
 
-/// Opens the regular file at a path, which has to have so many bytes. What is at the path is asked before it is opened, since opening a FIFO
-/// waits for a writer.
+/// Opens the regular file at a path, which has to have so many bytes. What is at the path is asked before it is opened, since opening a
+/// FIFO waits for a writer.
 pub fn open_fragment(rt: &HostRuntime, path: &str, length: u64) -> io::Result<FileFragment> {
     let metadata = fs::metadata(rt, path)?;
     if !metadata.is_file() || metadata.len() != length {

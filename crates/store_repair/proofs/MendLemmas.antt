@@ -1,5 +1,6 @@
 -- One window after the other.
-use Rattle.std.proofs.Common.{◌≡◌, ℕ, ◌<◌, ◌≤◌, ◌+◌, ◌-◌, List, [], ◌∷◌, ◌++◌, length, get_or, drop, Option, Some, None, refl, ap, ap₂, sym, ◌∙◌}
+use Rattle.std.proofs.Common.{◌≡◌, ℕ, ◌<◌, ◌≤◌, ◌+◌, ◌-◌, List, [], ◌∷◌, ◌++◌, length, get_or, drop, Option, Some, None}
+use Rattle.std.proofs.Common.{refl, ap, ap₂, sym, ◌∙◌}
 use Rattle.std.proofs.Common.{subst, arith, inl, inr, Bool, true, All}
 use Rattle.std.proofs.lemmas.Bool.{cases_lt}
 use Rattle.std.proofs.lemmas.List.{get_or-append_right, get_or-drop, get_or-take, get_or_append_left, length-append}
@@ -38,7 +39,8 @@ zero_more rows at from n before zero k d lt i more = elim (cases_lt i from) as (
 ]
 
 -- a combination is written up to the end of a window that is appended
-pub parity_more : (at : List (List ℕ)) (from n : ℕ) (row old bytes : List ℕ) → IsParity row at from old → IsParity row (window from n at) n bytes
+pub parity_more : (at : List (List ℕ)) (from n : ℕ) (row old bytes : List ℕ) → IsParity row at from old
+    → IsParity row (window from n at) n bytes
     → IsParity row at (from + n) (old ++ bytes)
 parity_more at from n row old bytes before new = record {
   long = length-append old bytes ∙ ap₂ (λ a b. a + b) before.long new.long;

@@ -28,18 +28,22 @@ IsMended code survives at len place None = Unit
 IsMended code survives at len place (Some bytes) = IsRebuilt (tables_of code) survives (at_place at) len place bytes
 
 -- each file does, at the place of its index
-abbrev pub AreMended : {N : Type 0} → (N → Option (List ℕ)) → CodeName → (Place → Bool) → List (List ℕ) → ℕ → List Place → List N → Type 0
+abbrev pub AreMended : {N : Type 0} → (N → Option (List ℕ)) → CodeName → (Place → Bool) → List (List ℕ) → ℕ → List Place → List N
+    → Type 0
 AreMended shown code survives at len places files =
-    (k : ℕ) (d : Place) (e : _) → k < length files → IsMended code survives at len (slice_index_or places k d) (shown (slice_index_or files k e))
+    (k : ℕ) (d : Place) (e : _) → k < length files
+    → IsMended code survives at len (slice_index_or places k d) (shown (slice_index_or files k e))
 
 -- rows that give the bytes at the places of their indexes
 abbrev pub AreValueRows : CodeName → (Place → Bool) → List Place → List (List ℕ) → Type 0
 AreValueRows code survives places rows =
-    (k : ℕ) (d : Place) (e : List ℕ) → k < length places → IsValueRow (tables_of code) survives (slice_index_or places k d) (slice_index_or rows k e)
+    (k : ℕ) (d : Place) (e : List ℕ) → k < length places
+    → IsValueRow (tables_of code) survives (slice_index_or places k d) (slice_index_or rows k e)
 
 -- What mending says of fragments that are shown with some bytes: that the lost ones are rebuilt, and some stripe has the survivors' bytes;
 -- or that no stripe has them.
-abbrev pub IsMendedStripe : {N : Type 0} → (N → Option (List ℕ)) → CodeName → (Place → Bool) → List (List ℕ) → ℕ → List Place → List N → Bool → Type 0
+abbrev pub IsMendedStripe : {N : Type 0} → (N → Option (List ℕ)) → CodeName → (Place → Bool) → List (List ℕ) → ℕ → List Place → List N
+    → Bool → Type 0
 IsMendedStripe shown code survives at len places files true =
     IsPossible (tables_of code) survives (at_place at) len × AreMended shown code survives at len places files
 IsMendedStripe shown code survives at len places files false = IsContradiction (tables_of code) survives (at_place at) len

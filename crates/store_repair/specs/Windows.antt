@@ -1,5 +1,6 @@
 -- Windows: the bytes of all fragments from a position on, and what is made of them.
-use Rattle.std.specs.Prelude.{◌≡◌, ◌≢◌, ◌<◌, ◌++◌, ℕ, List, map, take, drop, length, All, Bool, true, false, Option, Some, None, option_map, slice_index_or}
+use Rattle.std.specs.Prelude.{◌≡◌, ◌≢◌, ◌<◌, ◌++◌, ℕ, List, map, take, drop, length, All, Option, Some, None, option_map}
+use Rattle.std.specs.Prelude.{slice_index_or, Bool, true, false}
 use Rattle.lrc_field.specs.Sums.{combination, column}
 use Rattle.lrc_code.specs.Encoding.{IsParity}
 use Rattle.lrc_plan.specs.Stripes.{AreZeroRows}
@@ -37,6 +38,7 @@ AreAppended shown xss n rows old new =
     → IsAppended xss n (slice_index_or rows k d) (shown (slice_index_or old k e)) (shown (slice_index_or new k f))
 
 -- what is said of a window: the checks are 0 in it, and its combinations were appended; or some check isn't 0
-abbrev pub IsMendedWindow : {N : Type 0} → (N → Option (List ℕ)) → List (List ℕ) → List (List ℕ) → List (List ℕ) → ℕ → List N → List N → Bool → Type 0
+abbrev pub IsMendedWindow : {N : Type 0} → (N → Option (List ℕ)) → List (List ℕ) → List (List ℕ) → List (List ℕ) → ℕ → List N → List N
+    → Bool → Type 0
 IsMendedWindow shown checks rows xss n old new true = AreZeroRows checks xss n × AreAppended shown xss n rows old new
 IsMendedWindow shown checks rows xss n old new false = ¬ AreZeroRows checks xss n

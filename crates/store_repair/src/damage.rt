@@ -7,7 +7,8 @@ use crate::store::Fragment;
 use lrc_code::{Place, PlaceSet};
 use std::alloc::Global;
 
-/// The place of the only survivor without which the others belong together; none where there is no such survivor, or where there are several.
+/// The place of the only survivor without which the others belong together; none where there is no such survivor, or where there are
+/// several.
 pub fn find_damaged<F: Fragment>(
     alloc: Global,
     survivors: &Survivors<'_, F>,

@@ -83,8 +83,8 @@ struct Window {
 }
 
 /// Rebuilds the fragments at lost places of a stripe, each into the file at its index, in one pass over the survivors, with all checks that
-/// they allow. `true`: each file holds the fragment, the only one that fits the survivors. `false`: no stripe of the code has the survivors'
-/// bytes. The files then hold nothing of use, and so they do after a fault.
+/// they allow. `true`: each file holds the fragment, the only one that fits the survivors. `false`: no stripe of the code has the
+/// survivors' bytes. The files then hold nothing of use, and so they do after a fault.
 pub fn mend<F: Fragment, N: NewFragment>(
     alloc: Global,
     survivors: &Survivors<'_, F>,

@@ -29,7 +29,8 @@ windows-preserved g c =
     let old = c.windows.files in
     let new = c.mend_window.new.files in
     let done : (at : List (List ℕ)) → AreShown g.F.Fragment.shown c.args.survivors.now.fragments.now at
-    → IsMendedWindow shown plan.checks plan.rows.items (window from size at) size old new true = λ at are. subst (IsMendedWindow shown plan.checks plan.rows.items (window from size at) size old new) c.if-not-branch.false
+    → IsMendedWindow shown plan.checks plan.rows.items (window from size at) size old new true = λ at are.
+    subst (IsMendedWindow shown plan.checks plan.rows.items (window from size at) size old new) c.if-not-branch.false
     (c.in_ok-mend_window.ensures.window at are) in
     record {
       within = omega arith;

@@ -19,13 +19,14 @@ returns-clause-window g c = λ at are.
     ∙ ap (map (λ room. room.items)) (c.as_slice.ensures.value ∙ take_at c.read_window.new.rooms _ _ (omega arith))
     ∙ c.in_default.ensures.window at are in
     let size : length c.slice_mut-sums.result.now ≡ c.args.window.size = omega arith in
-    let appended = AreAppended g.N.NewFragment.shown in (
+    let appended = AreAppended g.N.NewFragment.shown in
+    let fourth = map (λ s. s.now) c.as_slice-4.result.now in (
       subst (λ xss. AreZeroRows c.args.plan.now.checks xss c.args.window.size)
           (ap (map (λ s. s.now)) c.as_slice-2.ensures.value ∙ same) (c.are_zero.ensures.0 c.if-not-are_zero.false),
       subst (λ xss. appended xss c.args.window.size c.args.plan.now.rows.items c.args.files.now c.append_sums.new.files)
           (ap (map (λ s. s.now)) c.as_slice-4.ensures.value ∙ same)
-          (subst (λ rows. appended (map (λ s. s.now) c.as_slice-4.result.now) c.args.window.size rows c.args.files.now c.append_sums.new.files)
+          (subst (λ rows. appended fourth c.args.window.size rows c.args.files.now c.append_sums.new.files)
           c.as_slice-3.ensures.value
-          (subst (λ n. appended (map (λ s. s.now) c.as_slice-4.result.now) n c.as_slice-3.result.now c.args.files.now c.append_sums.new.files)
+          (subst (λ n. appended fourth n c.as_slice-3.result.now c.args.files.now c.append_sums.new.files)
           size c.in_default-append_sums.ensures)),
     )

@@ -24,7 +24,8 @@ loop-index-preserved g c =
                 (λ z. IsAppended xss (length c.args.sums.now) (get_or rows k d) (shown (get_or old k e)) (shown z))
                 (sym (get_or-set_other files i k file f (omega (arith, less)))) (c.loop-index.invariant.done k d e f less)
             | inr le ↦ subst
-                (λ j. IsAppended xss (length c.args.sums.now) (get_or rows j d) (shown (get_or old j e)) (shown (get_or (set files i file) j f)))
+                (λ j. IsAppended xss (length c.args.sums.now) (get_or rows j d) (shown (get_or old j e))
+                (shown (get_or (set files i file) j f)))
                 (omega (arith, le, more))
                 (subst (λ z. IsAppended xss (length c.args.sums.now) (get_or rows i d) (shown (get_or old i e)) (shown z))
                 (sym (get_or-set_same files i file f lt))

@@ -23,7 +23,8 @@ loop-index-preserved g c =
                 (sym (get_or-set_other rooms i k room d (omega (arith, less)))) (c.loop-index.invariant.sizes k d less)
             | inr le ↦ subst (λ j. length (get_or (set rooms i room) j d).items ≢ 0 → length (get_or (set rooms i room) j d).items ≡ size)
                 (omega (arith, le, more))
-                (subst (λ r. length r.items ≢ 0 → length r.items ≡ size) (sym (get_or-set_same rooms i room d lt)) c.in_default.ensures.size)
+                (subst (λ r. length r.items ≢ 0 → length r.items ≡ size) (sym (get_or-set_same rooms i room d lt))
+                c.in_default.ensures.size)
           ];
       read = λ at are k d e more. elim (cases_lt k i) as (λ _.
           (get_or (set rooms i room) k d).items ≡ take size (drop c.args.from (get_or at k e))) [
