@@ -138,6 +138,30 @@ ln -sf rack1.csv "$scratch/no-files/rack0.csv"
 ln -s rack0.csv "$scratch/no-files/rack1.csv"
 ends lists-that-loop 3 '' E24 farm "$scratch/no-files" "$scratch/no-files-out"
 
+# Nor is it written: the run ends there, and no run waits for it. A link to a regular file is followed.
+mkdir "$scratch/one" "$scratch/one-out"
+cp "$scratch/list" "$scratch/one/rack0.csv"
+for place in x1 x2 px; do
+  printf a > "$scratch/one/a.$place"
+done
+mkfifo "$scratch/one-out/rack0.report.csv"
+ends report-is-a-fifo 3 '' E24 farm "$scratch/one" "$scratch/one-out"
+[ "$(cat "$scratch/one-out/rack0-0.a.x0")" = a ] || fail report-is-a-fifo 'did not write what comes before it'
+rm "$scratch/one-out/"*
+for bad in fifo socket loop no-files /dev/full; do
+  [ "$bad" = /dev/full ] || bad=$scratch/$bad
+  for name in rack0.report.csv rack0-0.a.x0; do
+    ln -s "$bad" "$scratch/one-out/$name"
+    ends "written-${bad##*/}-$name" 3 '' E24 farm "$scratch/one" "$scratch/one-out"
+    rm "$scratch/one-out/$name"
+  done
+done
+[ "$(ls "$scratch/one-out")" = rack0-0.a.x0 ] || fail written 'wrote another file'
+echo old > "$scratch/linked"
+ln -s "$scratch/linked" "$scratch/one-out/rack0.report.csv"
+ends report-by-a-link 0 'served 1 racks, 1 answers' '' farm "$scratch/one" "$scratch/one-out"
+grep -q '^0,a,x0,1,rebuilt,' "$scratch/linked" || fail report-by-a-link 'did not follow it'
+
 # A hundred requests where 40 files may be open.
 mkdir "$scratch/hundred" "$scratch/hundred-out"
 echo $header > "$scratch/hundred/rack0.csv"

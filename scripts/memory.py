@@ -1,8 +1,8 @@
 #!/usr/bin/env python3
-"""The program's memory is that of two batches, of what is rebuilt, and of the lists, whatever a folder or an input holds. Each run
-has a bound that it stays below, which is well above what it was seen to take and well below what it takes where survivors of
-earlier batches are kept, lists or feeds aren't cut, or room is taken for files that aren't there. It runs what was built
-last: crates/rebuild/out/rebuild."""
+"""The program's memory is that of two batches, of what is rebuilt, and of the lists and their answers. Each run has a bound that it stays
+below, which is well above what it was seen to take and well below what it takes where survivors of earlier batches are kept, lists or
+feeds aren't cut, batches are cut by bytes and not also by files, or room is taken for the files of all lists at once. It runs what was
+built last: crates/rebuild/out/rebuild."""
 
 import os
 import pathlib
@@ -20,7 +20,7 @@ NARROW = "x1 x2 px"
 WIDE = "x1 x2 x3 x4 x5 y0 y1 y2 y3 y4 y5 px py p0 p1"
 GREATEST = 65_536
 MOST_RECORDS = 4_096
-LISTS = ["rack0.csv", "rack0.feed1.csv", "rack0.feed2.csv", "rack0.feed3.csv"]
+FEEDS = ["", ".feed1", ".feed2", ".feed3"]
 SECONDS = 120
 MEGABYTE = 1_000_000
 
@@ -58,18 +58,19 @@ def run(name, words, given, most, wanted, limit=None):
     print(f"memory {name}: {taken / MEGABYTE:.0f} MB, at most {most / MEGABYTE:.0f}", flush=True)
 
 
-def farm(name, lists, length, survivors, most, limit=None, workers=4):
-    """Serves one rack with these lists, and as many answers as they have requests."""
+def farm(name, lists, length, survivors, most, limit=None, workers=4, racks=1):
+    """Serves so many racks with these lists, and as many answers as they have requests."""
     with tempfile.TemporaryDirectory() as scratch:
         served, out = pathlib.Path(scratch) / "in", pathlib.Path(scratch) / "out"
         served.mkdir()
         out.mkdir()
-        for file, text in zip(LISTS, lists):
-            (served / file).write_text(text)
+        for rack in range(racks):
+            for feed, text in zip(FEEDS, lists):
+                (served / f"rack{rack}{feed}.csv").write_text(text)
         fragments(served, length, survivors, random.Random(1))
-        count = sum(text.count("rebuild") for text in lists)
+        count = racks * sum(text.count("rebuild") for text in lists)
         words = [PROGRAM, "farm", served, out, "--workers", workers]
-        run(name, words, b"", most, b"served 1 racks, %d answers\n" % count, limit)
+        run(name, words, b"", most, b"served %d racks, %d answers\n" % (racks, count), limit)
 
 
 def lines(name, given, replies, most):
@@ -85,7 +86,9 @@ def main():
     farm("four feeds rebuilt", [rows(400, GREATEST, NARROW, "6-2-2")] * 4, GREATEST, NARROW, 200 * MEGABYTE)
     # A fragment takes the room that it lists, and a plan's arena ends with its request.
     farm("small fragments", [rows(MOST_RECORDS, 1, WIDE, "12-2-2")] * 4, 1, WIDE, 60 * MEGABYTE)
-    # No room is taken for what isn't there.
+    # The folder with the most survivors that there may be: 3,932,160 files to read. Beside a batch are its lists and answers.
+    farm("most small fragments", [rows(MOST_RECORDS, 1, WIDE, "12-2-2")] * 4, 1, WIDE, 400 * MEGABYTE, racks=16)
+    # Room is taken for the survivors of a batch, also for those that aren't there, and not for all that are listed.
     absent = rows(MOST_RECORDS, GREATEST, WIDE, "12-2-2")
     farm("absent survivors", [absent], 1, "", 60 * MEGABYTE, limit=400_000)
     farm("absent survivors beside an empty feed", [absent, HEADER], 1, "", 60 * MEGABYTE, limit=400_000)

@@ -70,11 +70,22 @@ OPENING = 16_384
 BLOCK = 64
 PART = 1_048_576
 
+# The folders where threads are counted: a name, the survivors that are there, their length, and how many racks and batches there are. Two
+# racks are one batch where fragments are short.
+COUNTED_FOLDERS = [
+    ("several", ["x1", "x2"], 1, 1, 1),
+    ("rebuilt", ["x1", "x2", "px"], DIGESTED, 1, 1),
+    ("two racks", ["x1", "x2"], 1, 2, 1),
+    ("two batches", ["x1", "x2", "px"], DIGESTED, 2, 2),
+]
+
 # A folder whose survivors are read in two batches, the second beside the answering of the first: as many requests of the (12,2,2) code
-# for the longest fragments, each with all other places as survivors. 17 of them fit into a batch. The survivors of these are absent, and
-# of the last two they are there, of zeros.
-BATCHED = 19
-THERE = range(17, BATCHED)
+# for the longest fragments, each with all other places as survivors. 16 of them fit into a batch. The survivors of these are absent, and
+# of the last two they are there, of zeros. With four workers a batch starts as many threads for its farm as FARM_THREADS: a collector's,
+# the workers' and a feeder's.
+BATCHED = 18
+THERE = range(16, BATCHED)
+FARM_THREADS = 6
 LONGEST = 65_536
 SURVIVORS = "x1 x2 x3 x4 x5 y0 y1 y2 y3 y4 y5 px py p0 p1"
 
@@ -448,11 +459,13 @@ def farm_walks(library):
     for workers, queue in [(1, 1), (4, 16), (16, 1)]:
         for rest in [False, True]:
             yield Walk(f"farm-{workers}-{queue}", "thread", rest, Farm(library, workers, queue), {"E17"})
+    # Reading ahead does without what it is refused, and a batch whose farm is refused something beside it is answered once more, alone: so
+    # one refused thread is told only of the last batch, beside which nothing is read.
     batched = Farm(library, 4, 16, *batched_folder(library.folder / "batched"))
-    yield Walk("farm-batches", "allocation", False, batched, {"E16", "E16 between two writes"})
+    yield Walk("farm-batches", "allocation", False, batched, {"answered", "E16", "E16 between two writes"})
     yield Walk("farm-batches", "allocation", True, batched, {"E16"})
-    for rest in [False, True]:
-        yield Walk("farm-batches", "thread", rest, batched, {"E17"})
+    yield Walk("farm-batches", "thread", False, batched, {"answered"}, {"answered", "E17"}, exact={"E17": FARM_THREADS})
+    yield Walk("farm-batches", "thread", True, batched, {"E17"})
 
 
 def test_walks(library):
@@ -475,35 +488,36 @@ def worker_walks(library):
         yield Walk(name, "allocation", False, test, {"AllocError", "starved"}, exact={"starved": 2 * jobs})
 
 
-def rack_of(folder, survivors, length):
-    """A rack of as many requests as COUNTED, with these survivors of each and no others, all of this length."""
+def racks_of(folder, survivors, length, racks):
+    """So many racks of as many requests as COUNTED, with these survivors of each and no others, all of this length."""
     rows = ["order,stripe,target,length,survivors"]
     for number in range(COUNTED):
         rows.append(f"rebuild,s{number},x0,{length},x1 x2 px")
         for place in survivors:
             (folder / f"s{number}.{place}").write_bytes(bytes([number % 256]) * length)
-    (folder / "rack0.csv").write_text("\n".join(rows) + "\n")
+    for rack in range(racks):
+        (folder / f"rack{rack}.csv").write_text("\n".join(rows) + "\n")
 
 
 def count_threads(library):
-    """The program starts as many threads as `--workers` says: for the farm the collector's, one for each worker and one for the
-    feeder; for the survivors one fewer than workers, since the thread that waits takes a share, and as many as have the least part
-    each; and so for the digests.
+    """The program starts as many threads as `--workers` says: for the farm of each batch the collector's, one for each worker and one for
+    each rack's feeder; for the survivors of each rack one fewer than workers, since the thread that waits takes a share, and as many as
+    have the least part each, with one more where they are read beside the batch before; and so for the digests.
     """
     with tempfile.TemporaryDirectory(dir=library.folder) as folder:
         folder = pathlib.Path(folder)
         (folder / "out").mkdir()
-        for name, survivors, length in [("several", ["x1", "x2"], 1), ("rebuilt", ["x1", "x2", "px"], DIGESTED)]:
+        for name, survivors, length, racks, batches in COUNTED_FOLDERS:
             (folder / name).mkdir()
-            rack_of(folder / name, survivors, length)
+            racks_of(folder / name, survivors, length, racks)
             for workers in [1, 2, 3, 4, 5, 7, 16]:
                 words = [PROGRAM, "farm", folder / name, folder / "out", "--workers", str(workers), "--queue", "6"]
                 ran = library.run([str(it) for it in words])
-                if (ran.status, ran.out) != (0, b"served 1 racks, %d answers\n" % COUNTED):
+                if (ran.status, ran.out) != (0, b"served %d racks, %d answers\n" % (racks, racks * COUNTED)):
                     raise Fault(f"threads of {name}: {ran.text()}")
                 reading = min(workers, 3 * COUNTED * (OPENING + length + 1) // PART)
-                digesting = min(workers, COUNTED * (BLOCK + length) // PART) if name == "rebuilt" else 1
-                wanted = 2 + workers + (reading - 1) + (digesting - 1)
+                digesting = min(workers, racks * COUNTED * (BLOCK + length) // PART) if "px" in survivors else 1
+                wanted = batches * (1 + workers) + racks + racks * (reading - 1) + (batches - 1) + (digesting - 1)
                 if ran.threads != wanted:
                     raise Fault(f"threads of {name}: {workers} workers started {ran.threads} threads, and not {wanted}")
     print("refusals threads: as many as --workers says, for survivors, requests and digests", flush=True)

@@ -25,9 +25,16 @@ AreOrdersOf list orders = (wanted : List Asked) × (length wanted ≡ length (li
 abbrev pub record_count : List (List Record) → ℕ
 record_count lists = sum_by (λ list. length list) lists
 
--- the bytes of survivors that a record lists, a list, and the lists of a rack's feeds
+-- the bytes of memory that a survivor takes beside its own, and a request beside its survivors: names, paths and rooms
+abbrev pub survivor_room : ℕ
+survivor_room = 512
+
+abbrev pub request_room : ℕ
+request_room = 512
+
+-- the bytes of memory that a record's survivors may take by what it lists, those of a list, and those of the lists of a rack's feeds
 abbrev pub record_bytes : Record → ℕ
-record_bytes (rec.Rebuild r) = r.len * length r.survivors
+record_bytes (rec.Rebuild r) = (r.len + survivor_room) * length r.survivors + request_room
 record_bytes rec.Close = 0
 
 abbrev pub list_bytes : List Record → ℕ
@@ -39,15 +46,15 @@ listed_bytes lists = sum_by list_bytes lists
 abbrev pub rack_bytes : List (Vec Record Global) → ℕ
 rack_bytes lists = listed_bytes (map (λ list. list.items) lists)
 
--- more bytes than a record can list
+-- more bytes than those of a record
 abbrev pub record_most : ℕ
-record_most = 68719476736
+record_most = 137438953472
 
 -- the records of each feed from one position to another
 abbrev pub piece : List (List Record) → ℕ → ℕ → List (List Record)
 piece lists first end = map (λ list. slice_range list first end) lists
 
 -- Where a batch ends that begins at one of so many positions, by the bytes from one position to another: it has this position, and as
--- many of those after it as list at most so many bytes together with it.
+-- many of those after it as take at most so many bytes together with it.
 abbrev pub IsBatchEnd : (ℕ → ℕ → ℕ) → ℕ → ℕ → ℕ → ℕ → Type 0
 IsBatchEnd bytes count most first end = (first + 1 < end → bytes first end ≤ most) × (end < count → most < bytes first (end + 1))

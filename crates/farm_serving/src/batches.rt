@@ -19,7 +19,8 @@ use std::alloc::{AllocError, Global};
 use std::sync::Wait;
 use std::thread::Threads;
 
-/// The most bytes of survivors that the lists of a batch name together, unless it is a single request of each feed of one rack.
+/// The most bytes of memory that the survivors of a batch may take by what is listed; one request of each of four feeds takes less. Each
+/// survivor counts 512 bytes beside its own, and each request as many, so that a batch is bounded in files too.
 pub const MOST_BATCH_BYTES: u64 = 16_777_216;
 
 /// Of each rack the answers, each with its feed's number, and feed by feed the requests before the close, each with the places of the
@@ -72,9 +73,10 @@ impl<'p, P: Pause> Pause for BatchPause<'p, P> {
     }
 }
 
-/// The answers to the lists of all racks, and their requests with what was left out of each. A batch is racks that list at most so many
-/// bytes together; a rack that lists more is cut into pieces, each the requests of all its feeds from one position to another.
-/// A `Pause` is given the numbers of all lists; one that holds a request until one of a later batch begins waits in vain.
+/// The answers to the lists of all racks, and their requests with what was left out of each. A batch is racks whose survivors take at most
+/// so many bytes together; a rack with more is cut into pieces, each the requests of all its feeds from one position to another.
+/// A `Pause` is given the numbers of all lists; one that holds a request until one of a later batch begins waits in vain. Where the
+/// shelf has a batch answered once more (`Shelf::read_beside`), a `Pause` is given its requests again.
 pub fn answer_lists<'a, R: Threads + Wait + Sync, I: Shelf, P: Pause>(
     rt: &R,
     alloc: Global,
@@ -106,7 +108,8 @@ pub fn answer_lists<'a, R: Threads + Wait + Sync, I: Shelf, P: Pause>(
             number: 0,
             position: 0,
         };
-        let after = files_of_batch(alloc, lists, end, most)?;
+        // Without memory for their names they are read in their turn.
+        let after = files_of_batch(alloc, lists, end, most).unwrap_or(Vec::new(alloc));
         let mut part = answer_racks(
             rt,
             alloc,
@@ -171,7 +174,7 @@ fn answer_feeds<R: Threads + Wait + Sync, I: Shelf, P: Pause>(
     let run = move || -> Result<Vec<Vec<(usize, Outcome)>>, FarmError>
         ensures { IfOk result (λ v. AreAllMergedAnswers feeds (map (λ answers. answers.items) v.items)) }
     { run_feeds(rt, alloc, &feeds, settings, pause) };
-    input.read_beside(rt, alloc, after, settings.workers(), run)?
+    input.read_beside(rt, alloc, after, settings.workers(), run)
 }
 
 // The lists of a single rack.
@@ -227,7 +230,7 @@ fn answer_rack<'a, R: Threads + Wait + Sync, I: Shelf, P: Pause>(
             number: answers.len(),
             position: first,
         };
-        let own = files_of_piece(alloc, served.as_slice(), end, most)?;
+        let own = files_of_piece(alloc, served.as_slice(), end, most).unwrap_or(Vec::new(alloc));
         let files = or_others(own.as_slice(), after);
         ended = answer_piece(
             rt,

@@ -3,22 +3,30 @@ ghost use Rattle.std.specs.Prelude.{◌≡◌, ◌<◌, ◌≤◌, ◌+◌, ◌*
 ghost use Rattle.std.specs.List.{All, slice_range};
 ghost use Rattle.farm_core.specs.Limits.{feed_limit, order_limit, rack_limit};
 ghost use Rattle.farm_serving.specs.Pieces.{IsBatchEnd, list_bytes, listed_bytes, piece, rack_bytes, record_bytes, record_most};
-ghost use Rattle.farm_serving.specs.Pieces.{through_close};
+ghost use Rattle.farm_serving.specs.Pieces.{request_room, survivor_room, through_close};
 
 use farm_core::limits::MOST_ORDERS;
 use farm_lists::{Listed, Record, requests_before_close};
 use std::alloc::{AllocError, Global};
 
-// The bytes of survivors that a request lists.
+// What a survivor takes in memory beside its bytes, and a request beside its survivors: names, paths and rooms. With them a batch is
+// bounded in files too.
+const SURVIVOR_ROOM: u64 = 512;
+
+const REQUEST_ROOM: u64 = 512;
+
+// The bytes of memory that a request's survivors may take by what it lists.
 fn request_bytes(listed: &Listed) -> u64
-    ensures bytes { result ≡ listed.now.len * length listed.now.survivors }
+    ensures bytes { result ≡ (listed.now.len + survivor_room) * length listed.now.survivors + request_room }
     ensures few { result ≤ record_most }
 {
     let count = listed.survivors().len() as u64;
-    u64::from(listed.length()).saturating_mul(count)
+    (u64::from(listed.length()) + SURVIVOR_ROOM)
+        .saturating_mul(count)
+        .saturating_add(REQUEST_ROOM)
 }
 
-// The bytes of survivors that a record lists.
+// The bytes of a record's survivors.
 fn record_bytes(row: &Record) -> u64
     ensures bytes { result ≡ record_bytes row.now }
     ensures few { result ≤ record_most }
@@ -29,7 +37,7 @@ fn record_bytes(row: &Record) -> u64
     }
 }
 
-// The bytes of survivors that a list names.
+// The bytes of a list's survivors.
 fn list_bytes(list: &[Record]) -> u64
     requires { length list.now ≤ order_limit }
     ensures bytes { result ≡ list_bytes list.now }
@@ -42,7 +50,7 @@ fn list_bytes(list: &[Record]) -> u64
     bytes
 }
 
-// The bytes of survivors that a rack's lists name together.
+// The bytes of the survivors of a rack's lists together.
 fn rack_bytes(lists: &[Vec<Record>]) -> u64
     requires feeds { length lists.now ≤ feed_limit }
     requires orders { All (λ l. length l.items ≤ order_limit) lists.now }
@@ -56,7 +64,8 @@ fn rack_bytes(lists: &[Vec<Record>]) -> u64
     bytes
 }
 
-/// Where the batch ends that begins at a rack: it has this rack, and those after it while they list at most so many bytes together.
+/// Where the batch ends that begins at a rack: it has this rack, and those after it while their survivors take at most so many bytes
+/// together, by what is listed.
 pub(crate) fn end_of_racks(lists: &[Vec<Vec<Record>>], first: usize, most: u64) -> usize
     requires first { first < length lists.now }
     requires racks { length lists.now ≤ rack_limit }
@@ -76,7 +85,7 @@ pub(crate) fn end_of_racks(lists: &[Vec<Vec<Record>>], first: usize, most: u64) 
     lists.len()
 }
 
-// The bytes of survivors that a list's record at a position lists, where it has one there.
+// The bytes of the survivors of a list's record at a position, where it has one there.
 fn bytes_at(list: &[Record], position: usize) -> u64
     ensures bytes { result ≡ list_bytes (slice_range list.now position (position + 1)) }
     ensures few { result ≤ record_most }
@@ -88,7 +97,7 @@ fn bytes_at(list: &[Record], position: usize) -> u64
     }
 }
 
-// The bytes of survivors that the records of all feeds at one position list.
+// The bytes of the survivors of all feeds' records at one position.
 fn position_bytes(lists: &[&[Record]], position: usize) -> u64
     requires { length lists.now ≤ feed_limit }
     ensures bytes { result ≡ listed_bytes (piece (map (λ list. list.now) lists.now) position (position + 1)) }
@@ -101,8 +110,8 @@ fn position_bytes(lists: &[&[Record]], position: usize) -> u64
     bytes
 }
 
-/// Where the piece of a rack ends that begins at a position: it has this position of each feed, and those after it while all feeds list
-/// at most so many bytes together.
+/// Where the piece of a rack ends that begins at a position: it has this position of each feed, and those after it while the survivors of
+/// all feeds take at most so many bytes together.
 pub(crate) fn end_of_positions(lists: &[&[Record]], first: usize, most: u64) -> usize
     requires first { first < order_limit }
     requires feeds { length lists.now ≤ feed_limit }

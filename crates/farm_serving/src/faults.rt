@@ -35,7 +35,7 @@ pub enum ServeFault {
     /// E17: a thread was refused.
     #[error("a thread was refused")]
     NoThread,
-    /// E16: memory was wanting.
+    /// E16: memory was refused.
     #[error("out of memory")]
     OutOfMemory,
 }

@@ -32,8 +32,8 @@ pub use farm_lists::{
     ListFault, Listed, ReadRequest, Record, ReportRow, ReportShape, list_file, merged_report_text,
     read_list, report_laws, report_text,
 };
-pub use farm_shelves::{FolderShelf, MemoryShelf, Shelf, ShelfFault};
+pub use farm_shelves::{FolderShelf, MemoryShelf, ReadAheadShelf, Shelf, ShelfFault};
 pub use faults::ServeFault;
-pub use folders::serve_folders;
+pub use folders::{Folders, serve_folders};
 pub use reading::lists::read_lists;
 pub use serving::{Served, serve};

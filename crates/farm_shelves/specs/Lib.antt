@@ -1,3 +1,5 @@
+pub mod Ahead
 pub mod Files
 pub mod Folder
 pub mod Memory
+pub mod ReadAhead

@@ -33,7 +33,7 @@ FailsWhenDue (Ok x) due = due ≡ false
 FailsWhenDue (Err fault.Device) due = due ≡ true
 FailsWhenDue (Err fault.OutOfMemory) due = due ≡ false
 
--- the device fails in this write exactly where it is due, but where memory is wanting
+-- the device fails in this write exactly where it is due, unless memory is refused
 abbrev pub FailsWriteWhenDue : Result (Unit {0}) ShelfFault → Bool → Type 0
 FailsWriteWhenDue (Ok x) due = due ≡ false
 FailsWriteWhenDue (Err fault.Device) due = due ≡ true

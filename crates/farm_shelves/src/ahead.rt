@@ -1,8 +1,11 @@
 //! Files that are read ahead in threads.
-ghost use Rattle.std.specs.Prelude.{◌<◌};
+ghost use Rattle.std.specs.Prelude.{◌≡◌, ◌<◌, option_map};
+ghost use Rattle.farm_shelves.specs.Ahead.{IsKnown, known};
 
 use crate::regular_files::{FIRST_ROOM, open_regular, read_front};
+use crate::shelf::ShelfFault;
 use std::alloc::{AllocError, Global};
+use std::io::Read;
 use std::sync::Mutex;
 use std::sync::atomic::{AtomicUsize, Ordering};
 use std::thread::Threads;
@@ -30,7 +33,7 @@ pub(crate) struct ReadAhead {
 enum State {
     // It is to be read into this room, or couldn't be opened.
     Listed(Vec<u8>),
-    // Its first bytes.
+    // Its first bytes, as they were then.
     Read(Vec<u8>),
     // There is no such file. The room stays with it, since a thread that gives memory back takes some of its own.
     Absent(Vec<u8>),
@@ -95,17 +98,19 @@ fn read_listed<R: Threads + Sync>(
     Ok(())
 }
 
-/// Reads listed files ahead in at most so many threads.
+/// Listed files, read ahead in at most so many threads; none where memory is refused.
 pub(crate) fn read_all<R: Threads + Sync>(
     rt: &R,
     alloc: Global,
     system: &HostRuntime,
     files: Vec<ReadAhead>,
     threads: usize,
-) -> Result<Vec<ReadAhead>, AllocError> {
+) -> Vec<ReadAhead> {
     let mut files = files;
-    read_listed(rt, alloc, system, files.as_mut_slice(), threads)?;
-    Ok(files)
+    if read_listed(rt, alloc, system, files.as_mut_slice(), threads).is_err() {
+        files.clear();
+    }
+    files
 }
 
 // The files in so many parts at most, each for the thread that takes it.
@@ -141,15 +146,24 @@ fn read_parts(system: &HostRuntime, parts: &[Mutex<&mut [ReadAhead]>], next: &At
 fn read_each(system: &HostRuntime, files: &mut [ReadAhead]) {
     for file in files.iter_mut() {
         file.state = match mem::replace(&mut file.state, State::Unread) {
-            State::Listed(room) => read_into(system, room, file.path.as_str(), file.limit),
+            State::Listed(room) => {
+                let opened = open_regular(system, file.path.as_str());
+                state_of(opened, room, file.limit)
+            }
             state => state,
         };
     }
 }
 
-// What is read ahead of a file into this room.
-fn read_into(system: &HostRuntime, room: Vec<u8>, path: &str, limit: usize) -> State {
-    match open_regular(system, path) {
+// How far a file is that was opened so, once its first bytes are read into this room. A failure says nothing of the file.
+fn state_of<F: Read + Drop>(
+    opened: Result<Option<F>, ShelfFault>,
+    room: Vec<u8>,
+    limit: usize,
+) -> State
+    ensures { IsKnown F.remaining limit opened (known result) }
+{
+    match opened {
         Ok(Some(file)) => match read_front(room, file, limit) {
             Ok(bytes) => State::Read(bytes),
             Err(_) => State::Unread,
@@ -183,7 +197,13 @@ pub(crate) fn take_ahead(
         ahead.clear();
         return None;
     }
-    let ReadAhead { state, .. } = next;
+    known_of(next.state)
+}
+
+// What is known of a file by how far it is.
+fn known_of(state: State) -> Option<Option<Vec<u8>>>
+    ensures { option_map (option_map (λ b. b.items)) result ≡ known state }
+{
     match state {
         State::Read(bytes) => Some(Some(bytes)),
         State::Absent(_room) => Some(None),

@@ -13,10 +13,12 @@
 mod ahead;
 mod folder;
 mod memory;
+mod read_ahead;
 mod regular_files;
 mod shelf;
 
 pub use folder::FolderShelf;
 pub use memory::MemoryShelf;
+pub use read_ahead::ReadAheadShelf;
 pub use regular_files::read_front;
 pub use shelf::{Shelf, ShelfFault};

@@ -6,6 +6,7 @@ ghost use Rattle.farm_shelves.specs.Folder.{found, kind_fault};
 use crate::shelf::ShelfFault;
 use std::fs;
 use std::io::{self, ErrorKind, Read};
+use std::rt::Files;
 
 /// The room that is taken for the first read, if the limit isn't less. A fragment of the greatest length fits it.
 pub(crate) const FIRST_ROOM: usize = 65_537;
@@ -38,14 +39,24 @@ fn if_there<T: Drop>(answer: io::Result<T>) -> Result<Option<T>, ShelfFault>
 }
 
 /// The regular file at a path, open; none where there is no file.
-pub(crate) fn open_regular(
-    system: &HostRuntime,
-    path: &str,
-) -> Result<Option<fs::File>, ShelfFault> {
-    match if_there(fs::metadata(system, path))? {
-        Some(metadata) if metadata.is_file() => if_there(fs::open(system, path)),
+pub(crate) fn open_regular<R: Files>(rt: &R, path: &str) -> Result<Option<R::File>, ShelfFault> {
+    match if_there(fs::metadata(rt, path))? {
+        Some(metadata) if metadata.is_file() => if_there(fs::open(rt, path)),
         Some(_) => Err(ShelfFault::Device),
         None => Ok(None),
+    }
+}
+
+/// Replaces the bytes of the regular file at a path, which is made where there is none. Anything else there is left alone, since opening a
+/// FIFO waits for a reader.
+pub(crate) fn write_regular<R: Files>(rt: &R, path: &str, bytes: &[u8]) -> Result<(), ShelfFault> {
+    match if_there(fs::metadata(rt, path))? {
+        Some(metadata) if !metadata.is_file() => return Err(ShelfFault::Device),
+        _ => {}
+    }
+    match fs::write(rt, path, bytes) {
+        Ok(()) => Ok(()),
+        Err(_) => Err(ShelfFault::Device),
     }
 }
 

@@ -3,7 +3,7 @@ ghost use Rattle.std.specs.Prelude.{◌≡◌, ℕ, List, ◌<◌, ◌^◌, Opti
 ghost use Rattle.std.specs.Thread.{IsSync};
 ghost use Rattle.farm_shelves.specs.Files.{CountsFailure, Shown, Writes};
 
-use std::alloc::{AllocError, Global};
+use std::alloc::Global;
 use std::thread::Threads;
 use thiserror::Error;
 
@@ -13,7 +13,7 @@ pub enum ShelfFault {
     /// E24: the device failed in that call.
     #[error("the device failed")]
     Device,
-    /// E16: memory was wanting.
+    /// E16: memory was refused.
     #[error("out of memory")]
     OutOfMemory,
 }
@@ -30,7 +30,8 @@ pub trait Shelf {
     fn failures(&self) -> u64
         ensures { result ≡ failed self.now };
 
-    /// The first bytes of a file, as many as the limit at most; none where there is no such file. Changes no file.
+    /// The first bytes of a file, as many as the limit at most; none where there is no such file. Changes no file. Where the file was
+    /// read ahead they are those that it had then, also if it has changed since.
     fn read(
         &mut self,
         alloc: Global,
@@ -44,40 +45,39 @@ pub trait Shelf {
         ensures failure { CountsFailure result (failed self.old) (failed self.new) };
 
     /// Gives the shelf the names and limits of the files that are read next, in this order, so that it may read them ahead in at most
-    /// so many threads. It answers no read and counts no failure: the calls of `read` do both. A shelf that doesn't say
-    /// otherwise reads nothing ahead.
+    /// so many threads. It answers no read, counts no failure and has no refusal: where it is refused memory or a thread, less is read
+    /// ahead. A shelf that doesn't say otherwise reads nothing ahead.
     fn read_ahead<H: Threads + Sync>(
         &mut self,
         _rt: &H,
         _alloc: Global,
         _files: &[(String, usize)],
         _threads: usize,
-    ) -> Result<(), AllocError>
+    )
         requires { IsSync H.row }
         ensures same { files self.new ≡ files self.old }
         ensures failure { failed self.new ≡ failed self.old }
-    {
-        Ok(())
-    }
+    {}
 
     /// Does some work, and gives what it gives. The files are those that are read next, so that the shelf may read them ahead while
-    /// the work is done, in at most so many further threads. Only where memory is refused may it end without having worked. As
-    /// `read_ahead`, it answers no read and counts no failure. A shelf that doesn't say otherwise does the work alone.
-    fn read_beside<H: Threads + Sync, T: Drop, F: FnOnce() -> T>(
+    /// the work is done, in at most so many further threads. Work that fails beside the reading is done once more alone, after what was
+    /// read ahead is dropped, so that it never fails for memory or a thread that the reading took. As `read_ahead`, it answers no read
+    /// and counts no failure. A shelf that doesn't say otherwise does the work once, alone.
+    fn read_beside<H: Threads + Sync, T: Drop, E: Drop, F: Fn() -> Result<T, E>>(
         &mut self,
         _rt: &H,
         _alloc: Global,
         _files: &[(String, usize)],
         _threads: usize,
         work: F,
-    ) -> Result<T, AllocError>
+    ) -> Result<T, E>
         requires sync { IsSync H.row }
         requires work { F.pre work }
-        ensures worked { IfOk result (F.post work) }
+        ensures worked { F.post work result }
         ensures same { files self.new ≡ files self.old }
         ensures failure { failed self.new ≡ failed self.old }
     {
-        Ok(work())
+        work()
     }
 
     /// Replaces a whole file. After a failure of the device nothing is known of this file, and the others are as they

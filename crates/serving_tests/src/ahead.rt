@@ -1,14 +1,14 @@
-//! Files that a folder's shelf reads ahead, in one thread to sixteen, and what a shelf is asked for.
+//! Files that a shelf over a folder reads ahead, in one thread to sixteen, and what a shelf is asked for.
 use crate::shared::{fails, has_none, input_of, reads, serve_with, shelf_of, written};
 use crate::watched::WatchedShelf;
 use farm_core::NoPause;
-use farm_serving::{FolderShelf, MemoryShelf, Shelf};
+use farm_serving::{MemoryShelf, ReadAheadShelf, Shelf};
 use lists_tests::samples::LIST;
 use std::alloc::{AllocError, Global};
 use std::fs;
 use std::rt::Files;
 
-// A folder with files of 0 to 6 bytes, as many as are not open at once; number 7 of each ten is absent.
+// A folder with 300 files of 0 to 6 bytes; number 7 of each ten is absent.
 fn make_files<R: Files>(rt: &R, alloc: Global, folder: &str) -> Result<bool, AllocError> {
     if fs::create_dir_all(rt, folder).is_err() {
         return Ok(false);
@@ -78,9 +78,9 @@ fn files_read_ahead(rt: HostRuntime) -> Result<(), AllocError> {
     let alloc = rt.alloc();
     assert!(&rt; make_files(&rt, alloc, "ahead/many")?);
     for threads in 0..17usize {
-        let mut shelf = FolderShelf::open(&rt, alloc, "ahead/many")?;
+        let mut shelf = ReadAheadShelf::open(&rt, alloc, "ahead/many")?;
         for count in COUNTS {
-            shelf.read_ahead(&rt, alloc, names(alloc, 0, *count)?.as_slice(), threads)?;
+            shelf.read_ahead(&rt, alloc, names(alloc, 0, *count)?.as_slice(), threads);
             for number in 0..*count {
                 assert!(&rt; gives(&mut shelf, alloc, number)?);
             }
@@ -97,13 +97,13 @@ fn another_read_or_a_write(rt: HostRuntime) -> Result<(), AllocError> {
     assert!(&rt; make_files(&rt, alloc, "ahead/other")?);
     let all = names(alloc, 0, 300)?;
     let second = names(alloc, 1, 2)?;
-    let mut shelf = FolderShelf::open(&rt, alloc, "ahead/other")?;
-    shelf.read_ahead(&rt, alloc, all.as_slice(), 4)?;
+    let mut shelf = ReadAheadShelf::open(&rt, alloc, "ahead/other")?;
+    shelf.read_ahead(&rt, alloc, all.as_slice(), 4);
     assert!(&rt; gives_each(&mut shelf, alloc, &[0, 2, 1, 1])?);
-    shelf.read_ahead(&rt, alloc, all.as_slice(), 4)?;
+    shelf.read_ahead(&rt, alloc, all.as_slice(), 4);
     assert!(&rt; written(&mut shelf, alloc, "0", b"new") == Ok(()));
     assert!(&rt; reads(&mut shelf, alloc, "0", 4, b"new"));
-    shelf.read_ahead(&rt, alloc, second.as_slice(), 4)?;
+    shelf.read_ahead(&rt, alloc, second.as_slice(), 4);
     assert!(&rt; reads(&mut shelf, alloc, "1", 0, b""));
     assert!(&rt; shelf.failures() == 0);
     Ok(())
@@ -121,8 +121,8 @@ fn failures_of_reads_ahead(rt: HostRuntime) -> Result<(), AllocError> {
     assert!(&rt; fs::create_dir_all(&rt, "ahead/failing/301").is_ok());
     let names = names(alloc, 290, 302)?;
     for threads in THREADS {
-        let mut shelf = FolderShelf::open(&rt, alloc, "ahead/failing")?;
-        shelf.read_ahead(&rt, alloc, names.as_slice(), *threads)?;
+        let mut shelf = ReadAheadShelf::open(&rt, alloc, "ahead/failing")?;
+        shelf.read_ahead(&rt, alloc, names.as_slice(), *threads);
         for number in 290..300usize {
             assert!(&rt; gives(&mut shelf, alloc, number)?);
         }
@@ -139,7 +139,7 @@ fn memory_reads_nothing_ahead(rt: HostRuntime) -> Result<(), AllocError> {
     let alloc = rt.alloc();
     let mut shelf = shelf_of(alloc, &[("0", b""), ("1", b"a")])?;
     shelf.fail_at(1);
-    shelf.read_ahead(&rt, alloc, names(alloc, 0, 300)?.as_slice(), 4)?;
+    shelf.read_ahead(&rt, alloc, names(alloc, 0, 300)?.as_slice(), 4);
     assert!(&rt; gives(&mut shelf, alloc, 0)? && shelf.failures() == 0);
     assert!(&rt; fails(&mut shelf, alloc, "1", 4));
     assert!(&rt; gives(&mut shelf, alloc, 1)? && shelf.failures() == 1);

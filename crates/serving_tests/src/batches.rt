@@ -1,11 +1,11 @@
 //! Answering lists in batches: of one request, of a part of a list, and of whole racks.
-use crate::shared::{LIST_OF_FOUR, are_answered, serve_shelf, shelf_of};
+use crate::calls::Calls;
+use crate::shared::{LIST_OF_FOUR, OF_REQUEST, are_answered, serve_shelf, shelf_of};
 use farm_core::{NoPause, Pause};
 use farm_serving::{Answered, MemoryShelf, ReadRequest};
 use lrc_code::{Outcome, Place};
 use std::alloc::{AllocError, Global};
 use std::sync::Wait;
-use std::sync::atomic::{AtomicU64, Ordering};
 use std::thread::Threads;
 
 const HEADER: &[u8] = b"order,stripe,target,length,survivors\n";
@@ -108,9 +108,20 @@ fn batches_of_one_request(rt: HostRuntime) -> Result<(), AllocError> {
 
 const WORKERS: &[usize] = &[1, 3, 16];
 
-const MOST: &[u64] = &[0, 3, 6, 9, 11, 12, 24, 27, u64::MAX];
+const MOST: &[u64] = &[
+    0,
+    OF_REQUEST,
+    2 * OF_REQUEST,
+    3 * OF_REQUEST,
+    4 * OF_REQUEST - 1,
+    4 * OF_REQUEST,
+    5 * OF_REQUEST,
+    10 * OF_REQUEST,
+    15 * OF_REQUEST,
+    u64::MAX,
+];
 
-// A batch is a request, two, three, a list, two racks or all; a rack with two feeds is never cut.
+// A batch is a request, two, three, a list, two racks or all; a rack with two feeds is cut as one with a list.
 #[test]
 fn batches_of_any_size(rt: HostRuntime) -> Result<(), AllocError> {
     for workers in WORKERS {
@@ -121,78 +132,20 @@ fn batches_of_any_size(rt: HostRuntime) -> Result<(), AllocError> {
     Ok(())
 }
 
-// Counts the calls, with a decimal digit for each order of each rack.
-#[derive(Drop)]
-struct Calls {
-    before: AtomicU64,
-    after: AtomicU64,
-    ahead: AtomicU64,
-    behind: AtomicU64,
-}
-
-fn digit(rack: usize, number: u64) -> u64 {
-    let mut one = 1u64;
-    for _place in 0..(rack as u64)
-        .saturating_mul(5)
-        .saturating_add(number)
-        .min(18)
-    {
-        one = one.saturating_mul(10);
-    }
-    one
-}
-
-impl Pause for Calls {
-    fn before(&self, rack: usize, number: u64) {
-        self.before.fetch_add(digit(rack, number), Ordering::SeqCst);
-    }
-
-    fn after(&self, rack: usize, number: u64) {
-        self.after.fetch_add(digit(rack, number), Ordering::SeqCst);
-    }
-
-    fn ahead(&self, rack: usize, _feed: usize, position: usize) {
-        self.ahead
-            .fetch_add(digit(rack, position as u64), Ordering::SeqCst);
-    }
-
-    fn behind(&self, rack: usize, _feed: usize, position: usize) {
-        self.behind
-            .fetch_add(digit(rack, position as u64), Ordering::SeqCst);
-    }
-}
-
 // The numbers that name each request before a close once, and each request and close.
 const ALL_REQUESTS: u64 = 11_110_111_101_111;
 
 const ALL_ORDERS: u64 = 111_111_111_111_111;
 
-impl Calls {
-    fn new() -> Calls {
-        Calls {
-            before: AtomicU64::new(0),
-            after: AtomicU64::new(0),
-            ahead: AtomicU64::new(0),
-            behind: AtomicU64::new(0),
-        }
-    }
-
-    fn are_all(&self) -> bool {
-        self.before.load(Ordering::SeqCst) == ALL_REQUESTS
-            && self.after.load(Ordering::SeqCst) == ALL_REQUESTS
-            && self.ahead.load(Ordering::SeqCst) == ALL_ORDERS
-            && self.behind.load(Ordering::SeqCst) == ALL_ORDERS
-    }
-}
-
-const CUTS: &[u64] = &[1, 6, 12, u64::MAX];
+const CUTS: &[u64] = &[1, 2 * OF_REQUEST, 4 * OF_REQUEST, u64::MAX];
 
 // However the racks are cut, a pause is given each request once, by its rack's number and its own, and each close.
 #[test]
 fn a_pause_is_given_the_numbers_of_all_lists(rt: HostRuntime) -> Result<(), AllocError> {
     for most in CUTS {
         let calls = Calls::new();
-        assert!(&rt; are_racks_answered(&rt, rt.alloc(), 2, *most, &calls)? && calls.are_all());
+        assert!(&rt; are_racks_answered(&rt, rt.alloc(), 2, *most, &calls)?);
+        assert!(&rt; calls.are(ALL_REQUESTS, ALL_ORDERS));
     }
     Ok(())
 }

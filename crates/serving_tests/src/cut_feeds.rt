@@ -1,6 +1,7 @@
 //! Racks with several feeds that are cut into batches: which requests of each feed are answered.
-use crate::shared::{are_answered, shelf_of};
-use farm_core::NoPause;
+use crate::calls::Calls;
+use crate::shared::{OF_REQUEST, are_answered, shelf_of};
+use farm_core::{NoPause, Pause};
 use farm_serving::{Answered, MemoryShelf, ReadRequest};
 use lrc_code::Outcome;
 use std::alloc::{AllocError, Global};
@@ -60,11 +61,12 @@ fn list_of(alloc: Global, orders: &str) -> Result<Vec<u8>, AllocError> {
 }
 
 // Whether the answers to the one rack with these feeds are as asked, with so many workers and batches of so many bytes.
-fn is_answered<R: Threads + Wait + Sync, F: Fn(&Answered) -> bool>(
+fn is_answered<R: Threads + Wait + Sync, P: Pause, F: Fn(&Answered) -> bool>(
     rt: &R,
     alloc: Global,
     feeds: &[&str],
     settings: (usize, u64),
+    pause: &P,
     is_right: F,
 ) -> Result<bool, AllocError>
     requires { F.IsAlwaysCallable is_right }
@@ -73,7 +75,7 @@ fn is_answered<R: Threads + Wait + Sync, F: Fn(&Answered) -> bool>(
     for (name, orders) in FEEDS.iter().zip(feeds.iter()) {
         input.place(alloc, name, list_of(alloc, orders)?.as_slice())?;
     }
-    are_answered(rt, alloc, &mut input, settings, &NoPause, is_right)
+    are_answered(rt, alloc, &mut input, settings, pause, is_right)
 }
 
 // The names before a feed's close.
@@ -159,7 +161,15 @@ fn is_whole(feeds: &[&str], answered: &Answered) -> bool {
 
 const WORKERS: &[usize] = &[1, 4];
 
-const MOST: &[u64] = &[0, 3, 6, 7, 12, 18, u64::MAX];
+const MOST: &[u64] = &[
+    0,
+    OF_REQUEST,
+    2 * OF_REQUEST,
+    2 * OF_REQUEST + 1,
+    4 * OF_REQUEST,
+    6 * OF_REQUEST,
+    u64::MAX,
+];
 
 #[test]
 fn racks_of_several_feeds_in_batches_of_any_size(rt: HostRuntime) -> Result<(), AllocError> {
@@ -168,7 +178,7 @@ fn racks_of_several_feeds_in_batches_of_any_size(rt: HostRuntime) -> Result<(), 
             for feeds in RACKS {
                 let settings = (*workers, *most);
                 let whole = |answered: &Answered| is_whole(feeds, answered);
-                assert!(&rt; is_answered(&rt, rt.alloc(), feeds, settings, whole)?);
+                assert!(&rt; is_answered(&rt, rt.alloc(), feeds, settings, &NoPause, whole)?);
             }
         }
     }
@@ -187,6 +197,24 @@ fn has_four_or_five(answered: &Answered) -> bool {
 #[test]
 fn no_piece_is_run_after_a_close(rt: HostRuntime) -> Result<(), AllocError> {
     let feeds: &[&str] = &["ab.", "abcdabcd"];
-    assert!(&rt; is_answered(&rt, rt.alloc(), feeds, (2, 0), has_four_or_five)?);
+    assert!(&rt; is_answered(&rt, rt.alloc(), feeds, (2, 0), &NoPause, has_four_or_five)?);
+    Ok(())
+}
+
+// Two feeds of four requests: the numbers 0 to 7, which both draw, and of each feed the positions 0 to 3.
+const ALL_NUMBERS: u64 = 11_111_111;
+
+const ALL_POSITIONS: u64 = 111_101_111;
+
+// However a rack of two feeds is cut, a pause is given each number of the rack once, and each position of each feed.
+#[test]
+fn a_pause_is_given_the_numbers_of_both_feeds(rt: HostRuntime) -> Result<(), AllocError> {
+    let feeds: &[&str] = &["abcd", "dcba"];
+    for most in MOST {
+        let calls = Calls::new();
+        let whole = |answered: &Answered| is_whole(feeds, answered);
+        assert!(&rt; is_answered(&rt, rt.alloc(), feeds, (2, *most), &calls, whole)?);
+        assert!(&rt; calls.are(ALL_NUMBERS, ALL_POSITIONS), "{most}");
+    }
     Ok(())
 }

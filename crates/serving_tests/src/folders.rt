@@ -1,7 +1,7 @@
 //! One run over real folders, which the test makes where it runs.
 use crate::shared::{FRAGMENTS, has_none, has_served, reads, serve_with, written};
-use farm_core::NoPause;
-use farm_serving::{FolderShelf, ServeFault, Shelf, ShelfFault};
+use farm_core::{NoPause, Settings};
+use farm_serving::{FolderShelf, Folders, ServeFault, Shelf, ShelfFault, serve_folders};
 use farm_shelves::read_front;
 use lists_tests::samples::{LIST, REPORT};
 use std::alloc::{AllocError, Global};
@@ -11,27 +11,29 @@ use std::rt::Files;
 use std::sync::atomic::{AtomicU64, Ordering};
 
 // A folder with the list and its fragments, and an empty one.
-fn make_folders<R: Files>(rt: &R, alloc: Global) -> bool {
-    if fs::create_dir_all(rt, "served/in").is_err()
-        || fs::create_dir_all(rt, "served/out").is_err()
-    {
-        return false;
+fn make_folders<R: Files>(
+    rt: &R,
+    alloc: Global,
+    input: &str,
+    output: &str,
+) -> Result<bool, AllocError> {
+    if fs::create_dir_all(rt, input).is_err() || fs::create_dir_all(rt, output).is_err() {
+        return Ok(false);
     }
     for (name, bytes) in &FRAGMENTS {
-        let Ok(path) = format!(in alloc; "served/in/{name}") else {
-            return false;
-        };
+        let path = format!(in alloc; "{input}/{name}")?;
         if fs::write(rt, path.as_str(), *bytes).is_err() {
-            return false;
+            return Ok(false);
         }
     }
-    fs::write(rt, "served/in/rack0.csv", LIST).is_ok()
+    let list = format!(in alloc; "{input}/rack0.csv")?;
+    Ok(fs::write(rt, list.as_str(), LIST).is_ok())
 }
 
 #[test]
 fn one_run_over_folders(rt: HostRuntime) -> Result<(), AllocError> {
     let alloc = rt.alloc();
-    assert!(&rt; make_folders(&rt, alloc));
+    assert!(&rt; make_folders(&rt, alloc, "served/in", "served/out")?);
     let mut input = FolderShelf::open(&rt, alloc, "served/in")?;
     let mut output = FolderShelf::open(&rt, alloc, "served/out")?;
     let served = serve_with(&rt, alloc, (1, 1), &mut input, &mut output, &NoPause);
@@ -39,6 +41,55 @@ fn one_run_over_folders(rt: HostRuntime) -> Result<(), AllocError> {
     assert!(&rt; reads(&mut output, alloc, "rack0.report.csv", 1000, REPORT));
     assert!(&rt; reads(&mut output, alloc, "rack0-0.abc.x0", 2, b"ab"));
     assert!(&rt; output.failures() == 0);
+    Ok(())
+}
+
+// The first folder is read and the second written, whatever is in them.
+#[test]
+fn folders_in_their_order(rt: HostRuntime) -> Result<(), AllocError> {
+    let alloc = rt.alloc();
+    assert!(&rt; make_folders(&rt, alloc, "ordered/in", "ordered/out")?);
+    assert!(&rt; fs::write(&rt, "ordered/out/rack0.csv", b"x").is_ok());
+    let Ok(settings) = Settings::new(2, 1) else {
+        return Err(AllocError);
+    };
+    let served = serve_folders(&rt, &rt, alloc, "ordered/in", "ordered/out", settings);
+    assert!(&rt; has_served(&served, 1, 1));
+    let mut folders = Folders::open(&rt, alloc, "ordered/in", "ordered/out")?;
+    assert!(&rt; folders.output.path() == "ordered/out");
+    assert!(&rt; reads(&mut folders.output, alloc, "rack0.report.csv", 1000, REPORT));
+    assert!(&rt; has_none(&mut folders.input, alloc, "rack0.report.csv", 1000));
+    Ok(())
+}
+
+// Whether a folder's shelf, over any runtime, gives a whole file that was written by it, and its first bytes up to a limit.
+fn gives_what_was_written<R: Files + Clone + Drop>(
+    rt: &R,
+    alloc: Global,
+    folder: &str,
+    bytes: &[u8],
+) -> Result<bool, AllocError> {
+    let mut shelf = FolderShelf::open(rt, alloc, folder)?;
+    Ok(
+        written(&mut shelf, alloc, "a", bytes) == Ok(())
+            && reads(&mut shelf, alloc, "a", usize::MAX, bytes)
+            && reads(&mut shelf, alloc, "a", 3, &bytes[..bytes.len().min(3)])
+            && shelf.failures() == 0,
+    )
+}
+
+// A file of more bytes than a fragment or a block of the system's has is written whole, and a shorter one in its place leaves none of them.
+#[test]
+fn a_long_file_is_written_whole(rt: HostRuntime) -> Result<(), AllocError> {
+    let alloc = rt.alloc();
+    assert!(&rt; fs::create_dir_all(&rt, "long").is_ok());
+    let mut bytes = Vec::new(alloc);
+    for number in 0..200_003u32 {
+        bytes.push((number % 251) as u8)?;
+    }
+    assert!(&rt; gives_what_was_written(&rt, alloc, "long", bytes.as_slice())?);
+    bytes.truncate(65_537);
+    assert!(&rt; gives_what_was_written(&rt, alloc, "long", bytes.as_slice())?);
     Ok(())
 }
 

@@ -9,6 +9,8 @@ mod batches;
 #[cfg(test)]
 mod beside;
 #[cfg(test)]
+mod calls;
+#[cfg(test)]
 mod checked;
 #[cfg(test)]
 mod cut_feeds;

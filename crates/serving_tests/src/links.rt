@@ -1,7 +1,7 @@
 //! Links in a folder, and what they lead to: files, folders, nothing, and each other.
-use crate::shared::{fails, has_none, has_served, reads, serve_with};
+use crate::shared::{fails, has_none, has_served, reads, serve_with, written};
 use farm_core::NoPause;
-use farm_serving::{FolderShelf, ServeFault, Shelf};
+use farm_serving::{FolderShelf, ReadAheadShelf, ServeFault, Shelf, ShelfFault};
 use lists_tests::samples::LIST;
 use std::alloc::{AllocError, Global};
 use std::fs;
@@ -53,7 +53,7 @@ fn all_names(alloc: Global) -> Result<Vec<(String, usize)>, AllocError> {
 }
 
 // Whether a name of the folder is read as it must be.
-fn is_as_named(shelf: &mut FolderShelf<HostRuntime>, alloc: Global, name: &str) -> bool {
+fn is_as_named<S: Shelf>(shelf: &mut S, alloc: Global, name: &str) -> bool {
     let failures = shelf.failures();
     if FAILING.contains(&name) {
         return fails(shelf, alloc, name, 2) && shelf.failures() == failures.saturating_add(1);
@@ -85,11 +85,33 @@ fn links_read_ahead(rt: HostRuntime) -> Result<(), AllocError> {
     assert!(&rt; make_links(&rt, alloc, "links/ahead")?);
     let names = all_names(alloc)?;
     for threads in 0..5usize {
-        let mut shelf = FolderShelf::open(&rt, alloc, "links/ahead")?;
-        shelf.read_ahead(&rt, alloc, names.as_slice(), threads)?;
+        let mut shelf = ReadAheadShelf::open(&rt, alloc, "links/ahead")?;
+        shelf.read_ahead(&rt, alloc, names.as_slice(), threads);
         for (name, _) in names.iter() {
             assert!(&rt; is_as_named(&mut shelf, alloc, name.as_str()), "{name}");
         }
+    }
+    Ok(())
+}
+
+// A write goes to a regular file, also by a link, or makes one where a link leads to nothing. Anything else is left alone.
+#[test]
+fn writes_by_links(rt: HostRuntime) -> Result<(), AllocError> {
+    let alloc = rt.alloc();
+    assert!(&rt; make_links(&rt, alloc, "links/written")?);
+    let mut shelf = FolderShelf::open(&rt, alloc, "links/written")?;
+    for name in FAILING {
+        let failures = shelf.failures();
+        let answer = written(&mut shelf, alloc, name, b"new");
+        assert!(&rt; answer == Err(ShelfFault::Device), "{name}");
+        assert!(&rt; shelf.failures() == failures.saturating_add(1), "{name}");
+    }
+    for (name, leads_to) in &[("to-link", "there"), ("to-nothing", "nowhere")] {
+        assert!(&rt; written(&mut shelf, alloc, name, name.as_bytes()) == Ok(()));
+        assert!(&rt;
+            reads(&mut shelf, alloc, leads_to, 100, name.as_bytes()),
+            "{name}"
+        );
     }
     Ok(())
 }

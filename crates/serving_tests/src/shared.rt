@@ -18,6 +18,9 @@ close,,,,
 rebuild,a,x0,1,x1 x2 px
 ";
 
+/// What a request with three survivors of one byte counts in a batch: 512 bytes, and for each survivor 512 more than its own.
+pub(crate) const OF_REQUEST: u64 = 512 + 3 * 513;
+
 /// The fragments that give 61 62 63 at x0.
 pub(crate) const FRAGMENTS: [(&str, &[u8]); 3] = [
     ("abc.x1", &[0, 0, 0]),

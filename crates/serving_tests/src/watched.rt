@@ -26,15 +26,10 @@ impl Named {
         }
     }
 
-    // Keeps the files of a call, in place of those of the call before it.
-    fn keep(&mut self, alloc: Global, files: &[(String, usize)]) -> Result<(), AllocError> {
-        let mut kept = Vec::new(alloc);
-        for (name, limit) in files {
-            kept.push((String::from_str(alloc, name.as_str())?, *limit))?;
-        }
-        self.files = kept;
+    // Keeps the files of a call, in place of those of the call before it; none where memory is refused.
+    fn keep(&mut self, alloc: Global, files: &[(String, usize)]) {
+        self.files = copy_of(alloc, files).unwrap_or(Vec::new(alloc));
         self.next = 0;
-        Ok(())
     }
 
     // Counts a read, if it is of the file that was named next.
@@ -46,6 +41,15 @@ impl Named {
             }
         }
     }
+}
+
+// A copy of names and limits.
+fn copy_of(alloc: Global, files: &[(String, usize)]) -> Result<Vec<(String, usize)>, AllocError> {
+    let mut copy = Vec::new(alloc);
+    for (name, limit) in files {
+        copy.push((String::from_str(alloc, name.as_str())?, *limit))?;
+    }
+    Ok(copy)
 }
 
 /// A shelf that keeps which files are named ahead of their reads, and which beside the latest work. It writes none, and its device
@@ -101,20 +105,20 @@ impl Shelf for WatchedShelf {
         alloc: Global,
         files: &[(String, usize)],
         _threads: usize,
-    ) -> Result<(), AllocError> {
-        self.ahead.keep(alloc, files)
+    ) {
+        self.ahead.keep(alloc, files);
     }
 
-    fn read_beside<H: Threads + Sync, T: Drop, F: FnOnce() -> T>(
+    fn read_beside<H: Threads + Sync, T: Drop, E: Drop, F: Fn() -> Result<T, E>>(
         &mut self,
         _rt: &H,
         alloc: Global,
         files: &[(String, usize)],
         _threads: usize,
         work: F,
-    ) -> Result<T, AllocError> {
-        self.beside.keep(alloc, files)?;
-        Ok(work())
+    ) -> Result<T, E> {
+        self.beside.keep(alloc, files);
+        work()
     }
 
     fn write(&mut self, _alloc: Global, _name: &str, _bytes: &[u8]) -> Result<(), ShelfFault> {

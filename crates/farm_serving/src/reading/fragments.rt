@@ -142,6 +142,22 @@ pub(crate) fn push_fragment_files(
     Ok(())
 }
 
+// Lets the shelf read the requests' listed survivors ahead, unless memory is refused for their names.
+fn read_ahead<R: Threads + Sync, I: Shelf>(
+    rt: &R,
+    alloc: Global,
+    input: &mut I,
+    requests: &[&Listed],
+    threads: usize,
+)
+    ensures same { I.files input.new ≡ I.files input.old }
+    ensures calm { I.failed input.new ≡ I.failed input.old }
+{
+    if let Ok(files) = fragment_files(alloc, requests) {
+        input.read_ahead(rt, alloc, files.as_slice(), threads);
+    }
+}
+
 // The orders of requests with the survivors that were read, and of a close after them where one is asked for; and each request with the
 // places of the others.
 fn read_requests<'a, R: Threads + Sync, I: Shelf>(
@@ -166,8 +182,7 @@ fn read_requests<'a, R: Threads + Sync, I: Shelf>(
     ensures more { I.failed input.old ≤ I.failed input.new }
     ensures few { I.failed input.new ≤ I.failed input.old + survivor_limit * length requests.now }
 {
-    let files = fragment_files(alloc, requests)?;
-    input.read_ahead(rt, alloc, files.as_slice(), threads)?;
+    read_ahead(rt, alloc, input, requests, threads);
     let mut orders = Vec::new(alloc);
     let mut read = Vec::new(alloc);
     for index in 0..requests.len() {

@@ -26,7 +26,7 @@ fn requests_of(alloc: Global, list: &RackList) -> Result<Vec<&Request>, AllocErr
     Ok(requests)
 }
 
-// The reply to rack 0's request of this number: its answer, or that memory was wanting.
+// The reply to rack 0's request of this number: its answer, or that memory was refused.
 fn reply_of(
     alloc: Global,
     number: usize,
@@ -56,7 +56,7 @@ fn accepts<'a>(collector: &mut Collector<'a>, reply: Reply<'a>) -> bool
 }
 
 /// What a collector ends with that gets the replies to rack 0's requests of these numbers, in this order. Those that are
-/// starved say that memory was wanting.
+/// starved say that memory was refused.
 pub(crate) fn gathered(
     alloc: Global,
     racks: &Racks,

@@ -133,10 +133,6 @@ pub returns-in_err-requests-2-clause-few : goal.returns-in_err-requests-2-clause
 returns-in_err-requests-2-clause-few g c = (fails g (goal.at.returns-in_err-requests-2-clause-few g c).After-as_slice-in-loop-first-3 _
     c.in_ok-orders.ensures.few).1
 
-pub returns-in_err-own-clause-few : goal.returns-in_err-own-clause-few
-returns-in_err-own-clause-few g c = (fails g (goal.at.returns-in_err-own-clause-few g c).After-as_slice-in-loop-first-3 _
-    c.in_ok-orders.ensures.few).1
-
 pub returns-in_err-ended-clause-few : goal.returns-in_err-ended-clause-few
 returns-in_err-ended-clause-few g c = omega (
   arith,

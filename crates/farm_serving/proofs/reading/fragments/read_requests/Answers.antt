@@ -65,9 +65,9 @@ pub loop-index-init : goal.loop-index-init
 loop-index-init g c = (
   [],
   tt,
-  c.in_ok-read_ahead.ensures.same,
-  omega (arith, c.in_ok-read_ahead.ensures.failure),
-  omega (arith, c.in_ok-read_ahead.ensures.failure),
+  c.read_ahead.ensures.same,
+  omega (arith, c.read_ahead.ensures.calm),
+  omega (arith, c.read_ahead.ensures.calm),
   ([], c.new-orders.ensures.items, refl),
   ap length c.new-read.ensures.items,
   λ there e. (c.new-orders.ensures.items, ap (map read_of) c.new-read.ensures.items),
