@@ -55,7 +55,7 @@ pub fn repair_stripe(
         let Some(out) = repair_from(rt, repair, stripe, &survivors, &mut outcome)? else {
             break;
         };
-        survivors.set = without(survivors.set, out);
+        survivors.set = without(survivors.code, survivors.set, out);
     }
     Ok(outcome)
 }

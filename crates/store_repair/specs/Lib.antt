@@ -1,3 +1,4 @@
 pub mod Shown
 pub mod Windows
 pub mod Mended
+pub mod Damage
