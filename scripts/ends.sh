@@ -150,13 +150,14 @@ ends report-is-a-fifo 3 '' E24 farm "$scratch/one" "$scratch/one-out"
 rm "$scratch/one-out/"*
 for bad in fifo socket loop no-files /dev/full; do
   [ "$bad" = /dev/full ] || bad=$scratch/$bad
-  for name in rack0.report.csv rack0-0.a.x0; do
+  for name in rack0-0.a.x0 rack0.report.csv; do
     ln -s "$bad" "$scratch/one-out/$name"
     ends "written-${bad##*/}-$name" 3 '' E24 farm "$scratch/one" "$scratch/one-out"
-    rm "$scratch/one-out/$name"
+    [ -h "$scratch/one-out/$name" ] || fail "written-${bad##*/}-$name" 'replaced it'
+    [ "$name" = rack0.report.csv ] || [ "$(ls "$scratch/one-out")" = "$name" ] || fail "written-${bad##*/}-$name" 'went on'
+    rm "$scratch/one-out/"*
   done
 done
-[ "$(ls "$scratch/one-out")" = rack0-0.a.x0 ] || fail written 'wrote another file'
 echo old > "$scratch/linked"
 ln -s "$scratch/linked" "$scratch/one-out/rack0.report.csv"
 ends report-by-a-link 0 'served 1 racks, 1 answers' '' farm "$scratch/one" "$scratch/one-out"

@@ -87,7 +87,7 @@ def main():
     # A fragment takes the room that it lists, and a plan's arena ends with its request.
     farm("small fragments", [rows(MOST_RECORDS, 1, WIDE, "12-2-2")] * 4, 1, WIDE, 60 * MEGABYTE)
     # The folder with the most survivors that there may be: 3,932,160 files to read. Beside a batch are its lists and answers.
-    farm("most small fragments", [rows(MOST_RECORDS, 1, WIDE, "12-2-2")] * 4, 1, WIDE, 400 * MEGABYTE, racks=16)
+    farm("most small fragments", [rows(MOST_RECORDS, 1, WIDE, "12-2-2")] * 4, 1, WIDE, 200 * MEGABYTE, racks=16)
     # Room is taken for the survivors of a batch, also for those that aren't there, and not for all that are listed.
     absent = rows(MOST_RECORDS, GREATEST, WIDE, "12-2-2")
     farm("absent survivors", [absent], 1, "", 60 * MEGABYTE, limit=400_000)
