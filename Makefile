@@ -20,12 +20,16 @@ TARGET :=
 LIBRARY := crates/lrc_c/out$(if $(TARGET),/$(TARGET))
 LIBRARY_CC := $(if $(TARGET),$(subst -unknown,,$(TARGET))-gcc,$(CC))
 
-.PHONY: build demo try install uninstall library install-library uninstall-library ceph install-ceph uninstall-ceph try-ceph test levels \
+.PHONY: build store demo try install uninstall library install-library uninstall-library ceph install-ceph uninstall-ceph try-ceph test levels \
   wrong-bodies scale bench
 
 # Proves the program and the crates that it uses, and builds crates/rebuild/out/rebuild. JOBS=N has it use N processors.
 build:
 	@scripts/build.py rebuild $(CPU) $(JOBS)
+
+# Proves and builds the program that repairs stores: crates/rebuild_store/out/rebuild_store. It isn't installed yet.
+store:
+	@scripts/build.py rebuild_store $(CPU) $(JOBS)
 
 demo: build
 	@scripts/demo.sh
