@@ -6,6 +6,7 @@ the program leaves is compared byte by byte with what was there.
 
 Each expected line, status and file is worked out here; nothing is taken from the program's own output."""
 
+import fcntl
 import os
 import pathlib
 import random
@@ -13,6 +14,7 @@ import shutil
 import subprocess
 import sys
 import tempfile
+import time
 
 # No compiled copy of the modules is left beside them.
 sys.dont_write_bytecode = True
@@ -23,6 +25,9 @@ PROGRAM = pathlib.Path(sys.argv[1] if sys.argv[1:] else ROOT / "crates/rebuild_s
 CODES = ("6-2-2", "12-2-2")
 # The windows in which the program reads fragments have so many bytes; lengths around them are tried.
 WINDOW = 65_536
+# How often a run is killed in each code's store, and after how many seconds at most.
+KILLS = 20
+LONGEST_BEFORE_KILL = 0.06
 passed = 0
 
 
@@ -163,6 +168,56 @@ def test_requests(folder, code, choose):
     check(output == f"{header}\nrebuild,s001,x2,20,{others}{',12-2-2' * wide}\n", output)
 
 
+def test_odd_names(folder, code, choose):
+    """Stripes with names that files can have come back, and a name that is no UTF-8 is left alone."""
+    folder.mkdir()
+    names = ["with space", "with,comma", 'with"quote', "with\nline", "with.dots..", "\u00e9t\u00e9", "n" * 250, "-", "a.x0"]
+    stripes = {name: stripe(code, 33, choose) for name in names}
+    for name, fragments in stripes.items():
+        for place, data in fragments.items():
+            (folder / f"{name}.{place}").write_bytes(data)
+        (folder / f"{name}.y0").unlink()
+    odd = os.fsencode(folder) + b"/\xff.x0"
+    with open(odd, "wb") as file:
+        file.write(b"odd")
+    output, errors = run("repair", folder, "--code", code, status=0)
+    check(output.startswith(f"repaired {len(names)} fragments "), output + errors)
+    with open(odd, "rb") as file:
+        check(file.read() == b"odd", "a name that is no UTF-8 was not left alone")
+    os.unlink(odd)
+    check(is_whole(folder, stripes), "a stripe with an odd name isn't what it was")
+
+
+def test_two_at_once(folder, code, choose):
+    """While one run works in a store another is refused."""
+    make(folder, code, [5], choose)
+    held = os.open(folder, os.O_RDONLY)
+    fcntl.flock(held, fcntl.LOCK_EX)
+    _, errors = run("repair", folder, "--code", code, status=1)
+    check("another run works in this store" in errors, errors)
+    os.close(held)
+    run("repair", folder, "--code", code, status=0)
+
+
+def test_kills(folder, code, choose):
+    """A run that is killed leaves each name absent or whole, and the next one ends the work and removes what it left."""
+    stripes = make(folder, code, [2 * WINDOW] * 12, choose)
+    wanted = {f"{name}.{place}": data for name, fragments in stripes.items() for place, data in fragments.items()}
+    for _turn in range(KILLS):
+        for name, fragments in stripes.items():
+            for place in choose.sample(list(fragments), 3):
+                (folder / f"{name}.{place}").unlink()
+        run_that_dies = subprocess.Popen([PROGRAM, "repair", folder, "--code", code], stdout=subprocess.DEVNULL, stderr=subprocess.DEVNULL)
+        time.sleep(choose.random() * LONGEST_BEFORE_KILL)
+        run_that_dies.kill()
+        run_that_dies.wait()
+        for path in folder.iterdir():
+            if not path.name.startswith(".rebuild-store-"):
+                check(path.read_bytes() == wanted.get(path.name), f"{path.name} isn't whole after a kill")
+        run("repair", folder, "--code", code, status=0)
+        check(is_whole(folder, stripes), "the run after a kill didn't end the work")
+
+
 def test_refusals(folder):
     """Mistakes of arguments, a folder that is no store, and one that isn't there."""
     run(status=2)
@@ -182,7 +237,8 @@ def test_refusals(folder):
 
 def main():
     choose = random.Random(2026)
-    tests = (test_losses, test_damage, test_too_many, test_odd_files, test_owner_and_mode, test_requests)
+    tests = (test_losses, test_damage, test_too_many, test_odd_files, test_owner_and_mode, test_requests, test_odd_names,
+             test_two_at_once, test_kills)
     with tempfile.TemporaryDirectory() as scratch:
         place = pathlib.Path(scratch)
         for code in CODES:
