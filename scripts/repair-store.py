@@ -218,6 +218,19 @@ def test_kills(folder, code, choose):
         check(is_whole(folder, stripes), "the run after a kill didn't end the work")
 
 
+def test_other_stores(folder, code, choose):
+    """A folder none of whose stripes fits the code is refused, and nothing in it changes."""
+    stripes = make(folder, code, [50, 60], choose)
+    for name, fragments in stripes.items():
+        for place in fragments:
+            (folder / f"{name}.{place}").write_bytes(choose.randbytes(50))
+    (folder / "s000.x0").unlink()
+    before = {path.name: path.read_bytes() for path in folder.iterdir()}
+    _, errors = run("repair", folder, "--code", code, status=1)
+    check("is this the store?" in errors, errors)
+    check({path.name: path.read_bytes() for path in folder.iterdir()} == before, "a folder that is no store was changed")
+
+
 def test_refusals(folder):
     """Mistakes of arguments, a folder that is no store, and one that isn't there."""
     run(status=2)
@@ -238,7 +251,7 @@ def test_refusals(folder):
 def main():
     choose = random.Random(2026)
     tests = (test_losses, test_damage, test_too_many, test_odd_files, test_owner_and_mode, test_requests, test_odd_names,
-             test_two_at_once, test_kills)
+             test_two_at_once, test_kills, test_other_stores)
     with tempfile.TemporaryDirectory() as scratch:
         place = pathlib.Path(scratch)
         for code in CODES:

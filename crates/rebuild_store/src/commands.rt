@@ -1,9 +1,10 @@
 //! The commands `repair` and `scrub` over all stripes of a store.
 use crate::arguments::Options;
+use crate::fitting::refuse_other_stores;
 use crate::outcomes::{Outcome, totals_of};
 use crate::repairing::Repair;
 use crate::statuses::{DEVICE, DONE, LEFT};
-use crate::stores::{Store, lock};
+use crate::stores::Store;
 use crate::workers::{Work, work_on};
 use std::io;
 use std::thread::Threads;
@@ -16,19 +17,20 @@ pub fn repair_all<R: Threads + Sync>(
     store: &Store,
     options: &Options,
 ) -> io::Result<u8> {
-    let alloc = system.alloc();
     let folder = store.folder.as_str();
-    let _lock = match lock(system, folder) {
-        Ok(lock) => lock,
-        Err(fault) => {
-            eprintln!(system; "rebuild-store: {fault}")?;
-            return Ok(LEFT);
-        }
-    };
-    if !options.dry_run {
-        remove_leftovers(system, alloc, folder, store.listing.leftovers.as_slice())?;
-    }
     let stripes = store.stripes(system)?;
+    if let Some(fault) = refuse_other_stores(system, store, stripes.as_slice())? {
+        eprintln!(system; "rebuild-store: {fault}")?;
+        return Ok(LEFT);
+    }
+    if !options.dry_run {
+        remove_leftovers(
+            system,
+            system.alloc(),
+            folder,
+            store.listing.leftovers.as_slice(),
+        )?;
+    }
     let work = Work::Repair(Repair {
         folder,
         code: store.code,

@@ -13,6 +13,8 @@ pub struct Store {
     pub folder: String,
     pub code: Code,
     pub listing: Listing,
+    /// Keeps other repairs out for as long as the store is open for one.
+    pub lock: Option<File>,
 }
 
 /// A stripe of which there are files.
@@ -47,10 +49,19 @@ impl From<AllocError> for StoreFault {
     }
 }
 
-/// Opens the store that the options name. Its code is the one that they name, or else what the places of the files say: 12-2-2 where one of
-/// them is a place of that code alone.
-pub fn open_store(rt: &HostRuntime, options: &Options) -> Result<Store, StoreFault> {
+/// Opens the store that the options name; for a repair no other repair works in it meanwhile. Its code is the one that they name, or else
+/// what the places of the files say: 12-2-2 where one of them is a place of that code alone.
+pub fn open_store(
+    rt: &HostRuntime,
+    options: &Options,
+    is_repair: bool,
+) -> Result<Store, StoreFault> {
     let folder = String::from_str(rt.alloc(), options.store.as_str())?;
+    let lock = if is_repair {
+        Some(lock_folder(rt, folder.as_str())?)
+    } else {
+        None
+    };
     let listing = match list(rt, folder.as_str()) {
         Ok(listing) => listing,
         Err(error) => return Err(device_fault(folder, error)),
@@ -66,11 +77,12 @@ pub fn open_store(rt: &HostRuntime, options: &Options) -> Result<Store, StoreFau
         folder,
         code,
         listing,
+        lock,
     })
 }
 
-/// Keeps other runs out of a folder until the file is closed.
-pub fn lock(rt: &HostRuntime, folder: &str) -> Result<File, StoreFault> {
+// Keeps other repairs out of a folder until the file is closed.
+fn lock_folder(rt: &HostRuntime, folder: &str) -> Result<File, StoreFault> {
     let name = String::from_str(rt.alloc(), folder)?;
     let file = match fs::open(rt, folder) {
         Ok(file) => file,
