@@ -38,11 +38,11 @@ fewer h false s w e = refl
 
 module _ (code : CodeName) (survives : Place → Bool) (at : List (List ℕ)) (len : ℕ) (whole : AreWhole code survives at len) (p : Place)
   where
-  pub own_others : (q : Place) → (has_place (tables_of code) q && all_but survives p q) ≡ all_but survives p q
-  own_others q = own (has_place (tables_of code) q) (survives q) (same_place p q) (length (at_place at q) == len) (whole q)
+    pub own_others : (q : Place) → (has_place (tables_of code) q && all_but survives p q) ≡ all_but survives p q
+    own_others q = own (has_place (tables_of code) q) (survives q) (same_place p q) (length (at_place at q) == len) (whole q)
 
-  pub whole_others : AreWhole code (all_but survives p) at len
-  whole_others q = fewer (has_place (tables_of code) q) (survives q) (same_place p q) (length (at_place at q) == len) (whole q)
+    pub whole_others : AreWhole code (all_but survives p) at len
+    whole_others q = fewer (has_place (tables_of code) q) (survives q) (same_place p q) (length (at_place at q) == len) (whole q)
 
 module _ (code : CodeName) (survives : Place → Bool) (at : List (List ℕ)) (len n : ℕ) (p : Place) (here : index_of p ≡ n) where
   -- a place at the index n is p
