@@ -5,7 +5,9 @@ ghost use Rattle.lrc_code.specs.Codes.{tables_of};
 ghost use Rattle.lrc_code.specs.Reduction.{IsReduction};
 ghost use Rattle.lrc_code.specs.Sets.{is_in};
 ghost use Rattle.store_repair.specs.Mended.{AreLost};
+ghost use Rattle.store_repair.specs.Opened.{AreApart};
 
+use crate::stripes::nth_place;
 use lrc_code::{Code, Place, PlaceSet, Reduced};
 use lrc_plan::{check_rows, reduce_by_lost, value_from};
 use std::alloc::{AllocError, Global};
@@ -22,6 +24,7 @@ pub struct LostPlaces {
 /// The lost places of a stripe of which the fragments at some places survive.
 pub fn lost_places(alloc: Global, code: Code, survivors: PlaceSet) -> Result<LostPlaces, AllocError>
     ensures determined { IfOk result (λ lost. AreLost code (is_in survivors) lost.determined.items) }
+    ensures apart { IfOk result (λ lost. AreApart lost.determined.items) }
     ensures several { IfOk result (λ lost. AreLost code (is_in survivors) lost.several.items) }
 {
     Ok(LostPlaces {
@@ -37,13 +40,15 @@ fn places_where(
     survivors: PlaceSet,
     determined: bool,
 ) -> Result<Vec<Place>, AllocError>
-    ensures { IfOk result (λ v. AreLost code (is_in survivors) v.items) }
+    ensures lost { IfOk result (λ v. AreLost code (is_in survivors) v.items) }
+    ensures apart { IfOk result (λ v. AreApart v.items) }
 {
     let reduced = reduce_by_lost(code, survivors);
     let mut places = Vec::new(alloc);
-    for place in &Place::ALL {
-        if is_lost_and(code, &reduced, survivors, *place, determined) {
-            places.push(*place)?;
+    for index in 0..16 {
+        let place = nth_place(index);
+        if is_lost_and(code, &reduced, survivors, place, determined) {
+            places.push(place)?;
         }
     }
     Ok(places)

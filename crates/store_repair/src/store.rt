@@ -1,7 +1,10 @@
-//! What a store gives for a repair: fragments that survive, and new ones that are written.
-ghost use Rattle.std.specs.Prelude.{◌≡◌, ◌++◌, ℕ, List, Option, OnOk, length, option_map};
+//! What a store gives for a repair: fragments that survive, and new ones that get their names when they are whole.
+ghost use Rattle.std.specs.Prelude.{◌≡◌, ◌++◌, ℕ, List, Option, None, IfOk, OnOk, IsSome, true, false, option_map};
+ghost use Rattle.store_repair.specs.Mended.{IsEmpty};
 ghost use Rattle.store_repair.specs.Shown.{IsReadAt};
+ghost use Rattle.store_repair.specs.Store.{AreUntouched, HasName, IsOpened, SameElsewhere, ShownFiles};
 
+use lrc_code::Place;
 use std::io;
 
 /// A fragment that survives, open for reading. Contracts see its bytes where they are shown; those of a file of the system are not, since
@@ -21,4 +24,59 @@ pub trait NewFragment {
     /// Writes `bytes` after those that were written before.
     fn append(&mut self, bytes: &[u8]) -> io::Result<()>
         ensures { OnOk result (shown self.new ≡ option_map (λ written. written ++ bytes.now) (shown self.old)) };
+}
+
+/// What became of a fragment that was to get its name.
+#[derive(Clone, Copy, Debug, PartialEq, Eq)]
+pub enum Placed {
+    /// It has its name.
+    Placed,
+    /// Something is under its name, or under the second name of what it was to replace. That stays.
+    IsThere,
+}
+
+/// A store: fragments under the names of their stripes and places. Contracts see them where they are shown; those of a folder are not,
+/// since other programs may change it.
+pub trait Store {
+    /// A fragment that is open for reading.
+    type Survivor: Fragment + Drop;
+
+    /// A fragment that has no name yet.
+    type New: NewFragment + Drop;
+
+    /// The fragments by their names, where the store shows them.
+    ghost files: { Self → ShownFiles } = { λ _. None };
+
+    /// Opens a stripe's fragment, which has to have so many bytes.
+    fn open(&self, stripe: &str, place: Place, length: usize) -> io::Result<Self::Survivor>
+        ensures { IfOk result (λ f. IsOpened stripe.now place length (files self.now) (Self.Survivor.shown f)) };
+
+    /// A new fragment for a place of a stripe, still without bytes and without a name.
+    fn create(&mut self, stripe: &str, place: Place) -> io::Result<Self::New>
+        ensures same { files self.new ≡ files self.old }
+        ensures empty { IfOk result (λ f. IsEmpty (Self.New.shown f)) };
+
+    /// Gives a fragment its name, if nothing is there, and else discards it. After a failure the name has the whole fragment or nothing.
+    fn place(&mut self, file: Self::New, stripe: &str, place: Place) -> io::Result<Placed>
+        ensures untouched { AreUntouched false stripe.now (files self.old) (files self.new) }
+        ensures elsewhere { SameElsewhere stripe.now place (files self.old) (files self.new) }
+        ensures placed { IfOk result (HasName stripe.now place (Self.New.shown file) (files self.new)) };
+
+    /// Gives a fragment the name of one that is there, which is kept under its second name; if one is kept there already, the new one is
+    /// discarded. After a failure the name has the one fragment or the other.
+    fn replace(&mut self, file: Self::New, stripe: &str, place: Place) -> io::Result<Placed>
+        ensures untouched { AreUntouched true stripe.now (files self.old) (files self.new) }
+        ensures elsewhere { SameElsewhere stripe.now place (files self.old) (files self.new) }
+        ensures placed { IfOk result (HasName stripe.now place (Self.New.shown file) (files self.new)) };
+
+    /// Discards a fragment that has no name.
+    fn discard(&mut self, file: Self::New) -> io::Result<()>
+        ensures { files self.new ≡ files self.old };
+
+    /// Writes the names that were given to the disk.
+    fn settle(&mut self) -> io::Result<()>
+        ensures { files self.new ≡ files self.old };
+
+    /// Where they are shown, so are new fragments.
+    ghost new_shown: { (s : Self) (f : Self.New) → IsSome (files s) → IsSome (Self.New.shown f) };
 }

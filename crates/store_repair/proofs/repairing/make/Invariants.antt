@@ -1,0 +1,13 @@
+use Rattle.std.proofs.Common.{◌≡◌, length}
+use Rattle.store_repair.specs.Opened.{AreOpened}
+use Rattle.store_repair.proofs.repairing.make.Given as goal
+
+abbrev pub invariant-attempts : goal.invariant-attempts
+invariant-attempts g l =
+    record {
+      same : g.S.Store.files l.store ≡ g.S.Store.files l.fn.store;
+      sixteen : length l.left.fragments.items ≡ 16;
+      long : l.left.length ≡ l.fn.opened.length;
+      opened : AreOpened g.S.Survivor.Fragment.shown l.fn.code l.fn.stripe.name.now l.left.length (g.S.Store.files l.store) l.left.set
+          l.left.fragments.items;
+    }

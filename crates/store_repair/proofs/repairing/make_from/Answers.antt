@@ -1,0 +1,29 @@
+use Rattle.std.proofs.Common.{◌≡◌, IfSome, List, ap, arith, length, rules, subst, sym}
+use Rattle.lrc_code.specs.declared.places.Place.{Place}
+use Rattle.std.proofs.lemmas.List.{with_items_is, places}
+use Rattle.lrc_code.specs.Sets.{is_in}
+use Rattle.store_repair.specs.Mended.{IsMendedStripe}
+use Rattle.store_repair.specs.Shown.{AreShown}
+use Rattle.store_repair.proofs.RepairLemmas.{are_made}
+use Rattle.store_repair.proofs.repairing.make_from.Goals as goal
+
+pub returns-in-Ok-true-clause-made : goal.returns-in-Ok-true-clause-made
+returns-in-Ok-true-clause-made g c =
+    let opened = c.args.opened.now in
+    let code = c.args.code in
+    let stripe = c.args.stripe.now.name.now in
+    let lost = c.in_ok-lost.lost.determined.items in
+    let shown = g.S.New.NewFragment.shown in
+    let new = c.mend.new.files in
+    let many = subst (λ o. IfSome o (λ files. length files.items ≡ length c.as_slice-2.result.now)) c.in-Some.is
+    c.in_ok-files.ensures.many in
+    let lent = ap (λ (l : List _). length l) c.as_mut_slice.ensures.value in
+    let of = ap (λ (l : List Place). length l) c.as_slice-2.ensures.value in
+    let items = with_items_is c.in-Some.files new (search (rules, places)) in
+    let long : length new ≡ length lost = omega (arith, c.mend.auto.files, lent, many, of) in
+    rw items (are_made g.S.Survivor.Fragment.shown shown code stripe opened.length opened.set opened.fragments.items
+    c.requires.sixteen lost new (g.S.Store.files c.args.store.now) c.requires.opened long c.in_ok-lost.ensures.apart
+    (λ xs are whole. subst (λ b. IsMendedStripe shown code (is_in opened.set) xs opened.length lost new b) c.in-Ok-true.field-0-test
+    (subst (λ ps. IsMendedStripe shown code (is_in opened.set) xs opened.length ps new c.in-Ok-true.field-0) c.as_slice-3.ensures.value
+    (c.in-Ok-true.ensures.mended xs
+    (subst (λ fs. AreShown g.S.Survivor.Fragment.shown fs xs) (sym c.as_slice.ensures.value) are) whole))))

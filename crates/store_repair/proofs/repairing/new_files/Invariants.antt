@@ -1,0 +1,14 @@
+use Rattle.std.proofs.Common.{◌≡◌, ◌≤◌, ◌-◌, length, vec_len}
+use Rattle.store_repair.specs.Mended.{AreEmpty}
+use Rattle.store_repair.proofs.repairing.new_files.Given as goal
+
+abbrev pub invariant-files : goal.invariant-files
+invariant-files g l =
+    record {
+      same : g.S.Store.files l.store ≡ g.S.Store.files l.fn.store;
+      few : vec_len l.files ≤ length l.places;
+      empty : AreEmpty g.S.New.NewFragment.shown l.files.items;
+    }
+
+abbrev pub decreases-files : goal.decreases-files
+decreases-files g l = length l.places - vec_len l.files

@@ -1,0 +1,22 @@
+use Rattle.std.proofs.Common.{◌≡◌, ◌<◌, ◌≤◌, ℕ, All, false, get_or, length, vec_len}
+use Rattle.lrc_code.specs.declared.places.Place.{Place}
+use Rattle.lrc_code.specs.Places.{same_place}
+use Rattle.store_repair.specs.Opened.{IsPutOf}
+use Rattle.store_repair.specs.Store.{AreUntouched}
+use Rattle.store_repair.proofs.repairing.put_all.Given as goal
+
+abbrev pub invariant-files : goal.invariant-files
+invariant-files g l =
+    let files = g.S.Store.files in
+    let made = l.fn.made.files.items in
+    record {
+      untouched : AreUntouched l.fn.repair.replace_damaged l.fn.stripe.name.now (files l.fn.store) (files l.store);
+      places : l.places.items ≡ l.fn.made.places.items;
+      few : vec_len l.left ≤ length made;
+      same : (k : ℕ) (e : _) → k < vec_len l.left → get_or l.left.items k e ≡ get_or made k e;
+      put : All (IsPutOf g.S.New.NewFragment.shown l.places.items made l.fn.stripe.name.now (files l.store)) l.put.items;
+      far : All (λ q. (k : ℕ) (d : Place) → k < vec_len l.left → same_place (get_or l.places.items k d) q ≡ false) l.put.items;
+    }
+
+abbrev pub decreases-files : goal.decreases-files
+decreases-files g l = vec_len l.left

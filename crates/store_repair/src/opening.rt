@@ -1,0 +1,77 @@
+//! The surviving fragments of a stripe, open for reading.
+ghost use Rattle.std.specs.Prelude.{◌≡◌, IfOk, vec_len};
+ghost use Rattle.store_repair.specs.Opened.{AreOpened, IsOpenedAt};
+
+use crate::outcomes::{Finding, note, read_fault};
+use crate::store::Store;
+use crate::stripes::{Stripe, nth_place};
+use lrc_code::{Code, Place, PlaceSet};
+use std::alloc::{AllocError, Global};
+
+/// The fragments of a stripe that could be opened.
+#[derive(Drop)]
+pub struct Opened<F> {
+    /// How many bytes each has.
+    pub length: usize,
+    /// The places of those that could be opened.
+    pub set: PlaceSet,
+    /// Sixteen, by the places' indexes.
+    pub fragments: Vec<Option<F>>,
+}
+
+/// Opens the fragments of a stripe's length at the places of a code, and notes those that can't be opened.
+pub fn open_survivors<S: Store>(
+    alloc: Global,
+    store: &S,
+    code: Code,
+    stripe: &Stripe<'_>,
+    length: usize,
+    findings: &mut Vec<Finding>,
+) -> Result<Opened<S::Survivor>, AllocError>
+    ensures sixteen { IfOk result (λ opened. vec_len opened.fragments ≡ 16) }
+    ensures length { IfOk result (λ opened. opened.length ≡ length) }
+    ensures opened { IfOk result (λ opened. AreOpened S.Survivor.shown code stripe.now.name.now length (S.files store.now) opened.set
+        opened.fragments.items) }
+{
+    let mut set = PlaceSet::empty();
+    let mut fragments = Vec::with_capacity(alloc, 16)?;
+    'places: while fragments.len() < 16 {
+        let place = nth_place(fragments.len());
+        let fragment = open_at(store, code, stripe, place, length, findings)?;
+        if fragment.is_some() {
+            set = set.with(place);
+        }
+        fragments.push(fragment)?;
+    }
+    Ok(Opened {
+        length,
+        set,
+        fragments,
+    })
+}
+
+// Opens the fragment at a place, if it is the code's and has the stripe's length.
+fn open_at<S: Store>(
+    store: &S,
+    code: Code,
+    stripe: &Stripe<'_>,
+    place: Place,
+    length: usize,
+    findings: &mut Vec<Finding>,
+) -> Result<Option<S::Survivor>, AllocError>
+    ensures { IfOk result (IsOpenedAt S.Survivor.shown code stripe.now.name.now length (S.files store.now) place) }
+{
+    if !code.has(place) {
+        return Ok(None);
+    }
+    if !stripe.files.has(place, length as u64) {
+        return Ok(None);
+    }
+    match store.open(stripe.name, place, length) {
+        Ok(fragment) => Ok(Some(fragment)),
+        Err(error) => {
+            note(findings, Some(place), read_fault(error)?)?;
+            Ok(None)
+        }
+    }
+}

@@ -1,0 +1,146 @@
+//! What becomes of a stripe.
+ghost use Rattle.std.specs.Prelude.{◌≡◌, []};
+
+use crate::stripes::Found;
+use lrc_code::{Place, PlaceSet};
+use std::alloc::{AllocError, Global};
+use std::io::{self, ErrorKind};
+use thiserror::Error;
+
+/// Why a fragment, or a stripe, isn't as it should be.
+#[derive(Debug, Drop, Error)]
+pub enum Reason {
+    #[error("is lost")]
+    Absent,
+    #[error("has another length than the other fragments of the stripe")]
+    OtherLength,
+    #[error("is a link to nothing")]
+    Dangling,
+    #[error("is no regular file")]
+    NoFile,
+    #[error("can't be looked at")]
+    Unknown,
+    /// Of a stripe: none of its fragments can be read.
+    #[error("no fragment can be read")]
+    NoSurvivor,
+    /// The survivors don't determine the fragment.
+    #[error("can't be rebuilt: the fragments that survive don't determine it")]
+    Several,
+    /// Without the fragment the others belong together, and without no other.
+    #[error("is damaged: only without it the others belong together")]
+    Damaged,
+    /// Of a stripe: its survivors don't belong together, and no single one is known to be damaged.
+    #[error("contradiction, and which fragment is damaged can't be told")]
+    Contradiction,
+    /// The fragment doesn't have the bytes that the store's checksums say.
+    #[error("differs from the checksums")]
+    Differs,
+    /// The rebuilt fragment doesn't have the bytes that the store's checksums say, so it isn't put in its place.
+    #[error("was rebuilt, and what was rebuilt differs from the checksums")]
+    RebuiltDiffers,
+    #[error("can't be read: {0}")]
+    Unread(io::Error),
+    #[error("can't be put in its place: {0}")]
+    Unwritten(io::Error),
+    #[error("isn't replaced: no check covers what would be put in its place")]
+    NoCheck,
+    #[error("something was written, and not all of it is known to be on the disk, or something was left over: {0}")]
+    Unsettled(io::Error),
+    #[error("has come meanwhile, and stays as it is")]
+    CameMeanwhile,
+    #[error("isn't replaced: a fragment that was replaced before is kept beside it")]
+    KeptThere,
+}
+
+impl Reason {
+    /// Why a fragment isn't among the survivors of a stripe, by what is under its name; a file has another length.
+    pub fn of(found: Found) -> Reason {
+        match found {
+            Found::Absent => Reason::Absent,
+            Found::File { .. } => Reason::OtherLength,
+            Found::Dangling => Reason::Dangling,
+            Found::Other => Reason::NoFile,
+            Found::Unknown => Reason::Unknown,
+        }
+    }
+
+    /// Whether the system refused to read or write something.
+    pub fn is_of_device(&self) -> bool {
+        matches!(
+            self,
+            Reason::Unknown | Reason::Unread(_) | Reason::Unwritten(_) | Reason::Unsettled(_)
+        )
+    }
+}
+
+/// What isn't as it should be: the fragment at a place, or the stripe.
+#[derive(Debug, Drop)]
+pub struct Finding {
+    pub place: Option<Place>,
+    pub reason: Reason,
+}
+
+/// What became of a stripe.
+#[derive(Debug, Drop)]
+pub struct Outcome {
+    /// How many bytes each fragment of the stripe has.
+    pub length: usize,
+    /// The survivors that were used.
+    pub survivors: PlaceSet,
+    /// Whether these are more than the stripe is determined by, so that damage among them shows.
+    pub is_checked: bool,
+    /// The places whose fragments were rebuilt and have their names; of a plan, those that would be.
+    pub rebuilt: Vec<Place>,
+    pub findings: Vec<Finding>,
+}
+
+impl Outcome {
+    /// A stripe of which nothing was rebuilt.
+    pub fn of(alloc: Global, findings: Vec<Finding>) -> Outcome
+        ensures { result.rebuilt.items ≡ [] }
+    {
+        Outcome {
+            length: 0,
+            survivors: PlaceSet::empty(),
+            is_checked: false,
+            rebuilt: Vec::new(alloc),
+            findings,
+        }
+    }
+
+    /// Whether a finding is mended: its fragment was rebuilt.
+    pub fn is_mended(&self, finding: &Finding) -> bool {
+        match finding.place {
+            Some(place) => self.rebuilt.iter().any(|rebuilt| *rebuilt == place),
+            None => false,
+        }
+    }
+}
+
+/// Notes something of the fragment at a place, or of the stripe.
+pub(crate) fn note(
+    findings: &mut Vec<Finding>,
+    place: Option<Place>,
+    reason: Reason,
+) -> Result<(), AllocError> {
+    findings.push(Finding { place, reason })?;
+    Ok(())
+}
+
+/// Why a fragment can't be read. An error of the kind `InvalidData` says that it differs from the store's checksums.
+pub(crate) fn read_fault(error: io::Error) -> Result<Reason, AllocError> {
+    match error.kind() {
+        ErrorKind::OutOfMemory => Err(AllocError),
+        ErrorKind::InvalidData => Ok(Reason::Differs),
+        _ => Ok(Reason::Unread(error)),
+    }
+}
+
+/// Why a fragment can't be written. An error of the kind `InvalidData` says that it differs from the store's checksums.
+pub(crate) fn write_fault(error: io::Error) -> Result<Reason, AllocError> {
+    match error.kind() {
+        ErrorKind::OutOfMemory => Err(AllocError),
+        ErrorKind::InvalidData => Ok(Reason::RebuiltDiffers),
+        _ => Ok(Reason::Unwritten(error)),
+    }
+}
