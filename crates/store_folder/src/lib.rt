@@ -4,9 +4,11 @@
 mod listing;
 mod names;
 mod placing;
+mod sums;
 mod surviving;
 
 pub use listing::{Found, Listing, StripeFiles, list};
 pub use names::{file_name, named, path_in};
 pub use placing::{NewFile, Placed, place_new, place_over, remove_leftovers, sync_folder};
+pub use sums::{SUMS_NAME, Sums, SumsFault, digits_of, read_sums};
 pub use surviving::{FileFragment, open_fragment};
