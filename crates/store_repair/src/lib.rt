@@ -3,15 +3,22 @@
 //! sections 2 and 3.
 #![tactic(auto)]
 
+mod combining;
 mod consistency;
 mod damage;
+mod encoding;
+mod file_reading;
 mod losses;
 mod mending;
+mod parts;
 mod store;
 mod windows;
 
 pub use consistency::are_consistent;
 pub use damage::{find_damaged, without};
+pub use encoding::encode;
+pub use file_reading::read_file;
 pub use losses::{LostPlaces, have_checks, lost_places};
 pub use mending::{MendFault, Survivors, mend};
+pub use parts::fragment_length;
 pub use store::{Fragment, NewFragment};
