@@ -3,6 +3,7 @@ use clap::error::ErrorKind;
 use clap::{Arg, ArgAction, ArgMatches, Command as Definition, Error as ParseError};
 use lrc_code::Code;
 use std::alloc::{AllocError, Global};
+use store_folder::{Layout, Pattern};
 use thiserror::Error;
 
 const VERSION: &str = "0.1.0";
@@ -33,7 +34,35 @@ const DRY_RUN_HELP: &str = "Only say what would be done";
 const REPLACE_HELP: &str =
     "Replace fragments that are damaged or have another length; keep them as <name>.damaged";
 
+const NAMES_HELP: &str =
+    "How the files are named: {stripe} and {place}, or {shard} [default: {stripe}.{place}]";
+
+const LAYOUT_HELP: &str = "The order of the shards: plain (data, then px py p0 p1) or groups";
+
+const STRIPES_HELP: &str = "File of the stripes that should be there, a name on each line";
+
+const PART_HELP: &str = "Only the stripes of part I of N, as 3/10";
+
+const SUMS_HELP: &str =
+    "Checksums that the fragments have to have, as sha256sum writes them [default: SHA256SUMS there]";
+
+const REPORT_HELP: &str =
+    "Write a row for each fragment that was rebuilt, or is left, to this file";
+
+const JSON_HELP: &str = "Write those rows to standard output, as a JSON object on each line";
+
+const TO_HELP: &str = "Write the rebuilt fragments to this folder and not into the store";
+
 const BAD_WORKERS: &str = "error: --workers takes a number from 1 to 16\n";
+
+const BAD_PART: &str = "error: --part takes I/N, with I from 1 to N\n";
+
+const NEEDS_CODE: &str = "error: names with {shard} need --code\n";
+
+const LAYOUTS: &[&str] = &["plain", "groups"];
+
+/// The pattern of names that a store has if no other is given.
+pub const DEFAULT_NAMES: &str = "{stripe}.{place}";
 
 const NO_COMMAND: &str =
     "error: rebuild-store takes a command\n\nFor more information, try '--help'.\n";
@@ -46,15 +75,35 @@ pub enum Command {
     Scrub,
 }
 
+/// A part of a store's stripes: the stripes whose names have this remainder.
+#[derive(Clone, Copy, Debug, PartialEq, Eq)]
+pub struct Part {
+    /// From 1 on.
+    pub index: u64,
+    pub of: u64,
+}
+
 /// What a command is given.
 #[derive(Debug, Drop)]
 pub struct Options {
     pub store: String,
     pub code: Option<Code>,
+    /// The pattern of names.
+    pub names: String,
+    pub layout: Layout,
+    /// The path of a file of stripes' names.
+    pub stripes: Option<String>,
+    pub part: Option<Part>,
+    /// The path of a file of checksums.
+    pub sums: Option<String>,
+    pub report: Option<String>,
+    pub json: bool,
     /// 1 to 16.
     pub workers: usize,
     pub dry_run: bool,
     pub replace_damaged: bool,
+    /// The folder that rebuilt fragments are written to.
+    pub to: Option<String>,
 }
 
 /// What the arguments ask for.
@@ -94,9 +143,12 @@ fn definition<'a>(alloc: Global) -> Result<Definition<'a>, AllocError> {
     let repair = over_store(alloc, "repair", REPAIR_ABOUT)?
         .arg(workers(alloc))?
         .arg(flag(alloc, "dry-run", DRY_RUN_HELP))?
-        .arg(flag(alloc, "replace-damaged", REPLACE_HELP))?;
+        .arg(flag(alloc, "replace-damaged", REPLACE_HELP))?
+        .arg(text(alloc, "to", "FOLDER", TO_HELP))?;
+    let repair = with_rows(alloc, repair)?;
     let lost = over_store(alloc, "lost", LOST_ABOUT)?;
     let scrub = over_store(alloc, "scrub", SCRUB_ABOUT)?.arg(workers(alloc))?;
+    let scrub = with_rows(alloc, scrub)?;
     Definition::new(alloc, "rebuild-store")
         .no_binary_name(true)
         .version(VERSION)
@@ -125,7 +177,27 @@ fn over_store<'a>(
     Definition::new(alloc, name)
         .about(about)
         .arg(store)?
-        .arg(code)
+        .arg(code)?
+        .arg(text(alloc, "names", "PATTERN", NAMES_HELP))?
+        .arg(
+            text(alloc, "layout", "LAYOUT", LAYOUT_HELP)
+                .value_parser(LAYOUTS)
+                .default_value("plain"),
+        )?
+        .arg(text(alloc, "stripes", "FILE", STRIPES_HELP))?
+        .arg(text(alloc, "part", "I/N", PART_HELP))
+}
+
+// A command with the options of those that test fragments.
+fn with_rows<'a>(alloc: Global, definition: Definition<'a>) -> Result<Definition<'a>, AllocError> {
+    definition
+        .arg(text(alloc, "sums", "FILE", SUMS_HELP))?
+        .arg(text(alloc, "report", "FILE", REPORT_HELP))?
+        .arg(flag(alloc, "json", JSON_HELP))
+}
+
+fn text<'a>(alloc: Global, id: &'a str, value: &'a str, help: &'a str) -> Arg<'a> {
+    Arg::new(alloc, id).long(id).value_name(value).help(help)
 }
 
 fn workers<'a>(alloc: Global) -> Arg<'a> {
@@ -163,16 +235,82 @@ fn command_of(
     if workers == 0 || workers > 16 {
         return Err(UsageFault::Usage(String::from_str(alloc, BAD_WORKERS)?));
     }
-    let options = Options {
-        store: String::from_str(alloc, matches.get_str("store").unwrap_or("."))?,
-        code: matches
-            .get_str("code")
-            .and_then(|name| Code::parse(name.as_bytes())),
-        workers,
-        dry_run: command == Command::Repair && matches.get_flag("dry-run"),
-        replace_damaged: command == Command::Repair && matches.get_flag("replace-damaged"),
+    let code = matches
+        .get_str("code")
+        .and_then(|name| Code::parse(name.as_bytes()));
+    let names = matches.get_str("names").unwrap_or(DEFAULT_NAMES);
+    let layout = match matches.get_str("layout") {
+        Some("groups") => Layout::Groups,
+        _ => Layout::Plain,
     };
-    Ok(Asked::Command(command, options))
+    refuse_names(alloc, names, layout, code)?;
+    let tests = command != Command::Lost;
+    let repairs = command == Command::Repair;
+    Ok(Asked::Command(
+        command,
+        Options {
+            store: String::from_str(alloc, matches.get_str("store").unwrap_or("."))?,
+            code,
+            names: String::from_str(alloc, names)?,
+            layout,
+            stripes: given(alloc, matches, "stripes", true)?,
+            part: part_of(alloc, matches.get_str("part"))?,
+            sums: given(alloc, matches, "sums", tests)?,
+            report: given(alloc, matches, "report", tests)?,
+            json: tests && matches.get_flag("json"),
+            workers,
+            dry_run: repairs && matches.get_flag("dry-run"),
+            replace_damaged: repairs && matches.get_flag("replace-damaged"),
+            to: given(alloc, matches, "to", repairs)?,
+        },
+    ))
+}
+
+// What an option of a command was given.
+fn given(
+    alloc: Global,
+    matches: &ArgMatches<'_>,
+    id: &str,
+    has_option: bool,
+) -> Result<Option<String>, AllocError> {
+    if !has_option {
+        return Ok(None);
+    }
+    match matches.get_str(id) {
+        Some(text) => Ok(Some(String::from_str(alloc, text)?)),
+        None => Ok(None),
+    }
+}
+
+// Refuses a pattern of names that isn't one, or that needs the code's name.
+fn refuse_names(
+    alloc: Global,
+    names: &str,
+    layout: Layout,
+    code: Option<Code>,
+) -> Result<(), UsageFault> {
+    match Pattern::parse(names, layout) {
+        Err(fault) => Err(UsageFault::Usage(format!(in alloc; "error: {fault}\n")?)),
+        Ok(pattern) if pattern.has_shards() && code.is_none() => {
+            Err(UsageFault::Usage(String::from_str(alloc, NEEDS_CODE)?))
+        }
+        Ok(_) => Ok(()),
+    }
+}
+
+// The part that a text says, as `3/10`.
+fn part_of(alloc: Global, text: Option<&str>) -> Result<Option<Part>, UsageFault> {
+    let Some(text) = text else {
+        return Ok(None);
+    };
+    if let Some((index, of)) = text.split_once('/') {
+        if let (Ok(index), Ok(of)) = (index.parse::<u64>(), of.parse::<u64>()) {
+            if 0 < index && index <= of {
+                return Ok(Some(Part { index, of }));
+            }
+        }
+    }
+    Err(UsageFault::Usage(String::from_str(alloc, BAD_PART)?))
 }
 
 // The text of help, of the version or of a mistake.

@@ -1,107 +1,225 @@
 //! The commands `repair` and `scrub` over all stripes of a store.
 use crate::arguments::Options;
 use crate::fitting::refuse_other_stores;
-use crate::outcomes::{Outcome, totals_of};
-use crate::repairing::Repair;
+use crate::reports::{Rows, file_of, line_of, rows_of, write_report};
 use crate::statuses::{DEVICE, DONE, LEFT};
-use crate::stores::Store;
-use crate::workers::{Work, work_on};
-use std::io;
+use crate::stores::OpenStore;
+use crate::totals::{Totals, totals_of};
+use crate::workers::{Done, Work, work_on};
+use std::sync::atomic::AtomicU64;
 use std::thread::Threads;
-use store_folder::remove_leftovers;
+use std::{fs, io};
+use store_folder::{FolderStore, Pattern, Site, is_leftover};
+use store_repair::{Repair, Stripe};
 
-/// Repairs all stripes, says what was done and what is left, and gives the exit status.
+/// Repairs the stripes, says what was done and what is left, and gives the exit status.
 pub fn repair_all<R: Threads + Sync>(
     rt: &R,
     system: &HostRuntime,
-    store: &Store,
+    store: &OpenStore,
+    pattern: &Pattern<'_>,
     options: &Options,
 ) -> io::Result<u8> {
-    let folder = store.folder.as_str();
-    let stripes = store.stripes(system)?;
-    if let Some(fault) = refuse_other_stores(system, store, stripes.as_slice())? {
+    let alloc = system.alloc();
+    let tag = match options.part {
+        Some(part) => format!(in alloc; "{}-{}-", part.index, part.of)?,
+        None => String::new(alloc),
+    };
+    let site = Site {
+        folder: store.folder.as_str(),
+        target: options.to.as_ref().unwrap_or(&store.folder).as_str(),
+        pattern: *pattern,
+        code: store.code,
+        sums: store.sums.as_ref(),
+        tag: tag.as_str(),
+    };
+    let stripes = store.stripes(system, options.part)?;
+    let numbers = AtomicU64::new(0);
+    let files = FolderStore::new(system, site, &numbers);
+    if let Some(fault) = refuse_other_stores(alloc, store, &files, stripes.as_slice())? {
         eprintln!(system; "rebuild-store: {fault}")?;
         return Ok(LEFT);
     }
     if !options.dry_run {
-        remove_leftovers(
-            system,
-            system.alloc(),
-            folder,
-            store.listing.leftovers.as_slice(),
-        )?;
+        remove_leftovers(system, store, tag.as_str())?;
     }
-    let work = Work::Repair(Repair {
-        folder,
-        code: store.code,
-        dry_run: options.dry_run,
-        replace_damaged: options.replace_damaged,
-    });
-    let outcomes = work_on(rt, system, &work, stripes.as_slice(), options.workers)?;
-    say_outcomes(system, outcomes.as_slice(), options.dry_run)
+    let work = if options.dry_run {
+        Work::Plan(store.code)
+    } else {
+        Work::Repair(Repair {
+            code: store.code,
+            replace_damaged: options.replace_damaged,
+            elsewhere: options.to.is_some(),
+        })
+    };
+    let all = work_on(rt, system, &site, work, stripes.as_slice(), options.workers)?;
+    let status = say_repaired(system, &site, stripes.as_slice(), all.as_slice(), options)?;
+    if let Some(path) = &store.part_lock {
+        fs::remove_file(system, path.as_str())?;
+    }
+    Ok(status)
+}
+
+// Removes unfinished files that a run which was killed has left: those of this part, or all. One that can't be removed is said.
+fn remove_leftovers(rt: &HostRuntime, store: &OpenStore, tag: &str) -> io::Result<()> {
+    for path in &store.listing.leftovers {
+        let path = path.as_str();
+        let name = path.rsplit('/').next().unwrap_or(path);
+        if !is_leftover(name) || !is_of_tag(name, tag) {
+            continue;
+        }
+        if let Err(error) = fs::remove_file(rt, path) {
+            eprintln!(rt; "rebuild-store: {path}: is left over, and can't be removed: {error}")?;
+        }
+    }
+    Ok(())
+}
+
+// Whether the name of an unfinished file is of the part of a tag; without a tag all are.
+fn is_of_tag(name: &str, tag: &str) -> bool {
+    tag.is_empty() || name.contains(tag)
 }
 
 // Says what became of the stripes, and gives the exit status.
-fn say_outcomes(rt: &HostRuntime, outcomes: &[Outcome], dry_run: bool) -> io::Result<u8> {
-    for outcome in outcomes {
-        for line in &outcome.lines {
+fn say_repaired(
+    rt: &HostRuntime,
+    site: &Site<'_>,
+    stripes: &[Stripe<'_>],
+    all: &[Done],
+    options: &Options,
+) -> io::Result<u8> {
+    let alloc = rt.alloc();
+    for done in all {
+        let Some(stripe) = stripes.get(done.index) else {
+            continue;
+        };
+        for finding in &done.outcome.findings {
+            let line = line_of(alloc, site, stripe, finding)?;
             eprintln!(rt; "{line}")?;
         }
-        for name in &outcome.unchecked {
-            eprintln!(rt;
-                "{name}: rebuilt without any check: as many fragments survive as it takes, so damage among them can't show"
-            )?;
+        if !done.outcome.is_checked {
+            for place in &done.outcome.rebuilt {
+                let name = file_of(alloc, site, stripe, *place)?;
+                eprintln!(rt;
+                    "{name}: rebuilt without any check: as many fragments survive as it takes, so damage among them can't show"
+                )?;
+            }
         }
     }
-    let all = totals_of(outcomes);
-    let verb = if dry_run { "would repair" } else { "repaired" };
-    let rebuilt = all.rebuilt;
-    let bytes = all.bytes;
-    let unchecked = all.unchecked;
-    let damaged = all.damaged;
-    let left = all.left;
-    println!(rt;
+    say_rows(rt, stripes, all, options)?;
+    let totals = totals_of(all);
+    let verb = if options.dry_run {
+        "would repair"
+    } else {
+        "repaired"
+    };
+    let Totals {
+        rebuilt,
+        bytes,
+        unchecked,
+        damaged,
+        left,
+        ..
+    } = totals;
+    let summary = format!(in alloc;
         "{verb} {rebuilt} fragments of {bytes} bytes ({unchecked} unchecked); damaged: {damaged}; not possible: {left}"
     )?;
-    if all.device {
+    say_summary(rt, summary.as_str(), options)?;
+    if totals.device {
         return Ok(DEVICE);
     }
-    if left > 0 || (dry_run && rebuilt > 0) {
+    if left > 0 || (options.dry_run && rebuilt > 0) {
         return Ok(LEFT);
     }
     Ok(DONE)
 }
 
-/// Tests all stripes, says what isn't as it should be, and gives the exit status.
+// The summary is on standard output, but where rows are there.
+fn say_summary(rt: &HostRuntime, summary: &str, options: &Options) -> io::Result<()> {
+    if options.json {
+        return eprintln!(rt; "{summary}");
+    }
+    println!(rt; "{summary}")
+}
+
+// Writes the rows of a report to where they are asked for.
+fn say_rows(
+    rt: &HostRuntime,
+    stripes: &[Stripe<'_>],
+    all: &[Done],
+    options: &Options,
+) -> io::Result<()> {
+    if options.json {
+        let rows = rows_of(rt.alloc(), stripes, all, Rows::Json)?;
+        print!(rt; "{rows}")?;
+    }
+    if let Some(path) = &options.report {
+        let rows = rows_of(rt.alloc(), stripes, all, Rows::Csv)?;
+        write_report(rt, path.as_str(), rows.as_str())?;
+    }
+    Ok(())
+}
+
+/// Tests the stripes, says what isn't as it should be, and gives the exit status.
 pub fn scrub<R: Threads + Sync>(
     rt: &R,
     system: &HostRuntime,
-    store: &Store,
+    store: &OpenStore,
+    pattern: &Pattern<'_>,
     options: &Options,
 ) -> io::Result<u8> {
-    let stripes = store.stripes(system)?;
-    let work = Work::Scrub {
-        folder: store.folder.as_str(),
+    let stripes = store.stripes(system, options.part)?;
+    let folder = store.folder.as_str();
+    let site = Site {
+        folder,
+        target: folder,
+        pattern: *pattern,
         code: store.code,
+        sums: store.sums.as_ref(),
+        tag: "",
     };
-    let outcomes = work_on(rt, system, &work, stripes.as_slice(), options.workers)?;
-    for outcome in &outcomes {
-        for line in &outcome.lines {
-            println!(system; "{line}")?;
+    let work = Work::Scrub(store.code);
+    let all = work_on(rt, system, &site, work, stripes.as_slice(), options.workers)?;
+    say_scrubbed(system, &site, stripes.as_slice(), all.as_slice(), options)
+}
+
+// Says what isn't as it should be, and gives the exit status.
+fn say_scrubbed(
+    rt: &HostRuntime,
+    site: &Site<'_>,
+    stripes: &[Stripe<'_>],
+    all: &[Done],
+    options: &Options,
+) -> io::Result<u8> {
+    let alloc = rt.alloc();
+    let mut unchecked = 0u64;
+    for done in all {
+        let Some(stripe) = stripes.get(done.index) else {
+            continue;
+        };
+        if !done.outcome.is_checked {
+            unchecked = unchecked.saturating_add(1);
+        }
+        if options.json {
+            continue;
+        }
+        for finding in &done.outcome.findings {
+            let line = line_of(alloc, site, stripe, finding)?;
+            println!(rt; "{line}")?;
         }
     }
-    let all = totals_of(outcomes.as_slice());
+    say_rows(rt, stripes, all, options)?;
     let count = stripes.len();
-    let damaged = all.damaged;
-    let left = all.left;
-    let unchecked = all.unchecked;
-    println!(system;
+    let totals = totals_of(all);
+    let Totals { damaged, left, .. } = totals;
+    let summary = format!(in alloc;
         "scrubbed {count} stripes: {damaged} damaged, {left} lost or contradictory, {unchecked} stripes without any check"
     )?;
-    if all.device {
+    say_summary(rt, summary.as_str(), options)?;
+    if totals.device {
         return Ok(DEVICE);
     }
-    if left > 0 || damaged > 0 {
+    if left > 0 {
         return Ok(LEFT);
     }
     Ok(DONE)

@@ -1,12 +1,16 @@
 //! Whether a folder is a store of the code that it is taken for.
-ghost use Rattle.std.specs.Prelude.{◌≡◌, length};
+ghost use Rattle.std.specs.Prelude.{◌≡◌, length, vec_len, IfOk};
 
-use crate::stores::{Store, StoreFault, Stripe};
-use crate::survivors::open_survivors;
+use crate::stores::{OpenStore, StoreFault};
 use lrc_code::Code;
-use std::io::{self, ErrorKind};
-use store_folder::FileFragment;
-use store_repair::{MendFault, Survivors, are_consistent, find_damaged, have_checks};
+use std::alloc::{AllocError, Global};
+use store_folder::{FileFragment, FolderStore};
+use store_repair::{
+    MendFault, Opened, Stripe, Survivors, are_consistent, find_damaged, have_checks, open_survivors,
+};
+
+/// As many bytes of each fragment are looked at.
+const LOOKED_AT: usize = 65_536;
 
 // What the fragments of a stripe say of the code.
 #[derive(Clone, Copy)]
@@ -19,16 +23,17 @@ enum Fit {
     Unknown,
 }
 
-/// Refuses a store of which stripes can be checked and none fits the code: it is another folder, or of another code. Stripes are looked at
-/// up to the first that fits.
+/// Refuses a store of which stripes can be checked and none fits the code: it is another folder, or of another code. The beginnings of
+/// stripes are looked at, up to the first that fits.
 pub fn refuse_other_stores(
-    rt: &HostRuntime,
-    store: &Store,
+    alloc: Global,
+    store: &OpenStore,
+    files: &FolderStore<'_>,
     stripes: &[Stripe<'_>],
-) -> io::Result<Option<StoreFault>> {
+) -> Result<Option<StoreFault>, AllocError> {
     let mut clashes = false;
     for stripe in stripes {
-        match fit_of(rt, store, stripe)? {
+        match fit_of(alloc, store.code, files, stripe)? {
             Fit::Fits => return Ok(None),
             Fit::Clashes => clashes = true,
             Fit::Unknown => {}
@@ -37,63 +42,71 @@ pub fn refuse_other_stores(
     if !clashes {
         return Ok(None);
     }
-    let code = match store.code {
-        Code::Narrow => "6-2-2",
-        Code::Wide => "12-2-2",
-    };
+    let code = name_of(store.code);
     Ok(Some(StoreFault::FitsNot {
-        folder: String::from_str(rt.alloc(), store.folder.as_str())?,
+        folder: String::from_str(alloc, store.folder.as_str())?,
         code,
     }))
 }
 
+/// The name of a code.
+pub fn name_of(code: Code) -> &'static str {
+    match code {
+        Code::Narrow => "6-2-2",
+        Code::Wide => "12-2-2",
+    }
+}
+
 // What the fragments of a stripe say of the store's code.
-fn fit_of(rt: &HostRuntime, store: &Store, stripe: &Stripe<'_>) -> io::Result<Fit> {
-    let Some(length) = stripe.files.length() else {
+fn fit_of(
+    alloc: Global,
+    code: Code,
+    files: &FolderStore<'_>,
+    stripe: &Stripe<'_>,
+) -> Result<Fit, AllocError> {
+    let Some(length) = stripe.length() else {
         return Ok(Fit::Unknown);
     };
     if length == 0 {
         return Ok(Fit::Unknown);
     }
-    let opened = open_survivors(rt, store.folder.as_str(), store.code, stripe, length)?;
+    let mut findings = Vec::new(alloc);
+    let opened = open_survivors(alloc, files, code, stripe, length, &mut findings)?;
+    fit_of_opened(alloc, code, &opened)
+}
+
+// What the beginnings of fragments say of their code.
+fn fit_of_opened(
+    alloc: Global,
+    code: Code,
+    opened: &Opened<FileFragment>,
+) -> Result<Fit, AllocError>
+    requires { vec_len opened.now.fragments ≡ 16 }
+{
     let survivors = Survivors {
-        code: store.code,
-        length: length as usize,
+        code,
+        length: opened.length.min(LOOKED_AT),
         set: opened.set,
         fragments: opened.fragments.as_slice(),
     };
-    fit_of_survivors(rt, &survivors)
-}
-
-// What survivors say of their code.
-fn fit_of_survivors(rt: &HostRuntime, survivors: &Survivors<'_, FileFragment>) -> io::Result<Fit>
-    requires { length survivors.now.fragments.now ≡ 16 }
-{
-    if !have_checks(survivors.code, survivors.set) {
+    if !have_checks(code, opened.set) {
         return Ok(Fit::Unknown);
     }
-    match are_consistent(rt.alloc(), survivors) {
+    match are_consistent(alloc, &survivors) {
         Ok(true) => Ok(Fit::Fits),
-        Ok(false) => fit_but_one(rt, survivors),
-        Err(fault) => unknown(fault),
-    }
-}
-
-// Whether survivors that don't belong together do so without one of them.
-fn fit_but_one(rt: &HostRuntime, survivors: &Survivors<'_, FileFragment>) -> io::Result<Fit>
-    requires { length survivors.now.fragments.now ≡ 16 }
-{
-    match find_damaged(rt.alloc(), survivors) {
-        Ok(Some(_)) => Ok(Fit::Fits),
-        Ok(None) => Ok(Fit::Clashes),
+        Ok(false) => match find_damaged(alloc, &survivors) {
+            Ok(Some(_)) => Ok(Fit::Fits),
+            Ok(None) => Ok(Fit::Clashes),
+            Err(fault) => unknown(fault),
+        },
         Err(fault) => unknown(fault),
     }
 }
 
 // A stripe that can't be read says nothing of the code.
-fn unknown(fault: MendFault) -> io::Result<Fit> {
+fn unknown(fault: MendFault) -> Result<Fit, AllocError> {
     match fault {
-        MendFault::OutOfMemory => Err(io::Error::from(ErrorKind::OutOfMemory)),
+        MendFault::OutOfMemory => Err(AllocError),
         _ => Ok(Fit::Unknown),
     }
 }

@@ -1,10 +1,12 @@
 //! The command `lost`: the request list of what is lost.
+use crate::arguments::Options;
 use crate::statuses::{DONE, LEFT};
-use crate::stores::{Store, Stripe};
-use lrc_code::{Code, PlaceSet};
+use crate::stores::OpenStore;
+use lrc_code::{Code, Place, PlaceSet};
 use std::alloc::{AllocError, Global};
 use std::io::{self, BufWriter, Write};
-use store_folder::Found;
+use store_folder::Pattern;
+use store_repair::Stripe;
 
 /// The longest fragment that a list can ask for.
 const MOST_BYTES: u64 = 65_536;
@@ -13,59 +15,71 @@ const MOST_BYTES: u64 = 65_536;
 const MOST_NAME: usize = 32;
 
 /// Writes the request list of what is lost to standard output, and counts to standard error; gives the exit status.
-pub fn write_requests(rt: &HostRuntime, store: &Store) -> io::Result<u8> {
-    let mut output = BufWriter::new(rt.alloc(), io::writer(rt))?;
+pub fn write_requests(
+    rt: &HostRuntime,
+    store: &OpenStore,
+    pattern: &Pattern<'_>,
+    options: &Options,
+) -> io::Result<u8> {
+    let alloc = rt.alloc();
+    let mut output = BufWriter::new(alloc, io::writer(rt))?;
     let header = match store.code {
         Code::Narrow => "order,stripe,target,length,survivors\n",
         Code::Wide => "order,stripe,target,length,survivors,code\n",
     };
     output.write_all(header.as_bytes())?;
+    let stripes = store.stripes(rt, options.part)?;
     let mut lost = 0u64;
     let mut unlisted = 0u64;
-    for stripe in &store.stripes(rt)? {
-        let length = stripe.files.length().unwrap_or(0);
-        let survivors = survivors_of(store.code, stripe, length);
-        let can_ask = can_be_asked(stripe.name, length);
-        for place in store.code.places() {
-            if survivors.has(*place) {
-                continue;
-            }
-            lost = lost.saturating_add(1);
-            if can_ask {
-                let line = line_of(
-                    rt.alloc(),
-                    store.code,
-                    stripe.name,
-                    place.name(),
-                    length,
-                    survivors,
-                )?;
-                output.write_all(line.as_bytes())?;
-            } else {
-                unlisted = unlisted.saturating_add(1);
-                let name = stripe.name;
-                let place = place.name();
-                eprintln!(rt;
-                    "rebuild-store: {name}.{place}: a list can't ask for it: it has {length} bytes, or another name than lists take"
-                )?;
-            }
+    for stripe in &stripes {
+        let places = lost_of(alloc, store.code, stripe)?;
+        lost = lost.saturating_add(places.len() as u64);
+        let listed = request_lines(alloc, store.code, stripe, places.as_slice())?;
+        if let Some(lines) = listed {
+            output.write_all(lines.as_bytes())?;
+            continue;
+        }
+        unlisted = unlisted.saturating_add(places.len() as u64);
+        for place in places {
+            let name = pattern.name_of(alloc, store.code, stripe.name, place)?;
+            let name = name.unwrap_or(String::new(alloc));
+            let length = stripe.files.length().unwrap_or(0);
+            eprintln!(rt;
+                "rebuild-store: {name}: a list can't ask for it: it has {length} bytes, or another name than lists take"
+            )?;
         }
     }
     output.flush()?;
-    let stripes = store.listing.stripes.len();
+    let stripes = stripes.len();
     eprintln!(rt; "{stripes} stripes; {lost} fragments lost, {unlisted} of them not in the list")?;
     if lost > 0 { Ok(LEFT) } else { Ok(DONE) }
 }
 
-// The places of a stripe at which there are files of its length.
-fn survivors_of(code: Code, stripe: &Stripe<'_>, length: u64) -> PlaceSet {
-    let mut set = PlaceSet::empty();
-    for place in code.places() {
-        if stripe.files.at(*place) == (Found::File { length }) {
-            set = set.with(*place);
-        }
+// The places of a stripe at which there is no fragment of its length; of a stripe without files, all.
+fn lost_of(alloc: Global, code: Code, stripe: &Stripe<'_>) -> Result<Vec<Place>, AllocError> {
+    stripe
+        .files
+        .lost(alloc, code, stripe.files.length().unwrap_or(0))
+}
+
+// The requests for lost fragments of a stripe, if a list takes them.
+fn request_lines(
+    alloc: Global,
+    code: Code,
+    stripe: &Stripe<'_>,
+    places: &[Place],
+) -> Result<Option<String>, AllocError> {
+    let length = stripe.files.length().unwrap_or(0);
+    if !can_be_asked(stripe.name, length) {
+        return Ok(None);
     }
-    set
+    let survivors = stripe.files.survivors(code, length);
+    let mut lines = String::new(alloc);
+    for place in places {
+        let line = line_of(alloc, code, stripe.name, place.name(), length, survivors)?;
+        lines.push_str(line.as_str())?;
+    }
+    Ok(Some(lines))
 }
 
 // Whether a list takes a stripe of this name and length.

@@ -1,67 +1,72 @@
 //! Threads that work on stripes side by side.
-use crate::outcomes::Outcome;
-use crate::repairing::{Repair, repair_stripe};
-use crate::scrubbing::scrub_stripe;
-use crate::stores::Stripe;
 use lrc_code::Code;
-use std::sync::atomic::{AtomicUsize, Ordering};
+use std::alloc::AllocError;
+use std::sync::atomic::{AtomicU64, AtomicUsize, Ordering};
+use std::thread;
 use std::thread::Threads;
-use std::{io, thread};
+use store_folder::{FolderStore, Site};
+use store_repair::{Outcome, Repair, Stripe, plan_stripe, repair_stripe, scrub_stripe};
 
 /// What is done with each stripe.
 #[derive(Clone, Copy)]
-pub enum Work<'a> {
-    Repair(Repair<'a>),
-    Scrub { folder: &'a str, code: Code },
+pub enum Work {
+    Repair(Repair),
+    Plan(Code),
+    Scrub(Code),
+}
+
+/// What became of the stripe of an index.
+#[derive(Drop)]
+pub struct Done {
+    pub index: usize,
+    pub outcome: Outcome,
 }
 
 /// Does some work with each stripe, in so many threads at most, and gives the outcomes in the order of the stripes.
 pub fn work_on<R: Threads + Sync>(
     rt: &R,
     system: &HostRuntime,
-    work: &Work<'_>,
+    site: &Site<'_>,
+    work: Work,
     stripes: &[Stripe<'_>],
     workers: usize,
-) -> io::Result<Vec<Outcome>> {
+) -> Result<Vec<Done>, AllocError> {
     let next = AtomicUsize::new(0);
-    let worker = |_worker: usize| take_stripes(system, work, stripes, &next);
+    let numbers = AtomicU64::new(0);
+    let worker = |_worker: usize| { take_stripes(system, site, work, stripes, &next, &numbers) };
     let parts = thread::map_indices(rt, system.alloc(), workers, &worker)?;
-    let mut outcomes = Vec::with_capacity(system.alloc(), stripes.len())?;
+    let mut all = Vec::with_capacity(system.alloc(), stripes.len())?;
     for part in parts {
-        for outcome in part? {
-            outcomes.push(outcome)?;
+        for done in part? {
+            all.push(done)?;
         }
     }
-    outcomes.sort_by_key(|outcome| outcome.index)?;
-    Ok(outcomes)
+    all.sort_by_key(|done| done.index)?;
+    Ok(all)
 }
 
 // Takes one stripe after the other, each the next that no thread has taken.
 fn take_stripes(
     system: &HostRuntime,
-    work: &Work<'_>,
+    site: &Site<'_>,
+    work: Work,
     stripes: &[Stripe<'_>],
     next: &AtomicUsize,
-) -> io::Result<Vec<Outcome>> {
-    let mut outcomes = Vec::new(system.alloc());
+    numbers: &AtomicU64,
+) -> Result<Vec<Done>, AllocError> {
+    let mut all = Vec::new(system.alloc());
+    let mut store = FolderStore::new(system, *site, numbers);
     for _turn in 0..stripes.len() {
         let index = next.fetch_add(1, Ordering::SeqCst);
         let Some(stripe) = stripes.get(index) else {
             break;
         };
-        outcomes.push(do_work(system, work, index, stripe)?)?;
+        let outcome = match work {
+            Work::Repair(repair) => repair_stripe(system.alloc(), &mut store, &repair, stripe)?,
+            Work::Plan(code) => plan_stripe(system.alloc(), &store, code, stripe)?,
+            Work::Scrub(code) => scrub_stripe(system.alloc(), &store, code, stripe)?,
+        };
+        all.push(Done { index, outcome })?;
     }
-    Ok(outcomes)
-}
-
-fn do_work(
-    system: &HostRuntime,
-    work: &Work<'_>,
-    index: usize,
-    stripe: &Stripe<'_>,
-) -> io::Result<Outcome> {
-    match work {
-        Work::Repair(repair) => repair_stripe(system, repair, index, stripe),
-        Work::Scrub { folder, code } => scrub_stripe(system, folder, *code, index, stripe),
-    }
+    Ok(all)
 }

@@ -1,12 +1,21 @@
-//! A store in a folder: each fragment is a file that is named for its stripe and its place, as `note.x1`.
+//! A store in a folder: each fragment is a file that is named for its stripe and its place, as `note.x1`, or by another pattern.
 #![tactic(auto)]
 
+mod folder_store;
 mod listing;
 mod names;
+mod patterns;
 mod placing;
+mod sums;
 mod surviving;
 
-pub use listing::{Found, Listing, StripeFiles, list};
+pub use folder_store::{FolderStore, Site, UnfinishedFile};
+pub use listing::{Listing, list};
 pub use names::{file_name, named, path_in};
-pub use placing::{NewFile, Placed, place_new, place_over, remove_leftovers, sync_folder};
+pub use patterns::{Layout, Pattern, PatternFault};
+pub use placing::{
+    NewFile, is_leftover, place_again, place_new, place_over, remove_leftovers, sync_folder,
+};
+pub use store_repair::{Found, Placed, StripeFiles};
+pub use sums::{SUMS_NAME, Sums, SumsFault, digits_of, read_sums};
 pub use surviving::{FileFragment, open_fragment};

@@ -1,114 +1,113 @@
 //! What is in a store: which fragments of which stripes, and how many bytes each has.
-use crate::names::{named, path_in};
+use crate::names::path_in;
+use crate::patterns::Pattern;
 use crate::placing::is_leftover;
-use lrc_code::Place;
+use lrc_code::{Code, Place};
 use std::alloc::{AllocError, Global};
 use std::collections::BTreeMap;
 use std::fs::{self, Metadata};
 use std::io::{self, ErrorKind};
-
-/// What is under the name of a fragment.
-#[derive(Clone, Copy, Debug, PartialEq, Eq)]
-pub enum Found {
-    /// Nothing.
-    Absent,
-    /// A regular file, also by a link, of so many bytes.
-    File { length: u64 },
-    /// A link to nothing.
-    Dangling,
-    /// A folder, a FIFO, a socket or a device.
-    Other,
-    /// Something that can't be looked at.
-    Unknown,
-}
-
-/// What is under the names of a stripe's fragments, by the places' indexes.
-#[derive(Clone, Copy, Debug)]
-pub struct StripeFiles {
-    pub found: [Found; 16],
-}
-
-impl StripeFiles {
-    // A stripe without files.
-    fn new() -> StripeFiles {
-        StripeFiles {
-            found: [Found::Absent; 16],
-        }
-    }
-
-    /// What is under the name of the fragment at a place.
-    pub fn at(&self, place: Place) -> Found {
-        self.found[place.index()]
-    }
-
-    /// How many bytes the stripe's fragments have: as many as most of its files, and of two such numbers the greater; none where it has no
-    /// files.
-    pub fn length(&self) -> Option<u64> {
-        let mut best = None;
-        let mut most = 0;
-        for found in &self.found {
-            if let Found::File { length } = *found {
-                let count = self.files_of(length);
-                if count > most || (count == most && best < Some(length)) {
-                    most = count;
-                    best = Some(length);
-                }
-            }
-        }
-        best
-    }
-
-    // How many of the stripe's files have so many bytes.
-    fn files_of(&self, length: u64) -> usize {
-        self.found
-            .iter()
-            .filter(|found| **found == Found::File { length })
-            .count()
-    }
-}
+use store_repair::{Found, StripeFiles};
 
 /// What is in a folder.
 #[derive(Drop)]
 pub struct Listing {
     /// The stripes of which there are files, by name.
     pub stripes: BTreeMap<String, StripeFiles>,
-    /// Files that a run which was killed has left.
+    /// The paths of files that a run which was killed has left.
     pub leftovers: Vec<String>,
     /// How many names are no UTF-8. They are left alone.
     pub unreadable_names: u64,
 }
 
-/// Lists the folder at a path. Names that say no stripe and place are left alone.
-pub fn list(rt: &HostRuntime, folder: &str) -> io::Result<Listing> {
+/// Lists the folder at a path by a pattern of names. Names that don't fit it are left alone.
+pub fn list(
+    rt: &HostRuntime,
+    folder: &str,
+    pattern: &Pattern<'_>,
+    code: Code,
+) -> io::Result<Listing> {
     let alloc = rt.alloc();
     let mut listing = Listing {
         stripes: BTreeMap::new(alloc),
         leftovers: Vec::new(alloc),
         unreadable_names: 0,
     };
-    for entry in fs::read_dir(rt, folder)? {
+    let mut folders = Vec::new(alloc);
+    folders.push(String::new(alloc))?;
+    'depths: for depth in 0..=pattern.depth() {
+        let mut below = Vec::new(alloc);
+        for inside in &folders {
+            let entries = entries_of(rt, folder, inside.as_str(), &mut listing)?;
+            for name in entries {
+                if depth == pattern.depth() {
+                    listing.add(rt, folder, pattern, code, name.as_str())?;
+                } else {
+                    below.push(name)?;
+                }
+            }
+        }
+        folders = below;
+    }
+    Ok(listing)
+}
+
+// The names in a folder inside the store's, each with that folder's. What is no folder has none.
+fn entries_of(
+    rt: &HostRuntime,
+    folder: &str,
+    inside: &str,
+    listing: &mut Listing,
+) -> io::Result<Vec<String>> {
+    let alloc = rt.alloc();
+    let mut names = Vec::new(alloc);
+    let path = if inside.is_empty() {
+        String::from_str(alloc, folder)?
+    } else {
+        path_in(alloc, folder, inside)?
+    };
+    let entries = match fs::read_dir(rt, path.as_str()) {
+        Ok(entries) => entries,
+        Err(error) if error.kind() == ErrorKind::NotADirectory && !inside.is_empty() => {
+            return Ok(names);
+        }
+        Err(error) => return Err(error),
+    };
+    for entry in entries {
         match entry {
-            Ok(entry) => listing.add(rt, alloc, folder, entry.file_name())?,
+            Ok(entry) if inside.is_empty() => {
+                names.push(String::from_str(alloc, entry.file_name())?)?;
+            }
+            Ok(entry) => names.push(path_in(alloc, inside, entry.file_name())?)?,
             Err(error) if error.kind() == ErrorKind::InvalidFilename => {
                 listing.unreadable_names = listing.unreadable_names.saturating_add(1);
             }
             Err(error) => return Err(error),
         }
     }
-    Ok(listing)
+    Ok(names)
 }
 
 impl Listing {
-    // Adds what is under a name of the folder.
-    fn add(&mut self, rt: &HostRuntime, alloc: Global, folder: &str, name: &str) -> io::Result<()> {
-        if is_leftover(name) {
-            self.leftovers.push(String::from_str(alloc, name)?)?;
+    // Adds what is under a name of the store.
+    fn add(
+        &mut self,
+        rt: &HostRuntime,
+        folder: &str,
+        pattern: &Pattern<'_>,
+        code: Code,
+        name: &str,
+    ) -> io::Result<()> {
+        let alloc = rt.alloc();
+        let path = path_in(alloc, folder, name)?;
+        if is_leftover(name.rsplit('/').next().unwrap_or(name)) {
+            self.leftovers.push(path)?;
             return Ok(());
         }
-        let Some((stripe, place)) = named(name) else {
+        let Some((stripe, place)) = pattern.read(alloc, code, name)? else {
             return Ok(());
         };
-        let found = look(rt, path_in(alloc, folder, name)?.as_str());
+        let found = look(rt, path.as_str());
         self.note(alloc, stripe, place, found)?;
         Ok(())
     }
@@ -129,6 +128,15 @@ impl Listing {
         files.found[place.index()] = found;
         self.stripes
             .insert(String::from_str(alloc, stripe)?, files)?;
+        Ok(())
+    }
+
+    /// Adds a stripe without files, if there is none of its name.
+    pub fn expect(&mut self, alloc: Global, stripe: &str) -> Result<(), AllocError> {
+        if !self.stripes.contains_key(stripe) {
+            self.stripes
+                .insert(String::from_str(alloc, stripe)?, StripeFiles::new())?;
+        }
         Ok(())
     }
 }

@@ -25,7 +25,7 @@ impl Fragment for FileFragment {
 pub fn open_fragment(rt: &HostRuntime, path: &str, length: u64) -> io::Result<FileFragment> {
     let metadata = fs::metadata(rt, path)?;
     if !metadata.is_file() || metadata.len() != length {
-        return Err(io::Error::from(ErrorKind::InvalidData));
+        return Err(io::Error::from(ErrorKind::UnexpectedEof));
     }
     Ok(FileFragment {
         file: fs::open(rt, path)?,

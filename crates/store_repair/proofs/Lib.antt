@@ -4,3 +4,7 @@ pub mod DamageLemmas
 pub mod LossLemmas
 pub mod OpenedLemmas
 pub mod RepairLemmas
+pub mod CombiningLemmas
+pub mod FileLemmas
+pub mod ReadingLemmas
+pub mod EncodingLemmas

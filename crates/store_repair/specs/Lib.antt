@@ -6,3 +6,4 @@ pub mod Store
 pub mod Losses
 pub mod Opened
 pub mod Repaired
+pub mod Files

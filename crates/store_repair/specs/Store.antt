@@ -66,3 +66,7 @@ abbrev pub IsOpened : List ℕ → Place → ℕ → ShownFiles → Option (List
 IsOpened stripe place len None shown = Unit {0}
 IsOpened stripe place len (Some files) shown =
     (bytes : List ℕ) × (files.fragments stripe place ≡ Some bytes) × (length bytes ≡ len) × AreBytes bytes × (shown ≡ Some bytes)
+
+-- what no store shows is nowhere
+pub never : {A : Type 0} → false ≡ true → A
+never e = absurd (cc)

@@ -1,6 +1,6 @@
 -- Windows: the bytes of all fragments from a position on, and what is made of them.
 use Rattle.std.specs.Prelude.{◌≡◌, ◌≢◌, ◌<◌, ◌++◌, ℕ, List, map, take, drop, length, All, Option, Some, None, option_map}
-use Rattle.std.specs.Prelude.{slice_index_or, Bool, true, false}
+use Rattle.std.specs.Prelude.{slice_index_or, Bool, true, false, [], ◌∷◌, ◌==◌, if◌then◌else◌}
 use Rattle.lrc_field.specs.Sums.{combination, column}
 use Rattle.lrc_code.specs.Encoding.{IsParity}
 use Rattle.lrc_plan.specs.Stripes.{AreZeroRows}
@@ -42,3 +42,9 @@ abbrev pub IsMendedWindow : {N : Type 0} → (N → Option (List ℕ)) → List 
     → Bool → Type 0
 IsMendedWindow shown checks rows xss n old new true = AreZeroRows checks xss n × AreAppended shown xss n rows old new
 IsMendedWindow shown checks rows xss n old new false = ¬ AreZeroRows checks xss n
+
+-- the lists whose coefficients aren't 00, and no bytes in place of the others
+abbrev pub used_in : List ℕ → List (List ℕ) → List (List ℕ)
+used_in [] at = []
+used_in (c ∷ cs) [] = []
+used_in (c ∷ cs) (xs ∷ at) = (if c == 0 then [] else xs) ∷ used_in cs at

@@ -3,23 +3,34 @@
 //! sections 2 and 3.
 #![tactic(auto)]
 
+mod combining;
 mod consistency;
 mod damage;
+mod encoding;
+mod file_reading;
 mod losses;
 mod mending;
 mod opening;
 mod outcomes;
+mod parts;
+mod planning;
 mod repairing;
+mod scrubbing;
 mod store;
 mod stripes;
 mod windows;
 
 pub use consistency::are_consistent;
 pub use damage::{find_damaged, without};
+pub use encoding::encode;
+pub use file_reading::read_file;
 pub use losses::{LostPlaces, have_checks, lost_places};
 pub use mending::{MendFault, Survivors, mend};
 pub use opening::{Opened, open_survivors};
 pub use outcomes::{Finding, Outcome, Reason};
+pub use parts::fragment_length;
+pub use planning::plan_stripe;
 pub use repairing::{Repair, repair_stripe};
+pub use scrubbing::scrub_stripe;
 pub use store::{Fragment, NewFragment, Placed, Store};
 pub use stripes::{Found, Stripe, StripeFiles};

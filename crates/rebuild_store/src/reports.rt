@@ -1,0 +1,175 @@
+//! What is said of fragments: lines, and the rows of a report.
+use crate::workers::Done;
+use csv::WriterBuilder;
+use lrc_code::Place;
+use serde_json::Value;
+use std::alloc::{AllocError, Global};
+use std::io::{self, ErrorKind};
+use store_folder::{NewFile, Site, place_again};
+use store_repair::{Finding, Outcome, Stripe};
+
+/// The form of a report's rows.
+#[derive(Clone, Copy, Debug, PartialEq, Eq)]
+pub enum Rows {
+    /// A header, and values between commas.
+    Csv,
+    /// An object on each line.
+    Json,
+}
+
+// A row: the stripe, the place if it is of a fragment, what became of it, and a detail.
+#[derive(Drop)]
+struct Row<'a> {
+    stripe: &'a str,
+    place: &'a str,
+    outcome: &'a str,
+    detail: String,
+}
+
+/// The name of a fragment's file in the store.
+pub fn file_of(
+    alloc: Global,
+    site: &Site<'_>,
+    stripe: &Stripe<'_>,
+    place: Place,
+) -> Result<String, AllocError> {
+    match site.pattern.name_of(alloc, site.code, stripe.name, place)? {
+        Some(name) => Ok(name),
+        None => String::from_str(alloc, stripe.name),
+    }
+}
+
+/// The line of a finding.
+pub fn line_of(
+    alloc: Global,
+    site: &Site<'_>,
+    stripe: &Stripe<'_>,
+    finding: &Finding,
+) -> Result<String, AllocError> {
+    let name = match finding.place {
+        Some(place) => file_of(alloc, site, stripe, place)?,
+        None => String::from_str(alloc, stripe.name)?,
+    };
+    let reason = &finding.reason;
+    format!(in alloc; "{name}: {reason}")
+}
+
+/// The rows of a report on stripes: one for each fragment that was rebuilt, and one for each finding.
+pub fn rows_of(
+    alloc: Global,
+    stripes: &[Stripe<'_>],
+    all: &[Done],
+    rows: Rows,
+) -> io::Result<String> {
+    let mut text = String::new(alloc);
+    if rows == Rows::Csv {
+        text.push_str("stripe,place,outcome,detail\n")?;
+    }
+    for done in all {
+        if let Some(stripe) = stripes.get(done.index) {
+            add_rows(alloc, stripe.name, &done.outcome, rows, &mut text)?;
+        }
+    }
+    Ok(text)
+}
+
+// Adds the rows of a stripe.
+fn add_rows(
+    alloc: Global,
+    stripe: &str,
+    outcome: &Outcome,
+    rows: Rows,
+    text: &mut String,
+) -> io::Result<()> {
+    let detail = if outcome.is_checked { "" } else { "unchecked" };
+    for place in &outcome.rebuilt {
+        let row = Row {
+            stripe,
+            place: place.name(),
+            outcome: "rebuilt",
+            detail: String::from_str(alloc, detail)?,
+        };
+        add_row(alloc, &row, rows, text)?;
+    }
+    for finding in &outcome.findings {
+        let reason = &finding.reason;
+        let row = Row {
+            stripe,
+            place: match finding.place {
+                Some(place) => place.name(),
+                None => "",
+            },
+            outcome: if outcome.is_mended(finding) {
+                "was"
+            } else {
+                "left"
+            },
+            detail: format!(in alloc; "{reason}")?,
+        };
+        add_row(alloc, &row, rows, text)?;
+    }
+    Ok(())
+}
+
+fn add_row(alloc: Global, row: &Row<'_>, rows: Rows, text: &mut String) -> io::Result<()> {
+    match rows {
+        Rows::Csv => add_values(alloc, row, text),
+        Rows::Json => add_object(alloc, row, text),
+    }
+}
+
+// Adds a row's values between commas.
+fn add_values(alloc: Global, row: &Row<'_>, text: &mut String) -> io::Result<()> {
+    let mut values = Vec::new(alloc);
+    values.push(row.stripe.as_bytes())?;
+    values.push(row.place.as_bytes())?;
+    values.push(row.outcome.as_bytes())?;
+    values.push(row.detail.as_bytes())?;
+    match values_text(alloc, values.as_slice()) {
+        Ok(bytes) => {
+            text.push_str(str::from_utf8(bytes.as_slice()).unwrap_or(""))?;
+            Ok(())
+        }
+        Err(_) => Err(io::Error::from(ErrorKind::OutOfMemory)),
+    }
+}
+
+// Values between commas. Only memory can be refused.
+fn values_text(alloc: Global, values: &[&[u8]]) -> Result<Vec<u8>, csv::Error> {
+    let mut writer = WriterBuilder::new().from_writer(Vec::new(alloc));
+    writer.write_fields(values)?;
+    match writer.into_inner() {
+        Ok(text) => Ok(text),
+        Err(error) => Err(error.into_error()),
+    }
+}
+
+// Adds a row as an object.
+fn add_object(alloc: Global, row: &Row<'_>, text: &mut String) -> io::Result<()> {
+    let stripe = quoted(alloc, row.stripe)?;
+    let place = quoted(alloc, row.place)?;
+    let outcome = quoted(alloc, row.outcome)?;
+    let detail = quoted(alloc, row.detail.as_str())?;
+    let line = format!(in alloc;
+        "{{\"stripe\":{stripe},\"place\":{place},\"outcome\":{outcome},\"detail\":{detail}}}\n"
+    )?;
+    text.push_str(line.as_str())?;
+    Ok(())
+}
+
+// A text as JSON has it.
+fn quoted(alloc: Global, text: &str) -> Result<String, AllocError> {
+    Value::String(String::from_str(alloc, text)?).to_string(alloc)
+}
+
+/// Writes a report to the file at a path, which has the whole report or is as it was.
+pub fn write_report(rt: &HostRuntime, path: &str, rows: &str) -> io::Result<()> {
+    let folder = match path.rsplit_once('/') {
+        Some(("", _)) => "/",
+        Some((folder, _)) => folder,
+        None => ".",
+    };
+    let mut file = NewFile::create_as_user(rt, rt.alloc(), folder, 0)?;
+    store_repair::NewFragment::append(&mut file, rows.as_bytes())?;
+    place_again(rt, file, path)
+}

@@ -1,0 +1,45 @@
+//! What became of all stripes.
+use crate::workers::Done;
+use store_repair::Reason;
+
+/// Counts over all stripes.
+#[derive(Clone, Copy, Default)]
+pub struct Totals {
+    /// How many fragments were rebuilt, and how many bytes they have.
+    pub rebuilt: u64,
+    pub bytes: u64,
+    /// How many of them no check covered.
+    pub unchecked: u64,
+    /// How many survivors are known to be damaged.
+    pub damaged: u64,
+    /// How many findings are not mended.
+    pub left: u64,
+    /// Whether the system refused to read or write something.
+    pub device: bool,
+}
+
+/// The counts over outcomes.
+pub fn totals_of(all: &[Done]) -> Totals {
+    let mut totals = Totals::default();
+    for done in all {
+        let outcome = &done.outcome;
+        let rebuilt = outcome.rebuilt.len() as u64;
+        totals.rebuilt = totals.rebuilt.saturating_add(rebuilt);
+        totals.bytes = totals
+            .bytes
+            .saturating_add(rebuilt.saturating_mul(outcome.length as u64));
+        if !outcome.is_checked {
+            totals.unchecked = totals.unchecked.saturating_add(rebuilt);
+        }
+        for finding in &outcome.findings {
+            if matches!(finding.reason, Reason::Damaged | Reason::Differs) {
+                totals.damaged = totals.damaged.saturating_add(1);
+            }
+            if !outcome.is_mended(finding) {
+                totals.left = totals.left.saturating_add(1);
+            }
+            totals.device = totals.device || finding.reason.is_of_device();
+        }
+    }
+    totals
+}

@@ -1,0 +1,354 @@
+//! A store in a folder. A fragment has no name that another one can have until it is whole and on the disk.
+ghost use Rattle.std.specs.Prelude.{None};
+ghost use Rattle.store_repair.specs.Store.{never};
+
+use crate::names::path_in;
+use crate::patterns::Pattern;
+use crate::placing::UNFINISHED;
+use crate::sums::Sums;
+use crate::surviving::{FileFragment, open_fragment};
+use lrc_code::{Code, Place};
+use sha2::{Digest as _, Sha256};
+use std::alloc::{AllocError, Global};
+use std::fs::{self, File};
+use std::io::{self, ErrorKind, Write};
+use std::os::unix::fs::{MetadataExt, OpenOptionsExt, fchown};
+use std::sync::atomic::{AtomicU64, Ordering};
+use store_repair::{NewFragment, Placed, Store};
+
+/// How many links to links are followed.
+const MOST_LINKS: usize = 16;
+
+/// Where a store is, and how its fragments are named.
+#[derive(Clone, Copy)]
+pub struct Site<'a> {
+    pub folder: &'a str,
+    /// The folder that rebuilt fragments are written to: the store's own, or another.
+    pub target: &'a str,
+    pub pattern: Pattern<'a>,
+    pub code: Code,
+    /// The digests that fragments have to have, by their names in the store.
+    pub sums: Option<&'a Sums>,
+    /// What the names of unfinished files have after their beginning, so that those of one part of a store are known.
+    pub tag: &'a str,
+}
+
+/// A store in a folder, as one thread works in it.
+#[derive(Drop)]
+pub struct FolderStore<'a> {
+    rt: &'a HostRuntime,
+    site: Site<'a>,
+    // The number of the next unfinished file of all threads.
+    next: &'a AtomicU64,
+    // The folders in which names were given since the last time that these were written to the disk.
+    touched: Vec<String>,
+    // Why an unfinished file could not be removed after its fragment had its name.
+    leftover: Option<io::Error>,
+}
+
+/// A fragment that has no name yet.
+#[derive(Drop)]
+pub struct UnfinishedFile {
+    file: File,
+    // Its path, the folder that it is in, and the path that it is to have.
+    unfinished: String,
+    folder: String,
+    path: String,
+    held: Option<Held>,
+}
+
+// What is digested of a file, and the digest that it has to have.
+#[derive(Drop)]
+struct Held {
+    digest: Sha256,
+    wanted: [u8; 32],
+}
+
+impl Held {
+    fn is_as_wanted(self) -> bool {
+        let wanted = self.wanted;
+        let made = self.digest.finalize();
+        made == wanted
+    }
+}
+
+impl NewFragment for UnfinishedFile {
+    ghost shown = { λ _. None };
+
+    fn append(&mut self, bytes: &[u8]) -> io::Result<()> {
+        if let Some(held) = &mut self.held {
+            held.digest.update(bytes);
+        }
+        self.file.write_all(bytes)
+    }
+}
+
+impl UnfinishedFile {
+    // Gives it the owner and the mode of another file. Who isn't allowed to give it away keeps it.
+    fn take_after(&self, rt: &HostRuntime, neighbour: &str) -> io::Result<()> {
+        let metadata = fs::metadata(rt, neighbour)?;
+        let given = fchown(&self.file, Some(metadata.uid()), Some(metadata.gid()));
+        if let Err(error) = given {
+            if error.kind() != ErrorKind::PermissionDenied {
+                return Err(error);
+            }
+        }
+        self.file.set_permissions(metadata.permissions())
+    }
+}
+
+impl<'a> FolderStore<'a> {
+    /// A store at a site. The number is that of the next unfinished file, of all stores at this site that are open at once.
+    pub fn new(rt: &'a HostRuntime, site: Site<'a>, next: &'a AtomicU64) -> FolderStore<'a> {
+        FolderStore {
+            rt,
+            site,
+            next,
+            touched: Vec::new(rt.alloc()),
+            leftover: None,
+        }
+    }
+
+    // The path of a fragment in a folder, if it has a name.
+    fn path_of(&self, folder: &str, stripe: &str, place: Place) -> io::Result<String> {
+        let name = self.name_of(stripe, place)?;
+        Ok(path_in(self.rt.alloc(), folder, name.as_str())?)
+    }
+
+    fn name_of(&self, stripe: &str, place: Place) -> io::Result<String> {
+        let site = &self.site;
+        match site
+            .pattern
+            .name_of(self.rt.alloc(), site.code, stripe, place)?
+        {
+            Some(name) => Ok(name),
+            None => Err(io::Error::from(ErrorKind::InvalidInput)),
+        }
+    }
+
+    // The digest that a fragment has to have, if the store's checksums say one.
+    fn sum_of(&self, stripe: &str, place: Place) -> io::Result<Option<[u8; 32]>> {
+        let Some(sums) = self.site.sums else {
+            return Ok(None);
+        };
+        let name = self.name_of(stripe, place)?;
+        Ok(sums.digest_of(name.as_str()).copied())
+    }
+
+    // A file of the stripe whose owner and mode its rebuilt fragments get.
+    fn neighbour_of(&self, stripe: &str) -> io::Result<Option<String>> {
+        for place in self.site.code.places() {
+            let path = self.path_of(self.site.folder, stripe, *place)?;
+            if fs::metadata(self.rt, path.as_str()).is_ok_and(|metadata| metadata.is_file()) {
+                return Ok(Some(path));
+            }
+        }
+        Ok(None)
+    }
+
+    // Writes a whole file to the disk, with the owner and mode of a neighbour, if it has the bytes that it has to have.
+    fn finish(&self, file: &mut UnfinishedFile, stripe: &str) -> io::Result<()> {
+        if let Some(held) = file.held.take() {
+            if !held.is_as_wanted() {
+                return Err(io::Error::from(ErrorKind::InvalidData));
+            }
+        }
+        if let Some(neighbour) = self.neighbour_of(stripe)? {
+            file.take_after(self.rt, neighbour.as_str())?;
+        }
+        file.file.sync_all()
+    }
+
+    // Gives a whole file its name, if nothing is there.
+    fn link(&mut self, file: &UnfinishedFile) -> io::Result<Placed> {
+        match fs::hard_link(self.rt, file.unfinished.as_str(), file.path.as_str()) {
+            Ok(()) => {
+                self.touch(file.folder.as_str())?;
+                Ok(Placed::Placed)
+            }
+            Err(error) if error.kind() == ErrorKind::AlreadyExists => Ok(Placed::IsThere),
+            Err(error) => Err(error),
+        }
+    }
+
+    // Gives a whole file the name of another one, which is kept.
+    fn exchange(&mut self, file: &UnfinishedFile) -> io::Result<Placed> {
+        let mut kept = String::from_str(self.rt.alloc(), file.path.as_str())?;
+        kept.push_str(".damaged")?;
+        match fs::hard_link(self.rt, file.path.as_str(), kept.as_str()) {
+            Ok(()) => {}
+            Err(error) if error.kind() == ErrorKind::AlreadyExists => {
+                // A run that was killed between the two steps has left both names on one file.
+                if !self.are_one(file.path.as_str(), kept.as_str())? {
+                    return Ok(Placed::IsThere);
+                }
+            }
+            Err(error) => return Err(error),
+        }
+        fs::rename(self.rt, file.unfinished.as_str(), file.path.as_str())?;
+        self.touch(file.folder.as_str())?;
+        Ok(Placed::Placed)
+    }
+
+    // Whether two names are of one file.
+    fn are_one(&self, one: &str, other: &str) -> io::Result<bool> {
+        let one = fs::metadata(self.rt, one)?;
+        let other = fs::metadata(self.rt, other)?;
+        Ok(one.dev() == other.dev() && one.ino() == other.ino())
+    }
+
+    // Notes that a name was given in a folder.
+    fn touch(&mut self, folder: &str) -> Result<(), AllocError> {
+        if !self
+            .touched
+            .iter()
+            .any(|touched| touched.as_str() == folder)
+        {
+            self.touched
+                .push(String::from_str(self.rt.alloc(), folder)?)?;
+        }
+        Ok(())
+    }
+
+    // Removes an unfinished file. What could not be removed is said when names are written to the disk.
+    fn remove(&mut self, file: &UnfinishedFile) {
+        if let Err(error) = fs::remove_file(self.rt, file.unfinished.as_str()) {
+            self.leftover = Some(error);
+        }
+    }
+}
+
+impl Store for FolderStore<'_> {
+    type Survivor = FileFragment;
+
+    type New = UnfinishedFile;
+
+    ghost new_shown = { λ s f h. never h };
+
+    fn open(&self, stripe: &str, place: Place, length: usize) -> io::Result<FileFragment> {
+        let path = self.path_of(self.site.folder, stripe, place)?;
+        let fragment = open_fragment(self.rt, path.as_str(), length as u64)?;
+        if let Some(wanted) = self.sum_of(stripe, place)? {
+            if digest_of(self.rt.alloc(), &fragment, length)? != wanted {
+                return Err(io::Error::from(ErrorKind::InvalidData));
+            }
+        }
+        Ok(fragment)
+    }
+
+    fn create(&mut self, stripe: &str, place: Place) -> io::Result<UnfinishedFile> {
+        let alloc = self.rt.alloc();
+        let sum = self.sum_of(stripe, place)?;
+        let named = self.path_of(self.site.target, stripe, place)?;
+        let path = followed(self.rt, named)?;
+        let folder = String::from_str(alloc, folder_of(path.as_str()))?;
+        let number = self.next.fetch_add(1, Ordering::SeqCst);
+        let tag = self.site.tag;
+        let name = format!(in alloc; "{UNFINISHED}{tag}{number}")?;
+        let unfinished = path_in(alloc, folder.as_str(), name.as_str())?;
+        let mut options = File::options();
+        options.write(true).create_new(true).mode(0o600);
+        let file = options.open(self.rt, unfinished.as_str())?;
+        let held = match sum {
+            Some(wanted) => Some(Held {
+                digest: Sha256::new(),
+                wanted,
+            }),
+            None => None,
+        };
+        Ok(UnfinishedFile {
+            file,
+            unfinished,
+            folder,
+            path,
+            held,
+        })
+    }
+
+    fn place(&mut self, file: UnfinishedFile, stripe: &str, _place: Place) -> io::Result<Placed> {
+        let mut file = file;
+        let finished = self.finish(&mut file, stripe);
+        let placed = match finished {
+            Ok(()) => self.link(&file),
+            Err(error) => Err(error),
+        };
+        self.remove(&file);
+        placed
+    }
+
+    fn replace(&mut self, file: UnfinishedFile, stripe: &str, _place: Place) -> io::Result<Placed> {
+        let mut file = file;
+        let finished = self.finish(&mut file, stripe);
+        let placed = match finished {
+            Ok(()) => self.exchange(&file),
+            Err(error) => Err(error),
+        };
+        if !matches!(placed, Ok(Placed::Placed)) {
+            self.remove(&file);
+        }
+        placed
+    }
+
+    fn discard(&mut self, file: UnfinishedFile) -> io::Result<()> {
+        fs::remove_file(self.rt, file.unfinished.as_str())
+    }
+
+    fn settle(&mut self) -> io::Result<()> {
+        for folder in &self.touched {
+            fs::open(self.rt, folder.as_str())?.sync_all()?;
+        }
+        self.touched.clear();
+        match self.leftover.take() {
+            Some(error) => Err(error),
+            None => Ok(()),
+        }
+    }
+}
+
+// The digest of a fragment.
+fn digest_of(alloc: Global, fragment: &FileFragment, length: usize) -> io::Result<[u8; 32]> {
+    let mut room = Vec::from_elem(alloc, 0u8, length.min(WINDOW))?;
+    let mut digest = Sha256::new();
+    for window in 0..length.div_ceil(WINDOW) {
+        let from = window.saturating_mul(WINDOW);
+        let size = length.saturating_sub(from).min(room.len());
+        let bytes = room.slice_mut(..size);
+        store_repair::Fragment::read_at(fragment, from, bytes)?;
+        digest.update(bytes);
+    }
+    Ok(digest.finalize())
+}
+
+// How many bytes are digested at once.
+const WINDOW: usize = 65_536;
+
+// The folder of a path.
+fn folder_of(path: &str) -> &str {
+    match path.rsplit_once('/') {
+        Some(("", _)) => "/",
+        Some((folder, _)) => folder,
+        None => ".",
+    }
+}
+
+// The path that a path's links lead to, as far as there are links.
+fn followed(rt: &HostRuntime, path: String) -> io::Result<String> {
+    let alloc = rt.alloc();
+    let mut path = path;
+    for _link in 0..MOST_LINKS {
+        let is_link = fs::symlink_metadata(rt, path.as_str()).is_ok_and(|metadata| metadata
+            .file_type()
+            .is_symlink());
+        if !is_link {
+            return Ok(path);
+        }
+        let link = fs::read_link(rt, path.as_str())?;
+        let text = link.as_str();
+        path = if text.starts_with('/') {
+            String::from_str(alloc, text)?
+        } else {
+            path_in(alloc, folder_of(path.as_str()), text)?
+        };
+    }
+    Err(io::Error::from(ErrorKind::InvalidInput))
+}

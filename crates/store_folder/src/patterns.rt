@@ -1,0 +1,264 @@
+//! The names of a store's fragments: a pattern of a stripe's name and of a place, as `{stripe}.{place}` or `disk{shard}/{stripe}`.
+use lrc_code::{Code, Place};
+use std::alloc::{AllocError, Global};
+use thiserror::Error;
+
+/// How a pattern names a place.
+#[derive(Clone, Copy, Debug, PartialEq, Eq)]
+enum Naming {
+    /// By its name, as `x0`.
+    Place,
+    /// By its number in a layout of the shards.
+    Shard,
+}
+
+/// The order of a stripe's shards.
+#[derive(Clone, Copy, Debug, PartialEq, Eq)]
+pub enum Layout {
+    /// The data, then px, py, p0, p1.
+    Plain,
+    /// x0.., px, y0.., py, p0, p1.
+    Groups,
+}
+
+/// A pattern of names, relative to the store's folder. It has a stripe and a place, each once.
+#[derive(Clone, Copy, Debug)]
+pub struct Pattern<'a> {
+    before: &'a str,
+    between: &'a str,
+    after: &'a str,
+    is_stripe_first: bool,
+    naming: Naming,
+    layout: Layout,
+}
+
+/// Why a text is no pattern.
+#[derive(Clone, Copy, Debug, PartialEq, Eq, Error)]
+pub enum PatternFault {
+    #[error("the pattern of names needs {{stripe}} once, and {{place}} or {{shard}} once")]
+    NotOnce,
+    #[error("the pattern of names is no name below the store's folder")]
+    NotBelow,
+}
+
+const STRIPE: &str = "{stripe}";
+
+const PLACE: &str = "{place}";
+
+const SHARD: &str = "{shard}";
+
+const NARROW_PLAIN: [Place; 10] = [
+    Place::X0,
+    Place::X1,
+    Place::X2,
+    Place::Y0,
+    Place::Y1,
+    Place::Y2,
+    Place::Px,
+    Place::Py,
+    Place::P0,
+    Place::P1,
+];
+
+const NARROW_GROUPS: [Place; 10] = [
+    Place::X0,
+    Place::X1,
+    Place::X2,
+    Place::Px,
+    Place::Y0,
+    Place::Y1,
+    Place::Y2,
+    Place::Py,
+    Place::P0,
+    Place::P1,
+];
+
+const WIDE_PLAIN: [Place; 16] = [
+    Place::X0,
+    Place::X1,
+    Place::X2,
+    Place::X3,
+    Place::X4,
+    Place::X5,
+    Place::Y0,
+    Place::Y1,
+    Place::Y2,
+    Place::Y3,
+    Place::Y4,
+    Place::Y5,
+    Place::Px,
+    Place::Py,
+    Place::P0,
+    Place::P1,
+];
+
+const WIDE_GROUPS: [Place; 16] = [
+    Place::X0,
+    Place::X1,
+    Place::X2,
+    Place::X3,
+    Place::X4,
+    Place::X5,
+    Place::Px,
+    Place::Y0,
+    Place::Y1,
+    Place::Y2,
+    Place::Y3,
+    Place::Y4,
+    Place::Y5,
+    Place::Py,
+    Place::P0,
+    Place::P1,
+];
+
+// How many times a text goes into a folder.
+fn slashes(text: &str) -> usize {
+    text.chars().filter(|letter| *letter == '/').count()
+}
+
+fn has_brace(text: &str) -> bool {
+    text.contains('{') || text.contains('}')
+}
+
+impl Layout {
+    /// The places of a code in the order of the shards' numbers.
+    pub fn places(self, code: Code) -> &'static [Place] {
+        match (code, self) {
+            (Code::Narrow, Layout::Plain) => &NARROW_PLAIN,
+            (Code::Narrow, Layout::Groups) => &NARROW_GROUPS,
+            (Code::Wide, Layout::Plain) => &WIDE_PLAIN,
+            (Code::Wide, Layout::Groups) => &WIDE_GROUPS,
+        }
+    }
+}
+
+impl<'a> Pattern<'a> {
+    /// The pattern that a text is.
+    pub fn parse(text: &'a str, layout: Layout) -> Result<Pattern<'a>, PatternFault> {
+        let (naming, key) = if text.contains(SHARD) {
+            (Naming::Shard, SHARD)
+        } else {
+            (Naming::Place, PLACE)
+        };
+        let Some((head, tail)) = text.split_once(STRIPE) else {
+            return Err(PatternFault::NotOnce);
+        };
+        let (before, between, after, is_stripe_first) = match head.split_once(key) {
+            Some((before, between)) => (before, between, tail, false),
+            None => match tail.split_once(key) {
+                Some((between, after)) => (head, between, after, true),
+                None => return Err(PatternFault::NotOnce),
+            },
+        };
+        if has_brace(before) || has_brace(between) || has_brace(after) {
+            return Err(PatternFault::NotOnce);
+        }
+        if text.starts_with('/')
+            || text.contains("//")
+            || text.contains("..")
+            || text.ends_with('/')
+        {
+            return Err(PatternFault::NotBelow);
+        }
+        Ok(Pattern {
+            before,
+            between,
+            after,
+            is_stripe_first,
+            naming,
+            layout,
+        })
+    }
+
+    /// Whether the names have the numbers of shards, so that the code has to be known to read them.
+    pub fn has_shards(&self) -> bool {
+        self.naming == Naming::Shard
+    }
+
+    /// How many folders a name has below the store's.
+    pub fn depth(&self) -> usize {
+        slashes(self.before)
+            .saturating_add(slashes(self.between))
+            .saturating_add(slashes(self.after))
+    }
+
+    /// The name of a stripe's fragment at a place; none where the place has no shard.
+    pub fn name_of(
+        &self,
+        alloc: Global,
+        code: Code,
+        stripe: &str,
+        place: Place,
+    ) -> Result<Option<String>, AllocError> {
+        let Some(key) = self.key_of(alloc, code, place)? else {
+            return Ok(None);
+        };
+        let (first, second) = if self.is_stripe_first {
+            (stripe, key.as_str())
+        } else {
+            (key.as_str(), stripe)
+        };
+        let mut name = String::from_str(alloc, self.before)?;
+        name.push_str(first)?;
+        name.push_str(self.between)?;
+        name.push_str(second)?;
+        name.push_str(self.after)?;
+        Ok(Some(name))
+    }
+
+    // How a place is named.
+    fn key_of(
+        &self,
+        alloc: Global,
+        code: Code,
+        place: Place,
+    ) -> Result<Option<String>, AllocError> {
+        match self.naming {
+            Naming::Place => Ok(Some(String::from_str(alloc, place.name())?)),
+            Naming::Shard => {
+                let places = self.layout.places(code);
+                let Some(number) = places.iter().position(|other| *other == place) else {
+                    return Ok(None);
+                };
+                Ok(Some(format!(in alloc; "{number}")?))
+            }
+        }
+    }
+
+    /// The stripe and the place that a name says; of places whose names both fit, the longer one's.
+    pub fn read<'n>(
+        &self,
+        alloc: Global,
+        code: Code,
+        name: &'n str,
+    ) -> Result<Option<(&'n str, Place)>, AllocError> {
+        let Some(rest) = name.strip_prefix(self.before) else {
+            return Ok(None);
+        };
+        let Some(middle) = rest.strip_suffix(self.after) else {
+            return Ok(None);
+        };
+        let mut best = None;
+        let mut longest = 0;
+        for place in &Place::ALL {
+            let Some(key) = self.key_of(alloc, code, *place)? else {
+                continue;
+            };
+            if let Some(stripe) = self.stripe_in(middle, key.as_str()) {
+                if key.len() > longest && !stripe.is_empty() && !stripe.contains('/') {
+                    longest = key.len();
+                    best = Some((stripe, *place));
+                }
+            }
+        }
+        Ok(best)
+    }
+
+    // The stripe in a name without what is before and after, where it has the place of this key.
+    fn stripe_in<'n>(&self, middle: &'n str, key: &str) -> Option<&'n str> {
+        if self.is_stripe_first {
+            return middle.strip_suffix(key)?.strip_suffix(self.between);
+        }
+        middle.strip_prefix(key)?.strip_prefix(self.between)
+    }
+}

@@ -1,0 +1,35 @@
+//! What a repair of a stripe would do.
+use crate::losses::{have_checks, lost_places};
+use crate::opening::open_survivors;
+use crate::outcomes::{Outcome, Reason, note};
+use crate::store::Store;
+use crate::stripes::Stripe;
+use lrc_code::Code;
+use std::alloc::{AllocError, Global};
+
+/// What a repair of a stripe would do: the places whose fragments it would rebuild, if the survivors that can be opened don't contradict each
+/// other, and what it couldn't. No fragment is read.
+pub fn plan_stripe<S: Store>(
+    alloc: Global,
+    store: &S,
+    code: Code,
+    stripe: &Stripe<'_>,
+) -> Result<Outcome, AllocError> {
+    let mut findings = Vec::new(alloc);
+    let Some(length) = stripe.length() else {
+        note(&mut findings, None, Reason::NoSurvivor)?;
+        return Ok(Outcome::of(alloc, findings));
+    };
+    let opened = open_survivors(alloc, store, code, stripe, length, &mut findings)?;
+    let lost = lost_places(alloc, code, opened.set)?;
+    for place in &lost.several {
+        note(&mut findings, Some(*place), Reason::Several)?;
+    }
+    Ok(Outcome {
+        length,
+        survivors: opened.set,
+        is_checked: have_checks(code, opened.set),
+        rebuilt: lost.determined,
+        findings,
+    })
+}
