@@ -81,8 +81,8 @@ pub fn open_store(
     })
 }
 
-// Keeps other repairs out of a folder until the file is closed.
-fn lock_folder(rt: &HostRuntime, folder: &str) -> Result<File, StoreFault> {
+/// Keeps other runs that write out of a folder until the file is closed.
+pub fn lock_folder(rt: &HostRuntime, folder: &str) -> Result<File, StoreFault> {
     let name = String::from_str(rt.alloc(), folder)?;
     let file = match fs::open(rt, folder) {
         Ok(file) => file,
@@ -112,6 +112,19 @@ fn code_of(listing: &Listing) -> Code {
         }
     }
     Code::Narrow
+}
+
+/// Whether a stripe in a folder is of the other code: it has a place that the (6,2,2) code hasn't, or all places of that one and no other.
+pub fn is_of_another_code(listing: &Listing, code: Code) -> bool {
+    match code {
+        Code::Narrow => code_of(listing) == Code::Wide,
+        Code::Wide => listing.stripes.values().any(|files| is_narrow(files)),
+    }
+}
+
+// Whether a stripe has the places of the (6,2,2) code alone.
+fn is_narrow(files: &StripeFiles) -> bool {
+    Place::ALL.iter().all(|place| (files.at(*place) != Found::Absent) == Code::Narrow.has(*place))
 }
 
 impl Store {

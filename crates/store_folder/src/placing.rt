@@ -12,7 +12,7 @@ use store_repair::NewFragment;
 const UNFINISHED: &str = ".rebuild-store-";
 
 /// Whether a name is that of a file that a run which was killed has left.
-pub(crate) fn is_leftover(name: &str) -> bool {
+pub fn is_leftover(name: &str) -> bool {
     name.starts_with(UNFINISHED)
 }
 
@@ -48,10 +48,30 @@ impl NewFile {
         folder: &str,
         number: u64,
     ) -> io::Result<NewFile> {
+        NewFile::with_mode(rt, alloc, folder, number, 0o600)
+    }
+
+    /// The same, with the rights that the user's mask leaves to a new file.
+    pub fn create_as_user(
+        rt: &HostRuntime,
+        alloc: Global,
+        folder: &str,
+        number: u64,
+    ) -> io::Result<NewFile> {
+        NewFile::with_mode(rt, alloc, folder, number, 0o666)
+    }
+
+    fn with_mode(
+        rt: &HostRuntime,
+        alloc: Global,
+        folder: &str,
+        number: u64,
+        mode: u32,
+    ) -> io::Result<NewFile> {
         let name = format!(in alloc; "{UNFINISHED}{number}")?;
         let path = path_in(alloc, folder, name.as_str())?;
         let mut options = File::options();
-        options.write(true).create_new(true).mode(0o600);
+        options.write(true).create_new(true).mode(mode);
         let file = options.open(rt, path.as_str())?;
         Ok(NewFile { file, path })
     }
@@ -104,6 +124,16 @@ pub fn place_over(rt: &HostRuntime, file: NewFile, path: &str, kept: &str) -> io
     } = file;
     fs::rename(rt, unfinished.as_str(), path)?;
     Ok(Placed::Placed)
+}
+
+/// Writes a file to the disk and gives it the name at a path, in place of the file that has it, if one does.
+pub fn place_again(rt: &HostRuntime, file: NewFile, path: &str) -> io::Result<()> {
+    file.file.sync_all()?;
+    let NewFile {
+        file: _file,
+        path: unfinished,
+    } = file;
+    fs::rename(rt, unfinished.as_str(), path)
 }
 
 /// Removes files that a run which was killed has left, by their names.
