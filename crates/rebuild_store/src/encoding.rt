@@ -62,8 +62,13 @@ pub fn encode_all(rt: &HostRuntime, options: &EncodeOptions) -> Result<u8, FileF
         number: 0,
     };
     if is_of_another_code(&listing, options.code) {
+        let other = match options.code {
+            Code::Narrow => Code::Wide,
+            Code::Wide => Code::Narrow,
+        };
+        let other = other.text();
         let what = format!(in alloc;
-            "{folder}: its fragments are of the code 12-2-2: give --code 12-2-2"
+            "{folder}: has fragments of the code {other}: give --code {other}, or another folder"
         )?;
         return Err(FileFault::Refused { what });
     }
