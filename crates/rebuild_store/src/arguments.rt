@@ -1,4 +1,7 @@
 //! The program's arguments, and what they ask for.
+use crate::file_arguments::{
+    EncodeOptions, ReadOptions, encode_definition, encode_options, read_definition, read_options,
+};
 use clap::error::ErrorKind;
 use clap::{Arg, ArgAction, ArgMatches, Command as Definition, Error as ParseError};
 use lrc_code::Code;
@@ -110,6 +113,8 @@ pub struct Options {
 #[derive(Debug, Drop)]
 pub enum Asked {
     Command(Command, Options),
+    Encode(EncodeOptions),
+    Read(ReadOptions),
     /// To show this text: help, or the version.
     Help(String),
 }
@@ -156,7 +161,9 @@ fn definition<'a>(alloc: Global) -> Result<Definition<'a>, AllocError> {
         .after_help(AFTER_HELP)
         .subcommand(repair)?
         .subcommand(lost)?
-        .subcommand(scrub)
+        .subcommand(scrub)?
+        .subcommand(encode_definition(alloc)?)?
+        .subcommand(read_definition(alloc)?)
 }
 
 // A command over a store.
@@ -222,6 +229,8 @@ fn asked_of(alloc: Global, matches: &ArgMatches<'_>) -> Result<Asked, UsageFault
         Some(("repair", matches)) => command_of(alloc, Command::Repair, matches),
         Some(("lost", matches)) => command_of(alloc, Command::Lost, matches),
         Some(("scrub", matches)) => command_of(alloc, Command::Scrub, matches),
+        Some(("encode", matches)) => Ok(Asked::Encode(encode_options(alloc, matches)?)),
+        Some(("read", matches)) => Ok(Asked::Read(read_options(alloc, matches)?)),
         _ => Err(UsageFault::Usage(String::from_str(alloc, NO_COMMAND)?)),
     }
 }

@@ -9,7 +9,7 @@ use crate::workers::{Done, Work, work_on};
 use std::sync::atomic::AtomicU64;
 use std::thread::Threads;
 use std::{fs, io};
-use store_folder::{FolderStore, Pattern, Site, is_leftover};
+use store_folder::{FolderStore, Pattern, Site, is_leftover_of};
 use store_repair::{Repair, Stripe};
 
 /// Repairs the stripes, says what was done and what is left, and gives the exit status.
@@ -65,7 +65,7 @@ fn remove_leftovers(rt: &HostRuntime, store: &OpenStore, tag: &str) -> io::Resul
     for path in &store.listing.leftovers {
         let path = path.as_str();
         let name = path.rsplit('/').next().unwrap_or(path);
-        if !is_leftover(name) || !is_of_tag(name, tag) {
+        if !is_leftover_of(name, tag) {
             continue;
         }
         if let Err(error) = fs::remove_file(rt, path) {
@@ -73,11 +73,6 @@ fn remove_leftovers(rt: &HostRuntime, store: &OpenStore, tag: &str) -> io::Resul
         }
     }
     Ok(())
-}
-
-// Whether the name of an unfinished file is of the part of a tag; without a tag all are.
-fn is_of_tag(name: &str, tag: &str) -> bool {
-    tag.is_empty() || name.contains(tag)
 }
 
 // Says what became of the stripes, and gives the exit status.

@@ -132,6 +132,18 @@ impl Layout {
     }
 }
 
+impl Pattern<'static> {
+    /// `{stripe}.{place}`, the pattern of a store that has no other.
+    pub const PLAIN: Pattern<'static> = Pattern {
+        before: "",
+        between: ".",
+        after: "",
+        is_stripe_first: true,
+        naming: Naming::Place,
+        layout: Layout::Plain,
+    };
+}
+
 impl<'a> Pattern<'a> {
     /// The pattern that a text is.
     pub fn parse(text: &'a str, layout: Layout) -> Result<Pattern<'a>, PatternFault> {

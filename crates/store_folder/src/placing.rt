@@ -5,7 +5,7 @@ use crate::names::path_in;
 use std::alloc::Global;
 use std::fs::{self, File};
 use std::io::{self, ErrorKind, Write};
-use std::os::unix::fs::{MetadataExt, OpenOptionsExt, fchown};
+use std::os::unix::fs::OpenOptionsExt;
 use store_repair::{NewFragment, Placed};
 
 // How the name of a file begins that isn't whole yet.
@@ -14,6 +14,12 @@ pub(crate) const UNFINISHED: &str = ".rebuild-store-";
 /// Whether a name is that of a file that a run which was killed has left.
 pub fn is_leftover(name: &str) -> bool {
     name.starts_with(UNFINISHED)
+}
+
+/// Whether a name is that of such a file of a part of a store, by the tag of its names; without a tag, of any.
+pub fn is_leftover_of(name: &str, tag: &str) -> bool {
+    name.strip_prefix(UNFINISHED)
+        .is_some_and(|rest| rest.starts_with(tag))
 }
 
 /// A rebuilt fragment that is being written.
@@ -32,51 +38,19 @@ impl NewFragment for NewFile {
 }
 
 impl NewFile {
-    /// A new file in a folder, whose name has a number that no other of this run has. Nobody but its owner can read it.
-    pub fn create(
-        rt: &HostRuntime,
-        alloc: Global,
-        folder: &str,
-        number: u64,
-    ) -> io::Result<NewFile> {
-        NewFile::with_mode(rt, alloc, folder, number, 0o600)
-    }
-
-    /// The same, with the rights that the user's mask leaves to a new file.
+    /// A new file in a folder, whose name has a number that no other of this run has, with the rights that the user's mask leaves it.
     pub fn create_as_user(
         rt: &HostRuntime,
         alloc: Global,
         folder: &str,
         number: u64,
     ) -> io::Result<NewFile> {
-        NewFile::with_mode(rt, alloc, folder, number, 0o666)
-    }
-
-    fn with_mode(
-        rt: &HostRuntime,
-        alloc: Global,
-        folder: &str,
-        number: u64,
-        mode: u32,
-    ) -> io::Result<NewFile> {
         let name = format!(in alloc; "{UNFINISHED}{number}")?;
         let path = path_in(alloc, folder, name.as_str())?;
         let mut options = File::options();
-        options.write(true).create_new(true).mode(mode);
+        options.write(true).create_new(true).mode(0o666);
         let file = options.open(rt, path.as_str())?;
         Ok(NewFile { file, path })
-    }
-
-    /// Gives the file the owner and the mode of another one. Who isn't allowed to give it away keeps it.
-    pub fn take_after(&self, rt: &HostRuntime, neighbour: &str) -> io::Result<()> {
-        let metadata = fs::metadata(rt, neighbour)?;
-        let given = fchown(&self.file, Some(metadata.uid()), Some(metadata.gid()));
-        if let Err(error) = given {
-            if error.kind() != ErrorKind::PermissionDenied {
-                return Err(error);
-            }
-        }
-        self.file.set_permissions(metadata.permissions())
     }
 
     /// Removes the file.
@@ -98,25 +72,6 @@ pub fn place_new(rt: &HostRuntime, file: NewFile, path: &str) -> io::Result<Plac
     Ok(placed)
 }
 
-/// Writes a file to the disk and gives it the name at a path. What was there is kept under a second name, at `kept`.
-pub fn place_over(rt: &HostRuntime, file: NewFile, path: &str, kept: &str) -> io::Result<Placed> {
-    file.file.sync_all()?;
-    match fs::hard_link(rt, path, kept) {
-        Ok(()) => {}
-        Err(error) if error.kind() == ErrorKind::AlreadyExists => {
-            file.discard(rt)?;
-            return Ok(Placed::IsThere);
-        }
-        Err(error) => return Err(error),
-    }
-    let NewFile {
-        file: _file,
-        path: unfinished,
-    } = file;
-    fs::rename(rt, unfinished.as_str(), path)?;
-    Ok(Placed::Placed)
-}
-
 /// Writes a file to the disk and gives it the name at a path, in place of the file that has it, if one does.
 pub fn place_again(rt: &HostRuntime, file: NewFile, path: &str) -> io::Result<()> {
     file.file.sync_all()?;
@@ -127,15 +82,9 @@ pub fn place_again(rt: &HostRuntime, file: NewFile, path: &str) -> io::Result<()
     fs::rename(rt, unfinished.as_str(), path)
 }
 
-/// Removes files that a run which was killed has left, by their names.
-pub fn remove_leftovers(
-    rt: &HostRuntime,
-    alloc: Global,
-    folder: &str,
-    names: &[String],
-) -> io::Result<()> {
-    for name in names {
-        let path = path_in(alloc, folder, name.as_str())?;
+/// Removes files that a run which was killed has left, by their paths.
+pub fn remove_leftovers(rt: &HostRuntime, paths: &[String]) -> io::Result<()> {
+    for path in paths {
         fs::remove_file(rt, path.as_str())?;
     }
     Ok(())

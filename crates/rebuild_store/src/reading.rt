@@ -1,0 +1,277 @@
+//! Reading a file from a store. Nothing is written before the fragments that are read are known to give the file that is described.
+ghost use Rattle.std.specs.Prelude.{◌≡◌, IfOk, None, length, vec_len};
+ghost use Rattle.store_repair.specs.Files.{fragment_length};
+
+use crate::digesting::{DigestAlone, digests_of};
+use crate::file_arguments::ReadOptions;
+use crate::file_faults::{FileFault, device};
+use crate::statuses::DONE;
+use lrc_code::{Place, PlaceSet};
+use std::io::{self, BufWriter, ErrorKind, Write};
+use store_folder::{
+    Described, FileFragment, SUMS_NAME, description_name, file_name, open_fragment, path_in,
+    read_description, read_sums,
+};
+use store_repair::{MendFault, NewFragment, Survivors, fragment_length, read_file, without};
+
+// What writes to standard output.
+#[derive(Drop)]
+struct Output<W> {
+    writer: W,
+}
+
+impl<W: Write> NewFragment for Output<W> {
+    ghost shown = { λ _. None };
+
+    fn append(&mut self, bytes: &[u8]) -> io::Result<()> {
+        self.writer.write_all(bytes)
+    }
+}
+
+// The fragments of a stripe that are there, by the places' indexes.
+#[derive(Drop)]
+struct Fragments {
+    set: PlaceSet,
+    opened: Vec<Option<FileFragment>>,
+}
+
+// A file that is read, and where from.
+#[derive(Clone, Copy)]
+struct Wanted<'a> {
+    folder: &'a str,
+    name: &'a str,
+    described: Described,
+    // How many bytes each fragment has.
+    length: usize,
+}
+
+/// Writes a file to standard output, says what was left out, and gives the exit status.
+pub fn read_one(rt: &HostRuntime, options: &ReadOptions) -> Result<u8, FileFault> {
+    let alloc = rt.alloc();
+    let folder = options.store.as_str();
+    let name = options.name.as_str();
+    let described = description_of(rt, folder, name)?;
+    let wanted = Wanted {
+        folder,
+        name,
+        described,
+        length: fragment_length(described.code, described.length as usize),
+    };
+    let fragments = open_fragments(rt, &wanted)?;
+    let Some(set) = set_that_fits(rt, &wanted, &fragments)? else {
+        let what = format!(in alloc;
+            "{name}: the fragments that are there don't give the file that {name}.file describes"
+        )?;
+        return Err(FileFault::Refused { what });
+    };
+    write_out(rt, &wanted, &fragments, set)?;
+    Ok(DONE)
+}
+
+// The description of a file.
+fn description_of(rt: &HostRuntime, folder: &str, name: &str) -> Result<Described, FileFault> {
+    let alloc = rt.alloc();
+    let description = description_name(alloc, name)?;
+    let path = path_in(alloc, folder, description.as_str())?;
+    match read_description(rt, path.as_str()) {
+        Ok(Some(described)) => Ok(described),
+        Ok(None) => Err(FileFault::Refused {
+            what: format!(in alloc; "{path}: isn't a line with a length, a digest and a code")?,
+        }),
+        Err(error) if error.kind() == ErrorKind::NotFound => Err(FileFault::Refused {
+            what: format!(in alloc; "{path}: isn't there, so nothing says how long {name} is")?,
+        }),
+        Err(error) => Err(device(alloc, path.as_str(), error)),
+    }
+}
+
+// Opens the fragments of a file. Those that are lost, or can't be opened, are said.
+fn open_fragments(rt: &HostRuntime, wanted: &Wanted<'_>) -> Result<Fragments, FileFault>
+    ensures { IfOk result (λ fragments. vec_len fragments.opened ≡ 16) }
+{
+    let alloc = rt.alloc();
+    let mut set = PlaceSet::empty();
+    let mut opened = Vec::with_capacity(alloc, 16)?;
+    'places: while opened.len() < 16 {
+        let mut fragment = None;
+        if let Some(place) = Place::from_index(opened.len()) {
+            if wanted.described.code.has(place) {
+                fragment = open_at(rt, wanted, place)?;
+                if fragment.is_some() {
+                    set = set.with(place);
+                }
+            }
+        }
+        opened.push(fragment)?;
+    }
+    Ok(Fragments { set, opened })
+}
+
+// Opens a fragment; where that isn't possible, says so.
+fn open_at(
+    rt: &HostRuntime,
+    wanted: &Wanted<'_>,
+    place: Place,
+) -> Result<Option<FileFragment>, FileFault> {
+    let alloc = rt.alloc();
+    let name = file_name(alloc, wanted.name, place)?;
+    let path = path_in(alloc, wanted.folder, name.as_str())?;
+    match open_fragment(rt, path.as_str(), wanted.length as u64) {
+        Ok(fragment) => Ok(Some(fragment)),
+        Err(error) if error.kind() == ErrorKind::OutOfMemory => Err(FileFault::OutOfMemory),
+        Err(error) => {
+            let _ = eprintln!(rt; "rebuild-store: {name}: left out: {error}");
+            Ok(None)
+        }
+    }
+}
+
+// A set of fragments that gives the file: all, or those that have the digests of the store's sums, or all but one or two.
+fn set_that_fits(
+    rt: &HostRuntime,
+    wanted: &Wanted<'_>,
+    fragments: &Fragments,
+) -> Result<Option<PlaceSet>, FileFault>
+    requires { vec_len fragments.now.opened ≡ 16 }
+{
+    let code = wanted.described.code;
+    let all = fragments.set;
+    if gives_file(rt, wanted, fragments, all)? {
+        return Ok(Some(all));
+    }
+    let name = wanted.name;
+    let listed = with_digests(rt, wanted, fragments)?;
+    if listed.len() < all.len() && gives_file(rt, wanted, fragments, listed)? {
+        let _ = eprintln!(rt;
+            "rebuild-store: {name}: read without the fragments that differ from {SUMS_NAME}"
+        );
+        return Ok(Some(listed));
+    }
+    for first in &Place::ALL {
+        let set = without(code, all, *first);
+        if all.has(*first) && gives_file(rt, wanted, fragments, set)? {
+            let first = first.name();
+            let _ = eprintln!(rt;
+                "rebuild-store: {name}: a fragment is damaged: read without {first}"
+            );
+            return Ok(Some(set));
+        }
+    }
+    for first in &Place::ALL {
+        for second in &Place::ALL {
+            let set = without(code, without(code, all, *first), *second);
+            if all.has(*first)
+                && all.has(*second)
+                && first.index() < second.index()
+                && gives_file(rt, wanted, fragments, set)?
+            {
+                let first = first.name();
+                let second = second.name();
+                let _ = eprintln!(rt;
+                    "rebuild-store: {name}: fragments are damaged: read without {first} and {second}"
+                );
+                return Ok(Some(set));
+            }
+        }
+    }
+    Ok(None)
+}
+
+// The fragments that have the digests of the store's sums, or that they don't name; all, where there are no sums.
+fn with_digests(
+    rt: &HostRuntime,
+    wanted: &Wanted<'_>,
+    fragments: &Fragments,
+) -> Result<PlaceSet, FileFault> {
+    let alloc = rt.alloc();
+    let path = path_in(alloc, wanted.folder, SUMS_NAME)?;
+    let Ok(sums) = read_sums(rt, path.as_str()) else {
+        return Ok(fragments.set);
+    };
+    let digests = match digests_of(alloc, fragments.opened.as_slice(), wanted.length) {
+        Ok(digests) => digests,
+        Err(error) if error.kind() == ErrorKind::OutOfMemory => return Err(FileFault::OutOfMemory),
+        Err(_) => return Ok(fragments.set),
+    };
+    let mut set = PlaceSet::empty();
+    for (place, digest) in Place::ALL.iter().zip(digests.iter()) {
+        let name = file_name(alloc, wanted.name, *place)?;
+        if let Some(digest) = digest {
+            let fits = match sums.digest_of(name.as_str()) {
+                Some(listed) => *listed == *digest,
+                None => true,
+            };
+            if fits {
+                set = set.with(*place);
+            }
+        }
+    }
+    Ok(set)
+}
+
+// Whether some of the fragments give the file that is described.
+fn gives_file(
+    rt: &HostRuntime,
+    wanted: &Wanted<'_>,
+    fragments: &Fragments,
+    set: PlaceSet,
+) -> Result<bool, FileFault>
+    requires { vec_len fragments.now.opened ≡ 16 }
+{
+    let mut digest = DigestAlone::new();
+    let survivors = survivors_of(wanted, fragments, set);
+    let file_bytes = wanted.described.length as usize;
+    match read_file(rt.alloc(), &survivors, file_bytes, &mut digest) {
+        Ok(()) => Ok(digest.finish() == wanted.described.digest),
+        Err(MendFault::OutOfMemory) => Err(FileFault::OutOfMemory),
+        Err(_) => Ok(false),
+    }
+}
+
+// Writes the file to standard output.
+fn write_out(
+    rt: &HostRuntime,
+    wanted: &Wanted<'_>,
+    fragments: &Fragments,
+    set: PlaceSet,
+) -> Result<(), FileFault>
+    requires { vec_len fragments.now.opened ≡ 16 }
+{
+    let alloc = rt.alloc();
+    let writer = BufWriter::new(alloc, io::writer(rt)).map_err(|error| device(
+        alloc,
+        "standard output",
+        error,
+    ))?;
+    let mut output = Output { writer };
+    let survivors = survivors_of(wanted, fragments, set);
+    let file_bytes = wanted.described.length as usize;
+    match read_file(alloc, &survivors, file_bytes, &mut output) {
+        Ok(()) => output
+            .writer
+            .flush()
+            .map_err(|error| device(alloc, "standard output", error)),
+        Err(MendFault::Unwritten { error, .. }) => Err(device(alloc, "standard output", error)),
+        Err(MendFault::Unread { error, .. }) => Err(device(alloc, wanted.name, error)),
+        Err(_) => Err(FileFault::OutOfMemory),
+    }
+}
+
+// Some of the fragments, as survivors.
+fn survivors_of<'f>(
+    wanted: &Wanted<'_>,
+    fragments: &'f Fragments,
+    set: PlaceSet,
+) -> Survivors<'f, FileFragment>
+    requires { vec_len fragments.now.opened ≡ 16 }
+    ensures sixteen { length result.fragments.now ≡ 16 }
+    ensures len { result.length ≡ fragment_length result.code wanted.now.described.length }
+{
+    let code = wanted.described.code;
+    Survivors {
+        code,
+        length: fragment_length(code, wanted.described.length as usize),
+        set,
+        fragments: fragments.opened.as_slice(),
+    }
+}
