@@ -23,15 +23,22 @@ LIBRARY_CC := $(if $(TARGET),$(subst -unknown,,$(TARGET))-gcc,$(CC))
 .PHONY: build store demo try install uninstall library install-library uninstall-library ceph install-ceph uninstall-ceph try-ceph test levels \
   wrong-bodies scale bench
 
-# Proves the program and the crates that it uses, and builds crates/rebuild/out/rebuild. JOBS=N has it use N processors.
-build:
-	@scripts/build.py rebuild $(CPU) $(JOBS)
+# The programs, each with its crate, in whose out/ it is built; and what is installed: each has a manual page and completions.
+PROGRAMS := rebuild rebuild-store
+COMMANDS := $(PROGRAMS) rebuild-lists
 
-# Proves and builds the program that repairs stores: crates/rebuild_store/out/rebuild_store. It isn't installed yet.
+# Proves the programs and the crates that they use, and builds crates/rebuild/out/rebuild and crates/rebuild_store/out/rebuild_store.
+# JOBS=N has it use N processors.
+build:
+	@scripts/build.py $(subst -,_,$(PROGRAMS)) $(CPU) $(JOBS)
+
+# The program that repairs stores alone.
 store:
 	@scripts/build.py rebuild_store $(CPU) $(JOBS)
 
-demo: build
+# Builds the program of the sample alone.
+demo:
+	@scripts/build.py rebuild $(CPU) $(JOBS)
 	@scripts/demo.sh
 
 # Runs line mode on a few requests by the toolchain's interpreter, which takes one to two minutes and proves nothing.
@@ -40,14 +47,16 @@ try:
 
 # Builds nothing, so that it can be run by an administrator who has no toolchain.
 install:
-	@test -x crates/rebuild/out/rebuild || { echo "The program isn't built: run 'make build' first." >&2; exit 1; }
+	@for name in $(subst -,_,$(PROGRAMS)); do \
+	  test -x crates/$$name/out/$$name || { echo "The programs aren't built: run 'make build' first." >&2; exit 1; }; \
+	done
 	install -D -m 755 crates/rebuild/out/rebuild "$(PLACE)/bin/rebuild"
+	install -D -m 755 crates/rebuild_store/out/rebuild_store "$(PLACE)/bin/rebuild-store"
 	install -D -m 755 companion/rebuild-lists "$(PLACE)/bin/rebuild-lists"
 	install -D -m 644 -t "$(PLACE)/$(MODULES)" companion/rebuild_lists/*.py
-	install -D -m 644 man/rebuild.1 "$(PLACE)/share/man/man1/rebuild.1"
-	install -D -m 644 man/rebuild-lists.1 "$(PLACE)/share/man/man1/rebuild-lists.1"
 	install -D -m 644 man/rebuild.5 "$(PLACE)/share/man/man5/rebuild.5"
-	for name in rebuild rebuild-lists; do \
+	for name in $(COMMANDS); do \
+	  install -D -m 644 man/$$name.1 "$(PLACE)/share/man/man1/$$name.1" && \
 	  install -D -m 644 completions/$$name.bash "$(PLACE)/share/bash-completion/completions/$$name" && \
 	  install -D -m 644 completions/_$$name "$(PLACE)/share/zsh/site-functions/_$$name" && \
 	  install -D -m 644 completions/$$name.fish "$(PLACE)/share/fish/vendor_completions.d/$$name.fish" || exit 1; \
@@ -55,12 +64,12 @@ install:
 
 # Removes these files and nothing else: folders stay, but for those of the companion's modules.
 uninstall:
-	rm -f "$(PLACE)/bin/rebuild" "$(PLACE)/bin/rebuild-lists"
+	rm -f $(patsubst %,"$(PLACE)/bin/%",$(COMMANDS))
 	rm -f $(patsubst companion/rebuild_lists/%,"$(PLACE)/$(MODULES)/%",$(wildcard companion/rebuild_lists/*.py))
 	-@for folder in "$(PLACE)/$(MODULES)" "$(PLACE)/$(dir $(MODULES))"; do test ! -d "$$folder" || rmdir "$$folder"; done
-	rm -f "$(PLACE)/share/man/man1/rebuild.1" "$(PLACE)/share/man/man1/rebuild-lists.1" "$(PLACE)/share/man/man5/rebuild.5"
-	for name in rebuild rebuild-lists; do \
-	  rm -f "$(PLACE)/share/bash-completion/completions/$$name" "$(PLACE)/share/zsh/site-functions/_$$name" \
+	rm -f "$(PLACE)/share/man/man5/rebuild.5"
+	for name in $(COMMANDS); do \
+	  rm -f "$(PLACE)/share/man/man1/$$name.1" "$(PLACE)/share/bash-completion/completions/$$name" "$(PLACE)/share/zsh/site-functions/_$$name" \
 	    "$(PLACE)/share/fish/vendor_completions.d/$$name.fish"; \
 	done
 

@@ -18,11 +18,15 @@ wanted() {
   cat << END
 755 $1/bin/rebuild crates/rebuild/out/rebuild
 755 $1/bin/rebuild-lists companion/rebuild-lists
+755 $1/bin/rebuild-store crates/rebuild_store/out/rebuild_store
 644 $1/share/bash-completion/completions/rebuild completions/rebuild.bash
 644 $1/share/bash-completion/completions/rebuild-lists completions/rebuild-lists.bash
+644 $1/share/bash-completion/completions/rebuild-store completions/rebuild-store.bash
 644 $1/share/fish/vendor_completions.d/rebuild-lists.fish completions/rebuild-lists.fish
+644 $1/share/fish/vendor_completions.d/rebuild-store.fish completions/rebuild-store.fish
 644 $1/share/fish/vendor_completions.d/rebuild.fish completions/rebuild.fish
 644 $1/share/man/man1/rebuild-lists.1 man/rebuild-lists.1
+644 $1/share/man/man1/rebuild-store.1 man/rebuild-store.1
 644 $1/share/man/man1/rebuild.1 man/rebuild.1
 644 $1/share/man/man5/rebuild.5 man/rebuild.5
 END
@@ -32,6 +36,7 @@ END
   cat << END
 644 $1/share/zsh/site-functions/_rebuild completions/_rebuild
 644 $1/share/zsh/site-functions/_rebuild-lists completions/_rebuild-lists
+644 $1/share/zsh/site-functions/_rebuild-store completions/_rebuild-store
 END
 }
 
@@ -49,6 +54,7 @@ try() {
     cmp "$source" "$root$place"
   done < <(wanted "$prefix")
   [ "$("$root$prefix/bin/rebuild" <<< 'a x0 1 x1=02 x2=03 px=00')" = 'rebuilt 01' ] || fail "the installed program doesn't run"
+  [ "$("$root$prefix/bin/rebuild-store" --version | cut -d ' ' -f 1)" = rebuild-store ] || fail "the installed rebuild-store doesn't run"
   # The companion finds its modules, also by a link to it, and writes nothing beside them.
   ln -s "$root$prefix/bin/rebuild-lists" "$scratch/linked"
   "$scratch/linked" --version > "$scratch/said" || fail "the installed companion doesn't run"
@@ -71,6 +77,6 @@ cp -r Makefile companion man completions "$scratch/unbuilt"
 ended=0
 make -s -C "$scratch/unbuilt" install "DESTDIR=$scratch/none" > "$scratch/said" 2>&1 || ended=$?
 [ "$ended" = 2 ] || fail "without the program it ends with status $ended"
-grep -qx "The program isn't built: run 'make build' first." "$scratch/said" || fail "without the program it says $(cat "$scratch/said")"
+grep -qx "The programs aren't built: run 'make build' first." "$scratch/said" || fail "without the program it says $(cat "$scratch/said")"
 [ ! -e "$scratch/none" ] || fail 'without the program it installs something'
 echo "install: the $(wanted / | wc -l) files come and go with each of 3 folders to install in"
