@@ -22,6 +22,7 @@ wanted() {
 644 $1/share/bash-completion/completions/rebuild completions/rebuild.bash
 644 $1/share/bash-completion/completions/rebuild-lists completions/rebuild-lists.bash
 644 $1/share/bash-completion/completions/rebuild-store completions/rebuild-store.bash
+644 $1/share/doc/bucketuntil/NOTICES $scratch/NOTICES
 644 $1/share/fish/vendor_completions.d/rebuild-lists.fish completions/rebuild-lists.fish
 644 $1/share/fish/vendor_completions.d/rebuild-store.fish completions/rebuild-store.fish
 644 $1/share/fish/vendor_completions.d/rebuild.fish completions/rebuild.fish
@@ -46,7 +47,7 @@ try() {
   shift 2
   mkdir -p "$root$prefix/bin"
   echo theirs > "$root$prefix/bin/other"
-  make -s install "$@" > "$scratch/said" 2>&1 || fail "$(cat "$scratch/said")"
+  make -s install "NOTICES=$scratch/NOTICES" "$@" > "$scratch/said" 2>&1 || fail "$(cat "$scratch/said")"
   rm "$root$prefix/bin/other"
   (cd "$root" && find . -type f -printf '%m /%P\n') | LC_ALL=C sort -k 2 > "$scratch/came"
   diff <(wanted "$prefix" | cut -d ' ' -f 1,2) "$scratch/came" || fail 'other files came (< must come, > came)'
@@ -60,14 +61,20 @@ try() {
   "$scratch/linked" --version > "$scratch/said" || fail "the installed companion doesn't run"
   rm "$scratch/linked"
   (cd "$root" && find . -type f -printf '%m /%P\n') | LC_ALL=C sort -k 2 | diff "$scratch/came" - || fail 'a run leaves files'
-  make -s install "$@" > "$scratch/said" 2>&1 || fail 'a second time is refused'
+  make -s install "NOTICES=$scratch/NOTICES" "$@" > "$scratch/said" 2>&1 || fail 'a second time is refused'
   echo theirs > "$root$prefix/bin/other"
   make -s uninstall "$@"
   [ "$(find "$root" -type f)" = "$root$prefix/bin/other" ] || fail "what stays is $(find "$root" -type f)"
   make -s uninstall "$@"
   [ ! -e "$root$prefix/share/rebuild-lists" ] || fail 'the folder of the modules stays'
+  [ ! -e "$root$prefix/share/doc/bucketuntil" ] || fail 'the folder of the notices stays'
 }
 
+# `make build` makes the notices in out/; the proofs leave none.
+make -s notices "NOTICES=$scratch/NOTICES"
+for text in 'after the Rust crate csv' 'after the Rust crate thiserror' '^clap' 'Permission is hereby granted'; do
+  grep -q "$text" "$scratch/NOTICES" || fail "the notices don't have: $text"
+done
 try "$scratch/usual" /usr/local "DESTDIR=$scratch/usual"
 try "$scratch/packed root" /usr "DESTDIR=$scratch/packed root" PREFIX=/usr
 try "$scratch/own" '' "PREFIX=$scratch/own"
