@@ -31,9 +31,17 @@ left_out() {
   echo "packages: left out: $1"
 }
 
+# has COMMAND..: whether all of these are there.
+has() {
+  local it
+  for it in "$@"; do
+    command -v "$it" > /dev/null || return 1
+  done
+}
+
 # Where Debian's headers for the plugin are; their version is that of the Ceph which the plugin is for.
 has_ceph() {
-  [ -e /usr/include/rados/buffer.h ] && [ -e /usr/include/rados/librados.h ] && command -v g++ dpkg-query > /dev/null
+  [ -e /usr/include/rados/buffer.h ] && [ -e /usr/include/rados/librados.h ] && has g++ dpkg-query
 }
 
 # build JOBS..: proves and builds all for each level.
@@ -109,7 +117,7 @@ tarball() {
 # debian: the Debian packages.
 debian() {
   local ceph='' options=''
-  if ! command -v dh dpkg-buildpackage > /dev/null; then
+  if ! has dh dpkg-buildpackage; then
     left_out "the Debian packages (debhelper isn't installed)"
     return
   fi

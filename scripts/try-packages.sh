@@ -39,6 +39,8 @@ prepare() {
   mkdir "$root/try"
   cp out/packages/*.deb out/packages/PROVED scripts/shown.py README.md library/examples/fragments.c "$root/try/"
   older
+  # The root has no terminals.
+  echo 'Dpkg::Use-Pty "false";' > "$root/etc/apt/apt.conf.d/90no-terminal"
   mount -t proc proc "$root/proc"
 }
 
@@ -71,7 +73,7 @@ man -P cat rebuild-store | head -n 4
 man -P cat 5 rebuild | head -n 4
 bash -c '. /usr/share/bash-completion/bash_completion; _completion_loader rebuild-store; complete -p rebuild-store'
 zsh -c 'autoload -Uz compinit; compinit -D -u; print $_comps[rebuild-store] $_comps[rebuild]'
-fish -c 'complete -C "rebuild-store scr"'
+HOME=/try fish -c 'complete -C "rebuild-store scr"'
 gcc -o fragments fragments.c $(pkg-config --cflags --libs lrc)
 ldd fragments | grep liblrc
 head -c 100000 /dev/urandom > file
@@ -95,7 +97,8 @@ for suite in "${suites[@]}"; do
   chroot "$root" /bin/bash /try/within.sh 2>&1 || { echo "try-packages: $suite: the last command failed"; exit 1; }
   if compgen -G 'out/packages/ceph-plugin-azure-lrc_*.deb' > /dev/null; then
     echo "try-packages: $suite: what apt says of the plugin for Ceph, whose version of Ceph is in Debian 12:"
-    chroot "$root" bash -c 'apt-get install -s --no-install-recommends /try/ceph-plugin-azure-lrc_*.deb /try/liblrc0_*.deb' 2>&1 | tail -n 3
+    chroot "$root" bash -c 'apt-get install -s --no-install-recommends /try/ceph-plugin-azure-lrc_*.deb' > "$scratch/said" 2>&1 || true
+    tail -n 3 "$scratch/said"
   fi
   umount "$root/proc"
   echo "try-packages: $suite: installed, upgraded, used and purged; nothing is left"
