@@ -11,6 +11,9 @@ use std::sync::atomic::{AtomicUsize, Ordering};
 use std::thread;
 use std::thread::Threads;
 
+#[cfg(test)]
+mod tests;
+
 // How many fragments a grain has: twice as many as are digested at once.
 const GRAIN: usize = 16;
 
