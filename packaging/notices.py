@@ -13,8 +13,7 @@ What is built here may have parts of the works below, as ports to Rattle that co
 passed on under the terms that are given with it. Of a work that may be had under either of two licences this is the MIT licence.
 """
 TAIL = """\
-Libraries of the toolchain itself are in all of it, and come without the text of a licence: {plain}. The licence of Bucketuntil isn't chosen
-yet.
+Libraries of the toolchain itself are in all of it, and come without the text of a licence: {plain}.
 """
 
 
