@@ -1,9 +1,9 @@
 #!/usr/bin/env bash
 # Tests scripts/packages.sh over the programs that the proofs have left. It proves nothing: in two copies of the repository, at different
-# paths, the records of proofs are written here, each program serves for both levels, and an archive with one call stands in for the
-# library's, which the proofs don't build. It packs in both copies and compares all sums; runs what the tarball and the Debian package have
-# as another user; looks at owners, paths and links; and sees refused what isn't committed and what has no record of a proof. lintian is run
-# where it is installed, and its errors fail.
+# paths, the records of proofs are written here, each program serves for both levels, with a byte more at its end for the second, and an
+# archive with one call stands in for the library's, which the proofs don't build. What has a record for its level isn't built again. It
+# packs in both copies and compares all sums; runs what the tarball and the Debian package have as another user; looks at owners, paths and
+# links; and sees refused what isn't committed and what has no record of a proof. lintian is run where it is installed, and its errors fail.
 set -euo pipefail
 cd "$(dirname "$0")/.."
 scratch=$(mktemp -d)
@@ -12,7 +12,7 @@ trap 'rm -rf "$scratch"' EXIT
 unset MAKEFLAGS MFLAGS MAKELEVEL MAKEOVERRIDES PREFIX DESTDIR TARGET LEVEL
 export GIT_CONFIG_GLOBAL=/dev/null GIT_AUTHOR_DATE='2026-01-01T00:00:00Z' GIT_COMMITTER_DATE='2026-01-01T00:00:00Z'
 umask 022
-levels=(x86-64-v2 x86-64-v3)
+both=(x86-64-v2 x86-64-v3)
 request='a x0 1 x1=02 x2=03 px=00'
 
 fail() {
@@ -40,12 +40,14 @@ copy() {
   git -C "$1" init -q
   git -C "$1" add -f .
   commit "$1" packed
-  for level in "${levels[@]}"; do
+  for level in "${both[@]}"; do
     install -D crates/rebuild/out/rebuild "$1/crates/rebuild/out/$level/rebuild"
     install -D crates/rebuild_store/out/rebuild_store "$1/crates/rebuild_store/out/$level/rebuild_store"
     install -D -m 644 "$scratch/liblrc_c.a" "$1/crates/lrc_c/out/$level/liblrc_c.a"
   done
-  PYTHONDONTWRITEBYTECODE=1 PYTHONPATH=$1/packaging python3 - "${levels[@]}" << 'END'
+  echo >> "$1/crates/rebuild/out/x86-64-v3/rebuild"
+  echo >> "$1/crates/rebuild_store/out/x86-64-v3/rebuild_store"
+  PYTHONDONTWRITEBYTECODE=1 PYTHONPATH=$1/packaging python3 - "${both[@]}" << 'END'
 import sys
 import parts
 
@@ -127,6 +129,18 @@ debian() {
   fi
 }
 
+# levels FOLDER: whether what is built for a level is taken where that level is asked for, and nothing is built.
+levels() {
+  local level
+  for level in x86-64-v3 x86-64-v2; do
+    (cd "$1" && scripts/build.py rebuild rebuild_store lrc_c "$level") > "$scratch/said" || fail "build.py: $(cat "$scratch/said")"
+    grep -q '^Nothing has changed since' "$scratch/said" || fail "what was built is built again: $(cat "$scratch/said")"
+    for it in rebuild rebuild_store; do
+      cmp "$1/crates/$it/out/$it" "$1/crates/$it/out/$level/$it" || fail "out/$it is of another level than $level"
+    done
+  done
+}
+
 version=$(sed -n 's/^const VERSION: &str = "\(.*\)";$/\1/p' crates/command_line/src/definition.rt)
 out=$scratch/one/out/packages
 stand_in
@@ -135,6 +149,7 @@ for at in "$scratch/one" "$scratch/another/place"; do
   pack "$at" || { cat "$scratch/said"; fail 'it fails'; }
 done
 sed -n '/left out/p' "$scratch/said"
+levels "$scratch/one"
 diff "$out/SHA256SUMS" "$scratch/another/place/out/packages/SHA256SUMS" || fail 'from another path other packages come'
 (cd "$out" && sha256sum -c --quiet SHA256SUMS) || fail 'SHA256SUMS'
 (cd "$out" && find . -type f ! -name SHA256SUMS -printf '%P\n' | sort | diff - <(cut -c 67- SHA256SUMS | sort)) ||
