@@ -76,7 +76,6 @@ built() {
     printf '%s\n' "crates/rebuild/out/$level/rebuild" "crates/rebuild_store/out/$level/rebuild_store" \
       "crates/lrc_c/out/$level/liblrc_c.a" "crates/lrc_c/out/$level/liblrc.so.0"
   done
-  ! has_ceph || echo "ceph/out/$first/libec_azure_lrc.so"
 }
 
 # copy: a copy of what is committed, with what was built and what goes with it.
@@ -86,6 +85,8 @@ copy() {
   git archive HEAD | tar -C "$tree" --no-same-owner --no-same-permissions -x
   mapfile -t files < <(built)
   cp --parents -t "$tree" "${files[@]}" out/NOTICES
+  # PROVED doesn't name the plugin, so that the other packages are the same where it is left out.
+  ! has_ceph || cp --parents -t "$tree" "ceph/out/$first/libec_azure_lrc.so"
   packaging/proved.py "$version" "$library" "$commit" "$SOURCE_DATE_EPOCH" "${levels[@]}" "${files[@]}" > "$tree/out/PROVED" ||
     fail 'no package without a proof'
   for name in "${programs[@]}"; do

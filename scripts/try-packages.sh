@@ -36,8 +36,14 @@ prepare() {
   rm -rf --one-file-system "$root" "$scratch/older"
   echo "try-packages: $1: making a clean root"
   debootstrap --variant=minbase "$1" "$root" > "$scratch/said" 2>&1 || { tail "$scratch/said"; exit 1; }
-  mkdir "$root/try"
-  cp out/packages/*.deb out/packages/PROVED scripts/shown.py README.md library/examples/fragments.c "$root/try/"
+  mkdir -p "$root"/try/tree/{scripts,companion,crates/rebuild/out,crates/rebuild_store/out}
+  cp out/packages/*.deb out/packages/PROVED library/examples/fragments.c "$root/try/"
+  # README's commands are run by the gate's script, which takes the programs from these places.
+  cp README.md "$root/try/tree/"
+  cp scripts/examples.py "$root/try/tree/scripts/"
+  ln -s /usr/bin/rebuild "$root/try/tree/crates/rebuild/out/rebuild"
+  ln -s /usr/bin/rebuild-store "$root/try/tree/crates/rebuild_store/out/rebuild_store"
+  ln -s /usr/bin/rebuild-lists "$root/try/tree/companion/rebuild-lists"
   older
   # The root has no terminals.
   echo 'Dpkg::Use-Pty "false";' > "$root/etc/apt/apt.conf.d/90no-terminal"
@@ -66,9 +72,7 @@ printf 'a x0 1 x1=02 x2=03 px=00\n' | rebuild
 rebuild-store --version
 grep "$(sha256sum < /usr/bin/rebuild | cut -d ' ' -f 1)" PROVED
 grep "$(sha256sum < /usr/bin/rebuild-store | cut -d ' ' -f 1)" PROVED
-mkdir list damaged
-python3 shown.py README.md 'From a list to a fragment' list
-python3 shown.py README.md 'When a survivor is damaged' damaged
+python3 tree/scripts/examples.py README.md
 man -P cat rebuild-store | head -n 4
 man -P cat 5 rebuild | head -n 4
 bash -c '. /usr/share/bash-completion/bash_completion; _completion_loader rebuild-store; complete -p rebuild-store'
