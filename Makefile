@@ -8,8 +8,18 @@ CPU := $(shell grep -q avx2 /proc/cpuinfo && echo x86-64-v3 || echo x86-64-v2)
 PREFIX := /usr/local
 DESTDIR :=
 PLACE = $(DESTDIR)$(PREFIX)
-# The modules of rebuild-lists, below its prefix.
+# Below its prefix: the modules of rebuild-lists, the notices, the completions of zsh (Debian's are in share/zsh/vendor-completions) and the
+# libraries (on Debian lib/x86_64-linux-gnu).
 MODULES := share/rebuild-lists/rebuild_lists
+DOC := share/doc/bucketuntil
+LIBRARY_DOC := share/doc/liblrc
+ZSH := share/zsh/site-functions
+LIBDIR := lib
+# LEVEL=x86-64-v2 has what was built for that level installed or linked, in place of what was built last.
+LEVEL :=
+BUILT = out$(if $(LEVEL),/$(LEVEL))
+# What has to go with a program or library, since parts of other works are in it.
+NOTICES := out/NOTICES
 
 # The C library's version, which its header says; the first number of the shared object's name changes with its calls.
 LIBRARY_VERSION := $(shell sed -n 's/^.define LRC_VERSION "\(.*\)"$$/\1/p' include/lrc.h)
@@ -17,21 +27,35 @@ SONAME := liblrc.so.0
 # TARGET=aarch64-unknown-linux-gnu has the library built, and installed, for another kind of processor. The shared object is linked by
 # the compiler for it, which Debian's package gcc-aarch64-linux-gnu has.
 TARGET :=
-LIBRARY := crates/lrc_c/out$(if $(TARGET),/$(TARGET))
+LIBRARY := crates/lrc_c/$(if $(TARGET),out/$(TARGET),$(BUILT))
 LIBRARY_CC := $(if $(TARGET),$(subst -unknown,,$(TARGET))-gcc,$(CC))
 
-.PHONY: build store demo try install uninstall library install-library uninstall-library ceph install-ceph uninstall-ceph try-ceph test levels \
-  wrong-bodies scale bench
+.PHONY: build notices store demo try install uninstall library link-library install-library uninstall-library ceph install-ceph \
+  uninstall-ceph try-ceph test levels wrong-bodies scale bench packages try-packages
 
-# Proves the program and the crates that it uses, and builds crates/rebuild/out/rebuild. JOBS=N has it use N processors.
+# The programs, each with its crate, in whose out/ it is built; and what is installed: each has a manual page and completions.
+PROGRAMS := rebuild rebuild-store
+COMMANDS := $(PROGRAMS) rebuild-lists
+
+# Proves the programs and the crates that they use, and builds crates/rebuild/out/rebuild and crates/rebuild_store/out/rebuild_store.
+# JOBS=N has it use N processors.
 build:
-	@scripts/build.py rebuild $(CPU) $(JOBS)
+	@scripts/build.py $(subst -,_,$(PROGRAMS)) $(CPU) $(JOBS)
+	@$(MAKE) --no-print-directory notices
 
-# Proves and builds the program that repairs stores: crates/rebuild_store/out/rebuild_store. It isn't installed yet.
+# The notices of the crates of the toolchain that the programs and the library use.
+notices:
+	@mkdir -p $(dir $(NOTICES))
+	@packaging/notices.py $(subst -,_,$(PROGRAMS)) lrc_c > $(NOTICES).new
+	@mv $(NOTICES).new $(NOTICES)
+
+# The program that repairs stores alone.
 store:
 	@scripts/build.py rebuild_store $(CPU) $(JOBS)
 
-demo: build
+# Builds the program of the sample alone.
+demo:
+	@scripts/build.py rebuild $(CPU) $(JOBS)
 	@scripts/demo.sh
 
 # Runs line mode on a few requests by the toolchain's interpreter, which takes one to two minutes and proves nothing.
@@ -40,50 +64,64 @@ try:
 
 # Builds nothing, so that it can be run by an administrator who has no toolchain.
 install:
-	@test -x crates/rebuild/out/rebuild || { echo "The program isn't built: run 'make build' first." >&2; exit 1; }
-	install -D -m 755 crates/rebuild/out/rebuild "$(PLACE)/bin/rebuild"
+	@for file in crates/rebuild/$(BUILT)/rebuild crates/rebuild_store/$(BUILT)/rebuild_store "$(NOTICES)"; do \
+	  test -f "$$file" || { echo "The programs aren't built: run 'make build' first." >&2; exit 1; }; \
+	done
+	install -D -m 755 crates/rebuild/$(BUILT)/rebuild "$(PLACE)/bin/rebuild"
+	install -D -m 755 crates/rebuild_store/$(BUILT)/rebuild_store "$(PLACE)/bin/rebuild-store"
 	install -D -m 755 companion/rebuild-lists "$(PLACE)/bin/rebuild-lists"
 	install -D -m 644 -t "$(PLACE)/$(MODULES)" companion/rebuild_lists/*.py
-	install -D -m 644 man/rebuild.1 "$(PLACE)/share/man/man1/rebuild.1"
-	install -D -m 644 man/rebuild-lists.1 "$(PLACE)/share/man/man1/rebuild-lists.1"
+	install -D -m 644 "$(NOTICES)" "$(PLACE)/$(DOC)/NOTICES"
 	install -D -m 644 man/rebuild.5 "$(PLACE)/share/man/man5/rebuild.5"
-	for name in rebuild rebuild-lists; do \
+	for name in $(COMMANDS); do \
+	  install -D -m 644 man/$$name.1 "$(PLACE)/share/man/man1/$$name.1" && \
 	  install -D -m 644 completions/$$name.bash "$(PLACE)/share/bash-completion/completions/$$name" && \
-	  install -D -m 644 completions/_$$name "$(PLACE)/share/zsh/site-functions/_$$name" && \
+	  install -D -m 644 completions/_$$name "$(PLACE)/$(ZSH)/_$$name" && \
 	  install -D -m 644 completions/$$name.fish "$(PLACE)/share/fish/vendor_completions.d/$$name.fish" || exit 1; \
 	done
 
-# Removes these files and nothing else: folders stay, but for those of the companion's modules.
+# Removes these files and nothing else: folders stay, but for those of the companion's modules and of the notices.
 uninstall:
-	rm -f "$(PLACE)/bin/rebuild" "$(PLACE)/bin/rebuild-lists"
+	rm -f $(patsubst %,"$(PLACE)/bin/%",$(COMMANDS))
 	rm -f $(patsubst companion/rebuild_lists/%,"$(PLACE)/$(MODULES)/%",$(wildcard companion/rebuild_lists/*.py))
-	-@for folder in "$(PLACE)/$(MODULES)" "$(PLACE)/$(dir $(MODULES))"; do test ! -d "$$folder" || rmdir "$$folder"; done
-	rm -f "$(PLACE)/share/man/man1/rebuild.1" "$(PLACE)/share/man/man1/rebuild-lists.1" "$(PLACE)/share/man/man5/rebuild.5"
-	for name in rebuild rebuild-lists; do \
-	  rm -f "$(PLACE)/share/bash-completion/completions/$$name" "$(PLACE)/share/zsh/site-functions/_$$name" \
+	rm -f "$(PLACE)/share/man/man5/rebuild.5" "$(PLACE)/$(DOC)/NOTICES"
+	-@for folder in "$(PLACE)/$(MODULES)" "$(PLACE)/$(dir $(MODULES))" "$(PLACE)/$(DOC)"; do \
+	  test ! -d "$$folder" || rmdir --ignore-fail-on-non-empty "$$folder"; \
+	done
+	for name in $(COMMANDS); do \
+	  rm -f "$(PLACE)/share/man/man1/$$name.1" "$(PLACE)/share/bash-completion/completions/$$name" "$(PLACE)/$(ZSH)/_$$name" \
 	    "$(PLACE)/share/fish/vendor_completions.d/$$name.fish"; \
 	done
 
 # Proves the C library and the crates that it uses, and builds it: crates/lrc_c/out/liblrc_c.a and the shared object. JOBS=N as above.
 library:
 	@scripts/build.py lrc_c $(or $(TARGET),$(CPU)) $(JOBS)
-	@test $(LIBRARY)/$(SONAME) -nt $(LIBRARY)/liblrc_c.a || $(LIBRARY_CC) -shared -o $(LIBRARY)/$(SONAME) \
-	  -Wl,--whole-archive $(LIBRARY)/liblrc_c.a -Wl,--no-whole-archive -Wl,-z,defs -Wl,-soname,$(SONAME)
+	@$(MAKE) --no-print-directory link-library notices
+
+# The shared object is linked each time, which takes no second, so that it never is of other flags or another archive.
+link-library:
+	@$(LIBRARY_CC) -shared -o $(LIBRARY)/$(SONAME) -Wl,--whole-archive $(LIBRARY)/liblrc_c.a -Wl,--no-whole-archive \
+	  -Wl,-z,defs,-z,relro,-z,now -Wl,-soname,$(SONAME)
 
 # Builds nothing, as `install`.
 install-library:
-	@test -f $(LIBRARY)/$(SONAME) || { echo "The library isn't built: run 'make library' first." >&2; exit 1; }
+	@for file in $(LIBRARY)/$(SONAME) "$(NOTICES)"; do \
+	  test -f "$$file" || { echo "The library isn't built: run 'make library' first." >&2; exit 1; }; \
+	done
 	install -D -m 644 include/lrc.h "$(PLACE)/include/lrc.h"
-	install -D -m 644 $(LIBRARY)/liblrc_c.a "$(PLACE)/lib/liblrc.a"
-	install -D -m 755 $(LIBRARY)/$(SONAME) "$(PLACE)/lib/liblrc.so.$(LIBRARY_VERSION)"
-	ln -sf liblrc.so.$(LIBRARY_VERSION) "$(PLACE)/lib/$(SONAME)"
-	ln -sf $(SONAME) "$(PLACE)/lib/liblrc.so"
-	install -d "$(PLACE)/lib/pkgconfig"
-	sed 's|@PREFIX@|$(PREFIX)|; s|@VERSION@|$(LIBRARY_VERSION)|' library/lrc.pc.in > "$(PLACE)/lib/pkgconfig/lrc.pc"
+	install -D -m 644 $(LIBRARY)/liblrc_c.a "$(PLACE)/$(LIBDIR)/liblrc.a"
+	install -D -m 755 $(LIBRARY)/$(SONAME) "$(PLACE)/$(LIBDIR)/liblrc.so.$(LIBRARY_VERSION)"
+	ln -sf liblrc.so.$(LIBRARY_VERSION) "$(PLACE)/$(LIBDIR)/$(SONAME)"
+	ln -sf $(SONAME) "$(PLACE)/$(LIBDIR)/liblrc.so"
+	install -d "$(PLACE)/$(LIBDIR)/pkgconfig"
+	sed 's|@PREFIX@|$(PREFIX)|; s|@LIBDIR@|$(LIBDIR)|; s|@VERSION@|$(LIBRARY_VERSION)|' library/lrc.pc.in \
+	  > "$(PLACE)/$(LIBDIR)/pkgconfig/lrc.pc"
+	install -D -m 644 "$(NOTICES)" "$(PLACE)/$(LIBRARY_DOC)/NOTICES"
 
 uninstall-library:
-	rm -f "$(PLACE)/include/lrc.h" "$(PLACE)/lib/liblrc.a" "$(PLACE)/lib/pkgconfig/lrc.pc"
-	rm -f "$(PLACE)/lib/liblrc.so" "$(PLACE)/lib/$(SONAME)" "$(PLACE)/lib/liblrc.so.$(LIBRARY_VERSION)"
+	rm -f "$(PLACE)/include/lrc.h" "$(PLACE)/$(LIBDIR)/liblrc.a" "$(PLACE)/$(LIBDIR)/pkgconfig/lrc.pc" "$(PLACE)/$(LIBRARY_DOC)/NOTICES"
+	-@test ! -d "$(PLACE)/$(LIBRARY_DOC)" || rmdir --ignore-fail-on-non-empty "$(PLACE)/$(LIBRARY_DOC)"
+	rm -f "$(PLACE)/$(LIBDIR)/liblrc.so" "$(PLACE)/$(LIBDIR)/$(SONAME)" "$(PLACE)/$(LIBDIR)/liblrc.so.$(LIBRARY_VERSION)"
 
 # The erasure code plugin for Ceph over the C library: ceph/out/libec_azure_lrc.so. It needs Debian's libradospp-dev, librados-dev and g++.
 ceph: library
@@ -94,8 +132,8 @@ CEPH_PLUGINS := /usr/lib/x86_64-linux-gnu/ceph/erasure-code
 
 # Builds nothing, as `install`.
 install-ceph:
-	@test -f ceph/out/libec_azure_lrc.so || { echo "The plugin isn't built: run 'make ceph' first." >&2; exit 1; }
-	install -D -m 644 ceph/out/libec_azure_lrc.so "$(DESTDIR)$(CEPH_PLUGINS)/libec_azure_lrc.so"
+	@test -f ceph/$(BUILT)/libec_azure_lrc.so || { echo "The plugin isn't built: run 'make ceph' first." >&2; exit 1; }
+	install -D -m 644 ceph/$(BUILT)/libec_azure_lrc.so "$(DESTDIR)$(CEPH_PLUGINS)/libec_azure_lrc.so"
 
 uninstall-ceph:
 	rm -f "$(DESTDIR)$(CEPH_PLUGINS)/libec_azure_lrc.so"
@@ -107,8 +145,7 @@ try-ceph: ceph
 # What the gate runs after the proofs, over the programs and tests that they leave in each crate's out/. No two of these share a file
 # that one of them writes, so several run at once.
 AFTER := refusals.py try.sh no-compile.sh reference-lines.sh ends.sh demo.sh examples.py manual.sh completions.sh install.sh \
-  version.sh numbers.py growth.py memory.py companion-test.py ceph.sh repair-store.py \
-  encode-store.py
+  version.sh numbers.py growth.py memory.py companion-test.py ceph.sh repair-store.py encode-store.py packages-test.sh
 
 # library.sh builds in a copy of its own, so it runs beside the proofs.
 test:
@@ -139,6 +176,14 @@ levels:
 # GNU parallel and Slurm over the built program, where they are installed. It is no part of the gate.
 scale: build
 	scripts/scale.sh
+
+# What users install who have no toolchain: out/packages gets a tarball, Debian packages, what they are made of, what was proved, and sums.
+packages:
+	@scripts/packages.sh $(JOBS)
+
+# Installs the packages in clean roots of Debian that debootstrap makes. It is no part of the gate.
+try-packages: packages
+	scripts/try-packages.sh
 
 bench: build
 	scripts/bench.sh $(CPU)

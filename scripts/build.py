@@ -1,9 +1,12 @@
 #!/usr/bin/env python3
-"""Proves a crate with all that it uses, and builds it: the program (`rebuild`) or the C library (`lrc_c`).
+"""Proves crates with all that they use, and builds them: programs (`rebuild`, `rebuild_store`) or the C library (`lrc_c`).
 
-    build.py NAME LEVEL [JOBS]      for a level of the processor, as x86-64-v3, with JOBS processors (all that there are); the library
-                                    also for another kind of processor, as aarch64-unknown-linux-gnu, in out/ below that name
+    build.py NAME.. LEVEL [JOBS]    for a level of the processor, as x86-64-v3, with JOBS processors (all that there are); the library
+                                    also for another kind of processor, as aarch64-unknown-linux-gnu
     build.py settle                 puts back what a build that was killed has left
+
+What is built is in the crate's out/LEVEL, with the record of its build; what was built last for a level of this processor is in its out/
+too. So a level that was built before isn't built again.
 
 Crates are proved beside each other, each as soon as those that it uses are there. The crate with the longest way to the end has all
 processors, the next half of them at a lower priority, and the others one each at a lower one still. A crate whose sources, and those of
@@ -63,25 +66,38 @@ class Crate:
         """How long its proof is, about."""
         return sum(file.read_bytes().count(b"\n") for part in PARTS for file in (self.folder / part).rglob("*.*t"))
 
+    def has_levels(self):
+        """Whether what is built depends on the level; a library of Rattle's doesn't."""
+        return self.is_program or self.is_static
+
     def place(self, level):
         """The folder of what is built for a level, or for another kind of processor."""
-        return self.folder / "out" / (level if self.is_static and is_target(level) else "")
+        return self.folder / "out" / (level if self.has_levels() else "")
+
+    def made(self):
+        """The name below out/ of the file that building it makes."""
+        return self.name if self.is_program else f"lib{self.name}.a" if self.is_static else "rlib/stamp"
 
     def built(self, level):
         """The file that building it makes, by which a record is held to what was built."""
-        if self.is_program:
-            return self.folder / "out" / self.name
-        return self.place(level) / (f"lib{self.name}.a" if self.is_static else "rlib/stamp")
+        return self.place(level) / self.made()
+
+    def last_built(self, level):
+        """Where what was built last is found: for another kind of processor in the place of its own."""
+        return self.built(level) if is_target(level) else self.folder / "out" / self.made()
 
     def command(self, level, jobs):
         verb = "run" if self.is_program else "lib"
         option = f"--target={level}" if is_target(level) else f"--cpu={level}"
-        return ["rt", verb, "--jobs", str(jobs), *([option] if self.is_program or self.is_static else [])]
+        # A program is run once it is built, with the words that the gate runs it with.
+        words = self.folder / "args"
+        given = ["--", *words.read_text().splitlines()] if self.is_program and words.is_file() else []
+        return ["rt", verb, "--jobs", str(jobs), *([option] if self.has_levels() else []), *given]
 
     @functools.lru_cache(maxsize=None)
     def inputs(self, root, level, kit):
         """A sum of all that it is made from: the toolchain, its line, its sources and the sums of the crates below it."""
-        found = hashlib.sha256(repr((kit, self.line, level if self.is_program or self.is_static else "")).encode())
+        found = hashlib.sha256(repr((kit, self.line, level if self.has_levels() else "")).encode())
         for part in PARTS:
             for file in sorted(path for path in (root / self.name / part).rglob("*") if path.is_file()):
                 found.update(repr((str(file.relative_to(root)), file.read_bytes())).encode())
@@ -92,6 +108,9 @@ class Crate:
     def record(self, inputs, level):
         """What the record of a build from these inputs says, or None where nothing is built."""
         return f"{inputs} {sum_of(self.built(level))}\n" if self.built(level).is_file() else None
+
+    def write_record(self, inputs, level):
+        (self.place(level) / "built").write_text(self.record(inputs, level))
 
     def is_built(self, inputs, level):
         file = self.place(level) / "built"
@@ -176,13 +195,12 @@ class Run:
         """Takes what was made out of the room, and gives back the lock; whether all is well, and what rt said."""
         said = self.said.read_text(errors="replace")
         is_well = self.process.returncode == 0
-        built = self.crate.built(self.level)
-        if is_well and built.parent.name == self.level:
-            built.parent.mkdir(exist_ok=True)
-            os.replace(self.room / "crates" / self.crate.name / "out" / built.name, built)
+        if is_well and self.crate.has_levels():
+            self.crate.place(self.level).mkdir(exist_ok=True)
+            os.replace(self.room / "crates" / self.crate.name / "out" / self.crate.made(), self.crate.built(self.level))
         leave_room(self.crate, self.room)
         if is_well:
-            (self.crate.place(self.level) / "built").write_text(self.crate.record(self.inputs, self.level))
+            self.crate.write_record(self.inputs, self.level)
         os.close(self.lock)
         return is_well, said
 
@@ -342,21 +360,45 @@ def minutes(seconds):
     return f"{seconds // 60} minutes and {seconds % 60} seconds"
 
 
-def main(name, level, jobs):
+def with_all_below(tops):
+    """These crates and all that they use, each after those below it."""
+    return list(dict.fromkeys(it for top in tops for it in [*top.all_below(), top]))
+
+
+def described(tops, level):
+    """What is proved and built, in words."""
+    below = len(with_all_below(tops)) - len(tops)
+    if len(tops) > 1:
+        names = ", ".join(it.name for it in tops)
+        return f"Proving {names} and the {below} crates that they use, then building them for {level}"
+    what = "program" if tops[0].is_program else "library"
+    return f"Proving the {what} and the {below} crates that it uses, then building it for {level}"
+
+
+def show(tops, level):
+    """Puts what is built for a level where what was built last is found, and gives the names of these files."""
+    for top in tops:
+        built, last = top.built(level), top.last_built(level)
+        if not last.is_file() or built.read_bytes() != last.read_bytes():
+            shutil.copy(built, last.with_name(f"{last.name}.new"))
+            os.replace(last.with_name(f"{last.name}.new"), last)
+    return " and ".join(str(top.last_built(level).relative_to(ROOT)) for top in tops)
+
+
+def main(names, level, jobs):
     start = time.monotonic()
     crates = read_crates()
-    top = crates[name]
-    what = "program" if top.is_program else "library"
+    tops = [crates[name] for name in names]
     lock = lock_of(ROOT / "crates")
     if lock is None:
         stop("another build runs here: wait for its end")
     settle(crates)
     kit = subprocess.run(["rt", "version"], check=True, capture_output=True, text=True).stdout
-    build = Build([*top.all_below(), top], level, jobs, kit)
+    build = Build(with_all_below(tops), level, jobs, kit)
     if not build.left:
-        print(f"{top.built(level).relative_to(ROOT)} is as it was built for {level}: nothing has changed since")
+        print(f"Nothing has changed since this was built for {level}: {show(tops, level)}")
         return
-    print(f"Proving the {what} and the {len(top.all_below())} crates that it uses, then building it for {level}; processors: {jobs}.")
+    print(f"{described(tops, level)}; processors: {jobs}.")
     if build.done:
         print(f"As they were proved before: {', '.join(it.name for it in build.done)}")
     else:
@@ -366,7 +408,7 @@ def main(name, level, jobs):
         build.run()
     finally:
         settle(crates)
-    print(f"{top.built(level).relative_to(ROOT)} is built, {minutes(int(time.monotonic() - start))} in all")
+    print(f"Built in {minutes(int(time.monotonic() - start))}: {show(tops, level)}")
 
 
 if __name__ == "__main__":
@@ -374,9 +416,12 @@ if __name__ == "__main__":
         signal.signal(number, lambda *_: sys.exit(1))
     if sys.argv[1:] == ["settle"]:
         settle(read_crates())
-    elif len(sys.argv) in (3, 4) and sys.argv[1] in read_crates():
+        sys.exit()
+    words = sys.argv[1:]
+    jobs = int(words.pop()) if words and words[-1].isdecimal() else processors()
+    if len(words) > 1 and all(it in read_crates() for it in words[:-1]):
         try:
-            main(sys.argv[1], sys.argv[2], int(sys.argv[3]) if sys.argv[3:] else processors())
+            main(words[:-1], words[-1], jobs)
         except KeyboardInterrupt:
             print("\nbuild: stopped; what is proved stays, and the next build goes on from there", file=sys.stderr)
             sys.exit(130)

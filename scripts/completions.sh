@@ -1,13 +1,15 @@
 #!/usr/bin/env bash
 # Tests the completions of bash, zsh and fish: each shell that is installed is asked for the completions of some lines, and
 # they are compared with what they must be. Bash is asked for what the function of the file answers, the others for what
-# they would offer. The options of farm are those of its help, and the words and options of rebuild-lists those of its own.
+# they would offer. The options of farm are those of its help, the words and options of rebuild-lists those of its own, and each option of
+# a command of rebuild-store is offered.
 set -euo pipefail
 cd "$(dirname "$0")/.."
 completions=$PWD/completions
 scratch=$(mktemp -d)
 trap 'rm -rf "$scratch"' EXIT
 workers='1 2 3 4 5 6 7 8 9 10 11 12 13 14 15 16'
+repair='--code --dry-run --help --json --layout --names --part --reads --replace-damaged --report --stripes --sums --to --workers -h'
 
 # Each line, up to where the key is pressed, and what is offered there: the folder below has two folders and a file.
 mkdir -p "$scratch/here/lists" "$scratch/here/served"
@@ -75,6 +77,40 @@ rebuild-lists cut -:--help -h
 rebuild-lists join lists served :lists served
 rebuild-lists join lists served served s:
 rebuild-lists join -:--help -h
+rebuild-store :encode help lost read repair scrub
+rebuild-store r:read repair
+rebuild-store -:--help --version -V -h
+rebuild-store help :encode lost read repair scrub
+rebuild-store help repair :
+rebuild-store repair :lists served
+rebuild-store repair lists s:
+rebuild-store repair -:$repair
+rebuild-store repair lists --re:--reads --replace-damaged --report
+rebuild-store repair --code :12-2-2 6-2-2
+rebuild-store repair --code=6:6-2-2
+rebuild-store repair --workers :$workers
+rebuild-store repair --workers=1:1 10 11 12 13 14 15 16
+rebuild-store repair --workers 4 :lists served
+rebuild-store repair --layout :groups plain
+rebuild-store repair --reads :all few
+rebuild-store repair --to s:served
+rebuild-store repair --report l:list.csv lists
+rebuild-store repair --names :
+rebuild-store repair --part :
+rebuild-store repair --code 6-2-2 --to served l:lists
+rebuild-store lost l:lists
+rebuild-store lost -:--code --help --json --layout --names --part --stripes -h
+rebuild-store lost --stripes l:list.csv lists
+rebuild-store scrub l:lists
+rebuild-store scrub -:--code --help --json --layout --names --part --report --stripes --sums --workers -h
+rebuild-store scrub --sums list.:list.csv
+rebuild-store encode :lists served
+rebuild-store encode lists :list.csv lists served
+rebuild-store encode lists list.csv :list.csv lists served
+rebuild-store encode -:--code --help --layout --names -h
+rebuild-store read l:lists
+rebuild-store read lists :
+rebuild-store read -:--code --help --layout --names -h
 END
 
 # What bash offers: the line is cut as bash cuts it, at spaces and with = as a word of its own.
@@ -144,6 +180,18 @@ for word in $(companion/rebuild-lists --help | sed -n 's/^    \([a-z]\+\) .*/\1/
     echo "completions: the options of rebuild-lists $word are now $options"
     exit 1
   fi
+done
+store=crates/rebuild_store/out/rebuild_store
+for word in $("$store" --help | sed -n '/^Commands:/,/^$/s/^  \([a-z]\+\) .*/\1/p' | grep -v -x help); do
+  "$store" "$word" --help | grep -o -E '^ +(-h, )?--[a-z-]+' | grep -o -E -e '--[a-z-]+|-h' | sort > "$scratch/said"
+  sed -n "s/^rebuild-store $word -://p" "$scratch/lines" | tr ' ' '\n' | sort > "$scratch/offered"
+  comm -23 "$scratch/said" "$scratch/offered" > "$scratch/lacking"
+  if [ -s "$scratch/lacking" ]; then
+    echo "completions: rebuild-store $word has options that aren't offered: $(paste -s -d ' ' "$scratch/lacking")"
+    exit 1
+  fi
+  comm -13 "$scratch/said" "$scratch/offered" > "$scratch/early"
+  [ ! -s "$scratch/early" ] || echo "completions: rebuild-store $word doesn't have yet what is offered: $(paste -s -d ' ' "$scratch/early")"
 done
 cd "$scratch/here"
 for shell in bash zsh fish; do

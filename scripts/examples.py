@@ -2,8 +2,9 @@
 """Runs the commands that documents show, and compares what they write with what the documents show.
 
 An example is an indented block whose first line begins with `$ `. Each such line is a command, and the lines after it, up
-to the next command, are what it writes. The commands of a document run in turn in one empty folder, with the built program
-as `rebuild` and its companion as `rebuild-lists`. The words are the documents; without words it takes README.md and docs/FORMATS.md."""
+to the next command, are what it writes. The commands of a document run in turn in one empty folder, with the built programs
+as `rebuild` and `rebuild-store` and the companion as `rebuild-lists`. The words are the documents; without words it takes
+README.md and docs/FORMATS.md."""
 
 import os
 import pathlib
@@ -14,6 +15,7 @@ import textwrap
 
 ROOT = pathlib.Path(__file__).resolve().parent.parent
 PROGRAM = ROOT / "crates/rebuild/out/rebuild"
+STORE = ROOT / "crates/rebuild_store/out/rebuild_store"
 COMPANION = ROOT / "companion/rebuild-lists"
 
 
@@ -65,6 +67,7 @@ def main():
             (folder / "bin").mkdir()
             (folder / "work").mkdir()
             (folder / "bin/rebuild").symlink_to(PROGRAM)
+            (folder / "bin/rebuild-store").symlink_to(STORE)
             (folder / "bin/rebuild-lists").symlink_to(COMPANION)
             run(document, folder)
 

@@ -1,6 +1,6 @@
 #!/usr/bin/env bash
-# Builds the program for x86-64-v2, and for x86-64-v3 where the processor has AVX2, which is what `make build` then takes, and runs over
-# each build the scripts of the gate that run the program. The gate runs them over the build that `rt ci` leaves.
+# Builds the programs for x86-64-v2, and for x86-64-v3 where the processor has AVX2, which is what `make build` then takes, and runs over
+# each build scripts of the gate that run them. The gate runs them over the build that `rt ci` leaves.
 set -euo pipefail
 cd "$(dirname "$0")/.."
 said=$(mktemp)
@@ -12,11 +12,11 @@ if grep -q avx2 /proc/cpuinfo; then
 fi
 for level in "${levels[@]}"; do
   # The number of processors, where a word says it, is build.py's.
-  scripts/build.py rebuild "$level" "$@"
-  for script in ends.sh demo.sh reference-lines.sh examples.py manual.sh growth.py companion-test.py; do
+  scripts/build.py rebuild rebuild_store "$level" "$@"
+  for script in ends.sh demo.sh reference-lines.sh examples.py manual.sh growth.py companion-test.py repair-store.py; do
     echo "levels: $level: $script"
     "scripts/$script" > "$said" 2>&1 || { cat "$said"; exit 1; }
     tail -n 1 "$said"
   done
 done
-echo "levels: the program is as it must be, built for ${levels[*]}"
+echo "levels: the programs are as they must be, built for ${levels[*]}"

@@ -112,18 +112,24 @@ prefix=/usr/lrc
 quietly 'make install-library' make -s install-library "DESTDIR=$root" PREFIX=$prefix
 version=$(sed -n 's/^#define LRC_VERSION "\(.*\)"$/\1/p' include/lrc.h)
 (cd "$root$prefix" && find . \( -type f -o -type l \) -printf '%P\n') | LC_ALL=C sort > "$scratch/came"
-printf '%s\n' include/lrc.h lib/liblrc.a lib/liblrc.so lib/liblrc.so.0 "lib/liblrc.so.$version" lib/pkgconfig/lrc.pc > "$scratch/wanted"
+printf '%s\n' include/lrc.h lib/liblrc.a lib/liblrc.so lib/liblrc.so.0 "lib/liblrc.so.$version" lib/pkgconfig/lrc.pc \
+  share/doc/liblrc/NOTICES > "$scratch/wanted"
 diff "$scratch/wanted" "$scratch/came" || fail 'make install-library: other files came (< must come, > came)'
 shared=$root$prefix/lib/liblrc.so.$version
 [ "$(nm -D --defined-only "$shared" | awk '{ print $3 }' | LC_ALL=C sort | tr '\n' ' ')" = "$exports" ] ||
   fail "the shared object shows $(nm -D --defined-only "$shared")"
 readelf -d "$shared" | grep -q 'soname: \[liblrc\.so\.0\]' || fail 'the shared object has no soname'
+{ readelf -d "$shared" | grep -q 'BIND_NOW' && readelf -l "$shared" | grep -q GNU_RELRO; } ||
+  fail 'what the loader fills in of the shared object can be written later'
 
 here=$scratch/here
 quietly 'make install-library' make -s install-library "PREFIX=$here"
 if has pkg-config 'lrc.pc'; then
   export PKG_CONFIG_PATH=$here/lib/pkgconfig
   [ "$(pkg-config --modversion lrc)" = "$version" ] || fail "lrc.pc says $(pkg-config --modversion lrc)"
+  quietly 'make install-library' make -s install-library "PREFIX=$scratch/other" LIBDIR=lib/here
+  [ "$(PKG_CONFIG_PATH=$scratch/other/lib/here/pkgconfig pkg-config --variable=libdir lrc)" = "$scratch/other/lib/here" ] ||
+    fail 'lrc.pc names another folder than LIBDIR'
   flags="$(pkg-config --cflags --libs lrc) -Wl,-rpath,$(pkg-config --variable=libdir lrc)"
 else
   flags="-I$here/include -L$here/lib -llrc -Wl,-rpath,$here/lib"

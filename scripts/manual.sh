@@ -1,15 +1,16 @@
 #!/usr/bin/env bash
 # Tests the manual pages: mandoc finds no fault in them where it is installed; their tables of coefficients are those of
-# docs/FORMATS.md; the page of the program has each number of a fault, and that of the formats each header and reply;
-# and each example (a display behind a comment "example") is run and gives what the page shows.
+# docs/FORMATS.md; the page of the program has each number of a fault, and that of the formats each header and reply; that of rebuild-store
+# has each command and option of its help; and each example (a display behind a comment "example") is run and gives what the page shows.
 set -euo pipefail
 cd "$(dirname "$0")/.."
 program=$PWD/crates/rebuild/out/rebuild
+store=$PWD/crates/rebuild_store/out/rebuild_store
 scratch=$(mktemp -d)
 trap 'rm -rf "$scratch"' EXIT
 
 if command -v mandoc > "$scratch/log"; then
-  mandoc -Tlint -Wwarning man/rebuild.1 man/rebuild-lists.1 man/rebuild.5
+  mandoc -Tlint -Wwarning man/rebuild.1 man/rebuild-lists.1 man/rebuild-store.1 man/rebuild.5
   echo 'manual: mandoc finds no fault in the pages'
 else
   echo "manual: mandoc is not installed (Debian's mandoc): the form of the pages isn't tested"
@@ -17,8 +18,9 @@ fi
 
 # Writes each example's commands to a file of the scratch folder, and beside it what a shell that shows each line as it
 # reads it is to show. Tests the tables, the headers and the numbers.
-python3 - "$scratch" <<'PY'
+python3 - "$scratch" "$store" <<'PY'
 import re
+import subprocess
 import sys
 
 scratch = sys.argv[1]
@@ -34,7 +36,8 @@ def plain(line):
 
 
 formats = open('docs/FORMATS.md', encoding='ascii').read()
-pages = {name: open('man/' + name, encoding='ascii').read() for name in ('rebuild.1', 'rebuild-lists.1', 'rebuild.5')}
+pages = {name: open('man/' + name, encoding='ascii').read() for name in
+         ('rebuild.1', 'rebuild-lists.1', 'rebuild-store.1', 'rebuild.5')}
 
 rows = [[cell.strip() for cell in line.strip('|').split('|')] for line in formats.splitlines()]
 tables = [' '.join(row) for row in rows if len(row) in (11, 17)]
@@ -56,6 +59,32 @@ for header in headers:
         fail(f'rebuild.5 does not have the header {header}')
 if len(set(headers)) != 6:
     fail('docs/FORMATS.md does not have six headers')
+
+
+
+def store_help(*words):
+    return subprocess.run([sys.argv[2], *words, '--help'], check=True, capture_output=True, text=True).stdout
+
+
+def options_of(text):
+    return set(re.findall(r'^ +(?:-h, )?(--[a-z-]+)', text, re.M)) - {'--help'}
+
+
+# The synopsis of each command, from its .Cm to the next .Nm, and the list of the options.
+synopsis, described = pages['rebuild-store.1'].split('\n.Sh DESCRIPTION\n')
+shown_of = {part.split('\n')[1].removeprefix('.Cm '): {f'-{it}' for it in re.findall(r'^\.Op Fl (-[a-z-]+)', part, re.M)}
+            for part in synopsis.split('\n.Nm')[1:] if '\n.Cm ' in part}
+commands = set(re.findall(r'^  ([a-z]+) ', store_help().partition('\nCommands:\n')[2].partition('\n\n')[0], re.M)) - {'help'}
+listed = {f'-{it}' for it in re.findall(r'^\.It Fl (-[a-z-]+)', described, re.M)}
+for command in sorted(commands):
+    options = options_of(store_help(command))
+    lacking = options - (shown_of.get(command, set()) & listed)
+    if lacking or f'\n.It Cm {command}\n' not in described:
+        fail(f'rebuild-store.1 lacks of {command}: {" ".join(sorted(lacking)) or "what it does"}')
+    if shown_of[command] - options:
+        print(f'manual: rebuild-store {command} does not have yet what its page shows: {" ".join(sorted(shown_of[command] - options))}')
+if set(shown_of) - commands:
+    print(f'manual: rebuild-store does not have yet what its page shows: {" ".join(sorted(set(shown_of) - commands))}')
 
 for name, page in pages.items():
     lines = page.splitlines()
@@ -82,6 +111,7 @@ PY
 
 mkdir "$scratch/bin"
 ln -s "$program" "$scratch/bin/rebuild"
+ln -s "$store" "$scratch/bin/rebuild-store"
 ln -s "$PWD/companion/rebuild-lists" "$scratch/bin/rebuild-lists"
 ran=0
 for commands in "$scratch"/*.commands; do
