@@ -139,8 +139,9 @@ levels:
 scale: build
 	scripts/scale.sh
 
-bench: build
+bench: build store library
 	scripts/bench.sh $(CPU)
 	scripts/bench-lines.sh $(CPU)
 	scripts/bench-farm.py $(CPU)
 	scripts/bench-library.sh $(CPU)
+	scripts/bench-store.py $(CPU)

@@ -76,7 +76,9 @@ class Crate:
     def command(self, level, jobs):
         verb = "run" if self.is_program else "lib"
         option = f"--target={level}" if is_target(level) else f"--cpu={level}"
-        return ["rt", verb, "--jobs", str(jobs), *([option] if self.is_program or self.is_static else [])]
+        # A program is run when it is built, and says its version.
+        words = ["--", "--version"] if self.is_program else []
+        return ["rt", verb, "--jobs", str(jobs), *([option] if self.is_program or self.is_static else []), *words]
 
     @functools.lru_cache(maxsize=None)
     def inputs(self, root, level, kit):
