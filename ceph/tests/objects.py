@@ -3,6 +3,7 @@
     make FOLDER COUNT MOST        files of random bytes, of 1 to MOST bytes
     write POOL FOLDER             each file as an object of its name
     compare POOL FOLDER           reads all objects; ends with status 1 where one is not as its file
+    partial POOL FOLDER COUNT     so many reads of parts of the objects: how many are right, have other bytes, and fail
     fill POOL COUNT SIZE          writes so many objects of one size
     degraded POOL                 how many shards are lost, and how many of each number
     fullest POOL                  the OSD that holds the most shards
@@ -72,6 +73,21 @@ def compare(pool, folder):
     sys.exit(1 if wrong else 0)
 
 
+def partial(pool, folder, count):
+    io, found = opened(pool), collections.Counter(right=0, wrong=0, failed=0)
+    held = [(name, data) for name, data in files(folder) if data]
+    random.seed(2)
+    for _ in range(int(count)):
+        name, data = random.choice(held)
+        start = random.randrange(len(data))
+        length = random.randrange(1, len(data) - start + 1)
+        try:
+            found["right" if io.read(name, length, start) == data[start:start + length] else "wrong"] += 1
+        except Exception:    # of rados, whose errors have no type for all
+            found["failed"] += 1
+    print(f"{count} parts read: {found['right']} right, {found['wrong']} other bytes, {found['failed']} failed")
+
+
 def fill(pool, count, size):
     io, data = opened(pool), os.urandom(int(size))
     for i in range(int(count)):
@@ -128,4 +144,5 @@ def scrubbed(pool, since):
 
 
 if __name__ == "__main__":
-    {it.__name__: it for it in (make, write, compare, fill, degraded, fullest, sent, acting, racks, scrubbed)}[sys.argv[1]](*sys.argv[2:])
+    jobs = (make, write, compare, partial, fill, degraded, fullest, sent, acting, racks, scrubbed)
+    {it.__name__: it for it in jobs}[sys.argv[1]](*sys.argv[2:])
