@@ -6,6 +6,9 @@
 #     host      every set of one to four lost shards, errors, refused memory, least reads, by a program that loads plugins as Ceph does
 #     tool      the same sets by ceph-erasure-code-tool
 #     pool      a cluster for each code: OSDs stopped, objects read, overwritten, recovered, scrubbed, a damaged shard repaired
+#     images    RBD images over overwrites, with cephx
+#     files     a file system over overwrites
+#     four      four OSDs lost with min_size k
 #     damaged   a shard with wrong bytes and a right checksum, with fast_read off and on
 #     store     shards taken out of stopped OSDs by rebuild-ceph, rebuilt by rebuild-store, and put back
 #     reads     chunks read for one and two lost shards, beside Ceph's other codes
@@ -100,6 +103,25 @@ part_pool() {
   in_cluster pool.sh code=12-2-2,layout=groups,crush-failure-domain=host,crush-locality=rack 24 3 40
 }
 
+part_images() {
+  has 'images' "${daemons[@]}" rbd || return 0
+  in_cluster images.sh
+}
+
+part_files() {
+  has 'a file system' "${daemons[@]}" ceph-mds || return 0
+  if ! /usr/bin/python3 -c 'import cephfs' 2> /dev/null; then
+    left_out+=("a file system (Debian's python3-cephfs isn't installed)")
+    return 0
+  fi
+  in_cluster filesystem.sh
+}
+
+part_four() {
+  has 'four lost' "${daemons[@]}" || return 0
+  in_cluster four.sh
+}
+
 part_damaged() {
   has 'damaged shards' "${daemons[@]}" || return 0
   in_cluster damaged.sh
@@ -139,7 +161,7 @@ if [ -n "$RELEASE" ]; then export RELEASE; else unset RELEASE; fi
 echo "Ceph ${RELEASE:-(no ceph-osd is installed)}; $(sed -n 's/^model name\t: //p' /proc/cpuinfo | head -n 1)," \
   "$(getconf _NPROCESSORS_ONLN) processors"
 parts=("$@")
-[ $# -gt 0 ] || parts=(abi host tool pool damaged store reads recovery bench)
+[ $# -gt 0 ] || parts=(abi host tool pool images files four damaged store reads recovery bench)
 for part in "${parts[@]}"; do
   declare -F "part_$part" > /dev/null || { echo "There is no part $part." >&2; exit 2; }
 done
