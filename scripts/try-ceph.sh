@@ -8,6 +8,8 @@
 #     pool      a cluster for each code: OSDs stopped, objects read, overwritten, recovered, scrubbed, a damaged shard repaired
 #     images    RBD images over overwrites, with cephx
 #     files     a file system over overwrites
+#     racks     ten racks as network namespaces, one of which is cut off
+#     groups    three such racks with a group in each of two; one is cut off
 #     four      four OSDs lost with min_size k
 #     damaged   a shard with wrong bytes and a right checksum, with fast_read off and on
 #     store     shards taken out of stopped OSDs by rebuild-ceph, rebuilt by rebuild-store, and put back
@@ -117,6 +119,21 @@ part_files() {
   in_cluster filesystem.sh
 }
 
+# in_racks KIND: the trial of racks, where they can be made.
+in_racks() {
+  has "racks, $1" "${daemons[@]}" ip || return 0
+  if [ "$(id -u)" != 0 ] || ! ip netns add tryceph-test 2> /dev/null; then
+    left_out+=("racks, $1 (network namespaces can't be made here)")
+    return 0
+  fi
+  ip netns del tryceph-test
+  in_cluster racks.sh "$1"
+}
+
+part_racks() { in_racks spare; }
+
+part_groups() { in_racks local; }
+
 part_four() {
   has 'four lost' "${daemons[@]}" || return 0
   in_cluster four.sh
@@ -161,7 +178,7 @@ if [ -n "$RELEASE" ]; then export RELEASE; else unset RELEASE; fi
 echo "Ceph ${RELEASE:-(no ceph-osd is installed)}; $(sed -n 's/^model name\t: //p' /proc/cpuinfo | head -n 1)," \
   "$(getconf _NPROCESSORS_ONLN) processors"
 parts=("$@")
-[ $# -gt 0 ] || parts=(abi host tool pool images files four damaged store reads recovery bench)
+[ $# -gt 0 ] || parts=(abi host tool pool images files racks groups four damaged store reads recovery bench)
 for part in "${parts[@]}"; do
   declare -F "part_$part" > /dev/null || { echo "There is no part $part." >&2; exit 2; }
 done

@@ -2,6 +2,7 @@
 # Functions for a Ceph cluster of one machine on the loopback, to be sourced: a monitor, a manager, and OSDs over files below $RUN.
 #   RUN       an empty folder of its own, which scripts/try-ceph.sh makes and removes
 #   PLUGINS   the folder of plugins, ours and the shipped ones
+#   ADDRESS   the monitor's address (127.0.0.1), in NETWORK (127.0.0.0/8)
 #   AUTH      none or cephx (none): how daemons and clients show who they are
 #   CPUS      the processors that all daemons share; MEMORY, the megabytes that they may hold together; SECONDS_MOST, their time
 # Each daemon's process id is kept in $RUN/<name>.pid, and those alone are stopped: at the end, and by a guard where memory or
@@ -12,6 +13,8 @@ CPUS=${CPUS:-0,1}
 MEMORY=${MEMORY:-5000}
 SECONDS_MOST=${SECONDS_MOST:-1500}
 AUTH=${AUTH:-none}
+ADDRESS=${ADDRESS:-127.0.0.1}
+NETWORK=${NETWORK:-127.0.0.0/8}
 HERE=$(cd "$(dirname "${BASH_SOURCE[0]}")" && pwd)
 export CEPH_CONF=$RUN/ceph.conf
 unset CEPH_ARGS
@@ -37,7 +40,14 @@ launch() {
   disown
 }
 
-osd() { launch "osd.$1" ceph-osd -f -i "$1"; }
+# on_host N COMMAND..: starts the daemon of an OSD on its host. All are one host, if a script doesn't say otherwise.
+on_host() {
+  local number=$1
+  shift
+  launch "osd.$number" "$@"
+}
+
+osd() { on_host "$1" ceph-osd -f -i "$1"; }
 
 # halt NAME..: stops daemons, and those that don't end in twenty seconds by force.
 halt() {
@@ -91,12 +101,12 @@ configure() { # FSID
   cat > "$CEPH_CONF" << END
 [global]
 fsid = $1
-mon_host = [v2:127.0.0.1:13300,v1:127.0.0.1:16789]
+mon_host = [v2:$ADDRESS:13300,v1:$ADDRESS:16789]
 ms_bind_ipv4 = true
 ms_bind_ipv6 = false
-public_network = 127.0.0.0/8
-cluster_network = 127.0.0.0/8
-public_addr = 127.0.0.1
+public_network = $NETWORK
+cluster_network = $NETWORK
+public_addr = $ADDRESS
 auth_cluster_required = $AUTH
 auth_service_required = $AUTH
 auth_client_required = $AUTH
@@ -165,7 +175,7 @@ cluster_start() {
   {
     ceph-authtool --create-keyring "$RUN/keyring" --gen-key -n mon. --cap mon 'allow *'
     ceph-authtool "$RUN/keyring" --gen-key -n client.admin --cap mon 'allow *' --cap osd 'allow *' --cap mgr 'allow *' --cap mds 'allow *'
-    monmaptool --create --clobber --fsid "$fsid" --addv a '[v2:127.0.0.1:13300,v1:127.0.0.1:16789]' "$RUN/monmap"
+    monmaptool --create --clobber --fsid "$fsid" --addv a "[v2:$ADDRESS:13300,v1:$ADDRESS:16789]" "$RUN/monmap"
     "${BOUND[@]}" ceph-mon --mkfs -i a --monmap "$RUN/monmap" --keyring "$RUN/keyring" -c "$CEPH_CONF"
   } > "$RUN/setup.out" 2>&1
   launch mon.a ceph-mon -f -i a

@@ -4,7 +4,7 @@
     write POOL FOLDER             each file as an object of its name
     compare POOL FOLDER           reads all objects; ends with status 1 where one is not as its file
     partial POOL FOLDER COUNT     so many reads of parts of the objects: how many are right, have other bytes, and fail
-    four POOL FOLDER              of (6,2,2) groups with lost shards: those that determine the data are active, with their objects as
+    four POOL FOLDER [LAYOUT]     of (6,2,2) groups with lost shards: those that determine the data are active, with their objects as
                                   written; the others are not active; status 1 where it isn't so
     fill POOL COUNT SIZE          writes so many objects of one size
     degraded POOL                 how many shards are lost, and how many of each number
@@ -90,20 +90,20 @@ def partial(pool, folder, count):
     print(f"{count} parts read: {found['right']} right, {found['wrong']} other bytes, {found['failed']} failed")
 
 
-def is_determined(lost):
-    """Whether the other shards of a (6,2,2) stripe in the plain layout determine these: beside one of each group two more."""
-    more = sum(max(len(lost & group) - 1, 0) for group in ({0, 1, 2, 6}, {3, 4, 5, 7}))
-    return more + len(lost & {8, 9}) <= 2
+def is_determined(lost, layout):
+    """Whether the other shards of a (6,2,2) stripe determine these: beside one of each group two more."""
+    groups_of = {"plain": ({0, 1, 2, 6}, {3, 4, 5, 7}), "groups": ({0, 1, 2, 3}, {4, 5, 6, 7})}
+    return sum(max(len(lost & group) - 1, 0) for group in groups_of[layout]) + len(lost & {8, 9}) <= 2
 
 
-def four(pool, folder):
+def four(pool, folder, layout="plain"):
     io, states, read = opened(pool), collections.Counter(), 0
     active = {}
     for it in groups(pool):
         lost = {shard for shard, osd in enumerate(it["acting"]) if osd == NO_OSD}
         active[it["pgid"]] = "active" in it["state"].split("+")
         states[len(lost), active[it["pgid"]]] += 1
-        if active[it["pgid"]] != is_determined(lost):
+        if active[it["pgid"]] != is_determined(lost, layout):
             sys.exit(f"group {it['pgid']} without the shards {sorted(lost)} is {it['state']}")
     for name, data in files(folder):
         if not active[ceph("osd", "map", pool, name)["pgid"]]:
