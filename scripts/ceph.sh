@@ -51,7 +51,7 @@ profiles=(plugin=azure_lrc plugin=azure_lrc,layout=groups plugin=azure_lrc,code=
 for out in "$plain" "$watched"; do
   export PLUGINS=$out/plugins
   for profile in "${profiles[@]}"; do
-    for part in sets odd starved; do
+    for part in sets odd starved threads; do
       quietly "$part of $profile" "$out/host" "$part" "$profile"
     done
   done

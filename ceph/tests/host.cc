@@ -5,6 +5,7 @@
  *   host cost    <profile>..           shares of chunks read for 1 and 2 lost shards
  *   host odd     <profile>             what is wrong is answered with an error
  *   host starved <profile>             no exception leaves a call that is refused memory
+ *   host threads <profile>             decoding in eight threads at once over one code
  *   host words   <profile>             words that are refused
  *   host version <profile>             releases of Ceph into which the plugin loads, and which it refuses
  *   host bench   <seconds> <chunk> <profile>..   GB/s, the profiles in turn
@@ -12,9 +13,12 @@
  * A profile is "plugin=name,word=value,..". PLUGINS is the folder of the plugins. It ends with status 1 where ours is not as it has
  * to be; of other plugins it says what they do. */
 #include <algorithm>
+#include <atomic>
 #include <cstdlib>
 #include <cstring>
 #include <iostream>
+#include <random>
+#include <thread>
 
 #include <rados/librados.h>
 
@@ -298,6 +302,38 @@ static void odd(const std::string &words)
     expect(code->encode_chunks({}, &incomplete) == -EINVAL, "encoding without a data chunk is -EINVAL");
 }
 
+/* Eight threads share a code, as those of an OSD do: each decodes sets of one to three lost shards. */
+static void threads(const std::string &words)
+{
+    constexpr unsigned kThreads = 8, kDecodes = 1000;
+    Code code = open(words);
+    Chunks encoded;
+    if (code->encode(everything(code), random_bytes(20000, 11), &encoded) != 0)
+        stop("encode");
+    std::atomic<unsigned> wrong{0};
+    auto decode = [&](unsigned seed) {
+        std::mt19937 random(seed);
+        for (unsigned i = 0; i < kDecodes; i++) {
+            Shards lost;
+            while (lost.size() < 1 + i % 3)
+                lost.insert(int(random() % code->get_chunk_count()));
+            Chunks made;
+            bool same = code->decode(lost, without(encoded, lost), &made, 0) == 0;
+            for (int shard : lost)
+                same = same && made.at(shard).contents_equal(encoded.at(shard));
+            wrong += !same;
+        }
+    };
+    std::vector<std::thread> started;
+    for (unsigned seed = 0; seed < kThreads; seed++)
+        started.emplace_back(decode, seed);
+    for (auto &thread : started)
+        thread.join();
+    printf("%s: %u decodes in %u threads at once, %u of them wrong\n", words.c_str(), kThreads * kDecodes, kThreads, wrong.load());
+    if (wrong > 0)
+        stop("threads disturb each other");
+}
+
 static void refused_words(const std::string &words)
 {
     for (const char *wrong : {"k=5", "m=3", "code=6-2-3", "layout=rows", "mapping=DDDDDD____", "k=12,code=6-2-2", "cod=12-2-2",
@@ -328,7 +364,7 @@ int main(int argc, char **argv)
 {
     rados_t cluster; /* only for its context: nothing is connected */
     if (argc < 3 || rados_create(&cluster, nullptr) < 0)
-        stop("host sets|least|cost|odd|starved|words|version|bench ..");
+        stop("host sets|least|cost|odd|starved|threads|words|version|bench ..");
     ceph::global::g_ceph_context = static_cast<ceph::common::CephContext *>(rados_cct(cluster));
     ceph_arch_probe();
     const char *release = getenv("RELEASE"); /* that of the shipped plugins, for them */
@@ -348,6 +384,8 @@ int main(int argc, char **argv)
         odd(words[0]);
     else if (part == "starved")
         starved(words[0]);
+    else if (part == "threads")
+        threads(words[0]);
     else if (part == "words")
         refused_words(words[0]);
     else if (part == "version")
