@@ -31,7 +31,7 @@ LIBRARY := crates/lrc_c/$(if $(TARGET),out/$(TARGET),$(BUILT))
 LIBRARY_CC := $(if $(TARGET),$(subst -unknown,,$(TARGET))-gcc,$(CC))
 
 .PHONY: build notices store demo try install uninstall library link-library install-library uninstall-library ceph install-ceph \
-  uninstall-ceph try-ceph test levels wrong-bodies scale bench packages try-packages
+  uninstall-ceph try-ceph ceph-needs test levels wrong-bodies scale bench packages try-packages
 
 # The programs, each with its crate, in whose out/ it is built; and what is installed: each has a manual page and completions.
 PROGRAMS := rebuild rebuild-store
@@ -123,9 +123,14 @@ uninstall-library:
 	-@test ! -d "$(PLACE)/$(LIBRARY_DOC)" || rmdir --ignore-fail-on-non-empty "$(PLACE)/$(LIBRARY_DOC)"
 	rm -f "$(PLACE)/$(LIBDIR)/liblrc.so" "$(PLACE)/$(LIBDIR)/$(SONAME)" "$(PLACE)/$(LIBDIR)/liblrc.so.$(LIBRARY_VERSION)"
 
-# The erasure code plugin for Ceph over the C library: ceph/out/libec_azure_lrc.so. It needs Debian's libradospp-dev, librados-dev and g++.
-ceph: library
+# The erasure code plugin for Ceph over the C library: ceph/out/libec_azure_lrc.so. It needs Debian's libradospp-dev, librados-dev and g++,
+# which is seen before anything is proved. CPU=x86-64-v2 has it run on processors without AVX2 too.
+ceph: ceph-needs
+	@$(MAKE) --no-print-directory library
 	@$(MAKE) --no-print-directory -C ceph
+
+ceph-needs:
+	@$(MAKE) --no-print-directory -C ceph needs
 
 # The folder in which Ceph's programs look for plugins.
 CEPH_PLUGINS := /usr/lib/x86_64-linux-gnu/ceph/erasure-code
@@ -134,11 +139,12 @@ CEPH_PLUGINS := /usr/lib/x86_64-linux-gnu/ceph/erasure-code
 install-ceph:
 	@test -f ceph/$(BUILT)/libec_azure_lrc.so || { echo "The plugin isn't built: run 'make ceph' first." >&2; exit 1; }
 	install -D -m 644 ceph/$(BUILT)/libec_azure_lrc.so "$(DESTDIR)$(CEPH_PLUGINS)/libec_azure_lrc.so"
+	install -D -m 755 ceph/rebuild-ceph "$(PLACE)/bin/rebuild-ceph"
 
 uninstall-ceph:
-	rm -f "$(DESTDIR)$(CEPH_PLUGINS)/libec_azure_lrc.so"
+	rm -f "$(DESTDIR)$(CEPH_PLUGINS)/libec_azure_lrc.so" "$(PLACE)/bin/rebuild-ceph"
 
-# Tries the plugin in Ceph itself, as far as that is installed; about forty minutes. It is no part of the gate.
+# Tries the plugin in Ceph itself, as far as that is installed; twenty to forty minutes. It is no part of the gate.
 try-ceph: ceph
 	scripts/try-ceph.sh
 
@@ -185,8 +191,9 @@ packages:
 try-packages: packages
 	scripts/try-packages.sh
 
-bench: build
+bench: build library
 	scripts/bench.sh $(CPU)
 	scripts/bench-lines.sh $(CPU)
 	scripts/bench-farm.py $(CPU)
 	scripts/bench-library.sh $(CPU)
+	scripts/bench-store.py $(CPU)

@@ -36,8 +36,8 @@ rebuild farm lists served --workers=4 --:--help --queue
 rebuild farm -- l:lists
 rebuild farm lists -- -:
 rebuild farm lists -- served s:
-rebuild-lists :check cut damaged join merge put serve split tell
-rebuild-lists c:check cut
+rebuild-lists :check damaged merge put serve split tell
+rebuild-lists c:check
 rebuild-lists -:--help --version -V -h
 rebuild-lists check :lists served
 rebuild-lists check -:--help -h
@@ -71,12 +71,6 @@ rebuild-lists damaged :lists served
 rebuild-lists damaged lists s:
 rebuild-lists damaged -:--feed --help --program -h
 rebuild-lists damaged --feed :0 1 2 3
-rebuild-lists cut :list.csv lists served
-rebuild-lists cut list.csv s:served
-rebuild-lists cut -:--help -h
-rebuild-lists join lists served :lists served
-rebuild-lists join lists served served s:
-rebuild-lists join -:--help -h
 rebuild-store :encode help lost read repair scrub
 rebuild-store r:read repair
 rebuild-store -:--help --version -V -h

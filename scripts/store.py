@@ -6,7 +6,12 @@ lines.
 
 makes FOLDER/store, FOLDER/list.csv and FOLDER/lines, with fragments of 1 to LENGTH bytes, or of LENGTH alone where SEED is
 0. Each request is of a stripe of its own with one to five lost fragments. Some have a damaged survivor, and some name one
-that the store hasn't."""
+that the store hasn't.
+
+    store.py FOLDER STRIPES LENGTH SEED CODE
+
+makes FOLDER/store with stripes of this code, 6-2-2 or 12-2-2, each of which has lost up to three fragments, and FOLDER/whole, the same
+stripes with all fragments."""
 
 import pathlib
 import random
@@ -35,8 +40,22 @@ def stripe(code, length, choose):
     return dict(zip(places + ["px", "py", "p0", "p1"], data + [combined(row, data, length) for row in rows]))
 
 
-def main():
-    folder, number, greatest, seed = pathlib.Path(sys.argv[1]), *map(int, sys.argv[2:5])
+def make_lossy(folder, number, greatest, code, choose):
+    """Stripes that have lost up to three fragments, beside the whole ones."""
+    store, whole = folder / "store", folder / "whole"
+    store.mkdir()
+    whole.mkdir()
+    for k in range(number):
+        fragments = stripe(code, choose.randrange(1, greatest + 1), choose)
+        lost = choose.sample(list(fragments), choose.randrange(4))
+        for place, data in fragments.items():
+            (whole / f"s{k:03}.{place}").write_bytes(data)
+            if place not in lost:
+                (store / f"s{k:03}.{place}").write_bytes(data)
+
+
+def make_listed(folder, number, greatest, seed):
+    """Stripes of both codes, with requests for fragments that they have lost."""
     choose = random.Random(seed)
     store = folder / "store"
     store.mkdir()
@@ -57,6 +76,14 @@ def main():
                 (store / f"s{k}.{place}").write_bytes(fragments[place])
             rows.write(f"rebuild,s{k},{lost[0]},{length},{' '.join(survivors)},{code}\n")
             lines.write(f"code={code} s{k} {lost[0]} {length} {' '.join(p + '=' + fragments[p].hex() for p in there)}\n")
+
+
+def main():
+    folder, number, greatest, seed = pathlib.Path(sys.argv[1]), *map(int, sys.argv[2:5])
+    if sys.argv[5:]:
+        make_lossy(folder, number, greatest, sys.argv[5], random.Random(seed))
+    else:
+        make_listed(folder, number, greatest, seed)
 
 
 if __name__ == "__main__":

@@ -1,0 +1,316 @@
+/* Preloaded into a program, this has one of its calls of the file system fail, or ends the program just before it, and counts them.
+ *
+ * FAIL_NUMBER=N is the Nth such call, from 1, and FAIL_HOW what becomes of it: the number of an error that it answers; `kill`, which ends
+ * the program by SIGKILL; `short`, so that a read or a write takes half of its bytes; or `meanwhile`, so that a file of one byte, which
+ * another program might have made, is under the name that a link is about to give. With `unsynced` no sync is made, and each answers that
+ * it was. FAIL_REST=kind has all later calls of its kind answer that error too, and FAIL_REST=path those of them at its path. Counting
+ * begins with `main`. The file FAIL_RECORD gets what `struct record` has; it is mapped, so it is right however the program ends. */
+#define _GNU_SOURCE
+#include <dirent.h>
+#include <dlfcn.h>
+#include <errno.h>
+#include <fcntl.h>
+#include <signal.h>
+#include <stdarg.h>
+#include <stdatomic.h>
+#include <stdint.h>
+#include <stdio.h>
+#include <stdlib.h>
+#include <string.h>
+#include <sys/file.h>
+#include <sys/mman.h>
+#include <sys/stat.h>
+#include <sys/uio.h>
+#include <unistd.h>
+
+enum { MOST_CALLS = 4096, MOST_KIND = 8, MOST_PATH = 4096 };
+
+struct record {
+    _Atomic uint64_t counts, calls, failed;
+    /* The kind of each call, of the first ones. */
+    char kinds[MOST_CALLS][MOST_KIND];
+    /* The path that the call that failed was given, or at which its file was opened; of two paths both, with a line's end between. */
+    char path[MOST_PATH];
+};
+
+enum how { ERROR, KILL, SHORT, MEANWHILE, UNSYNCED };
+
+static struct record unmapped;
+static struct record *record = &unmapped;
+static uint64_t number;
+static enum how how;
+static int error_number;
+static enum { NONE, ALL_OF_KIND, ALL_AT_PATH } fails_later;
+
+#define SYSTEM(name) ((typeof(name) *)next(#name))
+
+static void *next(const char *name)
+{
+    return dlsym(RTLD_NEXT, name);
+}
+
+/* Whether a call is the one that is to fail, or a later one of its kind where those fail too. A killed program ends here. */
+static int is_chosen(const char *kind, const char *path, const char *other)
+{
+    if (atomic_load(&record->counts) == 0)
+        return 0;
+    uint64_t own = atomic_fetch_add(&record->calls, 1) + 1;
+    if (own <= MOST_CALLS)
+        memcpy(record->kinds[own - 1], kind, strnlen(kind, MOST_KIND));
+    if (number == 0 || own < number)
+        return 0;
+    if (own > number)
+        return fails_later && number <= MOST_CALLS && strncmp(kind, record->kinds[number - 1], MOST_KIND) == 0 &&
+               (fails_later == ALL_OF_KIND || strcmp(path, record->path) == 0);
+    snprintf(record->path, MOST_PATH, "%s%s%s", path, other == NULL ? "" : "\n", other == NULL ? "" : other);
+    atomic_fetch_add(&record->failed, 1);
+    if (how == KILL) {
+        kill(getpid(), SIGKILL);
+        pause();
+    }
+    return 1;
+}
+
+static int fails(const char *kind, const char *path, const char *other)
+{
+    if (!is_chosen(kind, path, other) || how != ERROR)
+        return 0;
+    errno = error_number;
+    return 1;
+}
+
+/* The path at which a file was opened. */
+static const char *path_of(int file, char *room, size_t size)
+{
+    char link[64];
+    snprintf(link, sizeof link, "/proc/self/fd/%d", file);
+    ssize_t length = readlink(link, room, size - 1);
+    room[length < 0 ? 0 : length] = 0;
+    return room;
+}
+
+static int fails_at(const char *kind, int file)
+{
+    char room[MOST_PATH];
+    return fails(kind, path_of(file, room, sizeof room), NULL);
+}
+
+/* How many of a call's bytes are to be taken, or none where it fails. */
+static ssize_t taken(const char *kind, int file, size_t size)
+{
+    char room[MOST_PATH];
+    if (!is_chosen(kind, path_of(file, room, sizeof room), NULL))
+        return (ssize_t)size;
+    if (how == SHORT)
+        return (ssize_t)(size > 1 ? size / 2 : size);
+    if (how != ERROR)
+        return (ssize_t)size;
+    errno = error_number;
+    return -1;
+}
+
+static const char *kind_of_write(int file)
+{
+    return file <= 2 ? "output" : "write";
+}
+
+static int opened(const char *kind, int folder, const char *path, int flags, mode_t mode)
+{
+    return fails(kind, path, NULL) ? -1 : SYSTEM(openat)(folder, path, flags, mode);
+}
+
+static const char *kind_of_open(int flags)
+{
+    return flags & O_CREAT ? "create" : "open";
+}
+
+static mode_t mode_of(int flags, va_list rest)
+{
+    return flags & O_CREAT ? va_arg(rest, mode_t) : 0;
+}
+
+int open(const char *path, int flags, ...)
+{
+    va_list rest;
+    va_start(rest, flags);
+    mode_t mode = mode_of(flags, rest);
+    va_end(rest);
+    return opened(kind_of_open(flags), AT_FDCWD, path, flags, mode);
+}
+
+int openat(int folder, const char *path, int flags, ...)
+{
+    va_list rest;
+    va_start(rest, flags);
+    mode_t mode = mode_of(flags, rest);
+    va_end(rest);
+    return opened(kind_of_open(flags), folder, path, flags, mode);
+}
+
+ssize_t read(int file, void *bytes, size_t size)
+{
+    ssize_t count = taken("read", file, size);
+    return count < 0 ? -1 : SYSTEM(read)(file, bytes, (size_t)count);
+}
+
+ssize_t pread(int file, void *bytes, size_t size, off_t from)
+{
+    ssize_t count = taken("read", file, size);
+    return count < 0 ? -1 : SYSTEM(pread)(file, bytes, (size_t)count, from);
+}
+
+ssize_t write(int file, const void *bytes, size_t size)
+{
+    ssize_t count = taken(kind_of_write(file), file, size);
+    return count < 0 ? -1 : SYSTEM(write)(file, bytes, (size_t)count);
+}
+
+ssize_t pwrite(int file, const void *bytes, size_t size, off_t from)
+{
+    ssize_t count = taken("write", file, size);
+    return count < 0 ? -1 : SYSTEM(pwrite)(file, bytes, (size_t)count, from);
+}
+
+ssize_t writev(int file, const struct iovec *parts, int count)
+{
+    return fails_at(kind_of_write(file), file) ? -1 : SYSTEM(writev)(file, parts, count);
+}
+
+ssize_t getdents64(int folder, void *bytes, size_t size)
+{
+    return fails_at("list", folder) ? -1 : SYSTEM(getdents64)(folder, bytes, size);
+}
+
+int statx(int folder, const char *path, int flags, unsigned mask, struct statx *about)
+{
+    char room[MOST_PATH];
+    const char *named = *path ? path : path_of(folder, room, sizeof room);
+    return fails("look", named, NULL) ? -1 : SYSTEM(statx)(folder, path, flags, mask, about);
+}
+
+int flock(int file, int operation)
+{
+    return fails_at("lock", file) ? -1 : SYSTEM(flock)(file, operation);
+}
+
+int fsync(int file)
+{
+    if (fails_at("sync", file))
+        return -1;
+    return how == UNSYNCED ? 0 : SYSTEM(fsync)(file);
+}
+
+int fdatasync(int file)
+{
+    if (fails_at("sync", file))
+        return -1;
+    return how == UNSYNCED ? 0 : SYSTEM(fdatasync)(file);
+}
+
+int ftruncate(int file, off_t size)
+{
+    return fails_at("truncate", file) ? -1 : SYSTEM(ftruncate)(file, size);
+}
+
+int fchown(int file, uid_t owner, gid_t group)
+{
+    return fails_at("chown", file) ? -1 : SYSTEM(fchown)(file, owner, group);
+}
+
+int fchmod(int file, mode_t mode)
+{
+    return fails_at("chmod", file) ? -1 : SYSTEM(fchmod)(file, mode);
+}
+
+int link(const char *from, const char *to)
+{
+    if (fails("link", from, to))
+        return -1;
+    if (how == MEANWHILE && atomic_load(&record->failed) == 1 && atomic_load(&record->calls) == number) {
+        int file = SYSTEM(openat)(AT_FDCWD, to, O_WRONLY | O_CREAT | O_EXCL, 0644);
+        if (file >= 0) {
+            SYSTEM(write)(file, "m", 1);
+            close(file);
+        }
+    }
+    return SYSTEM(link)(from, to);
+}
+
+int rename(const char *from, const char *to)
+{
+    return fails("rename", from, to) ? -1 : SYSTEM(rename)(from, to);
+}
+
+int unlink(const char *path)
+{
+    return fails("unlink", path, NULL) ? -1 : SYSTEM(unlink)(path);
+}
+
+int unlinkat(int folder, const char *path, int flags)
+{
+    return fails("unlink", path, NULL) ? -1 : SYSTEM(unlinkat)(folder, path, flags);
+}
+
+int mkdir(const char *path, mode_t mode)
+{
+    return fails("mkdir", path, NULL) ? -1 : SYSTEM(mkdir)(path, mode);
+}
+
+int symlink(const char *to, const char *path)
+{
+    return fails("symlink", path, NULL) ? -1 : SYSTEM(symlink)(to, path);
+}
+
+static int (*program_main)(int, char **, char **);
+
+static int counting_main(int count, char **words, char **environment)
+{
+    atomic_store(&record->counts, 1);
+    return program_main(count, words, environment);
+}
+
+typedef int start(int (*)(int, char **, char **), int, char **, void (*)(void), void (*)(void), void (*)(void), void *);
+
+int __libc_start_main(int (*main)(int, char **, char **), int count, char **words, void (*begin)(void), void (*end)(void),
+                      void (*end_loader)(void), void *stack)
+{
+    start *system_start = (start *)next("__libc_start_main");
+    program_main = main;
+    return system_start(counting_main, count, words, begin, end, end_loader, stack);
+}
+
+static const char *text_of(const char *name)
+{
+    const char *text = getenv(name);
+    return text == NULL ? "" : text;
+}
+
+static void read_how(const char *text)
+{
+    if (strcmp(text, "kill") == 0)
+        how = KILL;
+    else if (strcmp(text, "short") == 0)
+        how = SHORT;
+    else if (strcmp(text, "meanwhile") == 0)
+        how = MEANWHILE;
+    else if (strcmp(text, "unsynced") == 0)
+        how = UNSYNCED;
+    else
+        error_number = atoi(text);
+}
+
+__attribute__((constructor)) static void prepare(void)
+{
+    int file = SYSTEM(openat)(AT_FDCWD, text_of("FAIL_RECORD"), O_RDWR | O_CLOEXEC);
+    void *mapped = file == -1 ? MAP_FAILED : mmap(NULL, sizeof unmapped, PROT_READ | PROT_WRITE, MAP_SHARED, file, 0);
+    if (mapped == MAP_FAILED)
+        _exit(99);
+    close(file);
+    record = mapped;
+    number = strtoull(text_of("FAIL_NUMBER"), NULL, 10);
+    if (strcmp(text_of("FAIL_REST"), "kind") == 0)
+        fails_later = ALL_OF_KIND;
+    if (strcmp(text_of("FAIL_REST"), "path") == 0)
+        fails_later = ALL_AT_PATH;
+    read_how(text_of("FAIL_HOW"));
+}
