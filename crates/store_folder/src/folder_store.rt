@@ -4,7 +4,7 @@ ghost use Rattle.store_repair.specs.Store.{never};
 
 use crate::names::path_in;
 use crate::patterns::Pattern;
-use crate::placing::UNFINISHED;
+use crate::placing::{UNFINISHED, take_after};
 use crate::sums::Sums;
 use crate::surviving::{FileFragment, open_fragment};
 use lrc_code::{Code, Place};
@@ -12,7 +12,7 @@ use sha2::{Digest as _, Sha256};
 use std::alloc::{AllocError, Global};
 use std::fs::{self, File};
 use std::io::{self, ErrorKind, Write};
-use std::os::unix::fs::{MetadataExt, OpenOptionsExt, fchown};
+use std::os::unix::fs::{MetadataExt, OpenOptionsExt};
 use std::sync::atomic::{AtomicU64, Ordering};
 use store_repair::{NewFragment, Placed, Store};
 
@@ -83,20 +83,6 @@ impl NewFragment for UnfinishedFile {
     }
 }
 
-impl UnfinishedFile {
-    // Gives it the owner and the mode of another file. Who isn't allowed to give it away keeps it.
-    fn take_after(&self, rt: &HostRuntime, neighbour: &str) -> io::Result<()> {
-        let metadata = fs::metadata(rt, neighbour)?;
-        let given = fchown(&self.file, Some(metadata.uid()), Some(metadata.gid()));
-        if let Err(error) = given {
-            if error.kind() != ErrorKind::PermissionDenied {
-                return Err(error);
-            }
-        }
-        self.file.set_permissions(metadata.permissions())
-    }
-}
-
 impl<'a> FolderStore<'a> {
     /// A store at a site. The number is that of the next unfinished file, of all stores at this site that are open at once.
     pub fn new(rt: &'a HostRuntime, site: Site<'a>, next: &'a AtomicU64) -> FolderStore<'a> {
@@ -154,7 +140,7 @@ impl<'a> FolderStore<'a> {
             }
         }
         if let Some(neighbour) = self.neighbour_of(stripe)? {
-            file.take_after(self.rt, neighbour.as_str())?;
+            take_after(self.rt, &file.file, neighbour.as_str())?;
         }
         file.file.sync_all()
     }

@@ -5,7 +5,7 @@ use crate::names::path_in;
 use std::alloc::Global;
 use std::fs::{self, File};
 use std::io::{self, ErrorKind, Write};
-use std::os::unix::fs::OpenOptionsExt;
+use std::os::unix::fs::{MetadataExt, OpenOptionsExt, fchown};
 use store_repair::{NewFragment, Placed};
 
 // How the name of a file begins that isn't whole yet.
@@ -27,6 +27,18 @@ pub fn is_leftover_of(name: &str, tag: &str) -> bool {
 pub struct NewFile {
     file: File,
     path: String,
+}
+
+/// Gives a file the owner and the mode of another one. Who isn't allowed to give it away keeps it.
+pub(crate) fn take_after(rt: &HostRuntime, file: &File, neighbour: &str) -> io::Result<()> {
+    let metadata = fs::metadata(rt, neighbour)?;
+    let given = fchown(file, Some(metadata.uid()), Some(metadata.gid()));
+    if let Err(error) = given {
+        if error.kind() != ErrorKind::PermissionDenied {
+            return Err(error);
+        }
+    }
+    file.set_permissions(metadata.permissions())
 }
 
 impl NewFragment for NewFile {
@@ -51,6 +63,11 @@ impl NewFile {
         options.write(true).create_new(true).mode(0o666);
         let file = options.open(rt, path.as_str())?;
         Ok(NewFile { file, path })
+    }
+
+    /// Gives the file the owner and the mode of another one. Who isn't allowed to give it away keeps it.
+    pub fn take_after(&self, rt: &HostRuntime, neighbour: &str) -> io::Result<()> {
+        take_after(rt, &self.file, neighbour)
     }
 
     /// Removes the file.

@@ -1,5 +1,6 @@
 -- The places that a loop over all of them has chosen.
-use Rattle.std.proofs.Common.{◌≡◌, ◌∙◌, ◌<◌, ◌≤◌, ◌+◌, ◌-◌, ℕ, suc, List, [], ◌∷◌, ◌++◌, Bool, true, false, refl, sym, ap, subst, arith, inl, inr, take}
+use Rattle.std.proofs.Common.{◌≡◌, ◌∙◌, ◌<◌, ◌≤◌, ◌+◌, ◌-◌, ℕ, suc, List, [], ◌∷◌, ◌++◌, Bool, true, false, refl, sym, ap, subst, arith}
+use Rattle.std.proofs.Common.{inl, inr, take}
 use Rattle.std.proofs.Common.{All, get_or, length, length-append, filter}
 use Rattle.std.proofs.lemmas.List.{get_or-append_right, get_or_append_left}
 use Rattle.std.specs.Prelude.{◌&&◌, ◌||◌, ◌==◌, ltb}
@@ -18,7 +19,8 @@ module _ (chosen : Place → Bool) (k : ℕ) (p : Place) (lt : k < 16) (here : i
   next : filter chosen (take (k + 1) all_places) ≡ filter chosen (take k all_places) ++ filter chosen (p ∷ [])
   next =
       let more : suc k ≡ k + 1 = omega arith in
-      subst (λ n. filter chosen (take n all_places) ≡ filter chosen (take (suc k) all_places)) more refl ∙ ap (filter chosen) (take-suc all_places k X0 lt)
+      subst (λ n. filter chosen (take n all_places) ≡ filter chosen (take (suc k) all_places)) more refl
+      ∙ ap (filter chosen) (take-suc all_places k X0 lt)
       ∙ filter-append chosen (take k all_places) (get_or all_places k X0 ∷ [])
       ∙ ap (λ q. filter chosen (take k all_places) ++ filter chosen (q ∷ [])) (ap (λ n. get_or all_places n X0) (sym here) ∙ place_at p)
 

@@ -1,5 +1,6 @@
 -- Fragments that are opened one after the other, and the bytes that they show.
-use Rattle.std.proofs.Common.{◌≡◌, ◌∙◌, ◌<◌, ◌≤◌, ◌+◌, ◌-◌, ℕ, zero, suc, List, [], ◌∷◌, ◌++◌, Bool, true, false, refl, sym, ap, ap₂, subst, arith, inl, inr}
+use Rattle.std.proofs.Common.{◌≡◌, ◌∙◌, ◌<◌, ◌≤◌, ◌+◌, ◌-◌, ℕ, zero, suc, List, [], ◌∷◌, ◌++◌, Bool, true, false, refl, sym, ap, ap₂}
+use Rattle.std.proofs.Common.{subst, arith, inl, inr}
 use Rattle.std.proofs.Common.{get_or, length, map, cond, Option, Some, None, All, length-append}
 use Rattle.std.specs.Prelude.{◌&&◌, ◌||◌, ◌==◌, not, is_some, unwrap_or}
 use Rattle.std.proofs.lemmas.Bool.{cases_lt, eq-eqb, ne_eqb}
@@ -68,7 +69,8 @@ module _ {F : Type 0} (shown : F → Option (List ℕ)) (code : CodeName) (strip
               (before.each k less)
           | inr le ↦ (let at : k ≡ length xs = (let long = length-append xs (x ∷ []) in omega (arith, le, lt, long)) in
               subst (IsOpenedAt shown code stripe len files (nth_place k))
-              (sym (get_or-append_right xs (x ∷ []) (length xs) k None refl le ∙ ap (λ n. get_or (x ∷ []) n None) (zero_of k (length xs) (omega (arith, at)))))
+              (sym (get_or-append_right xs (x ∷ []) (length xs) k None refl le
+              ∙ ap (λ n. get_or (x ∷ []) n None) (zero_of k (length xs) (omega (arith, at)))))
               (subst (λ q. IsOpenedAt shown code stripe len files q x)
               (sym (ap nth_place (at ∙ sym here) ∙ place_at p)) opened))
         ];

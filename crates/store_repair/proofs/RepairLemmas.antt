@@ -1,5 +1,6 @@
 -- What a repair leaves, step by step.
-use Rattle.std.proofs.Common.{◌≡◌, ◌∙◌, ◌<◌, ◌≤◌, ◌+◌, ◌-◌, ℕ, List, [], ◌∷◌, ◌++◌, Bool, true, false, refl, sym, ap, subst, arith, inl, inr}
+use Rattle.std.proofs.Common.{◌≡◌, ◌∙◌, ◌<◌, ◌≤◌, ◌+◌, ◌-◌, ℕ, List, [], ◌∷◌, ◌++◌, Bool, true, false, refl, sym, ap, subst, arith, inl}
+use Rattle.std.proofs.Common.{inr}
 use Rattle.std.proofs.Common.{get_or, length, set, Option, Some, None, All, IfSome}
 use Rattle.std.specs.Prelude.{◌⊎◌, ◌&&◌, not, is_some, bytes_eq, IsSome}
 use Rattle.std.proofs.lemmas.Bool.{cases_Bool, cases_lt, eq-eqb, eqb-true}
@@ -24,19 +25,6 @@ use Rattle.store_repair.specs.declared.store.Placed.TheVariants as placed
 use Rattle.store_repair.proofs.OpenedLemmas.{are_from, are_shown, are_whole, at}
 
 -- ---- what is untouched
-
-is_untouched : (r : Bool) (s : List ℕ) (f : Files) → IsUntouched r s f f
-is_untouched r s f = record {
-  others = λ t p other. refl;
-  others_kept = λ t p other. refl;
-  kept = λ t p bytes h. h;
-  stays = λ off t p bytes h. h;
-  replaced = λ p bytes h. inl h;
-}
-
-pub untouched_refl : (r : Bool) (s : List ℕ) (f : ShownFiles) → AreUntouched r s f f
-untouched_refl r s None = tt
-untouched_refl r s (Some f) = is_untouched r s f
 
 replaced_still : (r : Bool) (s : List ℕ) (a b c : Files) (p : Place) (bytes : List ℕ) → IsUntouched r s b c
     → (b.fragments s p ≡ Some bytes) ⊎ (b.kept s p ≡ Some bytes) → (c.fragments s p ≡ Some bytes) ⊎ (c.kept s p ≡ Some bytes)
@@ -155,7 +143,8 @@ module _ {F : Type 0} (shown : F → Option (List ℕ)) (code : CodeName) (strip
               (subst (λ r. IsOpenedAt shown code stripe len files r (get_or xs (index_of q) None)) (place_at q)
               (so.each (index_of q) (let lt = index_of-lt q in omega (arith, lt, long)))) (sym (so.set_of q) ∙ there)) apart
               ∙ so.set_of q
-              ∙ ap is_some (sym (get_or-set_other xs (index_of p) (index_of q) None None (λ e. absurd (let on = eq-eqb (index_of p) (index_of q) (sym e) in cc))))
+              ∙ ap is_some (sym (get_or-set_other xs (index_of p) (index_of q) None None
+              (λ e. absurd (let on = eq-eqb (index_of p) (index_of q) (sym e) in cc))))
         ];
     each = λ k lt. (let less : k < length xs = (let same = length-set xs (index_of p) None in omega (arith, lt, same)) in
         elim (cases_lt k (index_of p)) as

@@ -1,9 +1,9 @@
 -- What an attempt to repair a stripe came to.
-use Rattle.store_repair.specs.declared.repairing.Attempt.{Attempt}
-use Rattle.store_repair.specs.declared.repairing.Attempt.TheVariants as attempt
-use Rattle.store_repair.specs.declared.repairing.Made.{Made}
-use Rattle.store_repair.specs.declared.repairing.Way.{Way}
-use Rattle.store_repair.specs.declared.repairing.Way.TheVariants as way
+use Rattle.store_repair.specs.declared.making.Attempt.{Attempt}
+use Rattle.store_repair.specs.declared.making.Attempt.TheVariants as attempt
+use Rattle.store_repair.specs.declared.making.Made.{Made}
+use Rattle.store_repair.specs.declared.putting.Way.{Way}
+use Rattle.store_repair.specs.declared.putting.Way.TheVariants as way
 use Rattle.store_repair.specs.declared.store.Placed.{Placed as PlacedName}
 use Rattle.store_repair.specs.declared.store.Placed.TheVariants as placed
 use Rattle.std.specs.declared.io.Error.{Error}

@@ -7,8 +7,8 @@ use crate::stripes::Stripe;
 use lrc_code::Code;
 use std::alloc::{AllocError, Global};
 
-/// What a repair of a stripe would do: the places whose fragments it would rebuild, if the survivors that can be opened don't contradict each
-/// other, and what it couldn't. No fragment is read.
+/// What a repair of a stripe would do: the places whose fragments it would rebuild, if the survivors that can be opened don't contradict
+/// each other, and what it couldn't. No fragment is read.
 pub fn plan_stripe<S: Store>(
     alloc: Global,
     store: &S,

@@ -106,7 +106,8 @@ impl StripeFiles {
 
     /// The places of a code at which there is no file of so many bytes, in the order of their indexes.
     pub fn lost(&self, alloc: Global, code: Code, length: u64) -> Result<Vec<Place>, AllocError>
-        ensures { IfOk result (λ v. v.items ≡ filter (λ p. has_place (tables_of code) p && not (has_file self.now.found length p)) all_places) }
+        ensures { IfOk result (λ v. v.items ≡ filter (λ p. has_place (tables_of code) p && not (has_file self.now.found length p))
+            all_places) }
     {
         let mut lost = Vec::new(alloc);
         for index in 0..16 {

@@ -25,5 +25,6 @@ places-preserved g c =
           (g.S.Store.files c.args.store.now) c.if-is_some.set) (sym c.in_ok-push.ensures.items)
           (opened_more g.S.Survivor.Fragment.shown c.args.code c.args.stripe.now.name.now c.args.length
           (g.S.Store.files c.args.store.now) set c.if-is_some.set c.places.fragments.items x p
-          (c.nth_place-place.ensures ∙ c.len-in-places.ensures ∙ c.places.fragments.ok.0) c.in_ok-fragment.ensures step c.places.invariant.opened);
+          (c.nth_place-place.ensures ∙ c.len-in-places.ensures ∙ c.places.fragments.ok.0) c.in_ok-fragment.ensures step
+          c.places.invariant.opened);
     }

@@ -3,7 +3,7 @@ use Rattle.lrc_code.specs.declared.places.Place.{Place}
 use Rattle.lrc_code.specs.Places.{same_place}
 use Rattle.store_repair.specs.Opened.{IsPutOf}
 use Rattle.store_repair.specs.Store.{AreUntouched}
-use Rattle.store_repair.proofs.repairing.put_all.Given as goal
+use Rattle.store_repair.proofs.putting.put_all.Given as goal
 
 abbrev pub invariant-files : goal.invariant-files
 invariant-files g l =

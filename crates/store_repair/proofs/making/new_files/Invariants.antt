@@ -1,6 +1,6 @@
 use Rattle.std.proofs.Common.{◌≡◌, ◌≤◌, ◌-◌, length, vec_len}
 use Rattle.store_repair.specs.Mended.{AreEmpty}
-use Rattle.store_repair.proofs.repairing.new_files.Given as goal
+use Rattle.store_repair.proofs.making.new_files.Given as goal
 
 abbrev pub invariant-files : goal.invariant-files
 invariant-files g l =

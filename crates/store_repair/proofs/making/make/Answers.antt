@@ -3,7 +3,7 @@ use Rattle.std.proofs.lemmas.List.{length-set}
 use Rattle.lrc_code.specs.Places.{index_of}
 use Rattle.store_repair.specs.Opened.{AreOpened}
 use Rattle.store_repair.proofs.RepairLemmas.{opened_less}
-use Rattle.store_repair.proofs.repairing.make.Goals as goal
+use Rattle.store_repair.proofs.making.make.Goals as goal
 
 pub attempts-preserved : goal.attempts-preserved
 attempts-preserved g c =

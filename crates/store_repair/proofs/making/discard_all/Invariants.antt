@@ -1,5 +1,5 @@
 use Rattle.std.proofs.Common.{◌≡◌, vec_len}
-use Rattle.store_repair.proofs.repairing.discard_all.Given as goal
+use Rattle.store_repair.proofs.making.discard_all.Given as goal
 
 abbrev pub invariant-files : goal.invariant-files
 invariant-files g l = g.S.Store.files l.store ≡ g.S.Store.files l.fn.store

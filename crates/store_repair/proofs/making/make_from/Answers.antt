@@ -5,7 +5,7 @@ use Rattle.lrc_code.specs.Sets.{is_in}
 use Rattle.store_repair.specs.Mended.{IsMendedStripe}
 use Rattle.store_repair.specs.Shown.{AreShown}
 use Rattle.store_repair.proofs.RepairLemmas.{are_made}
-use Rattle.store_repair.proofs.repairing.make_from.Goals as goal
+use Rattle.store_repair.proofs.making.make_from.Goals as goal
 
 pub returns-in-Ok-true-clause-made : goal.returns-in-Ok-true-clause-made
 returns-in-Ok-true-clause-made g c =

@@ -1,0 +1,235 @@
+//! Making files for the lost fragments of a stripe, from all survivors that belong together.
+ghost use Rattle.std.specs.Prelude.{◌≡◌, ◌&&◌, IfOk, IfSome, None, length, set};
+ghost use Rattle.lrc_code.specs.Code.{has_place};
+ghost use Rattle.lrc_code.specs.Codes.{tables_of};
+ghost use Rattle.lrc_code.specs.Places.{index_of};
+ghost use Rattle.lrc_code.specs.Sets.{is_in};
+ghost use Rattle.store_repair.specs.Damage.{all_but};
+ghost use Rattle.store_repair.specs.Mended.{AreEmpty};
+ghost use Rattle.store_repair.specs.Opened.{AreMade, AreOpened};
+ghost use Rattle.store_repair.specs.Repaired.{IfMade, IsNotMade};
+
+use crate::damage::{find_damaged, without};
+use crate::losses::lost_places;
+use crate::mending::{MendFault, Survivors, mend};
+use crate::opening::Opened;
+use crate::outcomes::{Finding, Reason, note, read_fault, write_fault};
+use crate::store::{Fragment, Store};
+use crate::stripes::Stripe;
+use lrc_code::{Code, Place, PlaceSet};
+use std::alloc::{AllocError, Global};
+
+// Rebuilt fragments that have no names yet: the survivors that they are made from, and a file for each place.
+#[derive(Drop)]
+pub(crate) struct Made<N> {
+    pub(crate) set: PlaceSet,
+    pub(crate) places: Vec<Place>,
+    pub(crate) files: Vec<N>,
+}
+
+// What an attempt came to.
+#[derive(Drop)]
+enum Attempt<N> {
+    Made(Made<N>),
+    // A survivor is to be left out.
+    LeaveOut(Place),
+    GivenUp,
+}
+
+/// Makes files for the lost fragments, from all survivors that belong together.
+pub(crate) fn make<S: Store>(
+    alloc: Global,
+    store: &mut S,
+    code: Code,
+    stripe: &Stripe<'_>,
+    opened: Opened<S::Survivor>,
+    findings: &mut Vec<Finding>,
+) -> Result<Option<Made<S::New>>, AllocError>
+    requires sixteen { length opened.fragments.items ≡ 16 }
+    requires opened { AreOpened S.Survivor.shown code stripe.now.name.now opened.length (S.files store.old) opened.set
+        opened.fragments.items }
+    ensures same { S.files store.new ≡ S.files store.old }
+    ensures made { IfOk result (λ o. IfSome o (λ made. AreMade S.New.shown code (is_in made.set) opened.length stripe.now.name.now
+        (S.files store.old) made.places.items made.files.items)) }
+{
+    let mut left = opened;
+    'attempts: for _attempt in 0..16 {
+        match make_from(alloc, store, code, stripe, &left, findings)? {
+            Attempt::Made(made) => return Ok(Some(made)),
+            Attempt::LeaveOut(place) => leave_out(code, &mut left, place),
+            Attempt::GivenUp => return Ok(None),
+        }
+    }
+    Ok(None)
+}
+
+// Leaves a fragment out.
+fn leave_out<F: Drop>(code: Code, opened: &mut Opened<F>, place: Place)
+    requires { length opened.old.fragments.items ≡ 16 }
+    ensures length { opened.new.length ≡ opened.old.length }
+    ensures set { (p : _) → is_in opened.new.set p ≡ (has_place (tables_of code) p && all_but (is_in opened.old.set) place p) }
+    ensures fragments { opened.new.fragments.items ≡ set opened.old.fragments.items (index_of place) None }
+{
+    opened.set = without(code, opened.set, place);
+    opened.fragments[place.index()] = None;
+}
+
+// Makes files for the lost fragments from these survivors.
+fn make_from<S: Store>(
+    alloc: Global,
+    store: &mut S,
+    code: Code,
+    stripe: &Stripe<'_>,
+    opened: &Opened<S::Survivor>,
+    findings: &mut Vec<Finding>,
+) -> Result<Attempt<S::New>, AllocError>
+    requires sixteen { length opened.now.fragments.items ≡ 16 }
+    requires opened { AreOpened S.Survivor.shown code stripe.now.name.now opened.now.length (S.files store.old) opened.now.set
+        opened.now.fragments.items }
+    ensures same { S.files store.new ≡ S.files store.old }
+    ensures made { IfOk result (IfMade (λ made. AreMade S.New.shown code (is_in made.set) opened.now.length stripe.now.name.now
+        (S.files store.old) made.places.items made.files.items)) }
+{
+    let survivors = Survivors {
+        code,
+        length: opened.length,
+        set: opened.set,
+        fragments: opened.fragments.as_slice(),
+    };
+    let lost = lost_places(alloc, code, opened.set)?;
+    let places = lost.determined;
+    let Some(files) = new_files(alloc, store, stripe, places.as_slice(), findings)? else {
+        return Ok(Attempt::GivenUp);
+    };
+    let mut files = files;
+    match mend(alloc, &survivors, places.as_slice(), files.as_mut_slice()) {
+        Ok(true) => {
+            note_all(lost.several.as_slice(), findings)?;
+            let set = opened.set;
+            Ok(Attempt::Made(Made { set, places, files }))
+        }
+        Ok(false) => {
+            discard_all(store, files, findings)?;
+            after_contradiction(alloc, &survivors, findings)
+        }
+        Err(fault) => {
+            discard_all(store, files, findings)?;
+            after_fault(fault, places.as_slice(), findings)
+        }
+    }
+}
+
+// Notes the places whose fragments the survivors don't determine.
+fn note_all(places: &[Place], findings: &mut Vec<Finding>) -> Result<(), AllocError> {
+    for place in places {
+        note(findings, Some(*place), Reason::Several)?;
+    }
+    Ok(())
+}
+
+// New files for fragments at these places, if they can be made.
+fn new_files<S: Store>(
+    alloc: Global,
+    store: &mut S,
+    stripe: &Stripe<'_>,
+    places: &[Place],
+    findings: &mut Vec<Finding>,
+) -> Result<Option<Vec<S::New>>, AllocError>
+    ensures same { S.files store.new ≡ S.files store.old }
+    ensures many { IfOk result (λ o. IfSome o (λ files. length files.items ≡ length places.now)) }
+    ensures empty { IfOk result (λ o. IfSome o (λ files. AreEmpty S.New.shown files.items)) }
+{
+    let mut files = Vec::with_capacity(alloc, places.len())?;
+    'files: while files.len() < places.len() {
+        let place = places[files.len()];
+        match store.create(stripe.name, place) {
+            Ok(file) => files.push(file)?,
+            Err(error) => {
+                note(findings, Some(place), write_fault(error)?)?;
+                discard_all(store, files, findings)?;
+                return Ok(None);
+            }
+        }
+    }
+    Ok(Some(files))
+}
+
+// Discards files. One that can't be discarded is left over.
+fn discard_all<S: Store>(
+    store: &mut S,
+    files: Vec<S::New>,
+    findings: &mut Vec<Finding>,
+) -> Result<(), AllocError>
+    ensures { S.files store.new ≡ S.files store.old }
+{
+    let mut left = files;
+    'files: while let Some(file) = left.pop() {
+        discard(store, file, findings)?;
+    }
+    Ok(())
+}
+
+// Discards a file, or notes that it is left over.
+pub(crate) fn discard<S: Store>(
+    store: &mut S,
+    file: S::New,
+    findings: &mut Vec<Finding>,
+) -> Result<(), AllocError>
+    ensures { S.files store.new ≡ S.files store.old }
+{
+    match store.discard(file) {
+        Ok(()) => Ok(()),
+        Err(error) => note(findings, None, Reason::Unsettled(error)),
+    }
+}
+
+// Notes which survivor of a contradiction is damaged, which then is left out, or that it can't be told.
+fn after_contradiction<F: Fragment, N>(
+    alloc: Global,
+    survivors: &Survivors<'_, F>,
+    findings: &mut Vec<Finding>,
+) -> Result<Attempt<N>, AllocError>
+    requires { length survivors.now.fragments.now ≡ 16 }
+    ensures { IfOk result IsNotMade }
+{
+    match find_damaged(alloc, survivors) {
+        Ok(Some(place)) => {
+            note(findings, Some(place), Reason::Damaged)?;
+            Ok(Attempt::LeaveOut(place))
+        }
+        Ok(None) => {
+            note(findings, None, Reason::Contradiction)?;
+            Ok(Attempt::GivenUp)
+        }
+        Err(fault) => after_fault(fault, &[], findings),
+    }
+}
+
+// Notes why fragments at these places couldn't be rebuilt. A survivor that can't be read is left out.
+fn after_fault<N>(
+    fault: MendFault,
+    places: &[Place],
+    findings: &mut Vec<Finding>,
+) -> Result<Attempt<N>, AllocError>
+    ensures { IfOk result IsNotMade }
+{
+    match fault {
+        MendFault::OutOfMemory => Err(AllocError),
+        MendFault::Several { index } => {
+            note(findings, places.get(index).copied(), Reason::Several)?;
+            Ok(Attempt::GivenUp)
+        }
+        MendFault::Unread { index, error } => {
+            let place = Place::from_index(index);
+            note(findings, place, read_fault(error)?)?;
+            match place {
+                Some(place) => Ok(Attempt::LeaveOut(place)),
+                None => Ok(Attempt::GivenUp),
+            }
+        }
+        MendFault::Unwritten { index, error } => {
+            note(findings, places.get(index).copied(), write_fault(error)?)?;
+            Ok(Attempt::GivenUp)
+        }
+    }
+}
