@@ -17,7 +17,7 @@ RECORD = struct.Struct("=3Q" + "8s" * MOST_CALLS + "4096s")
 # Which errors calls answer that only look and read, and those that change something.
 READ_ERRORS = (errno.EIO, errno.EACCES)
 ERRORS = (errno.EIO, errno.ENOSPC, errno.EACCES, errno.EDQUOT)
-CHANGING = {"create", "write", "sync", "chown", "chmod", "link", "rename", "unlink", "output"}
+CHANGING = {"create", "write", "sync", "chown", "chmod", "link", "rename", "unlink", "mkdir", "output"}
 READ_KINDS = {"look", "open", "read"}
 # How the calls after the one that fails are called in words.
 LATER = {"": "", "kind": " and all after it of its kind", "path": " and all after it at its path"}
