@@ -35,5 +35,5 @@ pub use planning::plan_stripe;
 pub use putting::Repair;
 pub use repairing::repair_stripe;
 pub use scrubbing::scrub_stripe;
-pub use store::{Fragment, NewFragment, Placed, Store};
+pub use store::{Fragment, NameFault, NewFragment, Placed, Store};
 pub use stripes::{Found, Stripe, StripeFiles};
