@@ -6,14 +6,14 @@ use crate::file_arguments::EncodeOptions;
 use crate::file_faults::{FileFault, device, encode_fault};
 use crate::statuses::{DEVICE, DONE, LEFT};
 use crate::stores::{is_of_another_code, lock_folder};
+use crate::sums::{stored_sums, write_sums};
 use lrc_code::{Code, Place};
 use std::fs::{self, Metadata};
 use std::io::{self, ErrorKind};
 use std::os::unix::fs::MetadataExt;
 use store_folder::{
-    Described, NewFile, Placed, SUMS_NAME, Sums, SumsFault, description_name, file_name,
-    is_leftover, list, open_fragment, path_in, place_again, place_new, read_description, read_sums,
-    remove_leftovers, sync_folder,
+    Described, NewFile, Placed, Sums, description_name, file_name, is_leftover, list,
+    open_fragment, path_in, place_new, read_description, remove_leftovers, sync_folder,
 };
 use store_repair::{NewFragment, encode, fragment_length};
 
@@ -81,7 +81,9 @@ pub fn encode_all(rt: &HostRuntime, options: &EncodeOptions) -> Result<u8, FileF
             Err(fault) => status = status.max(say(rt, &fault)),
         }
     }
-    write_sums(rt, &target)?;
+    if target.is_changed {
+        write_sums(rt, folder, target.number, &target.sums)?;
+    }
     let left = (options.files.len() as u64).saturating_sub(encoded);
     println!(rt; "encoded {encoded} files; not encoded: {left}").map_err(|error| device(
         alloc,
@@ -106,23 +108,6 @@ fn make_folder(rt: &HostRuntime, folder: &str) -> Result<(), FileFault> {
         Ok(()) => Ok(()),
         Err(error) if error.kind() == ErrorKind::AlreadyExists => Ok(()),
         Err(error) => Err(device(rt.alloc(), folder, error)),
-    }
-}
-
-// The digests that the store's file of them has; none where there is no such file.
-fn stored_sums(rt: &HostRuntime, folder: &str) -> Result<Sums, FileFault> {
-    let alloc = rt.alloc();
-    let path = path_in(alloc, folder, SUMS_NAME)?;
-    match read_sums(rt, path.as_str()) {
-        Ok(sums) => Ok(sums),
-        Err(SumsFault::OutOfMemory) => Err(FileFault::OutOfMemory),
-        Err(SumsFault::Unread { error }) if error.kind() == ErrorKind::NotFound => {
-            Ok(Sums::new(alloc))
-        }
-        Err(SumsFault::Unread { error }) => Err(device(alloc, path.as_str(), error)),
-        Err(fault) => Err(FileFault::Refused {
-            what: format!(in alloc; "{path}: {fault}")?,
-        }),
     }
 }
 
@@ -398,29 +383,4 @@ fn place_description(
     let made = Made { file, digest };
     place_one(rt, target, description.as_str(), text.len() as u64, made)?;
     sync_folder(rt, target.folder).map_err(|error| device(alloc, target.folder, error))
-}
-
-// Writes the store's digests, in place of those that are there, if there are new ones.
-fn write_sums(rt: &HostRuntime, target: &Target<'_>) -> Result<(), FileFault> {
-    if !target.is_changed {
-        return Ok(());
-    }
-    let alloc = rt.alloc();
-    let path = path_in(alloc, target.folder, SUMS_NAME)?;
-    let text = target.sums.text(alloc)?;
-    write_over(rt, target, path.as_str(), text.as_slice()).map_err(|error| device(
-        alloc,
-        path.as_str(),
-        error,
-    ))
-}
-
-fn write_over(rt: &HostRuntime, target: &Target<'_>, path: &str, text: &[u8]) -> io::Result<()> {
-    let mut file = NewFile::create_as_user(rt, rt.alloc(), target.folder, target.number)?;
-    if fs::exists(rt, path)? {
-        file.take_after(rt, path)?;
-    }
-    file.append(text)?;
-    place_again(rt, file, path)?;
-    sync_folder(rt, target.folder)
 }
