@@ -7,6 +7,7 @@ mod combining;
 mod consistency;
 mod damage;
 mod encoding;
+pub mod file_laws;
 mod file_reading;
 mod losses;
 mod making;
