@@ -124,8 +124,8 @@ def test_too_many(folder, code, choose):
 
 
 def test_odd_files(folder, code, choose):
-    """Fragments of another length, folders and FIFOs are lost and named, and stay; a FIFO holds nothing up. A link to nothing is lost too: the
-    fragment is made where the link leads."""
+    """Fragments of another length, folders and FIFOs are lost and named, and stay; a FIFO holds nothing up. A link to nothing is lost too:
+    the fragment is made where the link leads."""
     stripes = make(folder, code, [500] * 5, choose)
     (folder / "s000.x0").write_bytes(b"short")
     (folder / "s001.x1").unlink()
