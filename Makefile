@@ -20,7 +20,7 @@ TARGET :=
 LIBRARY := crates/lrc_c/out$(if $(TARGET),/$(TARGET))
 LIBRARY_CC := $(if $(TARGET),$(subst -unknown,,$(TARGET))-gcc,$(CC))
 
-.PHONY: build store demo try install uninstall library install-library uninstall-library ceph install-ceph uninstall-ceph try-ceph test levels \
+.PHONY: build store demo try install uninstall library install-library uninstall-library ceph ceph-needs install-ceph uninstall-ceph try-ceph test levels \
   wrong-bodies scale bench
 
 # Proves the program and the crates that it uses, and builds crates/rebuild/out/rebuild. JOBS=N has it use N processors.
@@ -85,9 +85,14 @@ uninstall-library:
 	rm -f "$(PLACE)/include/lrc.h" "$(PLACE)/lib/liblrc.a" "$(PLACE)/lib/pkgconfig/lrc.pc"
 	rm -f "$(PLACE)/lib/liblrc.so" "$(PLACE)/lib/$(SONAME)" "$(PLACE)/lib/liblrc.so.$(LIBRARY_VERSION)"
 
-# The erasure code plugin for Ceph over the C library: ceph/out/libec_azure_lrc.so. It needs Debian's libradospp-dev, librados-dev and g++.
-ceph: library
+# The erasure code plugin for Ceph over the C library: ceph/out/libec_azure_lrc.so. It needs Debian's libradospp-dev, librados-dev and g++,
+# which is seen before anything is proved. CPU=x86-64-v2 has it run on processors without AVX2 too.
+ceph: ceph-needs
+	@$(MAKE) --no-print-directory library
 	@$(MAKE) --no-print-directory -C ceph
+
+ceph-needs:
+	@$(MAKE) --no-print-directory -C ceph needs
 
 # The folder in which Ceph's programs look for plugins.
 CEPH_PLUGINS := /usr/lib/x86_64-linux-gnu/ceph/erasure-code
@@ -96,11 +101,12 @@ CEPH_PLUGINS := /usr/lib/x86_64-linux-gnu/ceph/erasure-code
 install-ceph:
 	@test -f ceph/out/libec_azure_lrc.so || { echo "The plugin isn't built: run 'make ceph' first." >&2; exit 1; }
 	install -D -m 644 ceph/out/libec_azure_lrc.so "$(DESTDIR)$(CEPH_PLUGINS)/libec_azure_lrc.so"
+	install -D -m 755 ceph/rebuild-ceph "$(PLACE)/bin/rebuild-ceph"
 
 uninstall-ceph:
-	rm -f "$(DESTDIR)$(CEPH_PLUGINS)/libec_azure_lrc.so"
+	rm -f "$(DESTDIR)$(CEPH_PLUGINS)/libec_azure_lrc.so" "$(PLACE)/bin/rebuild-ceph"
 
-# Tries the plugin in Ceph itself, as far as that is installed; about forty minutes. It is no part of the gate.
+# Tries the plugin in Ceph itself, as far as that is installed; twenty to forty minutes. It is no part of the gate.
 try-ceph: ceph
 	scripts/try-ceph.sh
 

@@ -15,8 +15,8 @@
 #include <sys/stat.h>
 #include <unistd.h>
 
-/* The bytes of each fragment that are worked on at once, so that they stay in the processor's cache. */
-enum { PIECE = 65536, MOST_NAME = 128 };
+/* The bytes of each fragment that are worked on at once. Of 64 KiB to all this was fastest. */
+enum { PIECE = 1048576, MOST_NAME = 128 };
 
 static char (*names)[MOST_NAME];
 static size_t count;

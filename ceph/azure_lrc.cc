@@ -7,6 +7,7 @@
  * places, and memory; it is tested. A code doesn't change after `init`, so threads share it. */
 #include <algorithm>
 #include <cerrno>
+#include <cstdio>
 #include <cstring>
 #include <new>
 #include <ostream>
@@ -40,14 +41,25 @@ list fresh(unsigned length)
     return chunk;
 }
 
+/* Which build this is, for those who look into the file: strings -a libec_azure_lrc.so | grep '^azure_lrc ' */
+__attribute__((used)) const char kVersion[] = "azure_lrc " LRC_VERSION " for Ceph 16.2";
+
+/* Says something where the daemon says what goes wrong: on standard error, which systemd keeps. Ceph's own log can't be reached from here
+ * without headers that Debian doesn't ship. */
+void say(const std::string &what) { std::fprintf(stderr, "azure_lrc: %s\n", what.c_str()); }
+
 /* No exception leaves a call. */
-template <class Call> int guarded(Call call) noexcept
+template <class Call> int guarded(Call call, const char *name = __builtin_FUNCTION()) noexcept
 {
     try {
         return call();
     } catch (const std::bad_alloc &) {
         return -ENOMEM;
+    } catch (const std::exception &fault) {
+        std::fprintf(stderr, "azure_lrc: %s: %s\n", name, fault.what());
+        return -EIO;
     } catch (...) {
+        std::fprintf(stderr, "azure_lrc: %s: an exception\n", name);
         return -EIO;
     }
 }
@@ -183,7 +195,8 @@ public:
     }
 
     /* Rebuilds the wanted chunks that are not among those given, and tests all checks that these have; as few as
-     * `minimum_to_decode` names have none. Where it fails none of them is given. */
+     * `minimum_to_decode` names have none. Chunks that contradict each other come with `fast_read` alone: `around` says what is done
+     * then. Where it fails none of them is given. */
     int decode_chunks(const Shards &want, const Chunks &chunks, Chunks *decoded) override
     {
         return guarded([&] {
@@ -198,13 +211,17 @@ public:
             if (int r = point_at(chunks, &joined, stripe, &length))
                 return r;
             uint8_t *outs[kMostLost];
-            uint32_t statuses[kMostLost];
             for (size_t i = 0; i < lost.size(); i++) {
                 list &chunk = rebuilt[shard_of(lost[i])] = fresh(unsigned(length));
                 outs[i] = reinterpret_cast<uint8_t *>(chunk.c_str());
             }
-            if (uint32_t status = lrc_rebuild_many(code_, stripe, lost.data(), outs, statuses, lost.size(), length))
+            uint32_t status = rebuild(lost, stripe, outs, length);
+            if (status == LRC_CONTRADICTION)
+                status = around(lost, stripe, outs, length);
+            if (status != LRC_OK) {
+                say("decode: the shards " + names_of(stripe) + " don't give all that is wanted: " + lrc_status_text(status));
                 return error_of(status);
+            }
             for (auto &[shard, chunk] : rebuilt)
                 (*decoded)[shard] = chunk;
             return 0;
@@ -293,6 +310,56 @@ private:
         return 0;
     }
 
+    uint32_t rebuild(const std::vector<lrc_place> &lost, const uint8_t *const *stripe, uint8_t **outs, size_t length) const
+    {
+        uint32_t statuses[kMostLost];
+        return lrc_rebuild_many(code_, stripe, lost.data(), outs, statuses, lost.size(), length);
+    }
+
+    /* Rebuilds from chunks that contradict each other, and says so. Ceph ends an OSD whose decode fails, and asks for more chunks than it
+     * needs with `fast_read` alone. Where the others fit without one chunk, and without no other single one, that one is damaged and is
+     * left out. Else the wanted ones are made as they are without `fast_read`, from the fewest, which have no check. */
+    uint32_t around(const std::vector<lrc_place> &lost, const uint8_t *const *stripe, uint8_t **outs, size_t length) const
+    {
+        const uint8_t *left[LRC_PLACES];
+        std::vector<int> fitting;
+        std::copy(stripe, stripe + LRC_PLACES, left);
+        for (int place = 0; place < LRC_PLACES; place++) {
+            left[place] = nullptr;
+            if (stripe[place] != nullptr && lrc_verify(code_, left, length) == LRC_OK)
+                fitting.push_back(place);
+            left[place] = stripe[place];
+        }
+        if (fitting.size() == 1) {
+            left[fitting[0]] = nullptr;
+            say("decode: of the shards " + names_of(stripe) + " shard " + std::to_string(shard_of(lrc_place(fitting[0]))) +
+                " is damaged, and is left out");
+            return rebuild(lost, left, outs, length);
+        }
+        uint32_t wanted = 0, there = 0, reads;
+        for (lrc_place place : lost)
+            wanted |= UINT32_C(1) << place;
+        for (int place = 0; place < LRC_PLACES; place++)
+            there |= uint32_t(stripe[place] != nullptr) << place;
+        if (uint32_t status = lrc_reads_into(uint8_t(code_), wanted, there, &reads))
+            return status;
+        for (int place = 0; place < LRC_PLACES; place++)
+            left[place] = reads >> place & 1 ? stripe[place] : nullptr;
+        say("decode: the shards " + names_of(stripe) + " contradict each other, and which is damaged can't be said; taken are " +
+            names_of(left) + ", without a check");
+        return rebuild(lost, left, outs, length);
+    }
+
+    /* The numbers of the shards that are there. */
+    std::string names_of(const uint8_t *const *stripe) const
+    {
+        std::string names;
+        for (unsigned shard = 0; shard < get_chunk_count(); shard++)
+            if (stripe[place_of(int(shard))] != nullptr)
+                names += (names.empty() ? "" : " ") + std::to_string(shard);
+        return names;
+    }
+
     /* Reads the words, and writes those that were left out into the profile, as Ceph asks. */
     int read_profile(Profile &profile, std::ostream *err)
     {
@@ -318,6 +385,10 @@ private:
         const bool has_groups = word("layout", "plain") == "groups";
         if (!has_groups && profile["layout"] != "plain")
             return refuse("layout is plain or groups");
+        /* Ceph reads the number, and takes 0, of which clients die. */
+        const auto unit = profile.find("stripe_unit");
+        if (unit != profile.end() && (unit->second[0] == '-' || unit->second.find_first_of("123456789") == std::string::npos))
+            return refuse("stripe_unit is a multiple of 32 bytes, and not 0");
         if (!word("crush-locality", "").empty() && !has_groups)
             return refuse("crush-locality keeps a group together, so it asks for layout=groups");
         word("crush-root", "default");

@@ -24,7 +24,7 @@ _rebuild_lists() {
   if [ "$COMP_CWORD" = 1 ]; then
     case $current in
       -*) offered='--help --version -h -V' ;;
-      *) offered='check cut damaged join merge put serve split tell' ;;
+      *) offered='check damaged merge put serve split tell' ;;
     esac
     mapfile -t COMPREPLY < <(compgen -W "$offered" -- "$current")
     return
@@ -38,8 +38,6 @@ _rebuild_lists() {
     tell) kinds='folder+' options='--lists' ;;
     put) kinds='folder folder+' options='--overwrite --lists' ;;
     damaged) kinds='folder number number' options='--feed --program' ;;
-    cut) kinds='list folder folder' ;;
-    join) kinds='folder folder folder' ;;
     *) return ;;
   esac
   if [ "$current" = = ]; then

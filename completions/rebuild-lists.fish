@@ -32,8 +32,6 @@ complete -c rebuild-lists -n __fish_is_first_arg -a merge -d 'Make one report of
 complete -c rebuild-lists -n __fish_is_first_arg -a tell -d 'Count the outcomes in reports'
 complete -c rebuild-lists -n __fish_is_first_arg -a put -d 'Copy rebuilt fragments into the store'
 complete -c rebuild-lists -n __fish_is_first_arg -a damaged -d 'Find the damaged survivor of a contradiction'
-complete -c rebuild-lists -n __fish_is_first_arg -a cut -d 'Make pieces of long fragments'
-complete -c rebuild-lists -n __fish_is_first_arg -a join -d 'Make whole fragments of rebuilt pieces'
 complete -c rebuild-lists -n __fish_is_first_arg -s V -l version -d 'Show the version'
 complete -c rebuild-lists -s h -l help -d 'Show help'
 complete -c rebuild-lists -n '__rebuild_lists_word_is split' -l racks -x -a '(seq 1 16)' -d 'Racks of a folder, 1 to 16'
@@ -47,7 +45,7 @@ complete -c rebuild-lists -n '__rebuild_lists_word_is put' -l lists -x -a '(__fi
     -d 'The folder of the lists that OUT answers'
 complete -c rebuild-lists -n '__rebuild_lists_word_is put' -l overwrite -d 'Replace fragments that have different contents'
 complete -c rebuild-lists -n '__rebuild_lists_word_is damaged' -l feed -x -a '0 1 2 3' -d 'The feed whose list it is'
-complete -c rebuild-lists -n '__rebuild_lists_place_is 1 1 split cut' -F
-for places in '1 1 check serve damaged' '1 2 merge' '2 3 split cut' '1 3 join' '1 999 tell put'
+complete -c rebuild-lists -n '__rebuild_lists_place_is 1 1 split' -F
+for places in '1 1 check serve damaged' '1 2 merge' '2 3 split' '1 999 tell put'
     complete -c rebuild-lists -n "__rebuild_lists_place_is $places" -a '(__fish_complete_directories (commandline -ct) "Folder")'
 end

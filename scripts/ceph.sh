@@ -4,9 +4,11 @@
 #   every set of one to four lost shards of both codes in both layouts, also under the address and undefined sanitizers; what is wrong
 #   answered with an error; each allocation refused in turn; the least reads; words and releases that are refused; the table of calls
 #   beside those of shipped plugins; `make install-ceph` and `make uninstall-ceph`
+# rebuild-ceph, which needs none of this, is tried before.
 # All is built in a copy of the repository, with what the proofs have left: the gate's other scripts run beside this one.
 set -euo pipefail
 cd "$(dirname "$0")/.."
+ceph/tests/rebuild-ceph.py
 common=/usr/lib/x86_64-linux-gnu/ceph/libceph-common.so.2
 compiler=${CXX:-g++}
 if ! command -v "$compiler" > /dev/null || [ ! -e "$common" ] ||
@@ -49,7 +51,7 @@ profiles=(plugin=azure_lrc plugin=azure_lrc,layout=groups plugin=azure_lrc,code=
 for out in "$plain" "$watched"; do
   export PLUGINS=$out/plugins
   for profile in "${profiles[@]}"; do
-    for part in sets odd starved; do
+    for part in sets odd starved threads; do
       quietly "$part of $profile" "$out/host" "$part" "$profile"
     done
   done
@@ -68,7 +70,8 @@ fi
 
 installed=usr/lib/x86_64-linux-gnu/ceph/erasure-code/libec_azure_lrc.so
 quietly 'make install-ceph' make -s install-ceph "DESTDIR=$scratch/root"
-[ "$(cd "$scratch/root" && find . -type f -printf '%m %P\n')" = "644 $installed" ] || fail "what comes is $(find "$scratch/root" -type f)"
+came=$(cd "$scratch/root" && find . -type f -printf '%m %P\n' | sort)
+[ "$came" = "$(printf '644 %s\n755 usr/local/bin/rebuild-ceph' "$installed")" ] || fail "what comes is $(find "$scratch/root" -type f)"
 cmp "$plain/libec_azure_lrc.so" "$scratch/root/$installed" || fail 'another plugin was installed'
 quietly 'make uninstall-ceph' make -s uninstall-ceph "DESTDIR=$scratch/root"
 [ -z "$(find "$scratch/root" -type f)" ] || fail "what stays is $(find "$scratch/root" -type f)"

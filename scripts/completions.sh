@@ -34,8 +34,8 @@ rebuild farm lists served --workers=4 --:--help --queue
 rebuild farm -- l:lists
 rebuild farm lists -- -:
 rebuild farm lists -- served s:
-rebuild-lists :check cut damaged join merge put serve split tell
-rebuild-lists c:check cut
+rebuild-lists :check damaged merge put serve split tell
+rebuild-lists c:check
 rebuild-lists -:--help --version -V -h
 rebuild-lists check :lists served
 rebuild-lists check -:--help -h
@@ -69,12 +69,6 @@ rebuild-lists damaged :lists served
 rebuild-lists damaged lists s:
 rebuild-lists damaged -:--feed --help --program -h
 rebuild-lists damaged --feed :0 1 2 3
-rebuild-lists cut :list.csv lists served
-rebuild-lists cut list.csv s:served
-rebuild-lists cut -:--help -h
-rebuild-lists join lists served :lists served
-rebuild-lists join lists served served s:
-rebuild-lists join -:--help -h
 END
 
 # What bash offers: the line is cut as bash cuts it, at spaces and with = as a word of its own.

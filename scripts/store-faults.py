@@ -7,7 +7,6 @@ own, by fail-call.c, which is preloaded, or the run is killed just before it; an
 It runs what was built last. After each fault every name has all of its bytes or isn't there, the stripes that the fault didn't meet are
 repaired, a line names the file and the fault, and the same command again makes the store whole and leaves nothing behind."""
 
-import collections
 import concurrent.futures
 import dataclasses
 import errno
@@ -18,7 +17,6 @@ import random
 import re
 import shutil
 import signal
-import struct
 import subprocess
 import sys
 import tempfile
@@ -27,23 +25,15 @@ import threading
 # No compiled copy of the modules is left beside them.
 sys.dont_write_bytecode = True
 import refusals  # noqa: E402
+from faults import LATER, READ_KINDS, ROOT, Calls, Ended, Fault, all_ways, errors_of, finished, hold, only, walk  # noqa: E402
 from store import stripe  # noqa: E402
 
-ROOT = pathlib.Path(__file__).resolve().parent.parent
 PROGRAM = ROOT / "crates/rebuild_store/out/rebuild_store"
 # The program reads a fragment in windows of so many bytes.
 WINDOW = 65_536
 UNFINISHED = ".rebuild-store-"
 MODE = 0o640
-SECONDS = 20
 DEVICE, LEFT, NO_MEMORY = 3, 1, 4
-# What fail-call.c records: three numbers, the kinds of so many calls, and a path.
-MOST_CALLS = 4_096
-RECORD = struct.Struct("=3Q" + "8s" * MOST_CALLS + "4096s")
-# Which errors calls answer that only look and read, and those that change something.
-READ_ERRORS = (errno.EIO, errno.EACCES)
-ERRORS = (errno.EIO, errno.ENOSPC, errno.EACCES, errno.EDQUOT)
-CHANGING = {"create", "write", "sync", "chown", "chmod", "link", "rename", "unlink", "output"}
 # Who may not give a file away keeps it, so this is no fault.
 ALLOWED = {("chown", errno.EACCES), ("chown", errno.EPERM)}
 # The kinds of calls of each command; with one that the program stops to make, the preloaded library no longer sees what it should.
@@ -51,33 +41,6 @@ LISTING = {"open", "list", "look", "output"}
 READING = LISTING | {"read"}
 REPAIRING = READING | {"lock", "create", "write", "sync", "chown", "chmod", "link", "unlink"}
 REPLACING = REPAIRING | {"rename"}
-# A fault of these may be of the first of two attempts, of which the second has all.
-READ_KINDS = {"look", "open", "read"}
-
-
-class Fault(Exception):
-    """A run that ended as none may."""
-
-
-def hold(holds, what):
-    if not holds:
-        raise Fault(what)
-
-
-@dataclasses.dataclass(frozen=True)
-class Ended:
-    """How a run ended, the kinds of its calls, how many failed, and the kind and the paths of the first of these."""
-
-    status: int
-    out: str
-    err: str
-    kinds: list = ()
-    failed: int = 0
-    kind: str = ""
-    paths: tuple = ()
-
-    def text(self):
-        return f"status {self.status}: {self.out[-300:]!r} {self.err[-600:]!r}"
 
 
 @dataclasses.dataclass(frozen=True)
@@ -128,43 +91,6 @@ def store_of(code, choose, has_damage):
     return Store(before, after)
 
 
-class Calls:
-    """fail-call.c, built into a folder."""
-
-    def __init__(self, folder):
-        self.folder = folder
-        self.file = folder / "fail-call.so"
-        compiler = os.environ.get("CC", "gcc")
-        flags = ["-O2", "-Wall", "-shared", "-fPIC"]
-        subprocess.run([compiler, *flags, "-o", self.file, ROOT / "scripts/fail-call.c"], check=True)
-
-    def run(self, words, number=0, how="", rest="", output=subprocess.PIPE):
-        """Runs the program to its end, where the call of this number fails in this way."""
-        with tempfile.NamedTemporaryFile(dir=self.folder) as record:
-            record.truncate(RECORD.size)
-            preloaded = {"LD_PRELOAD": str(self.file), "FAIL_RECORD": record.name, "FAIL_NUMBER": str(number), "FAIL_HOW": str(how),
-                         "FAIL_REST": rest}
-            ran = finished(words, output, preloaded)
-            counts, calls, failed, *kinds, path = RECORD.unpack(pathlib.Path(record.name).read_bytes())
-        hold(counts == 1, f"nothing counted the calls of {words[0]}")
-        kinds = [kind.rstrip(b"\0").decode() for kind in kinds[:calls]]
-        hold(calls <= MOST_CALLS, f"{words[0]} makes {calls} calls")
-        paths = path.split(b"\0")[0].decode(errors="replace").split("\n")
-        return dataclasses.replace(ran, kinds=kinds, failed=failed, kind=kinds[number - 1] if failed else "", paths=tuple(paths))
-
-
-def finished(words, output=subprocess.PIPE, environment=None, **how):
-    """Runs a program to its end."""
-    try:
-        ran = subprocess.run([str(it) for it in words], stdin=subprocess.DEVNULL, stdout=output, stderr=subprocess.PIPE, timeout=SECONDS,
-                             env=environment, **how)
-    except FileNotFoundError:
-        raise Fault(f"{words[0]} is not built: make store does it") from None
-    except subprocess.TimeoutExpired:
-        raise Fault(f"{words} had not ended after {SECONDS} seconds") from None
-    return Ended(ran.returncode, (ran.stdout or b"").decode(errors="replace"), ran.stderr.decode(errors="replace"))
-
-
 class Trial:
     """A command over a store, one of whose calls fails. Each turn has a folder of its own."""
 
@@ -205,8 +131,7 @@ class Trial:
             self.judge(folder, ran, how, rest)
         except Fault as fault:
             shown = how if isinstance(how, str) else errno.errorcode[how]
-            more = {"": "", "kind": " and all after it", "path": " and all after it at this path"}[rest]
-            what = f"{ran.kind} of {' and '.join(map(self.below(folder), ran.paths))} {shown}{more}"
+            what = f"{ran.kind} of {' and '.join(map(self.below(folder), ran.paths))} {shown}{LATER[rest]}"
             why, _, details = str(fault).partition(": ")
             raise Fault(f"{ran.kind}, {why}: call {number}, {what}: {details}") from None
 
@@ -242,7 +167,8 @@ class Trial:
         came.unlink()
 
     def judge_fault(self, folder, ran, how, rest):
-        """A fault's status, its line, and what was done all the same."""
+        """A fault's status, its line, and what was done all the same. One in reading may be of the first of two attempts, of which the
+        second has all."""
         if self.is_repair and ran.kind in READ_KINDS and ran.status == self.status and self.store.is_whole(folder):
             return
         hold(ran.status == DEVICE, f"another status than {DEVICE}: {ran.text()}")
@@ -256,11 +182,12 @@ class Trial:
         is_of_folder = str(folder) in ran.paths or f"{folder}/" in ran.paths
         if not self.is_repair or (is_of_folder and ran.kind != "sync") or rest == "kind":
             return
+        left = sorted(path.name for path in folder.iterdir() if path.name.startswith(UNFINISHED))
+        hold(not left or ran.kind == "unlink", f"a temporary file is left: {left}: {ran.text()}")
         # The other survivors of its stripe do, but for one of which it can't be told then which is damaged.
         holds_damage = any(name.endswith(".damaged") for name in self.store.after)
         hold(ran.kind not in READ_KINDS or holds_damage or not unfinished, f"left what the other survivors determine: {ran.text()}")
-        left = {name.rsplit(".", 1)[0] if name in self.store.before else name for name in unfinished}
-        stripes = {name.split(".")[0] for name in left}
+        stripes = {name.split(".")[0] for name in unfinished}
         hold(len(stripes) <= 1, f"left other stripes: {sorted(unfinished)}: {ran.text()}")
         done = len([name for name in self.store.after if name not in self.store.before and not name.endswith(".damaged")])
         done += len([name for name in self.store.after if name.endswith(".damaged")])
@@ -275,30 +202,6 @@ class Trial:
         kept = {f"{pathlib.Path(path).name}.damaged" for path in ran.paths} - set(self.store.after) if ran.kind in READ_KINDS else ()
         hold(second.status == 0, f"the same command again ends otherwise than with 0: {second.text()}")
         hold(self.store.is_whole(folder, kept), f"isn't whole after the same command again: {second.text()}")
-
-
-def walk(pool, trial, hows, rest="", needed=frozenset()):
-    """Has calls of a run fail, each in a run of its own: `hows` gives the ways for a kind. Says how many there were of each kind."""
-    kinds = trial.kinds()
-    missing = needed - set(kinds)
-    hold(not missing, f"{trial.words}: no call is of the kinds {missing}")
-    turns = [(number, how) for number, kind in enumerate(kinds, 1) for how in hows(kind)]
-    faults = collections.defaultdict(list)
-
-    def one(turn):
-        try:
-            trial.turn(*turn, rest)
-        except Fault as fault:
-            faults[str(fault).split(":")[0]].append(str(fault))
-
-    list(pool.map(one, turns))
-    said = collections.Counter(kinds[number - 1] for number, _ in turns)
-    shown = ", ".join(f"{count} {kind}" for kind, count in sorted(said.items()))
-    what = {"": "one call", "kind": "one call and all after it of its kind", "path": "one call and all after it at its path"}[rest]
-    print(f"store-faults {' '.join(trial.words)}: {len(turns)} runs with a fault in {what}: {shown}", flush=True)
-    if faults:
-        some = [f"  {len(each)} runs, as: {min(each, key=len)}" for each in faults.values()]
-        raise Fault(f"{' '.join(trial.words)}: {sum(map(len, faults.values()))} of {len(turns)} runs:\n" + "\n".join(some))
 
 
 class Refused:
@@ -417,15 +320,6 @@ def parts(pool, folder, lost, damaged):
     calls = Calls(folder)
     repair = Trial(calls, lost, "repair", "--workers", "1")
     replace = Trial(calls, damaged, "repair", "--workers", "1", "--replace-damaged")
-    def all_ways(kind):
-        return [*(ERRORS if kind in CHANGING else READ_ERRORS), errno.EINTR, "kill"]
-
-    def errors(kind):
-        return ERRORS if kind in CHANGING else READ_ERRORS
-
-    def only(how, *kinds):
-        return lambda kind: [how] if kind in kinds else []
-
     for trial, needed in ((repair, REPAIRING), (replace, REPLACING)):
         yield lambda: walk(pool, trial, all_ways, needed=needed)
         yield lambda: walk(pool, trial, only("short", "read", "write", "output"))
@@ -433,8 +327,8 @@ def parts(pool, folder, lost, damaged):
         yield lambda: walk(pool, trial, only(errno.EIO, "read", "open", "look"), rest="path")
         yield lambda: walk(pool, trial, only(errno.EIO, "read", "open", "look"), rest="kind")
         yield lambda: walk(pool, trial, only(errno.ENOSPC, "create", "write", "sync", "link"), rest="kind")
-    yield lambda: walk(pool, Trial(calls, lost, "lost", status=1), errors, needed=LISTING)
-    yield lambda: walk(pool, Trial(calls, damaged, "scrub", "--workers", "1", status=1), errors, needed=READING)
+    yield lambda: walk(pool, Trial(calls, lost, "lost", status=1), errors_of, needed=LISTING)
+    yield lambda: walk(pool, Trial(calls, damaged, "scrub", "--workers", "1", status=1), errors_of, needed=READING)
     yield lambda: refuse_all(pool, folder, lost, damaged)
     yield lambda: hold_memory(folder / "memory")
 

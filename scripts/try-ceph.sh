@@ -6,7 +6,13 @@
 #     host      every set of one to four lost shards, errors, refused memory, least reads, by a program that loads plugins as Ceph does
 #     tool      the same sets by ceph-erasure-code-tool
 #     pool      a cluster for each code: OSDs stopped, objects read, overwritten, recovered, scrubbed, a damaged shard repaired
-#     farm      fragments taken out of stopped OSDs, rebuilt by `rebuild farm`
+#     images    RBD images over overwrites, with cephx
+#     files     a file system over overwrites
+#     racks     ten racks as network namespaces, one of which is cut off
+#     groups    three such racks with a group in each of two; one is cut off
+#     four      four OSDs lost with min_size k
+#     damaged   a shard with wrong bytes and a right checksum, with fast_read off and on
+#     store     shards taken out of stopped OSDs by rebuild-ceph, rebuilt by rebuild-store, and put back
 #     reads     chunks read for one and two lost shards, beside Ceph's other codes
 #     recovery  bytes that OSDs send for a lost one, beside Ceph's other codes
 #     bench     encoding and decoding beside isa and the others
@@ -99,13 +105,52 @@ part_pool() {
   in_cluster pool.sh code=12-2-2,layout=groups,crush-failure-domain=host,crush-locality=rack 24 3 40
 }
 
-part_farm() {
-  has 'the farm over a store' "${daemons[@]}" || return 0
-  if [ ! -x crates/rebuild/out/rebuild ]; then
-    left_out+=("the farm over a store (run 'make build' first)")
+part_images() {
+  has 'images' "${daemons[@]}" rbd || return 0
+  in_cluster images.sh
+}
+
+part_files() {
+  has 'a file system' "${daemons[@]}" ceph-mds || return 0
+  if ! /usr/bin/python3 -c 'import cephfs' 2> /dev/null; then
+    left_out+=("a file system (Debian's python3-cephfs isn't installed)")
     return 0
   fi
-  in_cluster farm.sh "$PWD/crates/rebuild/out/rebuild" "$PWD/companion"
+  in_cluster filesystem.sh
+}
+
+# in_racks KIND: the trial of racks, where they can be made.
+in_racks() {
+  has "racks, $1" "${daemons[@]}" ip || return 0
+  if [ "$(id -u)" != 0 ] || ! ip netns add tryceph-test 2> /dev/null; then
+    left_out+=("racks, $1 (network namespaces can't be made here)")
+    return 0
+  fi
+  ip netns del tryceph-test
+  in_cluster racks.sh "$1"
+}
+
+part_racks() { in_racks spare; }
+
+part_groups() { in_racks local; }
+
+part_four() {
+  has 'four lost' "${daemons[@]}" || return 0
+  in_cluster four.sh
+}
+
+part_damaged() {
+  has 'damaged shards' "${daemons[@]}" || return 0
+  in_cluster damaged.sh
+}
+
+part_store() {
+  has 'shards as a store' "${daemons[@]}" || return 0
+  if [ ! -x crates/rebuild_store/out/rebuild_store ]; then
+    left_out+=("shards as a store (run 'make store' first)")
+    return 0
+  fi
+  in_cluster store.sh "$PWD/crates/rebuild_store/out/rebuild_store" "$PWD/ceph/rebuild-ceph"
 }
 
 part_reads() { "$host" cost plugin=azure_lrc plugin=azure_lrc,code=12-2-2 "${peers[@]}" plugin=isa,technique=cauchy,k=12,m=4; }
@@ -133,7 +178,7 @@ if [ -n "$RELEASE" ]; then export RELEASE; else unset RELEASE; fi
 echo "Ceph ${RELEASE:-(no ceph-osd is installed)}; $(sed -n 's/^model name\t: //p' /proc/cpuinfo | head -n 1)," \
   "$(getconf _NPROCESSORS_ONLN) processors"
 parts=("$@")
-[ $# -gt 0 ] || parts=(abi host tool pool farm reads recovery bench)
+[ $# -gt 0 ] || parts=(abi host tool pool images files racks groups four damaged store reads recovery bench)
 for part in "${parts[@]}"; do
   declare -F "part_$part" > /dev/null || { echo "There is no part $part." >&2; exit 2; }
 done

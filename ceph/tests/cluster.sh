@@ -2,6 +2,8 @@
 # Functions for a Ceph cluster of one machine on the loopback, to be sourced: a monitor, a manager, and OSDs over files below $RUN.
 #   RUN       an empty folder of its own, which scripts/try-ceph.sh makes and removes
 #   PLUGINS   the folder of plugins, ours and the shipped ones
+#   ADDRESS   the monitor's address (127.0.0.1), in NETWORK (127.0.0.0/8)
+#   AUTH      none or cephx (none): how daemons and clients show who they are
 #   CPUS      the processors that all daemons share; MEMORY, the megabytes that they may hold together; SECONDS_MOST, their time
 # Each daemon's process id is kept in $RUN/<name>.pid, and those alone are stopped: at the end, and by a guard where memory or
 # time is used up.
@@ -10,6 +12,9 @@ set -euo pipefail
 CPUS=${CPUS:-0,1}
 MEMORY=${MEMORY:-5000}
 SECONDS_MOST=${SECONDS_MOST:-1500}
+AUTH=${AUTH:-none}
+ADDRESS=${ADDRESS:-127.0.0.1}
+NETWORK=${NETWORK:-127.0.0.0/8}
 HERE=$(cd "$(dirname "${BASH_SOURCE[0]}")" && pwd)
 export CEPH_CONF=$RUN/ceph.conf
 unset CEPH_ARGS
@@ -35,7 +40,14 @@ launch() {
   disown
 }
 
-osd() { launch "osd.$1" ceph-osd -f -i "$1"; }
+# on_host N COMMAND..: starts the daemon of an OSD on its host. All are one host, if a script doesn't say otherwise.
+on_host() {
+  local number=$1
+  shift
+  launch "osd.$number" "$@"
+}
+
+osd() { on_host "$1" ceph-osd -f -i "$1"; }
 
 # halt NAME..: stops daemons, and those that don't end in twenty seconds by force.
 halt() {
@@ -89,15 +101,15 @@ configure() { # FSID
   cat > "$CEPH_CONF" << END
 [global]
 fsid = $1
-mon_host = [v2:127.0.0.1:13300,v1:127.0.0.1:16789]
+mon_host = [v2:$ADDRESS:13300,v1:$ADDRESS:16789]
 ms_bind_ipv4 = true
 ms_bind_ipv6 = false
-public_network = 127.0.0.0/8
-cluster_network = 127.0.0.0/8
-public_addr = 127.0.0.1
-auth_cluster_required = none
-auth_service_required = none
-auth_client_required = none
+public_network = $NETWORK
+cluster_network = $NETWORK
+public_addr = $ADDRESS
+auth_cluster_required = $AUTH
+auth_service_required = $AUTH
+auth_client_required = $AUTH
 rados_osd_op_timeout = 60
 rados_mon_op_timeout = 60
 run_dir = $RUN/asok
@@ -125,6 +137,9 @@ mon_osd_min_down_reporters = 1
 admin_socket = $RUN/asok/\$name.asok
 mgr_data = $RUN/mgr
 mgr_initial_modules =
+[mds]
+admin_socket = $RUN/asok/\$name.asok
+mds_data = $RUN/mds
 [osd]
 admin_socket = $RUN/asok/\$name.asok
 osd_data = $RUN/osd\$id
@@ -144,6 +159,13 @@ osd_op_num_threads_per_shard = 1
 END
 }
 
+# key NAME CAPS..: a daemon's key, in the keyring that all share; without cephx there is none.
+key() {
+  [ "$AUTH" = cephx ] || return 0
+  ceph auth get-or-create "$@" > "$RUN/key" 2>> "$RUN/setup.out"
+  cat "$RUN/key" >> "$RUN/keyring"
+}
+
 # The folders, the monitor and the manager.
 cluster_start() {
   local fsid
@@ -152,10 +174,12 @@ cluster_start() {
   configure "$fsid"
   {
     ceph-authtool --create-keyring "$RUN/keyring" --gen-key -n mon. --cap mon 'allow *'
-    monmaptool --create --clobber --fsid "$fsid" --addv a '[v2:127.0.0.1:13300,v1:127.0.0.1:16789]' "$RUN/monmap"
+    ceph-authtool "$RUN/keyring" --gen-key -n client.admin --cap mon 'allow *' --cap osd 'allow *' --cap mgr 'allow *' --cap mds 'allow *'
+    monmaptool --create --clobber --fsid "$fsid" --addv a "[v2:$ADDRESS:13300,v1:$ADDRESS:16789]" "$RUN/monmap"
     "${BOUND[@]}" ceph-mon --mkfs -i a --monmap "$RUN/monmap" --keyring "$RUN/keyring" -c "$CEPH_CONF"
   } > "$RUN/setup.out" 2>&1
   launch mon.a ceph-mon -f -i a
+  key mgr.x mon 'allow profile mgr' osd 'allow *' mds 'allow *'
   launch mgr.x ceph-mgr -f -i x
   guard &
   echo $! > "$RUN/guard.pid"
@@ -170,6 +194,7 @@ cluster_new() {
     mkdir -p "$RUN/osd$i"
     cat /proc/sys/kernel/random/uuid > "$RUN/osd$i.uuid"
     ceph osd new "$(cat "$RUN/osd$i.uuid")" "$i" > /dev/null
+    key "osd.$i" mon 'allow profile osd' mgr 'allow profile osd' osd 'allow *'
   done
   # shellcheck disable=SC2016
   seq 0 $((count - 1)) | xargs -P 2 -I{} sh -c 'run=$0; exec "$@" -i {} --osd-uuid "$(cat "$run/osd{}.uuid")" >> "$run/setup.out" 2>&1' \
@@ -183,6 +208,13 @@ cluster_new() {
     osd "$i"
   done
   wait_for "$count up" "$count in"
+}
+
+# replicated POOL: a pool with five copies, so that it serves with three OSDs stopped.
+replicated() {
+  ceph osd pool create "$1" 8 8 replicated 2> /dev/null
+  ceph osd pool set "$1" size 5 2> /dev/null
+  ceph osd pool set "$1" min_size 1 2> /dev/null
 }
 
 # wait_for WORDS..: until `ceph osd stat` says them all.

@@ -5,6 +5,7 @@
  *   host cost    <profile>..           shares of chunks read for 1 and 2 lost shards
  *   host odd     <profile>             what is wrong is answered with an error
  *   host starved <profile>             no exception leaves a call that is refused memory
+ *   host threads <profile>             decoding in eight threads at once over one code
  *   host words   <profile>             words that are refused
  *   host version <profile>             releases of Ceph into which the plugin loads, and which it refuses
  *   host bench   <seconds> <chunk> <profile>..   GB/s, the profiles in turn
@@ -12,9 +13,12 @@
  * A profile is "plugin=name,word=value,..". PLUGINS is the folder of the plugins. It ends with status 1 where ours is not as it has
  * to be; of other plugins it says what they do. */
 #include <algorithm>
+#include <atomic>
 #include <cstdlib>
 #include <cstring>
 #include <iostream>
+#include <random>
+#include <thread>
 
 #include <rados/librados.h>
 
@@ -204,7 +208,8 @@ static void odd_decoding(const Code &code, const Chunks &encoded)
     damaged[3] = list();
     damaged[3].append(bytes);
     decoded.clear();
-    expect(code->decode({0}, damaged, &decoded, 0) == -EIO && !decoded.count(0), "a damaged chunk among all others is -EIO");
+    expect(code->decode({0}, damaged, &decoded, 0) == 0 && decoded.at(0).contents_equal(encoded.at(0)),
+           "a damaged chunk among all others is left out");
     shorter[2].substr_of(left.at(2), 0, 32);
     expect(code->decode({0}, shorter, &decoded, 0) == -EINVAL, "chunks of several lengths are -EINVAL");
     for (auto &[shard, chunk] : empty)
@@ -215,6 +220,51 @@ static void odd_decoding(const Code &code, const Chunks &encoded)
            "chunks of no shard are -EINVAL");
     decoded.clear();
     expect(code->decode({1, 2}, left, &decoded, 0) == 0 && decoded.at(1).contents_equal(left.at(1)), "what is there is given back");
+}
+
+/* The chunk at this shard with another byte. */
+static Chunks with_damage(Chunks chunks, int shard)
+{
+    std::string bytes = chunks.at(shard).to_str();
+    bytes[bytes.size() / 2] = char(bytes[bytes.size() / 2] ^ 0x40);
+    chunks[shard] = list();
+    chunks[shard].append(bytes);
+    return chunks;
+}
+
+/* Each shard is damaged in turn, of all that are left without one and of the fewest with one more, as they come with fast_read. Each call
+ * gives what is wanted: right where the damaged one can be told, and else as it is without fast_read, from the fewest. */
+static void odd_contradictions(const Code &code, const Chunks &encoded)
+{
+    unsigned right = 0, as_the_fewest = 0;
+    for (int lost : everything(code)) {
+        const Chunks left = without(encoded, {lost});
+        Reads reads;
+        if (code->minimum_to_decode({lost}, shards_of(left), &reads) != 0)
+            stop("minimum_to_decode");
+        for (auto &[damaged, chunk] : left) {
+            Chunks decoded;
+            if (code->decode({lost}, with_damage(left, damaged), &decoded, 0) != 0 || !decoded.at(lost).contents_equal(encoded.at(lost)))
+                stop("shard " + std::to_string(damaged) + " damaged among all others isn't left out");
+            right++;
+        }
+        for (auto &[more, chunk] : left) {
+            Chunks some = {{more, chunk}}, few, made, wanted;
+            for (auto &[shard, runs] : reads)
+                some[shard] = few[shard] = left.at(shard);
+            if (reads.count(more))
+                continue;
+            const int damaged = reads.begin()->first;
+            few = with_damage(few, damaged);
+            if (code->decode({lost}, with_damage(some, damaged), &made, 0) != 0 || code->decode({lost}, few, &wanted, 0) != 0)
+                stop("one more chunk than it takes, and one damaged, gives an error");
+            if (!made.at(lost).contents_equal(wanted.at(lost)) && !made.at(lost).contents_equal(encoded.at(lost)))
+                stop("one more chunk than it takes, and one damaged, gives other bytes than the fewest");
+            as_the_fewest++;
+        }
+    }
+    printf("  a damaged chunk among all others is left out (%u sets); among one more than it takes no call fails (%u sets)\n", right,
+           as_the_fewest);
 }
 
 static void odd_costs(const Code &code)
@@ -243,6 +293,7 @@ static void odd(const std::string &words)
         stop("encode");
     printf("%s\n", words.c_str());
     odd_decoding(code, encoded);
+    odd_contradictions(code, encoded);
     odd_costs(code);
     expect(code->encode({0, 7}, list(), &none) == 0 && none.at(7).length() == 0, "no bytes are encoded as no bytes");
     expect(code->encode({0, 7}, in_pieces(in), &some) == 0 && shards_of(some) == Shards({0, 7}), "only the wanted shards are given");
@@ -251,10 +302,42 @@ static void odd(const std::string &words)
     expect(code->encode_chunks({}, &incomplete) == -EINVAL, "encoding without a data chunk is -EINVAL");
 }
 
+/* Eight threads share a code, as those of an OSD do: each decodes sets of one to three lost shards. */
+static void threads(const std::string &words)
+{
+    constexpr unsigned kThreads = 8, kDecodes = 1000;
+    Code code = open(words);
+    Chunks encoded;
+    if (code->encode(everything(code), random_bytes(20000, 11), &encoded) != 0)
+        stop("encode");
+    std::atomic<unsigned> wrong{0};
+    auto decode = [&](unsigned seed) {
+        std::mt19937 random(seed);
+        for (unsigned i = 0; i < kDecodes; i++) {
+            Shards lost;
+            while (lost.size() < 1 + i % 3)
+                lost.insert(int(random() % code->get_chunk_count()));
+            Chunks made;
+            bool same = code->decode(lost, without(encoded, lost), &made, 0) == 0;
+            for (int shard : lost)
+                same = same && made.at(shard).contents_equal(encoded.at(shard));
+            wrong += !same;
+        }
+    };
+    std::vector<std::thread> started;
+    for (unsigned seed = 0; seed < kThreads; seed++)
+        started.emplace_back(decode, seed);
+    for (auto &thread : started)
+        thread.join();
+    printf("%s: %u decodes in %u threads at once, %u of them wrong\n", words.c_str(), kThreads * kDecodes, kThreads, wrong.load());
+    if (wrong > 0)
+        stop("threads disturb each other");
+}
+
 static void refused_words(const std::string &words)
 {
     for (const char *wrong : {"k=5", "m=3", "code=6-2-3", "layout=rows", "mapping=DDDDDD____", "k=12,code=6-2-2", "cod=12-2-2",
-                              "crush-locality=rack,layout=plain"}) {
+                              "crush-locality=rack,layout=plain", "stripe_unit=0", "stripe_unit=0K", "stripe_unit=-4096"}) {
         Code code;
         std::string said;
         if (try_open(words + "," + wrong, &code, &said) != -EINVAL || code)
@@ -281,7 +364,7 @@ int main(int argc, char **argv)
 {
     rados_t cluster; /* only for its context: nothing is connected */
     if (argc < 3 || rados_create(&cluster, nullptr) < 0)
-        stop("host sets|least|cost|odd|starved|words|version|bench ..");
+        stop("host sets|least|cost|odd|starved|threads|words|version|bench ..");
     ceph::global::g_ceph_context = static_cast<ceph::common::CephContext *>(rados_cct(cluster));
     ceph_arch_probe();
     const char *release = getenv("RELEASE"); /* that of the shipped plugins, for them */
@@ -301,6 +384,8 @@ int main(int argc, char **argv)
         odd(words[0]);
     else if (part == "starved")
         starved(words[0]);
+    else if (part == "threads")
+        threads(words[0]);
     else if (part == "words")
         refused_words(words[0]);
     else if (part == "version")

@@ -3,6 +3,9 @@
     make FOLDER COUNT MOST        files of random bytes, of 1 to MOST bytes
     write POOL FOLDER             each file as an object of its name
     compare POOL FOLDER           reads all objects; ends with status 1 where one is not as its file
+    partial POOL FOLDER COUNT     so many reads of parts of the objects: how many are right, have other bytes, and fail
+    four POOL FOLDER [LAYOUT]     of (6,2,2) groups with lost shards: those that determine the data are active, with their objects as
+                                  written; the others are not active; status 1 where it isn't so
     fill POOL COUNT SIZE          writes so many objects of one size
     degraded POOL                 how many shards are lost, and how many of each number
     fullest POOL                  the OSD that holds the most shards
@@ -72,6 +75,46 @@ def compare(pool, folder):
     sys.exit(1 if wrong else 0)
 
 
+def partial(pool, folder, count):
+    io, found = opened(pool), collections.Counter(right=0, wrong=0, failed=0)
+    held = [(name, data) for name, data in files(folder) if data]
+    random.seed(2)
+    for _ in range(int(count)):
+        name, data = random.choice(held)
+        start = random.randrange(len(data))
+        length = random.randrange(1, len(data) - start + 1)
+        try:
+            found["right" if io.read(name, length, start) == data[start:start + length] else "wrong"] += 1
+        except Exception:    # of rados, whose errors have no type for all
+            found["failed"] += 1
+    print(f"{count} parts read: {found['right']} right, {found['wrong']} other bytes, {found['failed']} failed")
+
+
+def is_determined(lost, layout):
+    """Whether the other shards of a (6,2,2) stripe determine these: beside one of each group two more."""
+    groups_of = {"plain": ({0, 1, 2, 6}, {3, 4, 5, 7}), "groups": ({0, 1, 2, 3}, {4, 5, 6, 7})}
+    return sum(max(len(lost & group) - 1, 0) for group in groups_of[layout]) + len(lost & {8, 9}) <= 2
+
+
+def four(pool, folder, layout="plain"):
+    io, states, read = opened(pool), collections.Counter(), 0
+    active = {}
+    for it in groups(pool):
+        lost = {shard for shard, osd in enumerate(it["acting"]) if osd == NO_OSD}
+        active[it["pgid"]] = "active" in it["state"].split("+")
+        states[len(lost), active[it["pgid"]]] += 1
+        if active[it["pgid"]] != is_determined(lost, layout):
+            sys.exit(f"group {it['pgid']} without the shards {sorted(lost)} is {it['state']}")
+    for name, data in files(folder):
+        if not active[ceph("osd", "map", pool, name)["pgid"]]:
+            continue
+        if io.read(name, length=len(data) + 1) != data:
+            sys.exit(f"{name} has other bytes")
+        read += 1
+    said = ", ".join(f"{count} {'active' if works else 'not active'} with {lost} lost" for (lost, works), count in sorted(states.items()))
+    print(f"{said}; {read} objects read as written")
+
+
 def fill(pool, count, size):
     io, data = opened(pool), os.urandom(int(size))
     for i in range(int(count)):
@@ -128,4 +171,5 @@ def scrubbed(pool, since):
 
 
 if __name__ == "__main__":
-    {it.__name__: it for it in (make, write, compare, fill, degraded, fullest, sent, acting, racks, scrubbed)}[sys.argv[1]](*sys.argv[2:])
+    jobs = (make, write, compare, partial, four, fill, degraded, fullest, sent, acting, racks, scrubbed)
+    {it.__name__: it for it in jobs}[sys.argv[1]](*sys.argv[2:])

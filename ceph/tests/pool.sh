@@ -37,7 +37,7 @@ shard_bytes() { ceph-objectstore-tool --data-path "$RUN/osd$victim" "$json" "$1"
 
 make_pool() {
   local wrong said data
-  for wrong in k=5 code=7-2-2 layout=rows mapping=DDDDDD____ stripe_unit=100; do
+  for wrong in k=5 code=7-2-2 layout=rows mapping=DDDDDD____ stripe_unit=100 stripe_unit=0; do
     if ceph osd erasure-code-profile set wrong plugin=azure_lrc $wrong > "$RUN/said" 2>&1; then fail "$wrong is not refused"; fi
     step "refused: $wrong: $(tail -n 1 "$RUN/said")"
   done

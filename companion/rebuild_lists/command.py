@@ -14,7 +14,6 @@ from .damaged import damaged
 from .files import said_of
 from .formats import FEEDS, RACKS, REQUESTS, WORKERS, Failed, Refused
 from .merge import merge
-from .pieces import cut, join
 from .put import put
 from .serve import serve
 from .split import split
@@ -25,7 +24,7 @@ weren't rebuilt, 2 for a mistake in the arguments and 3 where a file can't be re
 run failed. rebuild-lists(1) says more."""
 FOLDER = "the folder of the lists and the surviving fragments"
 STORE = "the folder of the surviving fragments"
-OUT = "a served folder, or one that merge or join made"
+OUT = "a served folder, or one that merge made"
 
 
 def number(least: int, most: int):
@@ -116,11 +115,6 @@ def parser() -> argparse.ArgumentParser:
     add(commands, check, "check", "say what is wrong with the lists of a folder", folder=FOLDER)
     add_jobs(commands)
     add_results(commands)
-    add(commands, cut, "cut", "make pieces of long fragments, under names that the codes take",
-        list="the request list: stripes and lengths may be any, and there is no close", store=STORE,
-        pieces="the folder to make, with list.csv and store for split, and names.csv")
-    add(commands, join, "join", "make whole fragments of rebuilt pieces", pieces="the folder that cut made",
-        result="the folder that merge made of its list", whole="the folder to make, with report.csv and the whole fragments")
     return whole
 
 

@@ -32,7 +32,7 @@ class Terminal(SplitStore):
         cases = [(["check", "store"], "requests checked: 3"),
                  (["split", "list.csv", "store", "work", "--requests", "1"], "folders made: 1"),
                  (["merge", "work", "result"], "answers merged: 3"), (["tell", "result"], "answers read: 3"),
-                 (["put", "store", "result"], "fragments put: 1"), (["cut", "list.csv", "store", "pieces"], "fragments cut: 3")]
+                 (["put", "store", "result"], "fragments put: 1")]
         for words, last in cases:
             with self.subTest(words):
                 said, shown = self.on_terminal(*words)
