@@ -1,6 +1,6 @@
 #!/usr/bin/env python3
-"""Tries rebuild-store's options on stores that an independent encoder makes: names by disks and shards, stripes that should be there, parts,
-another folder, checksums, reports.
+"""Tries rebuild-store's options on stores that an independent encoder makes: names by disks and shards, stripes that should be there,
+parts, another folder, checksums, reports.
 
     store-options.py [PROGRAM]
 
@@ -204,7 +204,7 @@ def test_sums(folder, code, choose):
     listed = folder.parent / "listed"
     listed.write_text(sums_of(folder))
     # With the bare minimum nothing but the checksums shows a damaged survivor.
-    lost = ["x0", "x1", "y0"] if code == "6-2-2" else ["x0", "x1", "y0"]
+    lost = ["x0", "x1", "y0"]
     for place in lost:
         (folder / f"a.{place}").unlink()
     wrong = bytearray(stripes["a"]["y1"])
@@ -242,7 +242,8 @@ def test_reports(folder, code, choose):
     for name in names:
         (folder / f"{name}.x0").unlink()
     (folder / "a.y0").write_bytes(b"short")
-    rows = [(name, "x0", "rebuilt", "") for name in names] + [("a", "y0", "left", "has another length than the other fragments of the stripe")]
+    rows = [(name, "x0", "rebuilt", "") for name in names]
+    rows.append(("a", "y0", "left", "has another length than the other fragments of the stripe"))
     report = folder.parent / "report.csv"
     output, _ = run("repair", folder, "--code", code, "--report", report, "--json", status=1)
     said = [tuple(json.loads(line)[key] for key in ("stripe", "place", "outcome", "detail")) for line in output.splitlines()]
