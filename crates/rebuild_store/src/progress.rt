@@ -97,9 +97,9 @@ impl<'a> Progress<'a> {
         let speed = speed / MIB;
         let damaged = self.damaged.load(Ordering::SeqCst);
         let given_up = self.given_up.load(Ordering::SeqCst);
-        eprint!(self.rt;
-            "\r\x1b[Krepair: {done}/{fragments} fragments  {done_whole}.{done_tenth}/{all_whole}.{all_tenth} MiB  {speed} MiB/s  {minutes}:{seconds:02} left  {damaged} damaged, {given_up} given up"
-        )
+        eprint!(self.rt; "\r\x1b[Krepair: {done}/{fragments} fragments")?;
+        eprint!(self.rt; "  {done_whole}.{done_tenth}/{all_whole}.{all_tenth} MiB  {speed} MiB/s")?;
+        eprint!(self.rt; "  {minutes}:{seconds:02} left  {damaged} damaged, {given_up} given up")
     }
 
     /// Takes the line away.

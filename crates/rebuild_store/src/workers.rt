@@ -10,8 +10,8 @@ use store_repair::{Outcome, Repair, Stripe, plan_stripe, repair_stripe, scrub_st
 
 /// What is done with each stripe.
 #[derive(Clone, Copy)]
-pub enum Work<'a> {
-    Repair(Repair, &'a Progress<'a>),
+pub enum Work<'p, 'r> {
+    Repair(Repair, &'p Progress<'r>),
     Plan(Code),
     Scrub(Code),
 }
@@ -28,7 +28,7 @@ pub fn work_on<R: Threads + Sync>(
     rt: &R,
     system: &HostRuntime,
     site: &Site<'_>,
-    work: Work<'_>,
+    work: Work<'_, '_>,
     stripes: &[Stripe<'_>],
     workers: usize,
 ) -> Result<Vec<Done>, AllocError> {
@@ -50,7 +50,7 @@ pub fn work_on<R: Threads + Sync>(
 fn take_stripes(
     system: &HostRuntime,
     site: &Site<'_>,
-    work: Work<'_>,
+    work: Work<'_, '_>,
     stripes: &[Stripe<'_>],
     next: &AtomicUsize,
     numbers: &AtomicU64,
