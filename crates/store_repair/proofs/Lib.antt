@@ -8,3 +8,4 @@ pub mod CombiningLemmas
 pub mod FileLemmas
 pub mod ReadingLemmas
 pub mod EncodingLemmas
+pub mod MemoryLemmas

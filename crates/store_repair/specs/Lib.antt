@@ -7,3 +7,4 @@ pub mod Losses
 pub mod Opened
 pub mod Repaired
 pub mod Files
+pub mod Memory

@@ -1,0 +1,134 @@
+-- A store in memory: what is left where a name is given.
+use Rattle.std.proofs.Common.{◌≡◌, ◌∙◌, ℕ, List, Bool, true, false, cond, refl, sym, ap, subst, Option, Some, None, Result, Ok, Err, inl, inr}
+use Rattle.std.specs.Prelude.{◌&&◌, ◌⊎◌, bytes_eq, IfOk}
+use Rattle.std.proofs.lemmas.Bool.{and_parts, and_right, cases_Bool}
+use Rattle.std.proofs.lemmas.Slice.Eq.{bytes_eq-Decides}
+use Rattle.lrc_code.specs.declared.places.Place.{Place}
+use Rattle.lrc_code.specs.Places.{same_place}
+use Rattle.lrc_code.proofs.PlaceSums.{same_place-eq, same_place-refl}
+use Rattle.std.specs.declared.io.Error.{Error}
+use Rattle.store_repair.specs.Memory.{ExchangesName, GivesName, put_name, with_fragment, with_kept, with_old}
+use Rattle.store_repair.specs.Store.{AreUntouched, Files, HasName, IsUntouched, KeepsAll, Names, SameElsewhere}
+use Rattle.store_repair.specs.declared.store.Placed.{Placed as PlacedName}
+use Rattle.store_repair.specs.declared.store.Placed.TheVariants as placed
+
+module _ (names : Names) (s : List ℕ) (p : Place) (bytes : List ℕ) where
+  -- other stripes are as they were
+  put_other : (t : List ℕ) (q : Place) → bytes_eq s t ≡ false → put_name names s p bytes t q ≡ names t q
+  put_other t q apart = rw apart refl
+
+  -- and so are other places
+  put_elsewhere : (t : List ℕ) (q : Place) → same_place p q ≡ false → put_name names s p bytes t q ≡ names t q
+  put_elsewhere t q apart = rw (and_right (bytes_eq s t) (same_place p q) apart) refl
+
+  put_own : put_name names s p bytes s p ≡ Some bytes
+  put_own = rw ((bytes_eq-Decides s s).1 refl, same_place-refl p) refl
+
+  taken : (b : Bool) (x y : Option (List ℕ)) → b ≡ false → cond b x y ≡ y
+  taken b x y off = rw off refl
+
+  -- where nothing was there, nothing is lost
+  put_keeps : names s p ≡ None → KeepsAll names (put_name names s p bytes)
+  put_keeps none t q kept h = elim (cases_Bool (bytes_eq s t && same_place p q)) as (λ _. put_name names s p bytes t q ≡ Some kept) [
+    | inl on ↦ absurd (
+        let parts = and_parts (bytes_eq s t) (same_place p q) on in
+        let there = sym none ∙ ap (λ u. names u p) ((bytes_eq-Decides s t).0 parts.0) ∙ ap (names t) (same_place-eq p q parts.1) ∙ h in
+        cc)
+    | inr off ↦ taken (bytes_eq s t && same_place p q) (Some bytes) (names t q) off ∙ h
+  ]
+
+untouched_same : (r : Bool) (s : List ℕ) (f : Files) → IsUntouched r s f f
+untouched_same r s f = record {
+  others = λ t q apart. refl;
+  others_kept = λ t q apart. refl;
+  kept = λ t q bytes h. h;
+  stays = λ off t q bytes h. h;
+  replaced = λ q bytes h. inl h;
+}
+
+untouched_given : (r : Bool) (s : List ℕ) (p : Place) (bytes : List ℕ) (f : Files) → f.fragments s p ≡ None
+    → IsUntouched r s f (with_fragment f s p bytes)
+untouched_given r s p bytes f none = record {
+  others = λ t q apart. put_other f.fragments s p bytes t q apart;
+  others_kept = λ t q apart. refl;
+  kept = λ t q kept h. h;
+  stays = λ off t q kept h. put_keeps f.fragments s p bytes none t q kept h;
+  replaced = λ q kept h. inl (put_keeps f.fragments s p bytes none s q kept h);
+}
+
+some_same : (x y : List ℕ) (o : Option (List ℕ)) → o ≡ Some x → o ≡ Some y → Some x ≡ Some y
+some_same x y o a b = sym a ∙ b
+
+untouched_exchanged : (s : List ℕ) (p : Place) (bytes was : List ℕ) (f : Files) → f.kept s p ≡ None → f.fragments s p ≡ Some was
+    → IsUntouched true s f (with_fragment (with_kept f s p was) s p bytes)
+untouched_exchanged s p bytes was f none there = record {
+  others = λ t q apart. put_other f.fragments s p bytes t q apart;
+  others_kept = λ t q apart. put_other f.kept s p was t q apart;
+  kept = λ t q kept h. put_keeps f.kept s p was none t q kept h;
+  stays = λ off. absurd (cc);
+  replaced = λ q kept h. elim (cases_Bool (same_place p q)) as
+      (λ _. (put_name f.fragments s p bytes s q ≡ Some kept) ⊎ (put_name f.kept s p was s q ≡ Some kept)) [
+        | inl same ↦ inr (subst (λ u. put_name f.kept s p was s u ≡ Some kept) (same_place-eq p q same)
+            (put_own f.kept s p was
+            ∙ some_same was kept (f.fragments s p) there (ap (f.fragments s) (same_place-eq p q same) ∙ h)))
+        | inr apart ↦ inl (put_elsewhere f.fragments s p bytes s q apart ∙ h)
+      ];
+}
+
+untouched_with_old : (s : List ℕ) (p : Place) (bytes : List ℕ) (f : Files) (o : Option (List ℕ)) → f.kept s p ≡ None
+    → f.fragments s p ≡ o → IsUntouched true s f (with_fragment (with_old f s p o) s p bytes)
+untouched_with_old s p bytes f None none is = untouched_given true s p bytes f is
+untouched_with_old s p bytes f (Some was) none is = untouched_exchanged s p bytes was f none is
+
+-- ---- a name that was given
+
+pub given_untouched : (r : Result PlacedName Error) (s : List ℕ) (p : Place) (bytes : List ℕ) (old new : Files)
+    → GivesName r s p bytes old new → AreUntouched false s (Some old) (Some new)
+given_untouched (Ok placed.Placed) s p bytes old new (none, is) =
+    subst (λ n. IsUntouched false s old n) (sym is) (untouched_given false s p bytes old none)
+given_untouched (Ok placed.IsThere) s p bytes old new (there, is) = subst (λ n. IsUntouched false s old n) (sym is) (untouched_same false s old)
+given_untouched (Err e) s p bytes old new is = subst (λ n. IsUntouched false s old n) (sym is) (untouched_same false s old)
+
+pub given_elsewhere : (r : Result PlacedName Error) (s : List ℕ) (p : Place) (bytes : List ℕ) (old new : Files)
+    → GivesName r s p bytes old new → SameElsewhere s p (Some old) (Some new)
+given_elsewhere (Ok placed.Placed) s p bytes old new (none, is) =
+    λ q apart. ap (λ (f : Files). f.fragments s q) is ∙ put_elsewhere old.fragments s p bytes s q apart
+given_elsewhere (Ok placed.IsThere) s p bytes old new (there, is) = λ q apart. ap (λ (f : Files). f.fragments s q) is
+given_elsewhere (Err e) s p bytes old new is = λ q apart. ap (λ (f : Files). f.fragments s q) is
+
+pub given_placed : (r : Result PlacedName Error) (s : List ℕ) (p : Place) (bytes : List ℕ) (old new : Files)
+    → GivesName r s p bytes old new → IfOk r (HasName s p (Some bytes) (Some new))
+given_placed (Ok placed.Placed) s p bytes old new (none, is) =
+    ap (λ (f : Files). f.fragments s p) is ∙ put_own old.fragments s p bytes
+given_placed (Ok placed.IsThere) s p bytes old new so = tt
+given_placed (Err e) s p bytes old new so = tt
+
+-- ---- a name that was exchanged
+
+old_fragments : (f : Files) (s : List ℕ) (p : Place) (o : Option (List ℕ)) → (with_old f s p o).fragments ≡ f.fragments
+old_fragments f s p None = refl
+old_fragments f s p (Some was) = refl
+
+pub exchanged_untouched : (r : Result PlacedName Error) (s : List ℕ) (p : Place) (bytes : List ℕ) (old new : Files)
+    → ExchangesName r s p bytes old new → AreUntouched true s (Some old) (Some new)
+exchanged_untouched (Ok placed.Placed) s p bytes old new (none, is) =
+    subst (λ n. IsUntouched true s old n) (sym is) (untouched_with_old s p bytes old (old.fragments s p) none refl)
+exchanged_untouched (Ok placed.IsThere) s p bytes old new (there, is) =
+    subst (λ n. IsUntouched true s old n) (sym is) (untouched_same true s old)
+exchanged_untouched (Err e) s p bytes old new is = subst (λ n. IsUntouched true s old n) (sym is) (untouched_same true s old)
+
+pub exchanged_elsewhere : (r : Result PlacedName Error) (s : List ℕ) (p : Place) (bytes : List ℕ) (old new : Files)
+    → ExchangesName r s p bytes old new → SameElsewhere s p (Some old) (Some new)
+exchanged_elsewhere (Ok placed.Placed) s p bytes old new (none, is) = λ q apart.
+    ap (λ (f : Files). f.fragments s q) is
+    ∙ put_elsewhere (with_old old s p (old.fragments s p)).fragments s p bytes s q apart
+    ∙ ap (λ (names : Names). names s q) (old_fragments old s p (old.fragments s p))
+exchanged_elsewhere (Ok placed.IsThere) s p bytes old new (there, is) = λ q apart. ap (λ (f : Files). f.fragments s q) is
+exchanged_elsewhere (Err e) s p bytes old new is = λ q apart. ap (λ (f : Files). f.fragments s q) is
+
+pub exchanged_placed : (r : Result PlacedName Error) (s : List ℕ) (p : Place) (bytes : List ℕ) (old new : Files)
+    → ExchangesName r s p bytes old new → IfOk r (HasName s p (Some bytes) (Some new))
+exchanged_placed (Ok placed.Placed) s p bytes old new (none, is) =
+    ap (λ (f : Files). f.fragments s p) is ∙ put_own (with_old old s p (old.fragments s p)).fragments s p bytes
+exchanged_placed (Ok placed.IsThere) s p bytes old new so = tt
+exchanged_placed (Err e) s p bytes old new so = tt
