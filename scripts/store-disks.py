@@ -146,7 +146,7 @@ def test_links(place, choose):
             (disk / "there" / name).write_bytes(kept)
     (store / "s4.x0").unlink()
     (store / "s4.x0").symlink_to(disk / "not-there/s4.x0")
-    said = run("repair", store, "--replace-damaged", status=1)
+    said = run("repair", store, "--replace-damaged", status=3)
     hold_named(said, "s4.x0", "")
     hold((store / "s4.x0").is_symlink() and not (store / "s4.x0").exists(), "a link into a folder that isn't there was changed")
     for name in ("s0.x0", "s1.x1", "s2.y0", "s3.p0"):

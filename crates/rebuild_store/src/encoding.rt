@@ -4,16 +4,16 @@ ghost use Rattle.std.specs.Prelude.{◌≡◌, IfOk, vec_len};
 use crate::digesting::{Digest, DigestedFile, digest_at};
 use crate::file_arguments::EncodeOptions;
 use crate::file_faults::{FileFault, device, encode_fault};
+use crate::sources::{base_name, is_changed, regular};
 use crate::statuses::{DEVICE, DONE, LEFT};
 use crate::store_sums::{stored_sums, write_sums};
 use crate::stores::{is_of_another_code, lock_folder};
 use lrc_code::{Code, Place};
-use std::fs::{self, Metadata};
+use std::fs;
 use std::io::{self, ErrorKind};
-use std::os::unix::fs::MetadataExt;
 use store_folder::{
-    Described, NewFile, Pattern, Placed, Sums, description_name, file_name, is_leftover, list,
-    open_fragment, path_in, place_new, read_description, remove_leftovers, sync_folder,
+    Described, NewFile, Pattern, Placed, Sums, description_name, file_name, list, open_fragment,
+    path_in, place_new, read_description, remove_leftovers, sync_folder,
 };
 use store_repair::{NewFragment, encode, fragment_length};
 
@@ -137,37 +137,6 @@ fn encode_one(rt: &HostRuntime, target: &mut Target<'_>, path: &str) -> Result<(
         made,
     )?;
     place_description(rt, target, name, &described)
-}
-
-// The name of the file at a path, which its stripe gets.
-fn base_name<'a>(rt: &HostRuntime, path: &'a str) -> Result<&'a str, FileFault> {
-    let name = match path.rsplit_once('/') {
-        Some((_, name)) => name,
-        None => path,
-    };
-    if name.is_empty() || name == "." || name == ".." || is_leftover(name) {
-        let what = format!(in rt.alloc(); "{path}: a stripe can't have this name")?;
-        return Err(FileFault::Refused { what });
-    }
-    Ok(name)
-}
-
-// What is said of the regular file at a path.
-fn regular(rt: &HostRuntime, path: &str) -> Result<Metadata, FileFault> {
-    let metadata = fs::metadata(rt, path).map_err(|error| device(rt.alloc(), path, error))?;
-    if !metadata.is_file() {
-        let what = format!(in rt.alloc(); "{path}: is no regular file")?;
-        return Err(FileFault::Refused { what });
-    }
-    Ok(metadata)
-}
-
-// Whether a file is another one, or was written to.
-fn is_changed(before: &Metadata, after: &Metadata) -> bool {
-    before.len() != after.len()
-        || before.mtime() != after.mtime()
-        || before.mtime_nsec() != after.mtime_nsec()
-        || before.ino() != after.ino()
 }
 
 // Refuses a file beside whose stripe's names there is another description, or a fragment at a place that its code hasn't.
@@ -320,9 +289,20 @@ fn place_fragments(
             return Err(is_there_already(rt, fragment.as_str())?);
         }
     }
+    let mut refused = None;
     for (place, made_file) in places.iter().zip(made) {
+        if refused.is_some() {
+            made_file
+                .file
+                .discard(rt)
+                .map_err(|error| device(alloc, target.folder, error))?;
+            continue;
+        }
         let fragment = file_name(alloc, name, *place)?;
-        place_one(rt, target, fragment.as_str(), length as u64, made_file)?;
+        refused = place_one(rt, target, fragment.as_str(), length as u64, made_file).err();
+    }
+    if let Some(fault) = refused {
+        return Err(fault);
     }
     sync_folder(rt, target.folder).map_err(|error| device(alloc, target.folder, error))
 }

@@ -48,10 +48,18 @@ fn write_over(
     number: u64,
 ) -> io::Result<()> {
     let mut file = NewFile::create_as_user(rt, rt.alloc(), folder, number)?;
+    if let Err(error) = fill(rt, &mut file, path, text) {
+        file.discard(rt)?;
+        return Err(error);
+    }
+    place_again(rt, file, path)?;
+    sync_folder(rt, folder)
+}
+
+// Writes a text into a new file, which gets the owner and the mode of the one at a path, if there is one.
+fn fill(rt: &HostRuntime, file: &mut NewFile, path: &str, text: &[u8]) -> io::Result<()> {
     if fs::exists(rt, path)? {
         file.take_after(rt, path)?;
     }
-    file.append(text)?;
-    place_again(rt, file, path)?;
-    sync_folder(rt, folder)
+    file.append(text)
 }

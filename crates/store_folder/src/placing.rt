@@ -78,24 +78,28 @@ impl NewFile {
 
 /// Writes a file to the disk and gives it the name at a path, under which nothing may be.
 pub fn place_new(rt: &HostRuntime, file: NewFile, path: &str) -> io::Result<Placed> {
-    file.file.sync_all()?;
-    let placed = match fs::hard_link(rt, file.path.as_str(), path) {
-        Ok(()) => Placed::Placed,
-        Err(error) if error.kind() == ErrorKind::AlreadyExists => Placed::IsThere,
-        Err(error) => return Err(error),
+    let placed = match file.file.sync_all() {
+        Ok(()) => fs::hard_link(rt, file.path.as_str(), path),
+        Err(error) => Err(error),
     };
     file.discard(rt)?;
-    Ok(placed)
+    match placed {
+        Ok(()) => Ok(Placed::Placed),
+        Err(error) if error.kind() == ErrorKind::AlreadyExists => Ok(Placed::IsThere),
+        Err(error) => Err(error),
+    }
 }
 
 /// Writes a file to the disk and gives it the name at a path, in place of the file that has it, if one does.
 pub fn place_again(rt: &HostRuntime, file: NewFile, path: &str) -> io::Result<()> {
-    file.file.sync_all()?;
-    let NewFile {
-        file: _file,
-        path: unfinished,
-    } = file;
-    fs::rename(rt, unfinished.as_str(), path)
+    let placed = match file.file.sync_all() {
+        Ok(()) => fs::rename(rt, file.path.as_str(), path),
+        Err(error) => Err(error),
+    };
+    if placed.is_err() {
+        file.discard(rt)?;
+    }
+    placed
 }
 
 /// Removes files that a run which was killed has left, by their paths.
