@@ -6,7 +6,7 @@ _rebuild_store_place() {
   place=0
   while ((index < COMP_CWORD)); do
     case ${COMP_WORDS[index]} in
-      --code | --names | --layout | --stripes | --part | --workers | --sums | --report | --to | --reads)
+      --code | --names | --layout | --stripes | --part | --workers | --sums | --report | --to)
         # The shell cuts --workers=4 into three words.
         [ "${COMP_WORDS[index + 1]}" != = ] || ((index++))
         ((index++))
@@ -35,12 +35,12 @@ _rebuild_store() {
   case ${COMP_WORDS[1]} in
     repair)
       kinds='folder'
-      options+=' --stripes --part --workers --sums --report --json --dry-run --replace-damaged --to --reads'
+      options+=' --stripes --part --workers --sums --report --json --dry-run --replace-damaged --to'
       ;;
-    lost) kinds='folder' options+=' --stripes --part --json' ;;
+    lost) kinds='folder' options+=' --stripes --part' ;;
     scrub) kinds='folder' options+=' --stripes --part --workers --sums --report --json' ;;
-    encode) kinds='folder file+' ;;
-    read) kinds='folder name' ;;
+    encode) kinds='folder file+' options='--code' ;;
+    read) kinds='folder name' options='' ;;
     help)
       [ "$COMP_CWORD" != 2 ] || mapfile -t COMPREPLY < <(compgen -W "$commands" -- "$current")
       return
@@ -55,7 +55,6 @@ _rebuild_store() {
   case $before in
     --code) offered='6-2-2 12-2-2' ;;
     --layout) offered='plain groups' ;;
-    --reads) offered='all few' ;;
     --workers) offered='1 2 3 4 5 6 7 8 9 10 11 12 13 14 15 16' ;;
     --names | --part) return ;;
     --stripes | --sums | --report) kinds=file ;;

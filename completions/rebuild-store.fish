@@ -15,7 +15,7 @@ function __rebuild_store_place_is
     for word in $words[3..]
         if test $skip = 1
             set skip 0
-        else if contains -- $word --code --names --layout --stripes --part --workers --sums --report --to --reads
+        else if contains -- $word --code --names --layout --stripes --part --workers --sums --report --to
             set skip 1
         else if not string match -q -- '-*' $word
             set place (math $place + 1)
@@ -36,14 +36,15 @@ complete -c rebuild-store -n 'not __rebuild_store_command_is help' -s h -l help 
 complete -c rebuild-store -n '__rebuild_store_command_is help; and test (count (commandline -opc)) = 2' \
     -a 'repair lost scrub encode read' -d 'The help of a command'
 set -l all repair lost scrub encode read
-complete -c rebuild-store -n "__rebuild_store_command_is $all" -l code -x -a '6-2-2 12-2-2' -d 'The code of the store'
-complete -c rebuild-store -n "__rebuild_store_command_is $all" -l names -x -d 'How files are named'
-complete -c rebuild-store -n "__rebuild_store_command_is $all" -l layout -x -a 'plain groups' -d 'How shards number the places'
+set -l coded repair lost scrub encode
+complete -c rebuild-store -n "__rebuild_store_command_is $coded" -l code -x -a '6-2-2 12-2-2' -d 'The code of the store'
 set -l over repair lost scrub
+complete -c rebuild-store -n "__rebuild_store_command_is $over" -l names -x -d 'How files are named'
+complete -c rebuild-store -n "__rebuild_store_command_is $over" -l layout -x -a 'plain groups' -d 'How shards number the places'
 complete -c rebuild-store -n "__rebuild_store_command_is $over" -l stripes -r -F -d 'Names of the stripes that have to be there'
-complete -c rebuild-store -n "__rebuild_store_command_is $over" -l part -x -d 'Work on one part of the stripes, as 0/10'
-complete -c rebuild-store -n "__rebuild_store_command_is $over" -l json -d 'Write JSON'
+complete -c rebuild-store -n "__rebuild_store_command_is $over" -l part -x -d 'Work on one part of the stripes, as 1/10'
 set -l held repair scrub
+complete -c rebuild-store -n "__rebuild_store_command_is $held" -l json -d 'Write JSON'
 complete -c rebuild-store -n "__rebuild_store_command_is $held" -l workers -x -a '(seq 1 16)' -d 'Threads that work on stripes, 1 to 16'
 complete -c rebuild-store -n "__rebuild_store_command_is $held" -l sums -r -F -d 'Digests of the fragments'
 complete -c rebuild-store -n "__rebuild_store_command_is $held" -l report -r -F -d 'Write what became of each fragment'
@@ -51,6 +52,5 @@ complete -c rebuild-store -n '__rebuild_store_command_is repair' -l dry-run -d '
 complete -c rebuild-store -n '__rebuild_store_command_is repair' -l replace-damaged -d 'Replace damaged fragments, and keep them'
 complete -c rebuild-store -n '__rebuild_store_command_is repair' -l to -x -a '(__fish_complete_directories (commandline -ct) "Folder")' \
     -d 'Folder for rebuilt fragments'
-complete -c rebuild-store -n '__rebuild_store_command_is repair' -l reads -x -a 'all few' -d 'Which survivors are read'
 complete -c rebuild-store -n "__rebuild_store_place_is 1 1 $all" -a '(__fish_complete_directories (commandline -ct) "Folder")'
 complete -c rebuild-store -n '__rebuild_store_place_is 2 999 encode' -F

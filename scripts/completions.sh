@@ -9,7 +9,7 @@ completions=$PWD/completions
 scratch=$(mktemp -d)
 trap 'rm -rf "$scratch"' EXIT
 workers='1 2 3 4 5 6 7 8 9 10 11 12 13 14 15 16'
-repair='--code --dry-run --help --json --layout --names --part --reads --replace-damaged --report --stripes --sums --to --workers -h'
+repair='--code --dry-run --help --json --layout --names --part --replace-damaged --report --stripes --sums --to --workers -h'
 
 # Each line, up to where the key is pressed, and what is offered there: the folder below has two folders and a file.
 mkdir -p "$scratch/here/lists" "$scratch/here/served"
@@ -79,21 +79,20 @@ rebuild-store help repair :
 rebuild-store repair :lists served
 rebuild-store repair lists s:
 rebuild-store repair -:$repair
-rebuild-store repair lists --re:--reads --replace-damaged --report
+rebuild-store repair lists --re:--replace-damaged --report
 rebuild-store repair --code :12-2-2 6-2-2
 rebuild-store repair --code=6:6-2-2
 rebuild-store repair --workers :$workers
 rebuild-store repair --workers=1:1 10 11 12 13 14 15 16
 rebuild-store repair --workers 4 :lists served
 rebuild-store repair --layout :groups plain
-rebuild-store repair --reads :all few
 rebuild-store repair --to s:served
 rebuild-store repair --report l:list.csv lists
 rebuild-store repair --names :
 rebuild-store repair --part :
 rebuild-store repair --code 6-2-2 --to served l:lists
 rebuild-store lost l:lists
-rebuild-store lost -:--code --help --json --layout --names --part --stripes -h
+rebuild-store lost -:--code --help --layout --names --part --stripes -h
 rebuild-store lost --stripes l:list.csv lists
 rebuild-store scrub l:lists
 rebuild-store scrub -:--code --help --json --layout --names --part --report --stripes --sums --workers -h
@@ -101,10 +100,10 @@ rebuild-store scrub --sums list.:list.csv
 rebuild-store encode :lists served
 rebuild-store encode lists :list.csv lists served
 rebuild-store encode lists list.csv :list.csv lists served
-rebuild-store encode -:--code --help --layout --names -h
+rebuild-store encode -:--code --help -h
 rebuild-store read l:lists
 rebuild-store read lists :
-rebuild-store read -:--code --help --layout --names -h
+rebuild-store read -:--help -h
 END
 
 # What bash offers: the line is cut as bash cuts it, at spaces and with = as a word of its own.

@@ -124,7 +124,8 @@ def test_too_many(folder, code, choose):
 
 
 def test_odd_files(folder, code, choose):
-    """Fragments of another length, folders, FIFOs and links to nothing are lost and named, and stay; a FIFO holds nothing up."""
+    """Fragments of another length, folders and FIFOs are lost and named, and stay; a FIFO holds nothing up. A link to nothing is lost too:
+    the fragment is made where the link leads."""
     stripes = make(folder, code, [500] * 5, choose)
     (folder / "s000.x0").write_bytes(b"short")
     (folder / "s001.x1").unlink()
@@ -135,8 +136,10 @@ def test_odd_files(folder, code, choose):
     (folder / "s003.p0").symlink_to("nowhere")
     (folder / "s004.y2").unlink()
     _, errors = run("repair", folder, "--code", code, status=1)
-    for name in ("s000.x0", "s001.x1", "s002.px", "s003.p0"):
+    for name in ("s000.x0", "s001.x1", "s002.px"):
         check(f"{name}: " in errors, errors)
+    check((folder / "s003.p0").is_symlink(), "a link to nothing didn't stay a link")
+    check((folder / "nowhere").read_bytes() == stripes["s003"]["p0"], "a fragment wasn't made where its link leads")
     check((folder / "s004.y2").read_bytes() == stripes["s004"]["y2"], "a lost fragment didn't come back beside odd files")
     check((folder / "s000.x0").read_bytes() == b"short", "a file of another length was replaced unasked")
     _, errors = run("repair", folder, "--code", code, "--replace-damaged", status=1)

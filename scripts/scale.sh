@@ -9,12 +9,13 @@ program=$repository/crates/rebuild/out/rebuild
 document=$repository/docs/SCALE.md
 scratch=$(mktemp -d)
 finish() {
-  if [ -e "$scratch/node" ]; then
-    scripts/slurm-node.sh stop "$scratch/node"
-  fi
-  if [ -e "$scratch/ssh" ]; then
-    scripts/ssh-hosts.sh stop "$scratch/ssh"
-  fi
+  local it
+  for it in node store-node; do
+    if [ -e "$scratch/$it" ]; then scripts/slurm-node.sh stop "$scratch/$it"; fi
+  done
+  for it in ssh store-ssh; do
+    if [ -e "$scratch/$it" ]; then scripts/ssh-hosts.sh stop "$scratch/$it"; fi
+  done
   rm -rf "$scratch"
 }
 trap finish EXIT
@@ -33,7 +34,7 @@ for name in scripts deploy; do
 done
 make -s install "PREFIX=$scratch/installed" > "$scratch/said" 2>&1 || fail "make install: $(cat "$scratch/said")"
 export PATH=$scratch/installed/bin:$PATH
-scripts/shown.py "$document" 'A store to try' "$scratch"
+scripts/shown.py "$document" 'A list to try' "$scratch"
 
 # The single run: the whole list as one rack of one folder, and all lines as one input.
 mkdir "$scratch/single" "$scratch/served"
@@ -54,6 +55,26 @@ compare() {
   [ "$(find "$result" -type f | wc -l)" = $((number + 2)) ] || fail "$name: not as many files as of a single run"
   echo "$name: the report and $number rebuilt fragments are those of a single run"
 }
+
+# A store in parts: the document's commands compare it with the whole one.
+store_in_parts() {
+  scripts/shown.py "$document" 'A store in parts' "$scratch"
+  if PATH=$PATH:/usr/sbin command -v sshd > /dev/null; then
+    scripts/shown.py "$document" 'A store by GNU parallel on two hosts' "$scratch"
+  else
+    skipped+=("no sshd is installed (Debian's openssh-server): a store was not repaired from two hosts")
+  fi
+}
+if command -v parallel > /dev/null && parallel --version 2> /dev/null | grep -q '^GNU parallel'; then
+  store_in_parts
+else
+  skipped+=("GNU parallel isn't installed (Debian's parallel): a store was not repaired in parts by it")
+fi
+if PATH=$PATH:/usr/sbin command -v slurmctld > /dev/null && command -v sbatch > /dev/null; then
+  scripts/shown.py "$document" 'A store by a Slurm array' "$scratch"
+else
+  skipped+=("Slurm isn't installed (Debian's slurm-wlm): a store was not repaired by an array")
+fi
 
 scripts/shown.py "$document" 'Splitting a list' "$scratch"
 if command -v parallel > /dev/null && parallel --version 2> /dev/null | grep -q '^GNU parallel'; then

@@ -97,6 +97,8 @@ pub struct Options {
     /// The path of a file of stripes' names.
     pub stripes: Option<String>,
     pub part: Option<Part>,
+    /// Whether fragments are opened, so that they are held to checksums.
+    pub tests: bool,
     /// The path of a file of checksums.
     pub sums: Option<String>,
     pub report: Option<String>,
@@ -264,6 +266,7 @@ fn command_of(
             layout,
             stripes: given(alloc, matches, "stripes", true)?,
             part: part_of(alloc, matches.get_str("part"))?,
+            tests,
             sums: given(alloc, matches, "sums", tests)?,
             report: given(alloc, matches, "report", tests)?,
             json: tests && matches.get_flag("json"),

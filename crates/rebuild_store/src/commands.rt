@@ -40,9 +40,7 @@ pub fn repair_all<R: Threads + Sync>(
         eprintln!(system; "rebuild-store: {fault}")?;
         return Ok(LEFT);
     }
-    if !options.dry_run {
-        remove_leftovers(system, store, tag.as_str())?;
-    }
+    let are_removed = options.dry_run || remove_leftovers(system, store, tag.as_str())?;
     let work = if options.dry_run {
         Work::Plan(store.code)
     } else {
@@ -57,11 +55,16 @@ pub fn repair_all<R: Threads + Sync>(
     if let Some(path) = &store.part_lock {
         fs::remove_file(system, path.as_str())?;
     }
+    if !are_removed {
+        return Ok(DEVICE);
+    }
     Ok(status)
 }
 
-// Removes unfinished files that a run which was killed has left: those of this part, or all. One that can't be removed is said.
-fn remove_leftovers(rt: &HostRuntime, store: &OpenStore, tag: &str) -> io::Result<()> {
+// Removes unfinished files that a run which was killed has left: those of this part, or all. One that can't be removed is said. Says
+// whether all could be.
+fn remove_leftovers(rt: &HostRuntime, store: &OpenStore, tag: &str) -> io::Result<bool> {
+    let mut are_removed = true;
     for path in &store.listing.leftovers {
         let path = path.as_str();
         let name = path.rsplit('/').next().unwrap_or(path);
@@ -69,10 +72,11 @@ fn remove_leftovers(rt: &HostRuntime, store: &OpenStore, tag: &str) -> io::Resul
             continue;
         }
         if let Err(error) = fs::remove_file(rt, path) {
+            are_removed = false;
             eprintln!(rt; "rebuild-store: {path}: is left over, and can't be removed: {error}")?;
         }
     }
-    Ok(())
+    Ok(are_removed)
 }
 
 // Says what became of the stripes, and gives the exit status.

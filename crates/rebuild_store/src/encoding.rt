@@ -50,8 +50,9 @@ pub fn encode_all(rt: &HostRuntime, options: &EncodeOptions) -> Result<u8, FileF
     let folder = options.store.as_str();
     make_folder(rt, folder)?;
     let _lock = lock_folder(rt, folder)?;
-    let listing = list(rt, folder, &Pattern::PLAIN, Code::Wide)
-        .map_err(|error| device(alloc, folder, error))?;
+    let listing = list(rt, folder, &Pattern::PLAIN, Code::Wide).map_err(|error| device(
+        alloc, folder, error,
+    ))?;
     remove_leftovers(rt, listing.leftovers.as_slice()).map_err(|error| device(
         alloc, folder, error,
     ))?;

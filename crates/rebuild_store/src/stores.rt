@@ -103,7 +103,11 @@ pub fn open_store(
         Some(code) => code,
         None => code_of(&listing),
     };
-    let sums = sums_of(rt, options)?;
+    let sums = if options.tests {
+        sums_of(rt, options)?
+    } else {
+        None
+    };
     Ok(OpenStore {
         folder,
         code,
@@ -201,10 +205,12 @@ fn sums_of(rt: &HostRuntime, options: &Options) -> Result<Option<Sums>, StoreFau
         Some(path) => String::from_str(alloc, path.as_str())?,
         None => {
             let path = path_in(alloc, options.store.as_str(), SUMS_NAME)?;
-            if !fs::metadata(rt, path.as_str()).is_ok_and(|metadata| metadata.is_file()) {
-                return Ok(None);
+            match fs::metadata(rt, path.as_str()) {
+                Ok(metadata) if metadata.is_file() => path,
+                Ok(_) => return Ok(None),
+                Err(error) if error.kind() == ErrorKind::NotFound => return Ok(None),
+                Err(error) => return Err(device_fault(path, error)),
             }
-            path
         }
     };
     match read_sums(rt, path.as_str()) {

@@ -4,17 +4,17 @@ ghost use Rattle.store_repair.specs.Store.{never};
 
 use crate::names::path_in;
 use crate::patterns::Pattern;
-use crate::placing::{UNFINISHED, take_after};
+use crate::placing::{UNFINISHED, sync_folder, take_after};
 use crate::sums::Sums;
 use crate::surviving::{FileFragment, open_fragment};
 use lrc_code::{Code, Place};
 use sha2::{Digest as _, Sha256};
 use std::alloc::{AllocError, Global};
-use std::fs::{self, File};
+use std::fs::{self, File, Metadata};
 use std::io::{self, ErrorKind, Write};
 use std::os::unix::fs::{MetadataExt, OpenOptionsExt};
 use std::sync::atomic::{AtomicU64, Ordering};
-use store_repair::{NewFragment, Placed, Store};
+use store_repair::{NameFault, NewFragment, Placed, Store};
 
 /// How many links to links are followed.
 const MOST_LINKS: usize = 16;
@@ -42,8 +42,8 @@ pub struct FolderStore<'a> {
     next: &'a AtomicU64,
     // The folders in which names were given since the last time that these were written to the disk.
     touched: Vec<String>,
-    // Why an unfinished file could not be removed after its fragment had its name.
-    leftover: Option<io::Error>,
+    // An unfinished file that could not be removed, and why.
+    leftover: Option<NameFault>,
 }
 
 /// A fragment that has no name yet.
@@ -121,15 +121,22 @@ impl<'a> FolderStore<'a> {
         Ok(sums.digest_of(name.as_str()).copied())
     }
 
-    // A file of the stripe whose owner and mode its rebuilt fragments get.
-    fn neighbour_of(&self, stripe: &str) -> io::Result<Option<String>> {
+    // What is said of a file of the stripe, whose owner and mode its rebuilt fragments get.
+    fn neighbour_of(&self, stripe: &str) -> io::Result<Option<Metadata>> {
+        let mut refused = None;
         for place in self.site.code.places() {
             let path = self.path_of(self.site.folder, stripe, *place)?;
-            if fs::metadata(self.rt, path.as_str()).is_ok_and(|metadata| metadata.is_file()) {
-                return Ok(Some(path));
+            match fs::metadata(self.rt, path.as_str()) {
+                Ok(metadata) if metadata.is_file() => return Ok(Some(metadata)),
+                Ok(_) => {}
+                Err(error) if error.kind() == ErrorKind::NotFound => {}
+                Err(error) => refused = Some(error),
             }
         }
-        Ok(None)
+        match refused {
+            Some(error) => Err(error),
+            None => Ok(None),
+        }
     }
 
     // Writes a whole file to the disk, with the owner and mode of a neighbour, if it has the bytes that it has to have.
@@ -140,7 +147,7 @@ impl<'a> FolderStore<'a> {
             }
         }
         if let Some(neighbour) = self.neighbour_of(stripe)? {
-            take_after(self.rt, &file.file, neighbour.as_str())?;
+            take_after(&file.file, &neighbour)?;
         }
         file.file.sync_all()
     }
@@ -197,9 +204,10 @@ impl<'a> FolderStore<'a> {
     }
 
     // Removes an unfinished file. What could not be removed is said when names are written to the disk.
-    fn remove(&mut self, file: &UnfinishedFile) {
-        if let Err(error) = fs::remove_file(self.rt, file.unfinished.as_str()) {
-            self.leftover = Some(error);
+    fn remove(&mut self, file: UnfinishedFile) {
+        let name = file.unfinished;
+        if let Err(error) = fs::remove_file(self.rt, name.as_str()) {
+            self.leftover = Some(NameFault { name, error });
         }
     }
 }
@@ -258,7 +266,7 @@ impl Store for FolderStore<'_> {
             Ok(()) => self.link(&file),
             Err(error) => Err(error),
         };
-        self.remove(&file);
+        self.remove(file);
         placed
     }
 
@@ -270,22 +278,26 @@ impl Store for FolderStore<'_> {
             Err(error) => Err(error),
         };
         if !matches!(placed, Ok(Placed::Placed)) {
-            self.remove(&file);
+            self.remove(file);
         }
         placed
     }
 
     fn discard(&mut self, file: UnfinishedFile) -> io::Result<()> {
-        fs::remove_file(self.rt, file.unfinished.as_str())
+        self.remove(file);
+        Ok(())
     }
 
-    fn settle(&mut self) -> io::Result<()> {
-        for folder in &self.touched {
-            fs::open(self.rt, folder.as_str())?.sync_all()?;
+    fn settle(&mut self) -> Result<(), NameFault> {
+        for _folder in 0..self.touched.len() {
+            if let Some(name) = self.touched.pop() {
+                if let Err(error) = sync_folder(self.rt, name.as_str()) {
+                    return Err(NameFault { name, error });
+                }
+            }
         }
-        self.touched.clear();
         match self.leftover.take() {
-            Some(error) => Err(error),
+            Some(fault) => Err(fault),
             None => Ok(()),
         }
     }

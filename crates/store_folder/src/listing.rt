@@ -146,7 +146,9 @@ fn look(rt: &HostRuntime, path: &str) -> Found {
     match fs::metadata(rt, path) {
         Ok(metadata) => found_of(&metadata),
         Err(error) if error.kind() == ErrorKind::NotFound => Found::Dangling,
-        Err(_) => Found::Unknown,
+        Err(error) => Found::Unknown {
+            code: error.raw_os_error().unwrap_or(0),
+        },
     }
 }
 

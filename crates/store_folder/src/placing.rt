@@ -3,7 +3,7 @@ ghost use Rattle.std.specs.Prelude.{None};
 
 use crate::names::path_in;
 use std::alloc::Global;
-use std::fs::{self, File};
+use std::fs::{self, File, Metadata};
 use std::io::{self, ErrorKind, Write};
 use std::os::unix::fs::{MetadataExt, OpenOptionsExt, fchown};
 use store_repair::{NewFragment, Placed};
@@ -29,9 +29,8 @@ pub struct NewFile {
     path: String,
 }
 
-/// Gives a file the owner and the mode of another one. Who isn't allowed to give it away keeps it.
-pub(crate) fn take_after(rt: &HostRuntime, file: &File, neighbour: &str) -> io::Result<()> {
-    let metadata = fs::metadata(rt, neighbour)?;
+/// Gives a file the owner and the mode of another one, by what is said of that. Who isn't allowed to give it away keeps it.
+pub(crate) fn take_after(file: &File, metadata: &Metadata) -> io::Result<()> {
     let given = fchown(file, Some(metadata.uid()), Some(metadata.gid()));
     if let Err(error) = given {
         if error.kind() != ErrorKind::PermissionDenied {
@@ -67,7 +66,7 @@ impl NewFile {
 
     /// Gives the file the owner and the mode of another one. Who isn't allowed to give it away keeps it.
     pub fn take_after(&self, rt: &HostRuntime, neighbour: &str) -> io::Result<()> {
-        take_after(rt, &self.file, neighbour)
+        take_after(&self.file, &fs::metadata(rt, neighbour)?)
     }
 
     /// Removes the file.

@@ -19,7 +19,8 @@ use Rattle.lrc_code.specs.Encoding.{HaveLength, IsEncoding, IsParity}
 use Rattle.lrc_code.specs.Reduction.{row_at}
 use Rattle.lrc_code.proofs.Combinations.{combination-append}
 use Rattle.lrc_code.proofs.Encodings.{data_of, encoding, parity_rows}
-use Rattle.store_repair.specs.Files.{encoding_rows, fragment_length, IsFragmentOf, IsFragmentShown, part, parts, unit_row}
+use Rattle.store_repair.specs.Files.{encoding_rows, fragment_length, FragmentsAreOfFile, IsFragmentOf}
+use Rattle.store_repair.specs.Files.{IsFragmentShown, part, parts, unit_row}
 use Rattle.store_repair.specs.Mended.{IsEmpty}
 use Rattle.store_repair.specs.Windows.{IsAppended}
 use Rattle.store_repair.proofs.FileLemmas.{length-part, part_at}
@@ -211,3 +212,8 @@ module _ (code : CodeName) (file : List ℕ) (small : AreBytes file) where
   fragment_shown k d e None new lt empty h = subst (IsFragmentShown code file (get_or (tables_of code).places k d)) (sym h.2) tt
   fragment_shown k d e (Some old) new lt empty h = subst (IsFragmentShown code file (get_or (tables_of code).places k d))
       (sym (h.2 ∙ ap (λ xs. Some (xs ++ h.0)) empty)) (fragment_made k d e h.0 lt h.1)
+
+-- each fragment of a file is that of its one stripe
+pub fragments_of_file : FragmentsAreOfFile
+fragments_of_file code survives at file small each =
+    let whole = its code file small in (whole.stripe, whole.of_sources, λ p there. (each p there).only whole.stripe whole.of_sources)

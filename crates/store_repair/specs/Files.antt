@@ -4,6 +4,7 @@ use Rattle.std.specs.Prelude.{slice_set, Bool, true, Option, Some, None}
 use Rattle.std.specs.List.{range_with_len}
 use Rattle.lrc_code.specs.declared.places.Place.{Place}
 use Rattle.lrc_code.specs.declared.codes.Code.{Code as CodeName}
+use Rattle.lrc_code.specs.Code.{AreBytes}
 use Rattle.lrc_code.specs.Codes.{data_count, padded_parities_of, tables_of}
 use Rattle.lrc_code.specs.Encoding.{IsStripeOf}
 use Rattle.lrc_plan.specs.Stripes.{at_place}
@@ -48,6 +49,11 @@ AreFragmentsOf shown code file places files =
 abbrev pub AreOfFile : CodeName → (Place → Bool) → List (List ℕ) → List ℕ → Type 0
 AreOfFile code survives at file =
     (s : Place → List ℕ) × IsStripeOfFile code file s × ((p : Place) → survives p ≡ true → s p ≡ at_place at p)
+
+-- survivors that are each a file's fragment at its place are those of one stripe of the file
+abbrev pub FragmentsAreOfFile : Type 0
+FragmentsAreOfFile = (code : CodeName) (survives : Place → Bool) (at : List (List ℕ)) (file : List ℕ) → AreBytes file
+    → ((p : Place) → survives p ≡ true → IsFragmentOf code file p (at_place at p)) → AreOfFile code survives at file
 
 -- sixteen coefficients, of which the one at an index is 01 and the others are 00
 abbrev pub unit_row : ℕ → List ℕ

@@ -11,7 +11,7 @@ is_file len found.Absent = false
 is_file len (found.File length) = length == len
 is_file len found.Dangling = false
 is_file len found.Other = false
-is_file len found.Unknown = false
+is_file len (found.Unknown code) = false
 
 -- whether there is a file of so many bytes at a place; what was found is listed by the places' indexes
 abbrev pub has_file : List FoundName → ℕ → Place → Bool

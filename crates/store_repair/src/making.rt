@@ -179,7 +179,7 @@ pub(crate) fn discard<S: Store>(
 {
     match store.discard(file) {
         Ok(()) => Ok(()),
-        Err(error) => note(findings, None, Reason::Unsettled(error)),
+        Err(error) => note(findings, None, write_fault(error)?),
     }
 }
 

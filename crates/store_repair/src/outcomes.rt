@@ -1,8 +1,9 @@
 //! What becomes of a stripe.
 ghost use Rattle.std.specs.Prelude.{◌≡◌, []};
 
-use crate::stripes::Found;
-use lrc_code::{Place, PlaceSet};
+use crate::store::NameFault;
+use crate::stripes::{Found, Stripe};
+use lrc_code::{Code, Place, PlaceSet};
 use std::alloc::{AllocError, Global};
 use std::io::{self, ErrorKind};
 use thiserror::Error;
@@ -18,8 +19,8 @@ pub enum Reason {
     Dangling,
     #[error("is no regular file")]
     NoFile,
-    #[error("can't be looked at")]
-    Unknown,
+    #[error("can't be looked at: {0}")]
+    Unknown(io::Error),
     /// Of a stripe: none of its fragments can be read.
     #[error("no fragment can be read")]
     NoSurvivor,
@@ -44,8 +45,9 @@ pub enum Reason {
     Unwritten(io::Error),
     #[error("isn't replaced: no check covers what would be put in its place")]
     NoCheck,
-    #[error("something was written, and not all of it is known to be on the disk, or something was left over: {0}")]
-    Unsettled(io::Error),
+    /// Of a stripe: a file was left over, or names are not known to be on the disk.
+    #[error("was left over, or isn't known to be on the disk: {0}")]
+    Unsettled(NameFault),
     #[error("has come meanwhile, and stays as it is")]
     CameMeanwhile,
     #[error("isn't replaced: a fragment that was replaced before is kept beside it")]
@@ -60,7 +62,7 @@ impl Reason {
             Found::File { .. } => Reason::OtherLength,
             Found::Dangling => Reason::Dangling,
             Found::Other => Reason::NoFile,
-            Found::Unknown => Reason::Unknown,
+            Found::Unknown { code } => Reason::Unknown(io::Error::from_raw_os_error(code)),
         }
     }
 
@@ -68,7 +70,7 @@ impl Reason {
     pub fn is_of_device(&self) -> bool {
         matches!(
             self,
-            Reason::Unknown | Reason::Unread(_) | Reason::Unwritten(_) | Reason::Unsettled(_)
+            Reason::Unknown(_) | Reason::Unread(_) | Reason::Unwritten(_) | Reason::Unsettled(_)
         )
     }
 }
@@ -124,6 +126,22 @@ pub(crate) fn note(
     reason: Reason,
 ) -> Result<(), AllocError> {
     findings.push(Finding { place, reason })?;
+    Ok(())
+}
+
+/// Notes that none of a stripe's fragments can be read, and which of them can't be looked at.
+pub(crate) fn note_no_survivor(
+    code: Code,
+    stripe: &Stripe<'_>,
+    findings: &mut Vec<Finding>,
+) -> Result<(), AllocError> {
+    note(findings, None, Reason::NoSurvivor)?;
+    for place in code.places() {
+        let found = stripe.files.at(*place);
+        if matches!(found, Found::Unknown { .. }) {
+            note(findings, Some(*place), Reason::of(found))?;
+        }
+    }
     Ok(())
 }
 

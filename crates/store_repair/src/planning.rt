@@ -1,7 +1,7 @@
 //! What a repair of a stripe would do.
 use crate::losses::{have_checks, lost_places};
 use crate::opening::open_survivors;
-use crate::outcomes::{Outcome, Reason, note};
+use crate::outcomes::{Outcome, Reason, note, note_no_survivor};
 use crate::store::Store;
 use crate::stripes::Stripe;
 use lrc_code::Code;
@@ -17,7 +17,7 @@ pub fn plan_stripe<S: Store>(
 ) -> Result<Outcome, AllocError> {
     let mut findings = Vec::new(alloc);
     let Some(length) = stripe.length() else {
-        note(&mut findings, None, Reason::NoSurvivor)?;
+        note_no_survivor(code, stripe, &mut findings)?;
         return Ok(Outcome::of(alloc, findings));
     };
     let opened = open_survivors(alloc, store, code, stripe, length, &mut findings)?;

@@ -65,10 +65,18 @@ pub(crate) fn put_all<S: Store>(
             put.push(place)?;
         }
     }
-    if let Err(error) = store.settle() {
-        note(findings, None, Reason::Unsettled(error))?;
-    }
+    settle(store, findings)?;
     Ok(put)
+}
+
+/// Writes names to the disk, and notes what is left over.
+pub(crate) fn settle<S: Store>(store: &mut S, findings: &mut Vec<Finding>) -> Result<(), AllocError>
+    ensures { S.files store.new ≡ S.files store.old }
+{
+    match store.settle() {
+        Ok(()) => Ok(()),
+        Err(fault) => note(findings, None, Reason::Unsettled(fault)),
+    }
 }
 
 // What is done with a rebuilt fragment under whose name something was found. Only a fragment that no fault kept from being read is

@@ -7,8 +7,8 @@ ghost use Rattle.store_repair.specs.Store.{AreUntouched};
 use crate::losses::have_checks;
 use crate::making::make;
 use crate::opening::open_survivors;
-use crate::outcomes::{Outcome, Reason, note};
-use crate::putting::{Repair, put_all};
+use crate::outcomes::{Outcome, note_no_survivor};
+use crate::putting::{Repair, put_all, settle};
 use crate::store::Store;
 use crate::stripes::Stripe;
 use std::alloc::{AllocError, Global};
@@ -26,12 +26,13 @@ pub fn repair_stripe<S: Store>(
 {
     let mut findings = Vec::new(alloc);
     let Some(length) = stripe.length() else {
-        note(&mut findings, None, Reason::NoSurvivor)?;
+        note_no_survivor(repair.code, stripe, &mut findings)?;
         return Ok(Outcome::of(alloc, findings));
     };
     let opened = open_survivors(alloc, &*store, repair.code, stripe, length, &mut findings)?;
     let made = make(alloc, store, repair.code, stripe, opened, &mut findings)?;
     let Some(made) = made else {
+        settle(store, &mut findings)?;
         return Ok(Outcome::of(alloc, findings));
     };
     let survivors = made.set;

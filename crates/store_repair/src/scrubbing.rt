@@ -6,7 +6,7 @@ use crate::damage::find_damaged;
 use crate::losses::have_checks;
 use crate::mending::{MendFault, Survivors};
 use crate::opening::open_survivors;
-use crate::outcomes::{Finding, Outcome, Reason, note, read_fault};
+use crate::outcomes::{Finding, Outcome, Reason, note, note_no_survivor, read_fault};
 use crate::store::{Fragment, Store};
 use crate::stripes::Stripe;
 use lrc_code::{Code, Place};
@@ -21,7 +21,7 @@ pub fn scrub_stripe<S: Store>(
 ) -> Result<Outcome, AllocError> {
     let mut findings = Vec::new(alloc);
     let Some(length) = stripe.length() else {
-        note(&mut findings, None, Reason::NoSurvivor)?;
+        note_no_survivor(code, stripe, &mut findings)?;
         return Ok(Outcome::of(alloc, findings));
     };
     note_lost(alloc, code, stripe, length, &mut findings)?;

@@ -6,6 +6,7 @@ ghost use Rattle.store_repair.specs.Store.{AreUntouched, HasName, IsOpened, Same
 
 use lrc_code::Place;
 use std::io;
+use thiserror::Error;
 
 /// A fragment that survives, open for reading. Contracts see its bytes where they are shown; those of a file of the system are not, since
 /// other programs may change it.
@@ -24,6 +25,14 @@ pub trait NewFragment {
     /// Writes `bytes` after those that were written before.
     fn append(&mut self, bytes: &[u8]) -> io::Result<()>
         ensures { OnOk result (shown self.new ≡ option_map (λ written. written ++ bytes.now) (shown self.old)) };
+}
+
+/// What the system refused, and of which file or folder.
+#[derive(Debug, Drop, Error)]
+#[error("{name}: {error}")]
+pub struct NameFault {
+    pub name: String,
+    pub error: io::Error,
 }
 
 /// What became of a fragment that was to get its name.
@@ -69,12 +78,12 @@ pub trait Store {
         ensures elsewhere { SameElsewhere stripe.now place (files self.old) (files self.new) }
         ensures placed { IfOk result (HasName stripe.now place (Self.New.shown file) (files self.new)) };
 
-    /// Discards a fragment that has no name.
+    /// Discards a fragment that has no name. What can't be removed may be said by `settle`.
     fn discard(&mut self, file: Self::New) -> io::Result<()>
         ensures { files self.new ≡ files self.old };
 
-    /// Writes the names that were given to the disk.
-    fn settle(&mut self) -> io::Result<()>
+    /// Writes the names that were given to the disk, and says what was left over since it was called last.
+    fn settle(&mut self) -> Result<(), NameFault>
         ensures { files self.new ≡ files self.old };
 
     /// Where they are shown, so are new fragments.

@@ -21,8 +21,8 @@ pub enum Found {
     Dangling,
     /// A folder, a FIFO, a socket or a device.
     Other,
-    /// Something that can't be looked at.
-    Unknown,
+    /// Something that can't be looked at; the number of the system's error, or 0.
+    Unknown { code: i32 },
 }
 
 /// What is under the names of a stripe's fragments, by the places' indexes.
