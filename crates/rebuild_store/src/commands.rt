@@ -1,6 +1,7 @@
 //! The commands `repair` and `scrub` over all stripes of a store.
 use crate::arguments::Options;
 use crate::fitting::refuse_other_stores;
+use crate::progress::Progress;
 use crate::reports::{Rows, file_of, line_of, rows_of, write_report};
 use crate::statuses::{DEVICE, DONE, LEFT};
 use crate::stores::OpenStore;
@@ -41,16 +42,19 @@ pub fn repair_all<R: Threads + Sync>(
         return Ok(LEFT);
     }
     let are_removed = options.dry_run || remove_leftovers(system, store, tag.as_str())?;
+    let progress = Progress::new(system, alloc, store.code, stripes.as_slice())?;
+    let repair = Repair {
+        code: store.code,
+        replace_damaged: options.replace_damaged,
+        elsewhere: options.to.is_some(),
+    };
     let work = if options.dry_run {
         Work::Plan(store.code)
     } else {
-        Work::Repair(Repair {
-            code: store.code,
-            replace_damaged: options.replace_damaged,
-            elsewhere: options.to.is_some(),
-        })
+        Work::Repair(repair, &progress)
     };
     let all = work_on(rt, system, &site, work, stripes.as_slice(), options.workers)?;
+    progress.end();
     let status = say_repaired(system, &site, stripes.as_slice(), all.as_slice(), options)?;
     if let Some(path) = &store.part_lock {
         fs::remove_file(system, path.as_str())?;

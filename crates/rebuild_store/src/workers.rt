@@ -1,4 +1,5 @@
 //! Threads that work on stripes side by side.
+use crate::progress::Progress;
 use lrc_code::Code;
 use std::alloc::AllocError;
 use std::sync::atomic::{AtomicU64, AtomicUsize, Ordering};
@@ -9,8 +10,8 @@ use store_repair::{Outcome, Repair, Stripe, plan_stripe, repair_stripe, scrub_st
 
 /// What is done with each stripe.
 #[derive(Clone, Copy)]
-pub enum Work {
-    Repair(Repair),
+pub enum Work<'p, 'r> {
+    Repair(Repair, &'p Progress<'r>),
     Plan(Code),
     Scrub(Code),
 }
@@ -27,7 +28,7 @@ pub fn work_on<R: Threads + Sync>(
     rt: &R,
     system: &HostRuntime,
     site: &Site<'_>,
-    work: Work,
+    work: Work<'_, '_>,
     stripes: &[Stripe<'_>],
     workers: usize,
 ) -> Result<Vec<Done>, AllocError> {
@@ -49,7 +50,7 @@ pub fn work_on<R: Threads + Sync>(
 fn take_stripes(
     system: &HostRuntime,
     site: &Site<'_>,
-    work: Work,
+    work: Work<'_, '_>,
     stripes: &[Stripe<'_>],
     next: &AtomicUsize,
     numbers: &AtomicU64,
@@ -62,7 +63,11 @@ fn take_stripes(
             break;
         };
         let outcome = match work {
-            Work::Repair(repair) => repair_stripe(system.alloc(), &mut store, &repair, stripe)?,
+            Work::Repair(repair, progress) => {
+                let outcome = repair_stripe(system.alloc(), &mut store, &repair, stripe)?;
+                progress.count(&outcome);
+                outcome
+            }
             Work::Plan(code) => plan_stripe(system.alloc(), &store, code, stripe)?,
             Work::Scrub(code) => scrub_stripe(system.alloc(), &store, code, stripe)?,
         };
