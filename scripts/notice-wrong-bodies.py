@@ -27,6 +27,7 @@ TESTS = {
     "farm_lists": ["lists_tests", "serving_tests"],
     "farm_shelves": ["serving_tests"],
     "farm_serving": ["serving_tests"],
+    "store_repair": ["store_tests"],
     "line_mode": ["line_tests"],
     "command_line": ["line_tests"],
 }

@@ -41,6 +41,7 @@ TESTS = [
     ("serving_tests", "nothing_written_with_two_workers", 4),
     ("serving_tests", "batches_of_one_request", 3),
     ("serving_tests", "failed_write_without_memory", 0),
+    ("store_tests", "each_name_as_it_was_or_rebuilt", 0),
 ]
 
 # Those of which the other threads do the work where one is refused, so that they pass then.

@@ -1,5 +1,6 @@
 -- A store in memory: what is left where a name is given.
-use Rattle.std.proofs.Common.{◌≡◌, ◌∙◌, ℕ, List, Bool, true, false, cond, refl, sym, ap, subst, Option, Some, None, Result, Ok, Err, inl, inr}
+use Rattle.std.proofs.Common.{◌≡◌, ◌∙◌, ℕ, List, Bool, true, false, cond, refl, sym, ap, subst, Option, Some, None, Result, Ok, Err}
+use Rattle.std.proofs.Common.{inl, inr}
 use Rattle.std.specs.Prelude.{◌&&◌, ◌⊎◌, bytes_eq, IfOk}
 use Rattle.std.proofs.lemmas.Bool.{and_parts, and_right, cases_Bool}
 use Rattle.std.proofs.lemmas.Slice.Eq.{bytes_eq-Decides}
@@ -86,7 +87,8 @@ pub given_untouched : (r : Result PlacedName Error) (s : List ℕ) (p : Place) (
     → GivesName r s p bytes old new → AreUntouched false s (Some old) (Some new)
 given_untouched (Ok placed.Placed) s p bytes old new (none, is) =
     subst (λ n. IsUntouched false s old n) (sym is) (untouched_given false s p bytes old none)
-given_untouched (Ok placed.IsThere) s p bytes old new (there, is) = subst (λ n. IsUntouched false s old n) (sym is) (untouched_same false s old)
+given_untouched (Ok placed.IsThere) s p bytes old new (there, is) =
+    subst (λ n. IsUntouched false s old n) (sym is) (untouched_same false s old)
 given_untouched (Err e) s p bytes old new is = subst (λ n. IsUntouched false s old n) (sym is) (untouched_same false s old)
 
 pub given_elsewhere : (r : Result PlacedName Error) (s : List ℕ) (p : Place) (bytes : List ℕ) (old new : Files)

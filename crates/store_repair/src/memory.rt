@@ -7,7 +7,7 @@ ghost use Rattle.store_repair.specs.Memory.{ExchangesName, GivesName, bytes_of, 
 ghost use Rattle.store_repair.specs.Memory.{with_kept};
 ghost use Rattle.store_repair.specs.Store.{AreUntouched, HasName, SameElsewhere};
 
-use crate::store::{Fragment, NewFragment, Placed, Store};
+use crate::store::{Fragment, NameFault, NewFragment, Placed, Store};
 use lrc_code::Place;
 use std::alloc::{AllocError, Global};
 use std::io::{self, ErrorKind};
@@ -173,8 +173,8 @@ impl MemoryStore {
         bytes: Vec<u8>,
         old: Vec<u8>,
     ) -> Result<(), AllocError>
-        ensures ok { OnOk result (files_of self.new ≡ with_fragment (with_kept (files_of self.old) stripe.now place old.items) stripe.now place
-            bytes.items) }
+        ensures ok { OnOk result (files_of self.new
+            ≡ with_fragment (with_kept (files_of self.old) stripe.now place old.items) stripe.now place bytes.items) }
         ensures err { OnErr result (files_of self.new ≡ files_of self.old) }
     {
         put_entry(self.alloc, &mut self.replaced, stripe, place, old)?;
@@ -244,7 +244,7 @@ impl Store for MemoryStore {
         Ok(())
     }
 
-    fn settle(&mut self) -> io::Result<()> {
+    fn settle(&mut self) -> Result<(), NameFault> {
         Ok(())
     }
 }

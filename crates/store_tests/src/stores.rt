@@ -57,7 +57,7 @@ fn new_fragment_gets_its_name(rt: HostRuntime) -> Result<(), io::Error> {
     assert!(&rt; store.replace(fourth, "a", Place::X0)? == Placed::IsThere);
     let fifth = store.create("a", Place::X1)?;
     store.discard(fifth)?;
-    store.settle()?;
+    assert!(&rt; store.settle().is_ok());
     assert!(&rt; store.fragment("a", Place::X1).is_none());
     Ok(())
 }

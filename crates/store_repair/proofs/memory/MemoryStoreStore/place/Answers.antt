@@ -4,12 +4,15 @@ use Rattle.store_repair.proofs.memory.MemoryStoreStore.place.Goals as goal
 
 pub returns-clause-untouched : goal.returns-clause-untouched
 returns-clause-untouched c =
-    given_untouched c.give_name.result c.args.stripe.now c.args.place _ (files_of c.args.self.now) (files_of c.give_name.new.self) c.give_name.ensures
+    given_untouched c.give_name.result c.args.stripe.now c.args.place _
+    (files_of c.args.self.now) (files_of c.give_name.new.self) c.give_name.ensures
 
 pub returns-clause-elsewhere : goal.returns-clause-elsewhere
 returns-clause-elsewhere c =
-    given_elsewhere c.give_name.result c.args.stripe.now c.args.place _ (files_of c.args.self.now) (files_of c.give_name.new.self) c.give_name.ensures
+    given_elsewhere c.give_name.result c.args.stripe.now c.args.place _
+    (files_of c.args.self.now) (files_of c.give_name.new.self) c.give_name.ensures
 
 pub returns-clause-placed : goal.returns-clause-placed
 returns-clause-placed c =
-    given_placed c.give_name.result c.args.stripe.now c.args.place _ (files_of c.args.self.now) (files_of c.give_name.new.self) c.give_name.ensures
+    given_placed c.give_name.result c.args.stripe.now c.args.place _
+    (files_of c.args.self.now) (files_of c.give_name.new.self) c.give_name.ensures

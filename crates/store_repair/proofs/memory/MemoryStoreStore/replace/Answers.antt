@@ -4,12 +4,15 @@ use Rattle.store_repair.proofs.memory.MemoryStoreStore.replace.Goals as goal
 
 pub returns-clause-untouched : goal.returns-clause-untouched
 returns-clause-untouched c =
-    exchanged_untouched c.exchange_name.result c.args.stripe.now c.args.place _ (files_of c.args.self.now) (files_of c.exchange_name.new.self) c.exchange_name.ensures
+    exchanged_untouched c.exchange_name.result c.args.stripe.now c.args.place _
+    (files_of c.args.self.now) (files_of c.exchange_name.new.self) c.exchange_name.ensures
 
 pub returns-clause-elsewhere : goal.returns-clause-elsewhere
 returns-clause-elsewhere c =
-    exchanged_elsewhere c.exchange_name.result c.args.stripe.now c.args.place _ (files_of c.args.self.now) (files_of c.exchange_name.new.self) c.exchange_name.ensures
+    exchanged_elsewhere c.exchange_name.result c.args.stripe.now c.args.place _
+    (files_of c.args.self.now) (files_of c.exchange_name.new.self) c.exchange_name.ensures
 
 pub returns-clause-placed : goal.returns-clause-placed
 returns-clause-placed c =
-    exchanged_placed c.exchange_name.result c.args.stripe.now c.args.place _ (files_of c.args.self.now) (files_of c.exchange_name.new.self) c.exchange_name.ensures
+    exchanged_placed c.exchange_name.result c.args.stripe.now c.args.place _
+    (files_of c.args.self.now) (files_of c.exchange_name.new.self) c.exchange_name.ensures
