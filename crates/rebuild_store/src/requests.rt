@@ -1,12 +1,12 @@
 //! The command `lost`: the request list of what is lost.
 use crate::arguments::Options;
-use crate::statuses::{DONE, LEFT};
+use crate::statuses::{DEVICE, DONE, LEFT};
 use crate::stores::OpenStore;
 use lrc_code::{Code, Place, PlaceSet};
 use std::alloc::{AllocError, Global};
 use std::io::{self, BufWriter, Write};
 use store_folder::Pattern;
-use store_repair::Stripe;
+use store_repair::{Found, Reason, Stripe};
 
 /// The longest fragment that a list can ask for.
 const MOST_BYTES: u64 = 65_536;
@@ -29,11 +29,13 @@ pub fn write_requests(
     };
     output.write_all(header.as_bytes())?;
     let stripes = store.stripes(rt, options.part)?;
+    let mut is_device = false;
     let mut lost = 0u64;
     let mut unlisted = 0u64;
     for stripe in &stripes {
         let places = lost_of(alloc, store.code, stripe)?;
         lost = lost.saturating_add(places.len() as u64);
+        is_device |= say_unknown(rt, pattern, store.code, stripe, places.as_slice())?;
         let listed = request_lines(alloc, store.code, stripe, places.as_slice())?;
         if let Some(lines) = listed {
             output.write_all(lines.as_bytes())?;
@@ -52,7 +54,33 @@ pub fn write_requests(
     output.flush()?;
     let stripes = stripes.len();
     eprintln!(rt; "{stripes} stripes; {lost} fragments lost, {unlisted} of them not in the list")?;
+    if is_device {
+        return Ok(DEVICE);
+    }
     if lost > 0 { Ok(LEFT) } else { Ok(DONE) }
+}
+
+// Says which of the lost fragments can't be looked at, and whether there are any.
+fn say_unknown(
+    rt: &HostRuntime,
+    pattern: &Pattern<'_>,
+    code: Code,
+    stripe: &Stripe<'_>,
+    places: &[Place],
+) -> io::Result<bool> {
+    let alloc = rt.alloc();
+    let mut is_said = false;
+    for place in places {
+        let found = stripe.files.at(*place);
+        if matches!(found, Found::Unknown { .. }) {
+            let name = pattern.name_of(alloc, code, stripe.name, *place)?;
+            let name = name.unwrap_or(String::new(alloc));
+            let reason = Reason::of(found);
+            eprintln!(rt; "rebuild-store: {name}: {reason}")?;
+            is_said = true;
+        }
+    }
+    Ok(is_said)
 }
 
 // The places of a stripe at which there is no fragment of its length; of a stripe without files, all.
