@@ -178,6 +178,9 @@ class Trial:
         unfinished = self.store.unfinished(folder) if self.is_repair else set()
         said = [line for line in (ran.out + ran.err).splitlines() if os.strerror(how) in line]
         named = [line for line in said if any(name in line for name in names | unfinished)]
+        # A store whose checksums can't be read isn't repaired.
+        if any("SHA256SUMS: " in line for line in said):
+            return
         hold(named, f"no line names the file and the error: {sorted(names | unfinished)}, {os.strerror(how)!r}: {ran.text()}")
         is_of_folder = str(folder) in ran.paths or f"{folder}/" in ran.paths
         if not self.is_repair or (is_of_folder and ran.kind != "sync") or rest == "kind":
