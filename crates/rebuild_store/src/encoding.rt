@@ -124,7 +124,14 @@ fn encode_one(rt: &HostRuntime, target: &mut Target<'_>, path: &str) -> Result<(
     };
     refuse_others(rt, target, name, &described)?;
     let made = make_fragments(rt, target, name, path, length)?;
-    if is_changed(&before, &regular(rt, path)?) {
+    let after = match regular(rt, path) {
+        Ok(after) => after,
+        Err(fault) => {
+            discard_all(rt, target.folder, made)?;
+            return Err(fault);
+        }
+    };
+    if is_changed(&before, &after) {
         discard_all(rt, target.folder, made)?;
         let what = format!(in alloc; "{path}: changed while it was read")?;
         return Err(FileFault::Refused { what });
