@@ -291,7 +291,14 @@ fn place_fragments(
         let fragment = file_name(alloc, name, *place)?;
         let path = path_in(alloc, target.folder, fragment.as_str())?;
         let digest = made_file.digest;
-        if what_is_there(rt, path.as_str(), length as u64, &digest)? == There::Another {
+        let there = match what_is_there(rt, path.as_str(), length as u64, &digest) {
+            Ok(there) => there,
+            Err(fault) => {
+                discard_all(rt, target.folder, made)?;
+                return Err(fault);
+            }
+        };
+        if there == There::Another {
             discard_all(rt, target.folder, made)?;
             return Err(is_there_already(rt, fragment.as_str())?);
         }
