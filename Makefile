@@ -152,7 +152,7 @@ try-ceph: ceph
 # that one of them writes, so several run at once.
 AFTER := refusals.py try.sh no-compile.sh reference-lines.sh ends.sh demo.sh examples.py manual.sh completions.sh install.sh \
   version.sh numbers.py growth.py memory.py companion-test.py ceph.sh repair-store.py \
-  encode-store.py store-options.py store-disks.py store-faults.py packages-test.sh
+  encode-store.py store-options.py store-disks.py store-faults.py file-faults.py packages-test.sh
 
 # library.sh builds in a copy of its own, so it runs beside the proofs.
 test:
