@@ -11,6 +11,7 @@
 #include <cstring>
 #include <new>
 #include <ostream>
+#include <syslog.h>
 
 #include "ceph_calls.h"
 #include "lrc.h"
@@ -44,9 +45,15 @@ list fresh(unsigned length)
 /* Which build this is, for those who look into the file: strings -a libec_azure_lrc.so | grep '^azure_lrc ' */
 __attribute__((used)) const char kVersion[] = "azure_lrc " LRC_VERSION " for Ceph 16.2";
 
-/* Says something where the daemon says what goes wrong: on standard error, which systemd keeps. Ceph's own log can't be reached from here
- * without headers that Debian doesn't ship. */
-void say(const std::string &what) { std::fprintf(stderr, "azure_lrc: %s\n", what.c_str()); }
+/* Says something where the daemon says what goes wrong: on standard error, which systemd keeps. A daemon that went into the background
+ * has none that can be written; then in the system's log. Ceph's own log is reached by headers that Debian doesn't ship. */
+void say(const char *call, const char *what) noexcept
+{
+    if (std::fprintf(stderr, "azure_lrc: %s: %s\n", call, what) < 0)
+        syslog(LOG_DAEMON | LOG_WARNING, "azure_lrc: %s: %s", call, what);
+}
+
+void say_of_decode(const std::string &what) { say("decode", what.c_str()); }
 
 /* No exception leaves a call. */
 template <class Call> int guarded(Call call, const char *name = __builtin_FUNCTION()) noexcept
@@ -54,12 +61,13 @@ template <class Call> int guarded(Call call, const char *name = __builtin_FUNCTI
     try {
         return call();
     } catch (const std::bad_alloc &) {
+        say(name, "out of memory");
         return -ENOMEM;
     } catch (const std::exception &fault) {
-        std::fprintf(stderr, "azure_lrc: %s: %s\n", name, fault.what());
+        say(name, fault.what());
         return -EIO;
     } catch (...) {
-        std::fprintf(stderr, "azure_lrc: %s: an exception\n", name);
+        say(name, "an exception");
         return -EIO;
     }
 }
@@ -219,7 +227,7 @@ public:
             if (status == LRC_CONTRADICTION)
                 status = around(lost, stripe, outs, length);
             if (status != LRC_OK) {
-                say("decode: the shards " + names_of(stripe) + " don't give all that is wanted: " + lrc_status_text(status));
+                say_of_decode("the shards " + names_of(stripe) + " don't give all that is wanted: " + lrc_status_text(status));
                 return error_of(status);
             }
             for (auto &[shard, chunk] : rebuilt)
@@ -332,7 +340,7 @@ private:
         }
         if (fitting.size() == 1) {
             left[fitting[0]] = nullptr;
-            say("decode: of the shards " + names_of(stripe) + " shard " + std::to_string(shard_of(lrc_place(fitting[0]))) +
+            say_of_decode("of the shards " + names_of(stripe) + " shard " + std::to_string(shard_of(lrc_place(fitting[0]))) +
                 " is damaged, and is left out");
             return rebuild(lost, left, outs, length);
         }
@@ -345,7 +353,7 @@ private:
             return status;
         for (int place = 0; place < LRC_PLACES; place++)
             left[place] = reads >> place & 1 ? stripe[place] : nullptr;
-        say("decode: the shards " + names_of(stripe) + " contradict each other, and which is damaged can't be said; taken are " +
+        say_of_decode("the shards " + names_of(stripe) + " contradict each other, and which is damaged can't be said; taken are " +
             names_of(left) + ", without a check");
         return rebuild(lost, left, outs, length);
     }

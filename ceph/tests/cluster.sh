@@ -22,8 +22,17 @@ BOUND=(taskset -c "$CPUS" nice -n 5)
 
 step() { printf '    %s  %s\n' "$(date +%T)" "$*"; }
 
+# fail WHY: also says of each daemon that has ended what it said last, as that asynchronous reads are used up (fs.aio-max-nr: an OSD takes
+# 2,048).
 fail() {
+  local name last telling='FAILED ceph_assert|aio-max-nr|: \(|ERROR|azure_lrc:'
   echo "    FAILED: $*"
+  for name in $(names); do
+    if ! is_alive "$name"; then
+      last=$(cat "$RUN/$name.log" "$RUN/$name.out" 2> /dev/null | grep -E "$telling" | tail -n 2 || true)
+      echo "    $name has ended: ${last:-$(tail -n 1 "$RUN/$name.out")}"
+    fi
+  done
   exit 1
 }
 
@@ -241,6 +250,21 @@ wait_clean() {
     left=$((left - 1))
   done
   fail "not clean in time: $(ceph pg stat)"
+}
+
+# scrub ERRORS: has all groups of the pool `coded` scrubbed deeply, and asks for so many errors.
+scrub() {
+  local since pg said=
+  since=$(date -u +%Y-%m-%dT%H:%M:%S)
+  for pg in $(ceph pg ls-by-pool coded 2> /dev/null | awk '$1 ~ /^[0-9]+\./ { print $1 }'); do
+    ceph pg deep-scrub "$pg" > /dev/null 2>&1
+  done
+  for _ in $(seq 150); do
+    if said=$(objects scrubbed coded "$since"); then break; fi
+    sleep 1
+  done
+  step "scrubbed deeply: $said"
+  [[ $said == *", $1 errors" ]] || fail "there have to be $1 errors"
 }
 
 # What all OSDs have sent so far, in bytes, as their messengers count.

@@ -1,9 +1,10 @@
 #!/usr/bin/env bash
 # A shard with wrong bytes and a right checksum: parts of objects are read, with `fast_read` off and on, with all shards right and with one
-# wrong. No OSD may end, and with `fast_read` the plugin says which shards don't fit.
+# wrong. No OSD may end, and with `fast_read` the plugin says which shards don't fit: on standard error, and where the OSD went into the
+# background in the system's log. That is tried where the system has none, so that one can be put in its place.
 . "$(dirname "$0")/cluster.sh"
 osds=11
-trap cluster_stop EXIT
+trap 'cluster_stop; [ ! -f "$RUN/log" ] || rm -f /dev/log' EXIT
 
 # parts WHEN: reads parts of all objects.
 parts() { said=$(objects partial coded "$RUN/files" 400); step "$1: $said"; }
@@ -23,6 +24,21 @@ open(p, "wb").write(b)' "$RUN/shard"
 none_ended() {
   [ "$(aborts)" = 0 ] || fail "$(grep -hE 'FAILED ceph_assert' "$RUN"/*.log | head -n 1)"
   wait_for "$osds up"
+}
+
+# parts_until_said WHEN WHERE FILE..: reads parts until the plugin has said in these files that shards contradict each other, for
+# which one more has to arrive in time.
+parts_until_said() {
+  local when=$1 where=$2 lines=
+  shift 2
+  for _ in $(seq 20); do
+    parts "$when"
+    none_ended
+    lines=$(sed -n 's/.*\(azure_lrc: decode\)/\1/p' "$@" | sed 's/[0-9][0-9 ]*/N /g' | sort | uniq -c | sed 's/^ *//' | paste -sd ';')
+    [ -z "$lines" ] || break
+  done
+  [ -n "$lines" ] || fail "the plugin has said nothing $where"
+  step "said $where: $lines"
 }
 
 step "a cluster of $osds OSDs, on processors $CPUS"
@@ -47,12 +63,21 @@ osd "$victim"
 wait_for "$osds up"
 wait_clean 240
 step "shard 1 of o8 has other bytes on osd.$victim (group $pg: $primary $victim $rest)"
-for fast in 0 1; do
-  ceph osd pool set coded fast_read "$fast" 2> /dev/null
-  parts "one shard wrong, fast_read $fast"
-  none_ended
-done
-grep -h '^azure_lrc: decode' "$RUN"/osd.*.out | sed 's/[0-9][0-9 ]*/N /g' | sort | uniq -c | while read -r line; do step "said: $line"; done
+parts 'one shard wrong, fast_read 0'
+none_ended
+ceph osd pool set coded fast_read 1 2> /dev/null
+parts_until_said 'one shard wrong, fast_read 1' 'on standard error' "$RUN"/osd.*.out
+if [ "$(id -u)" = 0 ] && [ ! -e /dev/log ]; then
+  launch syslog python3 "$HERE/system-log.py" /dev/log
+  touch "$RUN/log"
+  halt "osd.$primary"
+  "${BOUND[@]}" ceph-osd -i "$primary" "--pid_file=$RUN/osd.$primary.pid" -c "$CEPH_CONF" > "$RUN/tool.out" 2>&1
+  wait_for "$osds up"
+  wait_clean 240
+  parts_until_said "one shard wrong, fast_read 1, osd.$primary in the background" "in the system's log" "$RUN/syslog.out"
+else
+  step "not tried: the system's log, which this system has"
+fi
 said=$(objects compare coded "$RUN/files") || true
 step "whole objects: $said"
 step 'no OSD has ended'

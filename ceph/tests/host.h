@@ -35,6 +35,23 @@ Shards shards_of(const Chunks &chunks);
 /* The shard of the i-th data chunk. */
 int data_shard(const Code &code, unsigned i);
 
+/* A chunk's bytes in pieces of memory, most of them not aligned. */
+list in_pieces(list chunk);
+/* The chunk at this shard with another byte. */
+Chunks with_damage(Chunks chunks, int shard);
+
+/* What is wrong is answered with an error, and damaged chunks are decoded around. */
+void odd(const std::string &words);
+
+/* Decoding in eight threads at once over one code. */
+void threads(const std::string &words);
+
+/* Where the plugin says what goes wrong. */
+void said(const std::string &words);
+
+/* What plugins do in calls that Ceph may make; ours, the first, has to survive what another survives. */
+void beside(const std::vector<std::string> &profiles);
+
 /* Calls whose allocations are refused in turn. */
 void starved(const std::string &words);
 

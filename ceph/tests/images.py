@@ -77,3 +77,6 @@ def write(names, seed, count):
 
 if __name__ == "__main__":
     {it.__name__: it for it in (make, write)}[sys.argv[1]](*sys.argv[2:])
+    sys.stdout.flush()
+    # At once, as objects.py ends.
+    os._exit(0)

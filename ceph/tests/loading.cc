@@ -160,3 +160,27 @@ int data_shard(const Code &code, unsigned i)
 {
     return code->get_chunk_mapping().empty() ? int(i) : code->get_chunk_mapping()[i];
 }
+
+/* A chunk's bytes in pieces of memory, most of them not aligned. */
+list in_pieces(list chunk)
+{
+    list pieces;
+    unsigned at = 0, step = 1;
+    while (at < chunk.length()) {
+        unsigned length = std::min(step, chunk.length() - at);
+        pieces.push_back(ceph::buffer::ptr(ceph::buffer::copy(chunk.c_str() + at, length)));
+        at += length;
+        step = step * 3 + 1;
+    }
+    return pieces;
+}
+
+/* The chunk at this shard with another byte. */
+Chunks with_damage(Chunks chunks, int shard)
+{
+    std::string bytes = chunks.at(shard).to_str();
+    bytes[bytes.size() / 2] = char(bytes[bytes.size() / 2] ^ 0x40);
+    chunks[shard] = list();
+    chunks[shard].append(bytes);
+    return chunks;
+}

@@ -99,7 +99,10 @@ def is_determined(lost, layout):
 def four(pool, folder, layout="plain"):
     io, states, read = opened(pool), collections.Counter(), 0
     active = {}
+    down = {it["osd"] for it in ceph("osd", "dump")["osds"] if not it["up"]}
     for it in groups(pool):
+        if down & set(it["acting"]):
+            sys.exit(f"of group {it['pgid']} the manager hasn't heard yet that OSDs are down")
         lost = {shard for shard, osd in enumerate(it["acting"]) if osd == NO_OSD}
         active[it["pgid"]] = "active" in it["state"].split("+")
         states[len(lost), active[it["pgid"]]] += 1
@@ -170,6 +173,20 @@ def scrubbed(pool, since):
     sys.exit(0 if len(done) == len(stats) else 1)
 
 
-if __name__ == "__main__":
+def main(name, *words):
     jobs = (make, write, compare, partial, four, fill, degraded, fullest, sent, acting, racks, scrubbed)
-    {it.__name__: it for it in jobs}[sys.argv[1]](*sys.argv[2:])
+    status = 0
+    try:
+        {it.__name__: it for it in jobs}[name](*words)
+    except SystemExit as end:
+        status = end.code if isinstance(end.code, int) else 1
+        if isinstance(end.code, str):
+            print(end.code, file=sys.stderr)
+    sys.stdout.flush()
+    sys.stderr.flush()
+    # At once, since the interpreter was seen to end by a fault where threads of librados still ran.
+    os._exit(status)
+
+
+if __name__ == "__main__":
+    main(*sys.argv[1:])

@@ -17,21 +17,6 @@ compare() {
   step "$1: $said"
 }
 
-# scrub ERRORS: has all groups of the pool scrubbed deeply, and asks for so many errors.
-scrub() {
-  local since pg said=
-  since=$(date -u +%Y-%m-%dT%H:%M:%S)
-  for pg in $(ceph pg ls-by-pool coded 2> /dev/null | awk '$1 ~ /^[0-9]+\./ { print $1 }'); do
-    ceph pg deep-scrub "$pg" > /dev/null 2>&1
-  done
-  for _ in $(seq 150); do
-    if said=$(objects scrubbed coded "$since"); then break; fi
-    sleep 1
-  done
-  step "scrubbed deeply: $said"
-  [[ $said == *", $1 errors" ]] || fail "there have to be $1 errors"
-}
-
 # shard_bytes get-bytes|set-bytes FILE: the bytes of the shard at $json on the stopped OSD $victim.
 shard_bytes() { ceph-objectstore-tool --data-path "$RUN/osd$victim" "$json" "$1" "$2" > "$RUN/tool.out" 2>&1; }
 
@@ -115,16 +100,38 @@ repair() {
   compare 'repaired, the shard as it was'
 }
 
-# An OSD whose machine has not the plugin, and a placement group of the pool, ends at its start.
+launch_without_plugin() { launch "osd.$1" ceph-osd -f -i "$1" "--erasure_code_dir=$RUN/without" '--osd_erasure_code_plugins=jerasure isa'; }
+
+# ends OSD WHEN: the OSD ends, with the line that docs/CEPH.md names.
+ends() {
+  for _ in $(seq 60); do is_alive "osd.$1" || break; sleep 1; done
+  if is_alive "osd.$1"; then fail "without the plugin osd.$1 runs"; fi
+  grep -qF 'FAILED ceph_assert(ec_impl)' "$RUN/osd.$1.log" || fail "osd.$1 has ended for another reason"
+  step "without the plugin osd.$1 ends $2"
+  compare 'without it'
+}
+
+# An OSD whose machine has not the plugin ends at its start where it has a placement group of the pool, and else as soon as it gets one.
 start_without_plugin() {
-  halt osd.4
   mkdir "$RUN/without"
   find "$PLUGINS/" -name '*.so' ! -name libec_azure_lrc.so -exec ln -s -t "$RUN/without" {} +
-  launch osd.4 ceph-osd -f -i 4 "--erasure_code_dir=$RUN/without" '--osd_erasure_code_plugins=jerasure isa'
-  for _ in $(seq 60); do is_alive osd.4 || break; sleep 1; done
-  if is_alive osd.4; then fail 'without the plugin osd.4 runs'; fi
-  step 'without the plugin osd.4 ends at its start'
-  compare 'without it'
+  halt osd.4
+  launch_without_plugin 4
+  ends 4 'at its start'
+  rm -rf "$RUN/osd0"
+  mkdir "$RUN/osd0"
+  {
+    ceph osd purge 0 --yes-i-really-mean-it
+    ceph osd new "$(cat "$RUN/osd0.uuid")" 0
+    "${BOUND[@]}" ceph-osd --mkfs -c "$CEPH_CONF" -i 0 --osd-uuid "$(cat "$RUN/osd0.uuid")"
+    ceph osd crush add osd.0 0 root=default rack=rack0 host=host0
+  } >> "$RUN/setup.out" 2>&1
+  launch_without_plugin 0
+  wait_for "$((count - 3)) up"
+  sleep 5
+  is_alive osd.0 || fail 'an OSD without a placement group of the pool ends'
+  ceph osd crush reweight osd.0 1 2>> "$RUN/setup.out"
+  ends 0 'when it gets its first placement group'
 }
 
 step "a cluster of $count OSDs in $racks racks, on processors $CPUS"

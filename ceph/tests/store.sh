@@ -1,7 +1,7 @@
 #!/usr/bin/env bash
-# Shards of a pool as the fragments of a store: objects are written, all OSDs stopped, the shards of all but two of them taken out by
-# rebuild-ceph, the others' rebuilt by rebuild-store and compared with what these two hold; then shards are damaged in the OSDs and put
-# back, and the OSDs started.
+# Shards of a pool as the fragments of a store: objects are written, some once more and one removed while an OSD is stopped, all OSDs
+# stopped, the shards of all but two of them taken out by rebuild-ceph, the others' rebuilt by rebuild-store and compared with what these
+# two hold; then shards are damaged in the OSDs and put back, and the OSDs started.
 #   store.sh <program rebuild-store> <rebuild-ceph>
 . "$(dirname "$0")/cluster.sh"
 program=$1
@@ -13,14 +13,32 @@ trap cluster_stop EXIT
 # folders OSD..: the words that name the folders of OSDs.
 folders() { printf -- "--osd\n$RUN/osd%s\n" "$@"; }
 
-# take STORE OSD..: the shards of some OSDs.
+# take STATUS STORE OSD..: the shards of some OSDs.
 take() {
-  local store=$1
-  shift
+  local wanted=$1 store=$2 ended=0
+  shift 2
   mapfile -t words < <(folders "$@")
-  "$taking" export "$store" --pool "$pool" "${words[@]}" > "$RUN/said" 2>&1 || fail "$(cat "$RUN/said")"
+  "$taking" export "$store" --pool "$pool" "${words[@]}" > "$RUN/said" 2> "$RUN/why" || ended=$?
+  [ "$ended" = "$wanted" ] || fail "rebuild-ceph ended with $ended: $(cat "$RUN/why" "$RUN/said")"
   step "$(cat "$RUN/said")"
 }
+
+# miss: an OSD that has a shard of o9 misses that it is removed, and that others are written over.
+miss() {
+  stale=$(objects acting coded o9 | tr ' ' '\n' | tail -n +2 | grep -vxE '0|1' | head -n 1)
+  ceph osd set noout 2> /dev/null
+  halt "osd.$stale"
+  wait_for "$((osds - 1)) up"
+  mkdir "$RUN/late"
+  for object in o2 o3 o8; do head -c 123456 /dev/urandom > "$RUN/late/$object"; done
+  objects write coded "$RUN/late"
+  cp "$RUN/late"/* "$RUN/files"
+  rados -p coded rm o9
+  rm "$RUN/files/o9"
+}
+
+# fragments STORE: how many it has.
+fragments() { find "$1" -type f ! -name '.*' | wc -l; }
 
 # Overwrites one byte of the shards of an object on a stopped OSD.
 damage() {
@@ -44,25 +62,30 @@ objects make "$RUN/files" 10 3000000
 objects write coded "$RUN/files"
 said=$(objects compare coded "$RUN/files") || fail "$said"
 step "$said"
+miss
 # shellcheck disable=SC2046
 halt $(names | grep '^osd')
 mapfile -t living < <(seq ${#dead[@]} $((osds - 1)))
-take "$RUN/dead" "${dead[@]}"
-take "$RUN/store" "${living[@]}"
-before=$(find "$RUN/store" -type f | wc -l)
+take 0 "$RUN/dead" "${dead[@]}"
+take 1 "$RUN/store" "${living[@]}"
+left=$(grep -c "$RUN/osd$stale: is of another write" "$RUN/why" || true)
+over=$(grep 'is of another write' "$RUN/why" | grep -cv '^o9\.' || true)
+step "$left shards of osd.$stale, which missed writes, are left alone"
+[ "$left" = $((over + 1)) ] || fail "not the shards of that OSD alone, and that of the removed object: $(cat "$RUN/why")"
+before=$(fragments "$RUN/store")
 "$program" repair "$RUN/store" --code 6-2-2 > "$RUN/said" 2>&1 || fail "$(cat "$RUN/said")"
 step "$(tail -n 1 "$RUN/said")"
 for file in "$RUN/dead"/*; do cmp "$file" "$RUN/store/${file##*/}" || fail "another ${file##*/} was rebuilt"; done
-lost=$(find "$RUN/dead" -type f | wc -l)
-[ "$(find "$RUN/store" -type f | wc -l)" = $((before + lost)) ] || fail 'the store has other fragments than those of the OSDs'
+lost=$(fragments "$RUN/dead")
+[ "$(fragments "$RUN/store")" = $((before + lost + over)) ] || fail 'the store has other fragments than those of the OSDs'
 step "$lost shards of two OSDs came back as Ceph holds them"
 
 count=0
 for osd in "${dead[@]}"; do for object in o3 o4 o5; do if damage "$object" "$osd"; then count=$((count + 1)); fi; done; done
 mapfile -t words < <(folders $(seq 0 $((osds - 1))))
-"$taking" put "$RUN/store" --pool "$pool" "${words[@]}" > "$RUN/said" 2>&1 || fail "$(cat "$RUN/said")"
+"$taking" put "$RUN/store" --pool "$pool" "${words[@]}" > "$RUN/said" 2> "$RUN/why" || true
 step "$count shards damaged; $(cat "$RUN/said")"
-grep -q "^put $count shards" "$RUN/said" || fail "not $count shards were put back"
+grep -q "^put $count shards" "$RUN/said" || fail "not $count shards were put back: $(cat "$RUN/why")"
 for i in $(seq 0 $((osds - 1))); do osd "$i"; done
 wait_for "$osds up"
 wait_clean 240
