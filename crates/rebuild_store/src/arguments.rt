@@ -2,11 +2,12 @@
 use crate::file_arguments::{
     EncodeOptions, ReadOptions, encode_definition, encode_options, read_definition, read_options,
 };
+use crate::naming::{Naming, with_names};
 use clap::error::ErrorKind;
 use clap::{Arg, ArgAction, ArgMatches, Command as Definition, Error as ParseError};
 use lrc_code::Code;
 use std::alloc::{AllocError, Global};
-use store_folder::{Layout, Pattern};
+use store_repair::Reads;
 use thiserror::Error;
 
 const VERSION: &str = "0.1.0";
@@ -37,11 +38,6 @@ const DRY_RUN_HELP: &str = "Only say what would be done";
 const REPLACE_HELP: &str =
     "Replace fragments that are damaged or have another length; keep them as <name>.damaged";
 
-const NAMES_HELP: &str =
-    "How the files are named: {stripe} and {place}, or {shard} [default: {stripe}.{place}]";
-
-const LAYOUT_HELP: &str = "The order of the shards: plain (data, then px py p0 p1) or groups";
-
 const STRIPES_HELP: &str = "File of the stripes that should be there, a name on each line";
 
 const PART_HELP: &str = "Only the stripes of part I of N, as 3/10";
@@ -54,6 +50,11 @@ const REPORT_HELP: &str =
 
 const JSON_HELP: &str = "Write those rows to standard output, as a JSON object on each line";
 
+const READS_HELP: &str =
+    "The survivors that are read: all, so that damage shows, or as few as are needed";
+
+const LOST_JSON_HELP: &str = "Write the requests as JSON, an object on each line";
+
 const TO_HELP: &str = "Write the rebuilt fragments to this folder and not into the store";
 
 const BAD_WORKERS: &str = "error: --workers takes a number from 1 to 16\n";
@@ -62,10 +63,7 @@ const BAD_PART: &str = "error: --part takes I/N, with I from 1 to N\n";
 
 const NEEDS_CODE: &str = "error: names with {shard} need --code\n";
 
-const LAYOUTS: &[&str] = &["plain", "groups"];
-
-/// The pattern of names that a store has if no other is given.
-pub const DEFAULT_NAMES: &str = "{stripe}.{place}";
+const READS: &[&str] = &["all", "few"];
 
 const NO_COMMAND: &str =
     "error: rebuild-store takes a command\n\nFor more information, try '--help'.\n";
@@ -91,9 +89,7 @@ pub struct Part {
 pub struct Options {
     pub store: String,
     pub code: Option<Code>,
-    /// The pattern of names.
-    pub names: String,
-    pub layout: Layout,
+    pub naming: Naming,
     /// The path of a file of stripes' names.
     pub stripes: Option<String>,
     pub part: Option<Part>,
@@ -105,6 +101,7 @@ pub struct Options {
     pub json: bool,
     /// 1 to 16.
     pub workers: usize,
+    pub reads: Reads,
     pub dry_run: bool,
     pub replace_damaged: bool,
     /// The folder that rebuilt fragments are written to.
@@ -151,9 +148,14 @@ fn definition<'a>(alloc: Global) -> Result<Definition<'a>, AllocError> {
         .arg(workers(alloc))?
         .arg(flag(alloc, "dry-run", DRY_RUN_HELP))?
         .arg(flag(alloc, "replace-damaged", REPLACE_HELP))?
-        .arg(text(alloc, "to", "FOLDER", TO_HELP))?;
+        .arg(text(alloc, "to", "FOLDER", TO_HELP))?
+        .arg(
+            text(alloc, "reads", "WHICH", READS_HELP)
+                .value_parser(READS)
+                .default_value("all"),
+        )?;
     let repair = with_rows(alloc, repair)?;
-    let lost = over_store(alloc, "lost", LOST_ABOUT)?;
+    let lost = over_store(alloc, "lost", LOST_ABOUT)?.arg(flag(alloc, "json", LOST_JSON_HELP))?;
     let scrub = over_store(alloc, "scrub", SCRUB_ABOUT)?.arg(workers(alloc))?;
     let scrub = with_rows(alloc, scrub)?;
     Definition::new(alloc, "rebuild-store")
@@ -183,16 +185,11 @@ fn over_store<'a>(
         .value_name("CODE")
         .value_parser(CODES)
         .help(CODE_HELP);
-    Definition::new(alloc, name)
+    let definition = Definition::new(alloc, name)
         .about(about)
         .arg(store)?
-        .arg(code)?
-        .arg(text(alloc, "names", "PATTERN", NAMES_HELP))?
-        .arg(
-            text(alloc, "layout", "LAYOUT", LAYOUT_HELP)
-                .value_parser(LAYOUTS)
-                .default_value("plain"),
-        )?
+        .arg(code)?;
+    with_names(alloc, definition)?
         .arg(text(alloc, "stripes", "FILE", STRIPES_HELP))?
         .arg(text(alloc, "part", "I/N", PART_HELP))
 }
@@ -231,8 +228,16 @@ fn asked_of(alloc: Global, matches: &ArgMatches<'_>) -> Result<Asked, UsageFault
         Some(("repair", matches)) => command_of(alloc, Command::Repair, matches),
         Some(("lost", matches)) => command_of(alloc, Command::Lost, matches),
         Some(("scrub", matches)) => command_of(alloc, Command::Scrub, matches),
-        Some(("encode", matches)) => Ok(Asked::Encode(encode_options(alloc, matches)?)),
-        Some(("read", matches)) => Ok(Asked::Read(read_options(alloc, matches)?)),
+        Some(("encode", matches)) => {
+            let options = encode_options(alloc, matches)?;
+            refuse_names(alloc, &options.naming, Some(options.code))?;
+            Ok(Asked::Encode(options))
+        }
+        Some(("read", matches)) => {
+            let options = read_options(alloc, matches)?;
+            refuse_names(alloc, &options.naming, Some(Code::Wide))?;
+            Ok(Asked::Read(options))
+        }
         _ => Err(UsageFault::Usage(String::from_str(alloc, NO_COMMAND)?)),
     }
 }
@@ -249,12 +254,8 @@ fn command_of(
     let code = matches
         .get_str("code")
         .and_then(|name| Code::parse(name.as_bytes()));
-    let names = matches.get_str("names").unwrap_or(DEFAULT_NAMES);
-    let layout = match matches.get_str("layout") {
-        Some("groups") => Layout::Groups,
-        _ => Layout::Plain,
-    };
-    refuse_names(alloc, names, layout, code)?;
+    let naming = Naming::of(alloc, matches)?;
+    refuse_names(alloc, &naming, code)?;
     let tests = command != Command::Lost;
     let repairs = command == Command::Repair;
     Ok(Asked::Command(
@@ -262,20 +263,28 @@ fn command_of(
         Options {
             store: String::from_str(alloc, matches.get_str("store").unwrap_or("."))?,
             code,
-            names: String::from_str(alloc, names)?,
-            layout,
+            naming,
             stripes: given(alloc, matches, "stripes", true)?,
             part: part_of(alloc, matches.get_str("part"))?,
             tests,
             sums: given(alloc, matches, "sums", tests)?,
             report: given(alloc, matches, "report", tests)?,
-            json: tests && matches.get_flag("json"),
+            json: matches.get_flag("json"),
             workers,
+            reads: reads_of(matches, repairs),
             dry_run: repairs && matches.get_flag("dry-run"),
             replace_damaged: repairs && matches.get_flag("replace-damaged"),
             to: given(alloc, matches, "to", repairs)?,
         },
     ))
+}
+
+// Which survivors are read. Only a repair can read few of them.
+fn reads_of(matches: &ArgMatches<'_>, repairs: bool) -> Reads {
+    if repairs && matches.get_str("reads") == Some("few") {
+        return Reads::Few;
+    }
+    Reads::All
 }
 
 // What an option of a command was given.
@@ -295,13 +304,8 @@ fn given(
 }
 
 // Refuses a pattern of names that isn't one, or that needs the code's name.
-fn refuse_names(
-    alloc: Global,
-    names: &str,
-    layout: Layout,
-    code: Option<Code>,
-) -> Result<(), UsageFault> {
-    match Pattern::parse(names, layout) {
+fn refuse_names(alloc: Global, naming: &Naming, code: Option<Code>) -> Result<(), UsageFault> {
+    match naming.pattern() {
         Err(fault) => Err(UsageFault::Usage(format!(in alloc; "error: {fault}\n")?)),
         Ok(pattern) if pattern.has_shards() && code.is_none() => {
             Err(UsageFault::Usage(String::from_str(alloc, NEEDS_CODE)?))

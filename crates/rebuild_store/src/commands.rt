@@ -5,13 +5,14 @@ use crate::progress::Progress;
 use crate::reports::{Rows, file_of, line_of, rows_of, write_report};
 use crate::statuses::{DEVICE, DONE, LEFT};
 use crate::stores::OpenStore;
-use crate::totals::{Totals, totals_of};
+use crate::summaries::{planned, repaired, scrubbed};
+use crate::totals::totals_of;
 use crate::workers::{Done, Work, work_on};
 use std::sync::atomic::AtomicU64;
 use std::thread::Threads;
 use std::{fs, io};
 use store_folder::{FolderStore, Pattern, Site, is_leftover_of};
-use store_repair::{Repair, Stripe};
+use store_repair::{Reads, Repair, Stripe};
 
 /// Repairs the stripes, says what was done and what is left, and gives the exit status.
 pub fn repair_all<R: Threads + Sync>(
@@ -45,11 +46,12 @@ pub fn repair_all<R: Threads + Sync>(
     let progress = Progress::new(system, alloc, store.code, stripes.as_slice())?;
     let repair = Repair {
         code: store.code,
+        reads: options.reads,
         replace_damaged: options.replace_damaged,
         elsewhere: options.to.is_some(),
     };
     let work = if options.dry_run {
-        Work::Plan(store.code)
+        Work::Plan(repair)
     } else {
         Work::Repair(repair, &progress)
     };
@@ -100,7 +102,7 @@ fn say_repaired(
             let line = line_of(alloc, site, stripe, finding)?;
             eprintln!(rt; "{line}")?;
         }
-        if !done.outcome.is_checked {
+        if !done.outcome.is_checked && options.reads == Reads::All {
             for place in &done.outcome.rebuilt {
                 let name = file_of(alloc, site, stripe, *place)?;
                 eprintln!(rt;
@@ -111,27 +113,16 @@ fn say_repaired(
     }
     say_rows(rt, stripes, all, options)?;
     let totals = totals_of(all);
-    let verb = if options.dry_run {
-        "would repair"
+    let summary = if options.dry_run {
+        planned(alloc, site, stripes, all, &totals)?
     } else {
-        "repaired"
+        repaired(alloc, site, stripes, all, &totals)?
     };
-    let Totals {
-        rebuilt,
-        bytes,
-        unchecked,
-        damaged,
-        left,
-        ..
-    } = totals;
-    let summary = format!(in alloc;
-        "{verb} {rebuilt} fragments of {bytes} bytes ({unchecked} unchecked); damaged: {damaged}; not possible: {left}"
-    )?;
     say_summary(rt, summary.as_str(), options)?;
     if totals.device {
         return Ok(DEVICE);
     }
-    if left > 0 || (options.dry_run && rebuilt > 0) {
+    if totals.left > 0 || (options.dry_run && totals.rebuilt > 0) {
         return Ok(LEFT);
     }
     Ok(DONE)
@@ -212,17 +203,13 @@ fn say_scrubbed(
         }
     }
     say_rows(rt, stripes, all, options)?;
-    let count = stripes.len();
     let totals = totals_of(all);
-    let Totals { damaged, left, .. } = totals;
-    let summary = format!(in alloc;
-        "scrubbed {count} stripes: {damaged} damaged, {left} lost or contradictory, {unchecked} stripes without any check"
-    )?;
+    let summary = scrubbed(alloc, stripes.len(), &totals, unchecked)?;
     say_summary(rt, summary.as_str(), options)?;
     if totals.device {
         return Ok(DEVICE);
     }
-    if left > 0 {
+    if totals.left > 0 {
         return Ok(LEFT);
     }
     Ok(DONE)

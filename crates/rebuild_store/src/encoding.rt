@@ -1,48 +1,27 @@
 //! Encoding files into a store: the fragments of each one's stripe, its description, and the store's sums.
-ghost use Rattle.std.specs.Prelude.{◌≡◌, IfOk, vec_len};
+ghost use Rattle.std.specs.Prelude.{◌≡◌, IfOk, length, vec_len};
+ghost use Rattle.lrc_code.specs.Codes.{tables_of};
 
-use crate::digesting::{Digest, DigestedFile, digest_at};
+use crate::digesting::{DigestedFile, digest_at};
 use crate::file_arguments::EncodeOptions;
 use crate::file_faults::{FileFault, device, encode_fault};
+use crate::naming::{Naming, fragment_name};
 use crate::sources::{base_name, is_changed, regular};
 use crate::statuses::{DEVICE, DONE, LEFT};
 use crate::store_sums::{stored_sums, write_sums};
 use crate::stores::{is_of_another_code, lock_folder};
+use crate::summaries::counted;
+use crate::targets::{
+    Made, Target, discard_all, is_there, is_there_already, place_fragments, place_one,
+};
 use lrc_code::{Code, Place};
 use std::fs;
-use std::io::{self, ErrorKind};
+use std::io::ErrorKind;
 use store_folder::{
-    Described, NewFile, Pattern, Placed, Sums, description_name, file_name, list, open_fragment,
-    path_in, place_new, read_description, remove_leftovers, sync_folder,
+    Described, NewFile, Pattern, description_name, folder_of, list, open_fragment, path_in,
+    read_description, remove_leftovers, sync_folder,
 };
 use store_repair::{NewFragment, encode, fragment_length};
-
-// A store that files are encoded into, and the digests of what is in it.
-#[derive(Drop)]
-struct Target<'a> {
-    folder: &'a str,
-    code: Code,
-    sums: Sums,
-    // Whether the digests are others than those in the store's file of them.
-    is_changed: bool,
-    // The number of the next new file.
-    number: u64,
-}
-
-// A new file, whole, and its digest.
-#[derive(Drop)]
-struct Made {
-    file: NewFile,
-    digest: Digest,
-}
-
-// What is under a name.
-#[derive(Clone, Copy, PartialEq, Eq)]
-enum There {
-    Nothing,
-    TheSame,
-    Another,
-}
 
 /// Encodes files, says what was done and what wasn't, and gives the exit status.
 pub fn encode_all(rt: &HostRuntime, options: &EncodeOptions) -> Result<u8, FileFault> {
@@ -50,7 +29,13 @@ pub fn encode_all(rt: &HostRuntime, options: &EncodeOptions) -> Result<u8, FileF
     let folder = options.store.as_str();
     make_folder(rt, folder)?;
     let _lock = lock_folder(rt, folder)?;
-    let listing = list(rt, folder, &Pattern::PLAIN, Code::Wide).map_err(|error| device(
+    let pattern = pattern_of(rt, &options.naming)?;
+    let read_as = if pattern.has_shards() {
+        options.code
+    } else {
+        Code::Wide
+    };
+    let listing = list(rt, folder, &pattern, read_as).map_err(|error| device(
         alloc, folder, error,
     ))?;
     remove_leftovers(rt, listing.leftovers.as_slice()).map_err(|error| device(
@@ -58,12 +43,13 @@ pub fn encode_all(rt: &HostRuntime, options: &EncodeOptions) -> Result<u8, FileF
     ))?;
     let mut target = Target {
         folder,
+        pattern,
         code: options.code,
         sums: stored_sums(rt, folder)?,
         is_changed: false,
         number: 0,
     };
-    if is_of_another_code(&listing, options.code) {
+    if !pattern.has_shards() && is_of_another_code(&listing, options.code) {
         let other = match options.code {
             Code::Narrow => Code::Wide,
             Code::Wide => Code::Narrow,
@@ -85,12 +71,23 @@ pub fn encode_all(rt: &HostRuntime, options: &EncodeOptions) -> Result<u8, FileF
     }
     write_new_sums(rt, &target)?;
     let left = (options.files.len() as u64).saturating_sub(encoded);
-    println!(rt; "encoded {encoded} files; not encoded: {left}").map_err(|error| device(
+    let encoded = counted(alloc, encoded, "file")?;
+    println!(rt; "encoded {encoded}; not encoded: {left}").map_err(|error| device(
         alloc,
         "standard output",
         error,
     ))?;
     Ok(status)
+}
+
+/// The pattern of names that the arguments say.
+pub fn pattern_of<'n>(rt: &HostRuntime, naming: &'n Naming) -> Result<Pattern<'n>, FileFault> {
+    match naming.pattern() {
+        Ok(pattern) => Ok(pattern),
+        Err(fault) => Err(FileFault::Refused {
+            what: format!(in rt.alloc(); "{fault}")?,
+        }),
+    }
 }
 
 // Says why a file isn't encoded, and gives the exit status.
@@ -123,6 +120,7 @@ fn encode_one(rt: &HostRuntime, target: &mut Target<'_>, path: &str) -> Result<(
         code: target.code,
     };
     refuse_others(rt, target, name, &described)?;
+    let names = target.names(alloc, name)?;
     let made = make_fragments(rt, target, name, path, length)?;
     let after = match regular(rt, path) {
         Ok(after) => after,
@@ -136,13 +134,8 @@ fn encode_one(rt: &HostRuntime, target: &mut Target<'_>, path: &str) -> Result<(
         let what = format!(in alloc; "{path}: changed while it was read")?;
         return Err(FileFault::Refused { what });
     }
-    place_fragments(
-        rt,
-        target,
-        name,
-        fragment_length(target.code, length as usize),
-        made,
-    )?;
+    let fragment_bytes = fragment_length(target.code, length as usize);
+    place_fragments(rt, target, names.as_slice(), fragment_bytes, made)?;
     place_description(rt, target, name, &described)
 }
 
@@ -162,9 +155,12 @@ fn refuse_others(
             _ => return Err(is_there_already(rt, description.as_str())?),
         }
     }
+    if target.pattern.has_shards() {
+        return Ok(());
+    }
     for place in &Place::ALL {
         if !target.code.has(*place) {
-            let fragment = file_name(alloc, name, *place)?;
+            let fragment = fragment_name(alloc, &target.pattern, Code::Wide, name, *place)?;
             let path = path_in(alloc, target.folder, fragment.as_str())?;
             if is_there(rt, path.as_str())? {
                 return Err(is_there_already(rt, fragment.as_str())?);
@@ -172,20 +168,6 @@ fn refuse_others(
         }
     }
     Ok(())
-}
-
-// Whether there is anything under a name.
-fn is_there(rt: &HostRuntime, path: &str) -> Result<bool, FileFault> {
-    match fs::symlink_metadata(rt, path) {
-        Ok(_) => Ok(true),
-        Err(error) if error.kind() == ErrorKind::NotFound => Ok(false),
-        Err(error) => Err(device(rt.alloc(), path, error)),
-    }
-}
-
-fn is_there_already(rt: &HostRuntime, name: &str) -> Result<FileFault, FileFault> {
-    let what = format!(in rt.alloc(); "{name}: is there already, with other bytes")?;
-    Ok(FileFault::Refused { what })
 }
 
 // Makes the fragments of a file, under temporary names.
@@ -198,11 +180,7 @@ fn make_fragments(
 ) -> Result<Vec<Made>, FileFault> {
     let alloc = rt.alloc();
     let source = open_fragment(rt, path, length).map_err(|error| device(alloc, path, error))?;
-    let many = target.code.places().len();
-    let mut files = match new_files(rt, target.folder, target.number, many) {
-        Ok(files) => files,
-        Err(error) => return Err(device(alloc, target.folder, error)),
-    };
+    let mut files = new_files(rt, target, name)?;
     target.number = target.number.saturating_add(16);
     let done = encode(
         alloc,
@@ -211,7 +189,7 @@ fn make_fragments(
         length as usize,
         files.as_mut_slice(),
     );
-    let mut made = Vec::with_capacity(alloc, many)?;
+    let mut made = Vec::with_capacity(alloc, 16)?;
     for file in files {
         let (file, digest) = file.finish();
         made.push(Made { file, digest })?;
@@ -220,136 +198,42 @@ fn make_fragments(
         Ok(()) => Ok(made),
         Err(fault) => {
             discard_all(rt, target.folder, made)?;
-            let fragments = path_in(alloc, target.folder, name)?;
+            let fragments = target.path(alloc, name)?;
             Err(encode_fault(alloc, path, fragments.as_str(), fault))
         }
     }
 }
 
-// So many new files. Where one is refused, the others are removed again.
+// A new file for each fragment of a stripe, in the folder that the fragment is to be in. Where one is refused, the others are removed
+// again.
 fn new_files(
     rt: &HostRuntime,
-    folder: &str,
-    first: u64,
-    count: usize,
-) -> io::Result<Vec<DigestedFile>>
-    ensures { IfOk result (λ v. vec_len v ≡ count) }
+    target: &Target<'_>,
+    stripe: &str,
+) -> Result<Vec<DigestedFile>, FileFault>
+    ensures { IfOk result (λ v. vec_len v ≡ length (tables_of target.now.code).places) }
 {
-    let mut files = Vec::with_capacity(rt.alloc(), count)?;
-    'files: while files.len() < count {
-        let number = first.saturating_add(files.len() as u64);
-        match NewFile::create_as_user(rt, rt.alloc(), folder, number) {
+    let alloc = rt.alloc();
+    let places = target.code.places();
+    let mut files = Vec::with_capacity(alloc, places.len())?;
+    'files: while files.len() < places.len() {
+        let name = target.name_of(alloc, stripe, places[files.len()])?;
+        let path = target.path(alloc, name.as_str())?;
+        let folder = folder_of(path.as_str());
+        let number = target.number.saturating_add(files.len() as u64);
+        match NewFile::create_as_user(rt, alloc, folder, number) {
             Ok(file) => files.push(DigestedFile::new(file))?,
             Err(error) => {
                 for file in files {
                     let (file, _) = file.finish();
-                    file.discard(rt)?;
+                    file.discard(rt)
+                        .map_err(|error| device(alloc, target.folder, error))?;
                 }
-                return Err(error);
+                return Err(device(alloc, folder, error));
             }
         }
     }
     Ok(files)
-}
-
-fn discard_all(rt: &HostRuntime, folder: &str, made: Vec<Made>) -> Result<(), FileFault> {
-    for Made { file, .. } in made {
-        file.discard(rt)
-            .map_err(|error| device(rt.alloc(), folder, error))?;
-    }
-    Ok(())
-}
-
-// What is under the name at a path, beside a file of a length and a digest.
-fn what_is_there(
-    rt: &HostRuntime,
-    path: &str,
-    length: u64,
-    digest: &Digest,
-) -> Result<There, FileFault> {
-    if !is_there(rt, path)? {
-        return Ok(There::Nothing);
-    }
-    match digest_at(rt, path, length) {
-        Ok(found) if found == *digest => Ok(There::TheSame),
-        Err(error) if error.kind() == ErrorKind::OutOfMemory => Err(FileFault::OutOfMemory),
-        _ => Ok(There::Another),
-    }
-}
-
-// Gives each fragment its name, unless it is there. Where another file has one of the names, none gets its own.
-fn place_fragments(
-    rt: &HostRuntime,
-    target: &mut Target<'_>,
-    name: &str,
-    length: usize,
-    made: Vec<Made>,
-) -> Result<(), FileFault> {
-    let alloc = rt.alloc();
-    let places = target.code.places();
-    for (place, made_file) in places.iter().zip(made.iter()) {
-        let fragment = file_name(alloc, name, *place)?;
-        let path = path_in(alloc, target.folder, fragment.as_str())?;
-        let digest = made_file.digest;
-        let there = match what_is_there(rt, path.as_str(), length as u64, &digest) {
-            Ok(there) => there,
-            Err(fault) => {
-                discard_all(rt, target.folder, made)?;
-                return Err(fault);
-            }
-        };
-        if there == There::Another {
-            discard_all(rt, target.folder, made)?;
-            return Err(is_there_already(rt, fragment.as_str())?);
-        }
-    }
-    let mut refused = None;
-    for (place, made_file) in places.iter().zip(made) {
-        if refused.is_some() {
-            made_file
-                .file
-                .discard(rt)
-                .map_err(|error| device(alloc, target.folder, error))?;
-            continue;
-        }
-        let fragment = file_name(alloc, name, *place)?;
-        refused = place_one(rt, target, fragment.as_str(), length as u64, made_file).err();
-    }
-    if let Some(fault) = refused {
-        return Err(fault);
-    }
-    sync_folder(rt, target.folder).map_err(|error| device(alloc, target.folder, error))
-}
-
-// Gives a file its name, unless it is there, and notes its digest.
-fn place_one(
-    rt: &HostRuntime,
-    target: &mut Target<'_>,
-    name: &str,
-    length: u64,
-    made: Made,
-) -> Result<(), FileFault> {
-    let alloc = rt.alloc();
-    let path = path_in(alloc, target.folder, name)?;
-    let digest = made.digest;
-    match place_new(rt, made.file, path.as_str()) {
-        Ok(Placed::Placed) => {}
-        Ok(Placed::IsThere) => {
-            if what_is_there(rt, path.as_str(), length, &digest)? != There::TheSame {
-                return Err(is_there_already(rt, name)?);
-            }
-        }
-        Err(error) => return Err(device(alloc, path.as_str(), error)),
-    }
-    let is_known = match target.sums.digest_of(name) {
-        Some(known) => *known == digest,
-        None => false,
-    };
-    if !is_known {
-        target.sums.set(alloc, name, digest)?;
-        target.is_changed = true;
-    }
-    Ok(())
 }
 
 // Writes the description of a file, last of all that is of its stripe.

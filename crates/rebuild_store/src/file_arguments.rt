@@ -1,4 +1,5 @@
 //! The arguments of the commands that encode and read files.
+use crate::naming::{Naming, with_names};
 use clap::{Arg, ArgAction, ArgMatches, Command as Definition};
 use lrc_code::Code;
 use std::alloc::{AllocError, Global};
@@ -23,6 +24,7 @@ pub struct EncodeOptions {
     pub store: String,
     pub files: Vec<String>,
     pub code: Code,
+    pub naming: Naming,
 }
 
 /// Which file is read, and from which store.
@@ -30,6 +32,7 @@ pub struct EncodeOptions {
 pub struct ReadOptions {
     pub store: String,
     pub name: String,
+    pub naming: Naming,
 }
 
 /// The definition of the command that encodes.
@@ -45,11 +48,12 @@ pub fn encode_definition<'a>(alloc: Global) -> Result<Definition<'a>, AllocError
         .value_parser(CODES)
         .default_value("6-2-2")
         .help(CODE_HELP);
-    Definition::new(alloc, "encode")
+    let definition = Definition::new(alloc, "encode")
         .about(ENCODE_ABOUT)
         .arg(store(alloc))?
         .arg(files)?
-        .arg(code)
+        .arg(code)?;
+    with_names(alloc, definition)
 }
 
 /// The definition of the command that reads.
@@ -58,10 +62,11 @@ pub fn read_definition<'a>(alloc: Global) -> Result<Definition<'a>, AllocError> 
         .required(true)
         .value_name("NAME")
         .help(NAME_HELP);
-    Definition::new(alloc, "read")
+    let definition = Definition::new(alloc, "read")
         .about(READ_ABOUT)
         .arg(store(alloc))?
-        .arg(name)
+        .arg(name)?;
+    with_names(alloc, definition)
 }
 
 fn store<'a>(alloc: Global) -> Arg<'a> {
@@ -87,6 +92,7 @@ pub fn encode_options(
             .get_str("code")
             .and_then(|name| Code::parse(name.as_bytes()))
             .unwrap_or(Code::Narrow),
+        naming: Naming::of(alloc, matches)?,
     })
 }
 
@@ -95,5 +101,6 @@ pub fn read_options(alloc: Global, matches: &ArgMatches<'_>) -> Result<ReadOptio
     Ok(ReadOptions {
         store: String::from_str(alloc, matches.get_str("store").unwrap_or("."))?,
         name: String::from_str(alloc, matches.get_str("name").unwrap_or(""))?,
+        naming: Naming::of(alloc, matches)?,
     })
 }

@@ -2,15 +2,18 @@
 ghost use Rattle.std.specs.Prelude.{◌≡◌, IfOk, None, length, vec_len};
 ghost use Rattle.store_repair.specs.Files.{fragment_length};
 
-use crate::digesting::{DigestAlone, digests_of};
+use crate::digesting::DigestAlone;
+use crate::encoding::pattern_of;
 use crate::file_arguments::ReadOptions;
 use crate::file_faults::{FileFault, device};
+use crate::naming::fragment_name;
 use crate::statuses::DONE;
 use lrc_code::{Place, PlaceSet};
+use std::alloc::AllocError;
 use std::io::{self, BufWriter, ErrorKind, Write};
 use store_folder::{
-    Described, FileFragment, SUMS_NAME, description_name, file_name, open_fragment, path_in,
-    read_description, read_sums,
+    Described, FileFragment, Pattern, SUMS_NAME, description_name, digests_of, open_fragment,
+    path_in, read_description, read_sums,
 };
 use store_repair::{MendFault, NewFragment, Survivors, fragment_length, read_file, without};
 
@@ -39,6 +42,7 @@ struct Fragments {
 #[derive(Clone, Copy)]
 struct Wanted<'a> {
     folder: &'a str,
+    pattern: Pattern<'a>,
     name: &'a str,
     described: Described,
     // How many bytes each fragment has.
@@ -53,6 +57,7 @@ pub fn read_one(rt: &HostRuntime, options: &ReadOptions) -> Result<u8, FileFault
     let described = description_of(rt, folder, name)?;
     let wanted = Wanted {
         folder,
+        pattern: pattern_of(rt, &options.naming)?,
         name,
         described,
         length: fragment_length(described.code, described.length as usize),
@@ -114,7 +119,7 @@ fn open_at(
     place: Place,
 ) -> Result<Option<FileFragment>, FileFault> {
     let alloc = rt.alloc();
-    let name = file_name(alloc, wanted.name, place)?;
+    let name = name_of(rt, wanted, place)?;
     let path = path_in(alloc, wanted.folder, name.as_str())?;
     match open_fragment(rt, path.as_str(), wanted.length as u64) {
         Ok(fragment) => Ok(Some(fragment)),
@@ -124,6 +129,12 @@ fn open_at(
             Ok(None)
         }
     }
+}
+
+// The name in the store of the fragment at a place.
+fn name_of(rt: &HostRuntime, wanted: &Wanted<'_>, place: Place) -> Result<String, AllocError> {
+    let code = wanted.described.code;
+    fragment_name(rt.alloc(), &wanted.pattern, code, wanted.name, place)
 }
 
 // A set of fragments that gives the file: all, or those that have the digests of the store's sums, or all but one or two.
@@ -188,15 +199,15 @@ fn with_digests(
     let Ok(sums) = read_sums(rt, path.as_str()) else {
         return Ok(fragments.set);
     };
-    let digests = match digests_of(alloc, fragments.opened.as_slice(), wanted.length) {
-        Ok(digests) => digests,
-        Err(error) if error.kind() == ErrorKind::OutOfMemory => return Err(FileFault::OutOfMemory),
-        Err(_) => return Ok(fragments.set),
-    };
+    let mut opened = Vec::with_capacity(alloc, fragments.opened.len())?;
+    for fragment in &fragments.opened {
+        opened.push(fragment.as_ref())?;
+    }
+    let digests = digests_of(alloc, opened.as_slice(), wanted.length)?;
     let mut set = PlaceSet::empty();
     for (place, digest) in Place::ALL.iter().zip(digests.iter()) {
-        let name = file_name(alloc, wanted.name, *place)?;
-        if let Some(digest) = digest {
+        let name = name_of(rt, wanted, *place)?;
+        if let Some(Ok(digest)) = digest {
             let fits = match sums.digest_of(name.as_str()) {
                 Some(listed) => *listed == *digest,
                 None => true,

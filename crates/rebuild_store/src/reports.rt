@@ -1,11 +1,12 @@
 //! What is said of fragments: lines, and the rows of a report.
+use crate::naming::fragment_name;
 use crate::workers::Done;
 use csv::WriterBuilder;
 use lrc_code::Place;
 use serde_json::Value;
 use std::alloc::{AllocError, Global};
 use std::io::{self, ErrorKind};
-use store_folder::{NewFile, Site, place_again};
+use store_folder::{NewFile, Site, folder_of, place_again};
 use store_repair::{Finding, Outcome, Stripe};
 
 /// The form of a report's rows.
@@ -33,10 +34,7 @@ pub fn file_of(
     stripe: &Stripe<'_>,
     place: Place,
 ) -> Result<String, AllocError> {
-    match site.pattern.name_of(alloc, site.code, stripe.name, place)? {
-        Some(name) => Ok(name),
-        None => String::from_str(alloc, stripe.name),
-    }
+    fragment_name(alloc, &site.pattern, site.code, stripe.name, place)
 }
 
 /// The line of a finding.
@@ -157,19 +155,14 @@ fn add_object(alloc: Global, row: &Row<'_>, text: &mut String) -> io::Result<()>
     Ok(())
 }
 
-// A text as JSON has it.
-fn quoted(alloc: Global, text: &str) -> Result<String, AllocError> {
+/// A text as JSON has it.
+pub fn quoted(alloc: Global, text: &str) -> Result<String, AllocError> {
     Value::String(String::from_str(alloc, text)?).to_string(alloc)
 }
 
 /// Writes a report to the file at a path, which has the whole report or is as it was.
 pub fn write_report(rt: &HostRuntime, path: &str, rows: &str) -> io::Result<()> {
-    let folder = match path.rsplit_once('/') {
-        Some(("", _)) => "/",
-        Some((folder, _)) => folder,
-        None => ".",
-    };
-    let mut file = NewFile::create_as_user(rt, rt.alloc(), folder, 0)?;
+    let mut file = NewFile::create_as_user(rt, rt.alloc(), folder_of(path), 0)?;
     store_repair::NewFragment::append(&mut file, rows.as_bytes())?;
     place_again(rt, file, path)
 }

@@ -1,7 +1,9 @@
 //! The command `lost`: the request list of what is lost.
 use crate::arguments::Options;
+use crate::reports::{Rows, quoted};
 use crate::statuses::{DEVICE, DONE, LEFT};
 use crate::stores::OpenStore;
+use crate::summaries::counted;
 use lrc_code::{Code, Place, PlaceSet};
 use std::alloc::{AllocError, Global};
 use std::io::{self, BufWriter, Write};
@@ -23,11 +25,9 @@ pub fn write_requests(
 ) -> io::Result<u8> {
     let alloc = rt.alloc();
     let mut output = BufWriter::new(alloc, io::writer(rt))?;
-    let header = match store.code {
-        Code::Narrow => "order,stripe,target,length,survivors\n",
-        Code::Wide => "order,stripe,target,length,survivors,code\n",
-    };
-    output.write_all(header.as_bytes())?;
+    if !options.json {
+        output.write_all(header_of(store.code).as_bytes())?;
+    }
     let stripes = store.stripes(rt, options.part)?;
     let mut is_device = false;
     let mut lost = 0u64;
@@ -36,7 +36,8 @@ pub fn write_requests(
         let places = lost_of(alloc, store.code, stripe)?;
         lost = lost.saturating_add(places.len() as u64);
         is_device |= say_unknown(rt, pattern, store.code, stripe, places.as_slice())?;
-        let listed = request_lines(alloc, store.code, stripe, places.as_slice())?;
+        let form = if options.json { Rows::Json } else { Rows::Csv };
+        let listed = request_lines(alloc, store.code, stripe, places.as_slice(), form)?;
         if let Some(lines) = listed {
             output.write_all(lines.as_bytes())?;
             continue;
@@ -52,8 +53,9 @@ pub fn write_requests(
         }
     }
     output.flush()?;
-    let stripes = stripes.len();
-    eprintln!(rt; "{stripes} stripes; {lost} fragments lost, {unlisted} of them not in the list")?;
+    let stripes = counted(alloc, stripes.len() as u64, "stripe")?;
+    let fragments = counted(alloc, lost, "fragment")?;
+    eprintln!(rt; "{stripes}; {fragments} lost, {unlisted} of them not in the list")?;
     if is_device {
         return Ok(DEVICE);
     }
@@ -90,24 +92,66 @@ fn lost_of(alloc: Global, code: Code, stripe: &Stripe<'_>) -> Result<Vec<Place>,
         .lost(alloc, code, stripe.files.length().unwrap_or(0))
 }
 
-// The requests for lost fragments of a stripe, if a list takes them.
+// The first line of a list.
+fn header_of(code: Code) -> &'static str {
+    match code {
+        Code::Narrow => "order,stripe,target,length,survivors\n",
+        Code::Wide => "order,stripe,target,length,survivors,code\n",
+    }
+}
+
+// The requests for lost fragments of a stripe, if a list takes them; as JSON, of any stripe.
 fn request_lines(
     alloc: Global,
     code: Code,
     stripe: &Stripe<'_>,
     places: &[Place],
+    form: Rows,
 ) -> Result<Option<String>, AllocError> {
     let length = stripe.files.length().unwrap_or(0);
-    if !can_be_asked(stripe.name, length) {
+    if form == Rows::Csv && !can_be_asked(stripe.name, length) {
         return Ok(None);
     }
     let survivors = stripe.files.survivors(code, length);
     let mut lines = String::new(alloc);
     for place in places {
-        let line = line_of(alloc, code, stripe.name, place.name(), length, survivors)?;
+        let place = place.name();
+        let line = match form {
+            Rows::Csv => line_of(alloc, code, stripe.name, place, length, survivors)?,
+            Rows::Json => object_of(alloc, code, stripe.name, place, length, survivors)?,
+        };
         lines.push_str(line.as_str())?;
     }
     Ok(Some(lines))
+}
+
+// The request for a lost fragment, as an object.
+fn object_of(
+    alloc: Global,
+    code: Code,
+    stripe: &str,
+    place: &str,
+    length: u64,
+    survivors: PlaceSet,
+) -> Result<String, AllocError> {
+    let stripe = quoted(alloc, stripe)?;
+    let mut names = String::new(alloc);
+    for survivor in code.places() {
+        if survivors.has(*survivor) {
+            let name = quoted(alloc, survivor.name())?;
+            if !names.is_empty() {
+                names.push(',')?;
+            }
+            names.push_str(name.as_str())?;
+        }
+    }
+    let code = code.text();
+    let wanted = format!(in alloc;
+        "\"stripe\":{stripe},\"target\":\"{place}\",\"length\":{length}"
+    )?;
+    format!(in alloc;
+        "{{\"order\":\"rebuild\",{wanted},\"survivors\":[{names}],\"code\":\"{code}\"}}\n"
+    )
 }
 
 // Whether a list takes a stripe of this name and length.

@@ -96,7 +96,7 @@ pub fn open_store(
         expect_stripes(rt, &mut listing, path.as_str())?;
     }
     if listing.stripes.is_empty() {
-        let names = String::from_str(alloc, options.names.as_str())?;
+        let names = String::from_str(alloc, options.naming.text.as_str())?;
         return Err(StoreFault::NoFragments { folder, names });
     }
     let code = match options.code {

@@ -12,7 +12,7 @@ use store_repair::{Outcome, Repair, Stripe, plan_stripe, repair_stripe, scrub_st
 #[derive(Clone, Copy)]
 pub enum Work<'p, 'r> {
     Repair(Repair, &'p Progress<'r>),
-    Plan(Code),
+    Plan(Repair),
     Scrub(Code),
 }
 
@@ -68,7 +68,7 @@ fn take_stripes(
                 progress.count(&outcome);
                 outcome
             }
-            Work::Plan(code) => plan_stripe(system.alloc(), &store, code, stripe)?,
+            Work::Plan(repair) => plan_stripe(system.alloc(), &store, &repair, stripe)?,
             Work::Scrub(code) => scrub_stripe(system.alloc(), &store, code, stripe)?,
         };
         all.push(Done { index, outcome })?;

@@ -2,7 +2,8 @@
 ghost use Rattle.std.specs.Prelude.{None};
 ghost use Rattle.store_repair.specs.Store.{never};
 
-use crate::names::path_in;
+use crate::digesting::{Digest, digests_of};
+use crate::names::{folder_of, path_in};
 use crate::patterns::Pattern;
 use crate::placing::{UNFINISHED, sync_folder, take_after};
 use crate::sums::Sums;
@@ -14,7 +15,7 @@ use std::fs::{self, File, Metadata};
 use std::io::{self, ErrorKind, Write};
 use std::os::unix::fs::{MetadataExt, OpenOptionsExt};
 use std::sync::atomic::{AtomicU64, Ordering};
-use store_repair::{NameFault, NewFragment, Placed, Store};
+use store_repair::{NameFault, NewFragment, Placed, Refused, Store};
 
 /// How many links to links are followed.
 const MOST_LINKS: usize = 16;
@@ -61,7 +62,7 @@ pub struct UnfinishedFile {
 #[derive(Drop)]
 struct Held {
     digest: Sha256,
-    wanted: [u8; 32],
+    wanted: Digest,
 }
 
 impl Held {
@@ -113,12 +114,27 @@ impl<'a> FolderStore<'a> {
     }
 
     // The digest that a fragment has to have, if the store's checksums say one.
-    fn sum_of(&self, stripe: &str, place: Place) -> io::Result<Option<[u8; 32]>> {
+    fn sum_of(&self, stripe: &str, place: Place) -> Result<Option<Digest>, AllocError> {
         let Some(sums) = self.site.sums else {
             return Ok(None);
         };
-        let name = self.name_of(stripe, place)?;
-        Ok(sums.digest_of(name.as_str()).copied())
+        let site = &self.site;
+        let name = site
+            .pattern
+            .name_of(self.rt.alloc(), site.code, stripe, place)?;
+        Ok(match name {
+            Some(name) => sums.digest_of(name.as_str()).copied(),
+            None => None,
+        })
+    }
+
+    // The digests that a stripe's fragments have to have, by their places' indexes.
+    fn sums_of(&self, alloc: Global, stripe: &str) -> Result<Vec<Option<Digest>>, AllocError> {
+        let mut sums = Vec::with_capacity(alloc, Place::ALL.len())?;
+        for place in &Place::ALL {
+            sums.push(self.sum_of(stripe, *place)?)?;
+        }
+        Ok(sums)
     }
 
     // What is said of a file of the stripe, whose owner and mode its rebuilt fragments get.
@@ -221,13 +237,33 @@ impl Store for FolderStore<'_> {
 
     fn open(&self, stripe: &str, place: Place, length: usize) -> io::Result<FileFragment> {
         let path = self.path_of(self.site.folder, stripe, place)?;
-        let fragment = open_fragment(self.rt, path.as_str(), length as u64)?;
-        if let Some(wanted) = self.sum_of(stripe, place)? {
-            if digest_of(self.rt.alloc(), &fragment, length)? != wanted {
-                return Err(io::Error::from(ErrorKind::InvalidData));
+        open_fragment(self.rt, path.as_str(), length as u64)
+    }
+
+    fn refused(
+        &self,
+        alloc: Global,
+        stripe: &str,
+        length: usize,
+        fragments: &[Option<FileFragment>],
+    ) -> Result<Vec<Refused>, AllocError> {
+        let mut refused = Vec::new(alloc);
+        let sums = self.sums_of(alloc, stripe)?;
+        let mut held = Vec::with_capacity(alloc, fragments.len())?;
+        for (fragment, sum) in fragments.iter().zip(sums.iter()) {
+            held.push(match sum {
+                Some(_) => fragment.as_ref(),
+                None => None,
+            })?;
+        }
+        let digests = digests_of(alloc, held.as_slice(), length)?;
+        for (place, (digest, sum)) in Place::ALL.iter().zip(digests.into_iter().zip(sums.iter())) {
+            if let Some(error) = refusal_of(digest, sum) {
+                let place = *place;
+                refused.push(Refused { place, error })?;
             }
         }
-        Ok(fragment)
+        Ok(refused)
     }
 
     fn create(&mut self, stripe: &str, place: Place) -> io::Result<UnfinishedFile> {
@@ -303,29 +339,14 @@ impl Store for FolderStore<'_> {
     }
 }
 
-// The digest of a fragment.
-fn digest_of(alloc: Global, fragment: &FileFragment, length: usize) -> io::Result<[u8; 32]> {
-    let mut room = Vec::from_elem(alloc, 0u8, length.min(WINDOW))?;
-    let mut digest = Sha256::new();
-    for window in 0..length.div_ceil(WINDOW) {
-        let from = window.saturating_mul(WINDOW);
-        let size = length.saturating_sub(from).min(room.len());
-        let bytes = room.slice_mut(..size);
-        store_repair::Fragment::read_at(fragment, from, bytes)?;
-        digest.update(bytes);
-    }
-    Ok(digest.finalize())
-}
-
-// How many bytes are digested at once.
-const WINDOW: usize = 65_536;
-
-// The folder of a path.
-fn folder_of(path: &str) -> &str {
-    match path.rsplit_once('/') {
-        Some(("", _)) => "/",
-        Some((folder, _)) => folder,
-        None => ".",
+// Why a fragment isn't used, by its digest and the one that it has to have.
+fn refusal_of(digest: Option<io::Result<Digest>>, sum: &Option<Digest>) -> Option<io::Error> {
+    match (digest, sum) {
+        (Some(Ok(digest)), Some(sum)) if digest != *sum => {
+            Some(io::Error::from(ErrorKind::InvalidData))
+        }
+        (Some(Err(error)), _) => Some(error),
+        _ => None,
     }
 }
 

@@ -2,6 +2,7 @@
 #![tactic(auto)]
 
 mod described;
+mod digesting;
 mod folder_store;
 mod listing;
 mod names;
@@ -11,9 +12,10 @@ mod sums;
 mod surviving;
 
 pub use described::{Described, description_name, read_description};
+pub use digesting::{Digest, digest_of, digests_of};
 pub use folder_store::{FolderStore, Site, UnfinishedFile};
 pub use listing::{Listing, list};
-pub use names::{file_name, named, path_in};
+pub use names::{folder_of, path_in};
 pub use patterns::{Layout, Pattern, PatternFault};
 pub use placing::{
     NewFile, is_leftover, is_leftover_of, place_again, place_new, remove_leftovers, sync_folder,

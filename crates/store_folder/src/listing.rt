@@ -40,7 +40,7 @@ pub fn list(
         for inside in &folders {
             let entries = entries_of(rt, folder, inside.as_str(), &mut listing)?;
             for name in entries {
-                if depth == pattern.depth() {
+                if depth == pattern.depth() || is_leftover(last_of(name.as_str())) {
                     listing.add(rt, folder, pattern, code, name.as_str())?;
                 } else {
                     below.push(name)?;
@@ -100,11 +100,11 @@ impl Listing {
     ) -> io::Result<()> {
         let alloc = rt.alloc();
         let path = path_in(alloc, folder, name)?;
-        if is_leftover(name.rsplit('/').next().unwrap_or(name)) {
+        if is_leftover(last_of(name)) {
             self.leftovers.push(path)?;
             return Ok(());
         }
-        let Some((stripe, place)) = pattern.read(alloc, code, name)? else {
+        let Some((stripe, place)) = pattern.read(code, name) else {
             return Ok(());
         };
         let found = look(rt, path.as_str());
@@ -120,14 +120,10 @@ impl Listing {
         place: Place,
         found: Found,
     ) -> Result<(), AllocError> {
+        self.expect(alloc, stripe)?;
         if let Some(files) = self.stripes.get_mut(stripe) {
             files.found[place.index()] = found;
-            return Ok(());
         }
-        let mut files = StripeFiles::new();
-        files.found[place.index()] = found;
-        self.stripes
-            .insert(String::from_str(alloc, stripe)?, files)?;
         Ok(())
     }
 
@@ -138,6 +134,14 @@ impl Listing {
                 .insert(String::from_str(alloc, stripe)?, StripeFiles::new())?;
         }
         Ok(())
+    }
+}
+
+// The last part of a name.
+fn last_of(name: &str) -> &str {
+    match name.rsplit_once('/') {
+        Some((_, last)) => last,
+        None => name,
     }
 }
 

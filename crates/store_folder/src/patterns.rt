@@ -47,70 +47,6 @@ const PLACE: &str = "{place}";
 
 const SHARD: &str = "{shard}";
 
-const NARROW_PLAIN: [Place; 10] = [
-    Place::X0,
-    Place::X1,
-    Place::X2,
-    Place::Y0,
-    Place::Y1,
-    Place::Y2,
-    Place::Px,
-    Place::Py,
-    Place::P0,
-    Place::P1,
-];
-
-const NARROW_GROUPS: [Place; 10] = [
-    Place::X0,
-    Place::X1,
-    Place::X2,
-    Place::Px,
-    Place::Y0,
-    Place::Y1,
-    Place::Y2,
-    Place::Py,
-    Place::P0,
-    Place::P1,
-];
-
-const WIDE_PLAIN: [Place; 16] = [
-    Place::X0,
-    Place::X1,
-    Place::X2,
-    Place::X3,
-    Place::X4,
-    Place::X5,
-    Place::Y0,
-    Place::Y1,
-    Place::Y2,
-    Place::Y3,
-    Place::Y4,
-    Place::Y5,
-    Place::Px,
-    Place::Py,
-    Place::P0,
-    Place::P1,
-];
-
-const WIDE_GROUPS: [Place; 16] = [
-    Place::X0,
-    Place::X1,
-    Place::X2,
-    Place::X3,
-    Place::X4,
-    Place::X5,
-    Place::Px,
-    Place::Y0,
-    Place::Y1,
-    Place::Y2,
-    Place::Y3,
-    Place::Y4,
-    Place::Y5,
-    Place::Py,
-    Place::P0,
-    Place::P1,
-];
-
 // How many times a text goes into a folder.
 fn slashes(text: &str) -> usize {
     text.chars().filter(|letter| *letter == '/').count()
@@ -120,15 +56,61 @@ fn has_brace(text: &str) -> bool {
     text.contains('{') || text.contains('}')
 }
 
+// The numbers of the shards.
+const NUMBERS: [&str; 16] = [
+    "0", "1", "2", "3", "4", "5", "6", "7", "8", "9", "10", "11", "12", "13", "14", "15",
+];
+
+// The order of the places of the layouts, which leave out those that a code hasn't.
+const PLAIN: [Place; 16] = [
+    Place::X0,
+    Place::X1,
+    Place::X2,
+    Place::X3,
+    Place::X4,
+    Place::X5,
+    Place::Y0,
+    Place::Y1,
+    Place::Y2,
+    Place::Y3,
+    Place::Y4,
+    Place::Y5,
+    Place::Px,
+    Place::Py,
+    Place::P0,
+    Place::P1,
+];
+
+const GROUPS: [Place; 16] = [
+    Place::X0,
+    Place::X1,
+    Place::X2,
+    Place::X3,
+    Place::X4,
+    Place::X5,
+    Place::Px,
+    Place::Y0,
+    Place::Y1,
+    Place::Y2,
+    Place::Y3,
+    Place::Y4,
+    Place::Y5,
+    Place::Py,
+    Place::P0,
+    Place::P1,
+];
+
 impl Layout {
-    /// The places of a code in the order of the shards' numbers.
-    pub fn places(self, code: Code) -> &'static [Place] {
-        match (code, self) {
-            (Code::Narrow, Layout::Plain) => &NARROW_PLAIN,
-            (Code::Narrow, Layout::Groups) => &NARROW_GROUPS,
-            (Code::Wide, Layout::Plain) => &WIDE_PLAIN,
-            (Code::Wide, Layout::Groups) => &WIDE_GROUPS,
-        }
+    /// The number of a code's shard at a place; none where the code hasn't the place.
+    pub fn shard(self, code: Code, place: Place) -> Option<usize> {
+        let order = match self {
+            Layout::Plain => &PLAIN,
+            Layout::Groups => &GROUPS,
+        };
+        order
+            .iter()
+            .filter(|other| code.has(**other))
+            .position(|other| *other == place)
     }
 }
 
@@ -202,13 +184,13 @@ impl<'a> Pattern<'a> {
         stripe: &str,
         place: Place,
     ) -> Result<Option<String>, AllocError> {
-        let Some(key) = self.key_of(alloc, code, place)? else {
+        let Some(key) = self.key_of(code, place) else {
             return Ok(None);
         };
         let (first, second) = if self.is_stripe_first {
-            (stripe, key.as_str())
+            (stripe, key)
         } else {
-            (key.as_str(), stripe)
+            (key, stripe)
         };
         let mut name = String::from_str(alloc, self.before)?;
         name.push_str(first)?;
@@ -219,51 +201,30 @@ impl<'a> Pattern<'a> {
     }
 
     // How a place is named.
-    fn key_of(
-        &self,
-        alloc: Global,
-        code: Code,
-        place: Place,
-    ) -> Result<Option<String>, AllocError> {
+    fn key_of(&self, code: Code, place: Place) -> Option<&'static str> {
         match self.naming {
-            Naming::Place => Ok(Some(String::from_str(alloc, place.name())?)),
-            Naming::Shard => {
-                let places = self.layout.places(code);
-                let Some(number) = places.iter().position(|other| *other == place) else {
-                    return Ok(None);
-                };
-                Ok(Some(format!(in alloc; "{number}")?))
-            }
+            Naming::Place => Some(place.name()),
+            Naming::Shard => NUMBERS.get(self.layout.shard(code, place)?).copied(),
         }
     }
 
     /// The stripe and the place that a name says; of places whose names both fit, the longer one's.
-    pub fn read<'n>(
-        &self,
-        alloc: Global,
-        code: Code,
-        name: &'n str,
-    ) -> Result<Option<(&'n str, Place)>, AllocError> {
-        let Some(rest) = name.strip_prefix(self.before) else {
-            return Ok(None);
-        };
-        let Some(middle) = rest.strip_suffix(self.after) else {
-            return Ok(None);
-        };
+    pub fn read<'n>(&self, code: Code, name: &'n str) -> Option<(&'n str, Place)> {
+        let middle = name.strip_prefix(self.before)?.strip_suffix(self.after)?;
         let mut best = None;
         let mut longest = 0;
         for place in &Place::ALL {
-            let Some(key) = self.key_of(alloc, code, *place)? else {
+            let Some(key) = self.key_of(code, *place) else {
                 continue;
             };
-            if let Some(stripe) = self.stripe_in(middle, key.as_str()) {
+            if let Some(stripe) = self.stripe_in(middle, key) {
                 if key.len() > longest && !stripe.is_empty() && !stripe.contains('/') {
                     longest = key.len();
                     best = Some((stripe, *place));
                 }
             }
         }
-        Ok(best)
+        best
     }
 
     // The stripe in a name without what is before and after, where it has the place of this key.

@@ -6,23 +6,11 @@ ghost use Rattle.store_repair.specs.Windows.{AreAppended, window as window_of};
 
 use crate::mending::MendFault;
 use crate::store::{Fragment, NewFragment};
-use crate::windows::{FileFault, WINDOW, append_sums, read_window, slices_of};
+use crate::windows::{
+    Buffers, FileFault, WINDOW, Window, append_sums, read_window, rooms_for, slices_of,
+};
 use lrc_field::Gf;
 use std::alloc::{AllocError, Global};
-
-// The room for a window of each fragment, and for one of a combination.
-#[derive(Drop)]
-struct Buffers {
-    rooms: Vec<Vec<u8>>,
-    sums: Vec<u8>,
-}
-
-// Some positions of a stripe.
-#[derive(Clone, Copy)]
-struct Window {
-    from: usize,
-    size: usize,
-}
 
 /// Appends to each file the combination by the row at its index of the first bytes of the fragments, `many` of them.
 pub(crate) fn append_combined<F: Fragment, N: NewFragment>(
@@ -48,17 +36,6 @@ pub(crate) fn append_combined<F: Fragment, N: NewFragment>(
         from += size;
     }
     Ok(())
-}
-
-// So many rooms without bytes.
-fn rooms_for(alloc: Global, many: usize) -> Result<Vec<Vec<u8>>, AllocError>
-    ensures { IfOk result (λ v. length v.items ≡ many) }
-{
-    let mut rooms = Vec::with_capacity(alloc, many)?;
-    'rooms: while rooms.len() < many {
-        rooms.push(Vec::new(alloc))?;
-    }
-    Ok(rooms)
 }
 
 // Appends to each file its combination of a window.

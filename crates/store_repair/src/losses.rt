@@ -21,23 +21,29 @@ pub struct LostPlaces {
     pub several: Vec<Place>,
 }
 
-/// The lost places of a stripe of which the fragments at some places survive.
-pub fn lost_places(alloc: Global, code: Code, survivors: PlaceSet) -> Result<LostPlaces, AllocError>
+/// The places among some at which a stripe's fragments are lost, where those at other places survive.
+pub fn lost_places(
+    alloc: Global,
+    code: Code,
+    survivors: PlaceSet,
+    among: PlaceSet,
+) -> Result<LostPlaces, AllocError>
     ensures determined { IfOk result (λ lost. AreLost code (is_in survivors) lost.determined.items) }
     ensures apart { IfOk result (λ lost. AreApart lost.determined.items) }
     ensures several { IfOk result (λ lost. AreLost code (is_in survivors) lost.several.items) }
 {
     Ok(LostPlaces {
-        determined: places_where(alloc, code, survivors, true)?,
-        several: places_where(alloc, code, survivors, false)?,
+        determined: places_where(alloc, code, survivors, among, true)?,
+        several: places_where(alloc, code, survivors, among, false)?,
     })
 }
 
-// The lost places at which the survivors determine the fragment, or those at which they don't.
+// The lost places among some at which the survivors determine the fragment, or those at which they don't.
 fn places_where(
     alloc: Global,
     code: Code,
     survivors: PlaceSet,
+    among: PlaceSet,
     determined: bool,
 ) -> Result<Vec<Place>, AllocError>
     ensures lost { IfOk result (λ v. AreLost code (is_in survivors) v.items) }
@@ -47,25 +53,26 @@ fn places_where(
     let mut places = Vec::new(alloc);
     for index in 0..16 {
         let place = nth_place(index);
-        if is_lost_and(code, &reduced, survivors, place, determined) {
+        if is_lost_and(code, &reduced, survivors, among, place, determined) {
             places.push(place)?;
         }
     }
     Ok(places)
 }
 
-// Whether a place is lost, and the survivors determine its fragment or don't.
-fn is_lost_and(
+/// Whether a place among some is lost, and the survivors determine its fragment or don't.
+pub(crate) fn is_lost_and(
     code: Code,
     reduced: &Reduced,
     survivors: PlaceSet,
+    among: PlaceSet,
     place: Place,
     determined: bool,
 ) -> bool
     requires { IsReduction (tables_of code) (λ p. not (is_in survivors p)) reduced.now }
     ensures { result ≡ true → (has_place (tables_of code) place ≡ true) × (is_in survivors place ≡ false) }
 {
-    if !code.has(place) || survivors.has(place) {
+    if !code.has(place) || survivors.has(place) || !among.has(place) {
         return false;
     }
     value_from(code, reduced, survivors, place).is_some() == determined

@@ -1,22 +1,19 @@
 //! Making files for the lost fragments of a stripe, from all survivors that belong together.
-ghost use Rattle.std.specs.Prelude.{◌≡◌, ◌&&◌, IfOk, IfSome, None, length, set};
-ghost use Rattle.lrc_code.specs.Code.{has_place};
-ghost use Rattle.lrc_code.specs.Codes.{tables_of};
-ghost use Rattle.lrc_code.specs.Places.{index_of};
+ghost use Rattle.std.specs.Prelude.{◌≡◌, IfOk, IfSome, length};
 ghost use Rattle.lrc_code.specs.Sets.{is_in};
-ghost use Rattle.store_repair.specs.Damage.{all_but};
 ghost use Rattle.store_repair.specs.Mended.{AreEmpty};
 ghost use Rattle.store_repair.specs.Opened.{AreMade, AreOpened};
 ghost use Rattle.store_repair.specs.Repaired.{IfMade, IsNotMade};
 
-use crate::damage::{find_damaged, without};
+use crate::damage::find_damaged;
 use crate::losses::lost_places;
 use crate::mending::{MendFault, Survivors, mend};
-use crate::opening::Opened;
+use crate::opening::{Opened, leave_out};
 use crate::outcomes::{Finding, Reason, note, read_fault, write_fault};
+use crate::settings::{Reads, Repair};
 use crate::store::{Fragment, Store};
 use crate::stripes::Stripe;
-use lrc_code::{Code, Place, PlaceSet};
+use lrc_code::{Place, PlaceSet};
 use std::alloc::{AllocError, Global};
 
 // Rebuilt fragments that have no names yet: the survivors that they are made from, and a file for each place.
@@ -29,7 +26,7 @@ pub(crate) struct Made<N> {
 
 // What an attempt came to.
 #[derive(Drop)]
-enum Attempt<N> {
+pub(crate) enum Attempt<N> {
     Made(Made<N>),
     // A survivor is to be left out.
     LeaveOut(Place),
@@ -40,63 +37,54 @@ enum Attempt<N> {
 pub(crate) fn make<S: Store>(
     alloc: Global,
     store: &mut S,
-    code: Code,
+    repair: &Repair,
     stripe: &Stripe<'_>,
     opened: Opened<S::Survivor>,
     findings: &mut Vec<Finding>,
 ) -> Result<Option<Made<S::New>>, AllocError>
     requires sixteen { length opened.fragments.items ≡ 16 }
-    requires opened { AreOpened S.Survivor.shown code stripe.now.name.now opened.length (S.files store.old) opened.set
+    requires opened { AreOpened S.Survivor.shown repair.now.code stripe.now.name.now opened.length (S.files store.old) opened.set
         opened.fragments.items }
     ensures same { S.files store.new ≡ S.files store.old }
-    ensures made { IfOk result (λ o. IfSome o (λ made. AreMade S.New.shown code (is_in made.set) opened.length stripe.now.name.now
-        (S.files store.old) made.places.items made.files.items)) }
+    ensures made { IfOk result (λ o. IfSome o (λ made. AreMade S.New.shown repair.now.code (is_in made.set) opened.length
+        stripe.now.name.now (S.files store.old) made.places.items made.files.items)) }
 {
     let mut left = opened;
     'attempts: for _attempt in 0..16 {
-        match make_from(alloc, store, code, stripe, &left, findings)? {
+        match make_from(alloc, store, repair, stripe, &left, findings)? {
             Attempt::Made(made) => return Ok(Some(made)),
-            Attempt::LeaveOut(place) => leave_out(code, &mut left, place),
+            Attempt::LeaveOut(place) => leave_out(repair.code, &mut left, place),
             Attempt::GivenUp => return Ok(None),
         }
     }
     Ok(None)
 }
 
-// Leaves a fragment out.
-fn leave_out<F: Drop>(code: Code, opened: &mut Opened<F>, place: Place)
-    requires { length opened.old.fragments.items ≡ 16 }
-    ensures length { opened.new.length ≡ opened.old.length }
-    ensures set { (p : _) → is_in opened.new.set p ≡ (has_place (tables_of code) p && all_but (is_in opened.old.set) place p) }
-    ensures fragments { opened.new.fragments.items ≡ set opened.old.fragments.items (index_of place) None }
-{
-    opened.set = without(code, opened.set, place);
-    opened.fragments[place.index()] = None;
-}
-
-// Makes files for the lost fragments from these survivors.
-fn make_from<S: Store>(
+/// Makes files for the lost fragments from these survivors.
+pub(crate) fn make_from<S: Store>(
     alloc: Global,
     store: &mut S,
-    code: Code,
+    repair: &Repair,
     stripe: &Stripe<'_>,
     opened: &Opened<S::Survivor>,
     findings: &mut Vec<Finding>,
 ) -> Result<Attempt<S::New>, AllocError>
     requires sixteen { length opened.now.fragments.items ≡ 16 }
-    requires opened { AreOpened S.Survivor.shown code stripe.now.name.now opened.now.length (S.files store.old) opened.now.set
+    requires opened { AreOpened S.Survivor.shown repair.now.code stripe.now.name.now opened.now.length (S.files store.old) opened.now.set
         opened.now.fragments.items }
     ensures same { S.files store.new ≡ S.files store.old }
-    ensures made { IfOk result (IfMade (λ made. AreMade S.New.shown code (is_in made.set) opened.now.length stripe.now.name.now
+    ensures made { IfOk result (IfMade (λ made. AreMade S.New.shown repair.now.code (is_in made.set) opened.now.length stripe.now.name.now
         (S.files store.old) made.places.items made.files.items)) }
 {
+    let code = repair.code;
     let survivors = Survivors {
         code,
         length: opened.length,
         set: opened.set,
         fragments: opened.fragments.as_slice(),
     };
-    let lost = lost_places(alloc, code, opened.set)?;
+    let among = to_be_rebuilt(repair, stripe, opened);
+    let lost = lost_places(alloc, code, opened.set, among)?;
     let places = lost.determined;
     let Some(files) = new_files(alloc, store, stripe, places.as_slice(), findings)? else {
         return Ok(Attempt::GivenUp);
@@ -116,6 +104,19 @@ fn make_from<S: Store>(
             discard_all(store, files, findings)?;
             after_fault(fault, places.as_slice(), findings)
         }
+    }
+}
+
+/// The places whose fragments are to be rebuilt: where few survivors are read, the others are there all the same.
+pub(crate) fn to_be_rebuilt<F>(
+    repair: &Repair,
+    stripe: &Stripe<'_>,
+    opened: &Opened<F>,
+) -> PlaceSet {
+    let code = repair.code;
+    match repair.reads {
+        Reads::All => code.others(opened.set),
+        Reads::Few => code.others(stripe.files.survivors(code, opened.length as u64)),
     }
 }
 

@@ -7,7 +7,7 @@ ghost use Rattle.store_repair.specs.Memory.{ExchangesName, GivesName, bytes_of, 
 ghost use Rattle.store_repair.specs.Memory.{with_kept};
 ghost use Rattle.store_repair.specs.Store.{AreUntouched, HasName, SameElsewhere};
 
-use crate::store::{Fragment, NameFault, NewFragment, Placed, Store};
+use crate::store::{Fragment, NameFault, NewFragment, Placed, Refused, Store};
 use lrc_code::Place;
 use std::alloc::{AllocError, Global};
 use std::io::{self, ErrorKind};
@@ -214,6 +214,16 @@ impl Store for MemoryStore {
         }
         let bytes = copied(self.alloc, bytes)?;
         Ok(MemoryFragment { bytes })
+    }
+
+    fn refused(
+        &self,
+        alloc: Global,
+        _stripe: &str,
+        _length: usize,
+        _fragments: &[Option<MemoryFragment>],
+    ) -> Result<Vec<Refused>, AllocError> {
+        Ok(Vec::new(alloc))
     }
 
     fn create(&mut self, _stripe: &str, _place: Place) -> io::Result<MemoryFragment> {

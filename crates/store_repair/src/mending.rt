@@ -10,7 +10,9 @@ ghost use Rattle.store_repair.specs.Shown.{AreShown};
 ghost use Rattle.store_repair.specs.Windows.{IsMendedWindow, window as window_of};
 
 use crate::store::{Fragment, NewFragment};
-use crate::windows::{FileFault, WINDOW, append_sums, are_zero, read_window, slices_of};
+use crate::windows::{
+    Buffers, FileFault, WINDOW, Window, append_sums, are_zero, read_window, rooms_for, slices_of,
+};
 use lrc_code::{Code, Place, PlaceSet};
 use lrc_field::Gf;
 use lrc_plan::{checks_from, reduce_by_lost, value_from};
@@ -68,20 +70,6 @@ struct Plan {
     rows: Vec<[Gf; 16]>,
 }
 
-// The room for a window of each survivor, and for one of a lost fragment.
-#[derive(Drop)]
-struct Buffers {
-    rooms: Vec<Vec<u8>>,
-    sums: Vec<u8>,
-}
-
-// Some positions of a stripe.
-#[derive(Clone, Copy)]
-struct Window {
-    from: usize,
-    size: usize,
-}
-
 /// Rebuilds the fragments at lost places of a stripe, each into the file at its index, in one pass over the survivors, with all checks that
 /// they allow. `true`: each file holds the fragment, the only one that fits the survivors. `false`: no stripe of the code has the
 /// survivors' bytes. The files then hold nothing of use, and so they do after a fault.
@@ -103,7 +91,7 @@ pub fn mend<F: Fragment, N: NewFragment>(
     let length = survivors.length;
     let plan = plan_of(alloc, survivors.code, survivors.set, places)?;
     let mut buffers = Buffers {
-        rooms: sixteen_rooms(alloc)?,
+        rooms: rooms_for(alloc, 16)?,
         sums: Vec::from_elem(alloc, 0u8, length.min(WINDOW))?,
     };
     let mut from = 0;
@@ -141,17 +129,6 @@ fn plan_of(
     }
     let checks = checks_from(code, &reduced, survivors);
     Ok(Plan { checks, rows })
-}
-
-// Sixteen rooms without bytes.
-fn sixteen_rooms(alloc: Global) -> Result<Vec<Vec<u8>>, AllocError>
-    ensures { IfOk result (λ v. length v.items ≡ 16) }
-{
-    let mut rooms = Vec::with_capacity(alloc, 16)?;
-    'rooms: while rooms.len() < 16 {
-        rooms.push(Vec::new(alloc))?;
-    }
-    Ok(rooms)
 }
 
 // Reads a window, tests the checks in it, and appends to each file its combination of it.

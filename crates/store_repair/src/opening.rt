@@ -1,9 +1,15 @@
 //! The surviving fragments of a stripe, open for reading.
-ghost use Rattle.std.specs.Prelude.{◌≡◌, IfOk, vec_len};
+ghost use Rattle.std.specs.Prelude.{◌≡◌, ◌&&◌, IfOk, None, length, set, vec_len};
+ghost use Rattle.lrc_code.specs.Code.{has_place};
+ghost use Rattle.lrc_code.specs.Codes.{tables_of};
+ghost use Rattle.lrc_code.specs.Places.{index_of};
+ghost use Rattle.lrc_code.specs.Sets.{is_in};
+ghost use Rattle.store_repair.specs.Damage.{all_but};
 ghost use Rattle.store_repair.specs.Opened.{AreOpened, IsOpenedAt};
 
+use crate::damage::without;
 use crate::outcomes::{Finding, note, read_fault};
-use crate::store::Store;
+use crate::store::{Refused, Store};
 use crate::stripes::{Stripe, nth_place};
 use lrc_code::{Code, Place, PlaceSet};
 use std::alloc::{AllocError, Global};
@@ -19,8 +25,43 @@ pub struct Opened<F> {
     pub fragments: Vec<Option<F>>,
 }
 
-/// Opens the fragments of a stripe's length at the places of a code, and notes those that can't be opened.
+/// Opens the fragments of a stripe's length at the places of a code, and notes those that can't be opened, or that the store refuses.
 pub fn open_survivors<S: Store>(
+    alloc: Global,
+    store: &S,
+    code: Code,
+    stripe: &Stripe<'_>,
+    length: usize,
+    findings: &mut Vec<Finding>,
+) -> Result<Opened<S::Survivor>, AllocError>
+    ensures sixteen { IfOk result (λ opened. vec_len opened.fragments ≡ 16) }
+    ensures length { IfOk result (λ opened. opened.length ≡ length) }
+    ensures opened { IfOk result (λ opened. AreOpened S.Survivor.shown code stripe.now.name.now length (S.files store.now) opened.set
+        opened.fragments.items) }
+{
+    let mut opened = open_all(alloc, store, code, stripe, length, findings)?;
+    let mut refused = store.refused(alloc, stripe.name, length, opened.fragments.as_slice())?;
+    refused.reverse();
+    'refused: while let Some(Refused { place, error }) = refused.pop() {
+        note(findings, Some(place), read_fault(error)?)?;
+        leave_out(code, &mut opened, place);
+    }
+    Ok(opened)
+}
+
+/// Leaves a fragment out.
+pub(crate) fn leave_out<F: Drop>(code: Code, opened: &mut Opened<F>, place: Place)
+    requires { length opened.old.fragments.items ≡ 16 }
+    ensures length { opened.new.length ≡ opened.old.length }
+    ensures set { (p : _) → is_in opened.new.set p ≡ (has_place (tables_of code) p && all_but (is_in opened.old.set) place p) }
+    ensures fragments { opened.new.fragments.items ≡ set opened.old.fragments.items (index_of place) None }
+{
+    opened.set = without(code, opened.set, place);
+    opened.fragments[place.index()] = None;
+}
+
+// Opens the fragments of a stripe's length at the places of a code, and notes those that can't be opened.
+fn open_all<S: Store>(
     alloc: Global,
     store: &S,
     code: Code,

@@ -1,10 +1,12 @@
 //! What a repair of a stripe would do.
+use crate::fewest::to_be_read;
 use crate::losses::{have_checks, lost_places};
+use crate::making::to_be_rebuilt;
 use crate::opening::open_survivors;
 use crate::outcomes::{Outcome, Reason, note, note_no_survivor};
+use crate::settings::Repair;
 use crate::store::Store;
 use crate::stripes::Stripe;
-use lrc_code::Code;
 use std::alloc::{AllocError, Global};
 
 /// What a repair of a stripe would do: the places whose fragments it would rebuild, if the survivors that can be opened don't contradict
@@ -12,16 +14,19 @@ use std::alloc::{AllocError, Global};
 pub fn plan_stripe<S: Store>(
     alloc: Global,
     store: &S,
-    code: Code,
+    repair: &Repair,
     stripe: &Stripe<'_>,
 ) -> Result<Outcome, AllocError> {
+    let code = repair.code;
     let mut findings = Vec::new(alloc);
     let Some(length) = stripe.length() else {
         note_no_survivor(code, stripe, &mut findings)?;
         return Ok(Outcome::of(alloc, findings));
     };
-    let opened = open_survivors(alloc, store, code, stripe, length, &mut findings)?;
-    let lost = lost_places(alloc, code, opened.set)?;
+    let read = to_be_read(alloc, repair, stripe, length)?;
+    let opened = open_survivors(alloc, store, code, &read, length, &mut findings)?;
+    let among = to_be_rebuilt(repair, stripe, &opened);
+    let lost = lost_places(alloc, code, opened.set, among)?;
     for place in &lost.several {
         note(&mut findings, Some(*place), Reason::Several)?;
     }

@@ -8,21 +8,12 @@ ghost use Rattle.store_repair.specs.declared.store.Placed.TheVariants as placed;
 use crate::losses::have_checks;
 use crate::making::{Made, discard};
 use crate::outcomes::{Finding, Reason, note, write_fault};
+use crate::settings::Repair;
 use crate::store::{Placed, Store};
 use crate::stripes::{Found, Stripe};
-use lrc_code::{Code, Place};
+use lrc_code::Place;
 use std::alloc::{AllocError, Global};
 use std::io;
-
-/// How stripes are repaired.
-#[derive(Clone, Copy, Debug)]
-pub struct Repair {
-    pub code: Code,
-    /// Whether fragments that are damaged or of another length are replaced by rebuilt ones that a check covers. What was there is kept.
-    pub replace_damaged: bool,
-    /// Whether rebuilt fragments go elsewhere than to the store's own, so that nothing of these is in their way.
-    pub elsewhere: bool,
-}
 
 // What is done with a rebuilt fragment.
 #[derive(Drop)]

@@ -1,14 +1,16 @@
 //! Repairing a stripe of a store: each lost fragment is rebuilt, with all checks that the survivors allow, and gets its name.
-ghost use Rattle.std.specs.Prelude.{IfOk};
+ghost use Rattle.std.specs.Prelude.{◌≡◌, IfOk, IfSome};
 ghost use Rattle.lrc_code.specs.Sets.{is_in};
-ghost use Rattle.store_repair.specs.Opened.{AreRebuilt};
+ghost use Rattle.store_repair.specs.Opened.{AreMade, AreRebuilt};
 ghost use Rattle.store_repair.specs.Store.{AreUntouched};
 
+use crate::fewest::make_from_fewest;
 use crate::losses::have_checks;
-use crate::making::make;
+use crate::making::{Made, make};
 use crate::opening::open_survivors;
-use crate::outcomes::{Outcome, note_no_survivor};
-use crate::putting::{Repair, put_all, settle};
+use crate::outcomes::{Finding, Outcome, note_no_survivor};
+use crate::putting::{put_all, settle};
+use crate::settings::{Reads, Repair};
 use crate::store::Store;
 use crate::stripes::Stripe;
 use std::alloc::{AllocError, Global};
@@ -29,8 +31,7 @@ pub fn repair_stripe<S: Store>(
         note_no_survivor(repair.code, stripe, &mut findings)?;
         return Ok(Outcome::of(alloc, findings));
     };
-    let opened = open_survivors(alloc, &*store, repair.code, stripe, length, &mut findings)?;
-    let made = make(alloc, store, repair.code, stripe, opened, &mut findings)?;
+    let made = make_lost(alloc, store, repair, stripe, length, &mut findings)?;
     let Some(made) = made else {
         settle(store, &mut findings)?;
         return Ok(Outcome::of(alloc, findings));
@@ -44,4 +45,30 @@ pub fn repair_stripe<S: Store>(
         rebuilt,
         findings,
     })
+}
+
+// Makes files for the lost fragments, from the survivors that are to be read.
+fn make_lost<S: Store>(
+    alloc: Global,
+    store: &mut S,
+    repair: &Repair,
+    stripe: &Stripe<'_>,
+    length: usize,
+    findings: &mut Vec<Finding>,
+) -> Result<Option<Made<S::New>>, AllocError>
+    ensures same { S.files store.new ≡ S.files store.old }
+    ensures made { IfOk result (λ o. IfSome o (λ made. AreMade S.New.shown repair.now.code (is_in made.set) length stripe.now.name.now
+        (S.files store.old) made.places.items made.files.items)) }
+{
+    if repair.reads == Reads::Few {
+        if let Some(made) = make_from_fewest(alloc, store, repair, stripe, length, findings)? {
+            return Ok(Some(made));
+        }
+    }
+    let all = Repair {
+        reads: Reads::All,
+        ..*repair
+    };
+    let opened = open_survivors(alloc, &*store, repair.code, stripe, length, findings)?;
+    make(alloc, store, &all, stripe, opened, findings)
 }

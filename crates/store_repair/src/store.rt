@@ -5,6 +5,7 @@ ghost use Rattle.store_repair.specs.Shown.{IsReadAt};
 ghost use Rattle.store_repair.specs.Store.{AreUntouched, HasName, IsOpened, SameElsewhere, ShownFiles};
 
 use lrc_code::Place;
+use std::alloc::{AllocError, Global};
 use std::io;
 use thiserror::Error;
 
@@ -35,6 +36,13 @@ pub struct NameFault {
     pub error: io::Error,
 }
 
+/// A fragment that is open and isn't used, and why.
+#[derive(Debug, Drop)]
+pub struct Refused {
+    pub place: Place,
+    pub error: io::Error,
+}
+
 /// What became of a fragment that was to get its name.
 #[derive(Clone, Copy, Debug, PartialEq, Eq)]
 pub enum Placed {
@@ -59,6 +67,16 @@ pub trait Store {
     /// Opens a stripe's fragment, which has to have so many bytes.
     fn open(&self, stripe: &str, place: Place, length: usize) -> io::Result<Self::Survivor>
         ensures { IfOk result (λ f. IsOpened stripe.now place length (files self.now) (Self.Survivor.shown f)) };
+
+    /// Which of a stripe's fragments, listed by their places' indexes and of so many bytes each, don't have the bytes that the store knows
+    /// of them, or can't be read. No clause says which: the bytes of a folder's files are known by digests.
+    fn refused(
+        &self,
+        alloc: Global,
+        stripe: &str,
+        length: usize,
+        fragments: &[Option<Self::Survivor>],
+    ) -> Result<Vec<Refused>, AllocError>;
 
     /// A new fragment for a place of a stripe, still without bytes and without a name.
     fn create(&mut self, stripe: &str, place: Place) -> io::Result<Self::New>

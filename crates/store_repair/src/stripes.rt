@@ -64,6 +64,17 @@ impl StripeFiles {
         }
     }
 
+    /// The same, with nothing under the names of the places that aren't in a set.
+    pub(crate) fn only(&self, set: PlaceSet) -> StripeFiles {
+        let mut files = *self;
+        for place in &Place::ALL {
+            if !set.has(*place) {
+                files.found[place.index()] = Found::Absent;
+            }
+        }
+        files
+    }
+
     /// What is under the name of the fragment at a place.
     pub fn at(&self, place: Place) -> Found {
         self.found[place.index()]

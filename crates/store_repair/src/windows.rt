@@ -13,11 +13,36 @@ use std::io;
 /// How many bytes of each fragment a window has.
 pub(crate) const WINDOW: usize = 65_536;
 
+/// Some positions of a stripe, at most `WINDOW`.
+#[derive(Clone, Copy)]
+pub(crate) struct Window {
+    pub(crate) from: usize,
+    pub(crate) size: usize,
+}
+
+/// The room for a window of each fragment, and for one of a combination.
+#[derive(Drop)]
+pub(crate) struct Buffers {
+    pub(crate) rooms: Vec<Vec<u8>>,
+    pub(crate) sums: Vec<u8>,
+}
+
 /// What the system refused of the file at an index.
 #[derive(Drop)]
 pub(crate) struct FileFault {
     pub(crate) index: usize,
     pub(crate) error: io::Error,
+}
+
+/// So many rooms without bytes.
+pub(crate) fn rooms_for(alloc: Global, many: usize) -> Result<Vec<Vec<u8>>, AllocError>
+    ensures { IfOk result (λ v. length v.items ≡ many) }
+{
+    let mut rooms = Vec::with_capacity(alloc, many)?;
+    'rooms: while rooms.len() < many {
+        rooms.push(Vec::new(alloc))?;
+    }
+    Ok(rooms)
 }
 
 /// Reads a window of all fragments, each into the room at its index; of a lost one nothing.

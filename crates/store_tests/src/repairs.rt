@@ -1,5 +1,7 @@
 //! What a repair of a stripe leaves.
-use crate::samples::{NARROW, SHORT, Sample, WIDE, are_there, is_there, put_without, repair};
+use crate::samples::{
+    NARROW, SHORT, Sample, WIDE, are_there, is_there, put_without, repair, repair_from_few,
+};
 use lrc_code::{Code, Place};
 use std::alloc::{AllocError, Global};
 use store_repair::{MemoryStore, Outcome, Reason};
@@ -25,6 +27,57 @@ fn three_lost_fragments_come_back(rt: HostRuntime) -> Result<(), AllocError> {
             }
         }
     }
+    Ok(())
+}
+
+// A lost fragment of a group is rebuilt from the others of its group: 3 reads of the (6,2,2) code and 6 of the (12,2,2) code (Huang et al.,
+// section 2). A global parity takes all data fragments, or as many others.
+#[test]
+fn few_survivors_are_read(rt: HostRuntime) -> Result<(), AllocError> {
+    for (sample, of_group, of_global) in [(NARROW, 3, 6), (WIDE, 6, 12)] {
+        for place in sample.code.places() {
+            let mut store = MemoryStore::new(rt.alloc());
+            put_without(&mut store, &sample, &[*place])?;
+            let outcome = repair_from_few(rt.alloc(), &mut store, &sample)?;
+            let expected = match place.group() {
+                Some(_) => of_group,
+                None => of_global,
+            };
+            assert_eq!(&rt; outcome.survivors.len(), expected);
+            assert_eq!(&rt; outcome.rebuilt.as_slice(), [*place].as_slice());
+            assert!(&rt; !outcome.is_checked);
+            assert!(&rt; outcome.findings.is_empty());
+            assert!(&rt; are_there(&store, &sample, &[]));
+        }
+    }
+    Ok(())
+}
+
+// A fragment of another length isn't among the few; where two of a group are lost, a global is read for the second.
+#[test]
+fn few_survivors_of_a_stripe_that_lost_two(rt: HostRuntime) -> Result<(), AllocError> {
+    let mut store = MemoryStore::new(rt.alloc());
+    put_without(&mut store, &NARROW, &[Place::X0])?;
+    store.put(NARROW.name, Place::X1, b"")?;
+    let outcome = repair_from_few(rt.alloc(), &mut store, &NARROW)?;
+    assert_eq!(&rt; outcome.survivors.len(), 6);
+    assert_eq!(&rt; outcome.rebuilt.as_slice(), [Place::X0].as_slice());
+    assert!(&rt; are_there(&store, &NARROW, &[Place::X1]));
+    assert!(&rt; is_there(&store, NARROW.name, Place::X1, b""));
+    Ok(())
+}
+
+// What few survivors don't determine isn't determined by all.
+#[test]
+fn few_survivors_leave_what_all_leave(rt: HostRuntime) -> Result<(), AllocError> {
+    let lost = [Place::X0, Place::Y0, Place::Y1, Place::Y2, Place::Py];
+    let mut store = MemoryStore::new(rt.alloc());
+    put_without(&mut store, &SHORT, &lost)?;
+    let outcome = repair_from_few(rt.alloc(), &mut store, &SHORT)?;
+    assert_eq!(&rt; outcome.rebuilt.as_slice(), [Place::X0].as_slice());
+    assert_eq!(&rt; outcome.survivors.len(), 3);
+    assert_eq!(&rt; outcome.findings.len(), 4);
+    assert!(&rt; outcome.findings.iter().all(|finding| matches!(finding.reason, Reason::Several)));
     Ok(())
 }
 

@@ -1,7 +1,7 @@
 //! Whole stripes, and repairs of them.
 use lrc_code::{Code, Place};
 use std::alloc::{AllocError, Global};
-use store_repair::{Found, MemoryStore, Outcome, Repair, Stripe, StripeFiles, repair_stripe};
+use store_repair::{Found, MemoryStore, Outcome, Reads, Repair, Stripe, StripeFiles, repair_stripe};
 
 /// A whole stripe.
 #[derive(Clone, Copy)]
@@ -85,7 +85,7 @@ pub(crate) fn put_without(
     Ok(())
 }
 
-/// Repairs a stripe of a store.
+/// Repairs a stripe of a store from all its survivors.
 pub(crate) fn repair(
     alloc: Global,
     store: &mut MemoryStore,
@@ -94,9 +94,34 @@ pub(crate) fn repair(
 ) -> Result<Outcome, AllocError> {
     let repair = Repair {
         code: sample.code,
+        reads: Reads::All,
         replace_damaged,
         elsewhere: false,
     };
+    repair_as(alloc, store, sample, &repair)
+}
+
+/// Repairs a stripe of a store from as few survivors as determine what is lost.
+pub(crate) fn repair_from_few(
+    alloc: Global,
+    store: &mut MemoryStore,
+    sample: &Sample,
+) -> Result<Outcome, AllocError> {
+    let repair = Repair {
+        code: sample.code,
+        reads: Reads::Few,
+        replace_damaged: false,
+        elsewhere: false,
+    };
+    repair_as(alloc, store, sample, &repair)
+}
+
+fn repair_as(
+    alloc: Global,
+    store: &mut MemoryStore,
+    sample: &Sample,
+    repair: &Repair,
+) -> Result<Outcome, AllocError> {
     let mut files = StripeFiles::new();
     for place in Place::ALL {
         if let Some(bytes) = store.fragment(sample.name, place) {
@@ -109,7 +134,7 @@ pub(crate) fn repair(
         name: sample.name,
         files,
     };
-    repair_stripe(alloc, store, &repair, &stripe)
+    repair_stripe(alloc, store, repair, &stripe)
 }
 
 /// Whether a fragment is there with these bytes.

@@ -11,7 +11,7 @@ attempts-preserved g c =
     let old = c.attempts.left in
     let new = c.leave_out.new.opened in
     let shown = g.S.Survivor.Fragment.shown in
-    let code = c.args.code in
+    let code = c.args.repair.now.code in
     let stripe = c.args.stripe.now.name.now in
     let files = g.S.Store.files in
     record {

@@ -8,6 +8,6 @@ invariant-attempts g l =
       same : g.S.Store.files l.store ≡ g.S.Store.files l.fn.store;
       sixteen : length l.left.fragments.items ≡ 16;
       long : l.left.length ≡ l.fn.opened.length;
-      opened : AreOpened g.S.Survivor.Fragment.shown l.fn.code l.fn.stripe.name.now l.left.length (g.S.Store.files l.store) l.left.set
-          l.left.fragments.items;
+      opened : AreOpened g.S.Survivor.Fragment.shown l.fn.repair.code l.fn.stripe.name.now l.left.length (g.S.Store.files l.store)
+          l.left.set l.left.fragments.items;
     }

@@ -10,7 +10,7 @@ use Rattle.store_repair.proofs.making.make_from.Goals as goal
 pub returns-in-Ok-true-clause-made : goal.returns-in-Ok-true-clause-made
 returns-in-Ok-true-clause-made g c =
     let opened = c.args.opened.now in
-    let code = c.args.code in
+    let code = c.args.repair.now.code in
     let stripe = c.args.stripe.now.name.now in
     let lost = c.in_ok-lost.lost.determined.items in
     let shown = g.S.New.NewFragment.shown in

@@ -1,30 +1,23 @@
-use Rattle.std.proofs.Common.{◌∙◌, ◌≡◌, sym, ap, subst, arith, cond, refl}
-use Rattle.std.specs.Prelude.{◌||◌, is_some}
-use Rattle.lrc_code.specs.declared.places.Place.{Place}
-use Rattle.lrc_code.specs.Places.{same_place}
-use Rattle.lrc_code.specs.Sets.{is_in}
+use Rattle.std.proofs.Common.{◌∙◌, ap, length, subst, sym}
+use Rattle.std.proofs.lemmas.List.{length-set}
+use Rattle.lrc_code.specs.Places.{index_of}
 use Rattle.store_repair.specs.Opened.{AreOpened}
-use Rattle.store_repair.proofs.OpenedLemmas.{opened_more}
+use Rattle.store_repair.proofs.RepairLemmas.{opened_less}
 use Rattle.store_repair.proofs.opening.open_survivors.Goals as goal
-use Rattle.store_repair.proofs.opening.open_survivors.Goals.{then-is_some, else-is_some}
 
-pub places-preserved : goal.places-preserved
-places-preserved g c =
-    let set = c.places.set in
-    let x = c.in_ok-fragment.fragment in
-    let p = c.nth_place-place.result in
-    let step : (q : Place) → is_in c.if-is_some.set q ≡ cond (is_some x) (same_place p q || is_in set q) (is_in set q) =
-    λ q. elim c.if-is_some.branch [
-      | then-is_some w ↦ ap (λ s. is_in s q) w.set-is ∙ w.with-set.ensures q
-          ∙ rw (sym c.is_some.ensures ∙ w.if-is_some.true) refl
-      | else-is_some w ↦ ap (λ s. is_in s q) w.set-is ∙ rw (sym c.is_some.ensures ∙ w.if-is_some.false) refl
-    ] in
+pub refused-preserved : goal.refused-preserved
+refused-preserved g c =
+    let so = c.refused.invariant in
+    let old = c.refused.opened in
+    let new = c.leave_out.new.opened in
+    let shown = g.S.Survivor.Fragment.shown in
+    let code = c.args.code in
+    let stripe = c.args.stripe.now.name.now in
+    let files = g.S.Store.files c.args.store.now in
     record {
-      bound = omega (arith, c.places-test.true, c.in_ok-push.ensures.len);
-      opened = subst (AreOpened g.S.Survivor.Fragment.shown c.args.code c.args.stripe.now.name.now c.args.length
-          (g.S.Store.files c.args.store.now) c.if-is_some.set) (sym c.in_ok-push.ensures.items)
-          (opened_more g.S.Survivor.Fragment.shown c.args.code c.args.stripe.now.name.now c.args.length
-          (g.S.Store.files c.args.store.now) set c.if-is_some.set c.places.fragments.items x p
-          (c.nth_place-place.ensures ∙ c.len-in-places.ensures ∙ c.places.fragments.ok.0) c.in_ok-fragment.ensures step
-          c.places.invariant.opened);
+      sixteen = ap length c.leave_out.ensures.fragments ∙ length-set old.fragments.items (index_of c.in-Some.field-0.place) _ ∙ so.sixteen;
+      long = c.leave_out.ensures.length ∙ so.long;
+      opened = subst (AreOpened shown code stripe c.args.length files new.set) (sym c.leave_out.ensures.fragments)
+          (opened_less shown code stripe c.args.length files old.set new.set old.fragments.items c.in-Some.field-0.place
+          so.sixteen c.leave_out.ensures.set so.opened);
     }

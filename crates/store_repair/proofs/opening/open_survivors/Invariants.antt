@@ -1,14 +1,15 @@
-use Rattle.std.proofs.Common.{◌≤◌, ◌-◌, vec_len}
+use Rattle.std.proofs.Common.{◌≡◌, length, vec_len}
 use Rattle.store_repair.specs.Opened.{AreOpened}
 use Rattle.store_repair.proofs.opening.open_survivors.Given as goal
 
-abbrev pub invariant-places : goal.invariant-places
-invariant-places g l =
+abbrev pub invariant-refused : goal.invariant-refused
+invariant-refused g l =
     record {
-      bound : vec_len l.fragments ≤ 16;
-      opened : AreOpened g.S.Survivor.Fragment.shown l.fn.code l.fn.stripe.name.now l.fn.length (g.S.Store.files l.fn.store) l.set
-          l.fragments.items;
+      sixteen : length l.opened.fragments.items ≡ 16;
+      long : l.opened.length ≡ l.fn.length;
+      opened : AreOpened g.S.Survivor.Fragment.shown l.fn.code l.fn.stripe.name.now l.fn.length (g.S.Store.files l.fn.store)
+          l.opened.set l.opened.fragments.items;
     }
 
-abbrev pub decreases-places : goal.decreases-places
-decreases-places g l = 16 - vec_len l.fragments
+abbrev pub decreases-refused : goal.decreases-refused
+decreases-refused g l = vec_len l.refused

@@ -14,7 +14,6 @@ returns-clause-rebuilt g c =
     let new = c.put_all.new.store in
     are_rebuilt shown code (is_in made.set) c.in-Some.length stripe made.places.items made.files.items old (g.S.Store.files new)
     c.in_ok-rebuilt.rebuilt.items
-    (subst (λ len. AreMade shown code (is_in made.set) len stripe old made.places.items made.files.items) c.in_ok-opened.ensures.length
-    (subst (λ o. IfSome o (λ m. AreMade shown code (is_in m.set) c.in_ok-opened.opened.length stripe old m.places.items m.files.items))
-    c.in-Some-made.is c.in_ok-made.ensures.made))
+    (subst (λ o. IfSome o (λ m. AreMade shown code (is_in m.set) c.in-Some.length stripe old m.places.items m.files.items))
+    c.in-Some-made.is c.in_ok-made.ensures.made)
     (λ f. g.met.S.Store.new_shown new f) c.in_ok-rebuilt.ensures.put

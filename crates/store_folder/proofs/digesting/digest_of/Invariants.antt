@@ -1,5 +1,5 @@
 use Rattle.std.proofs.Common.{◌≡◌, ◌≤◌, ◌-◌, length}
-use Rattle.rebuild_store.proofs.digesting.digest_of.Given as goal
+use Rattle.store_folder.proofs.digesting.digest_of.Given as goal
 
 abbrev pub invariant-reads : goal.invariant-reads
 invariant-reads g l =

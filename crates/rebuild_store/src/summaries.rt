@@ -1,0 +1,184 @@
+//! The last line of a command: what was done, or would be, and what is left.
+use crate::reports::file_of;
+use crate::totals::Totals;
+use crate::workers::Done;
+use lrc_code::Place;
+use std::alloc::{AllocError, Global};
+use store_folder::Site;
+use store_repair::{Reason, Stripe};
+
+/// As many names are in a summary; rows and lines have all.
+const MOST_NAMES: usize = 3;
+
+/// Units, each 1,024 times the one before it; the first is 1,024 bytes.
+const UNITS: [&str; 4] = ["KiB", "MiB", "GiB", "TiB"];
+
+// The first names of some fragments.
+#[derive(Drop)]
+struct Names {
+    text: String,
+    count: usize,
+}
+
+impl Names {
+    fn new(alloc: Global) -> Names {
+        Names {
+            text: String::new(alloc),
+            count: 0,
+        }
+    }
+
+    fn add(
+        &mut self,
+        alloc: Global,
+        site: &Site<'_>,
+        stripe: &Stripe<'_>,
+        place: Place,
+    ) -> Result<(), AllocError> {
+        if self.count < MOST_NAMES {
+            let name = file_of(alloc, site, stripe, place)?;
+            self.text
+                .push_str(if self.count == 0 { ": " } else { " " })?;
+            self.text.push_str(name.as_str())?;
+        } else if self.count == MOST_NAMES {
+            self.text.push_str(" ..")?;
+        }
+        self.count = self.count.saturating_add(1);
+        Ok(())
+    }
+}
+
+/// What a repair did.
+pub fn repaired(
+    alloc: Global,
+    site: &Site<'_>,
+    stripes: &[Stripe<'_>],
+    all: &[Done],
+    totals: &Totals,
+) -> Result<String, AllocError> {
+    let mut unchecked = Names::new(alloc);
+    let mut damaged = Names::new(alloc);
+    for done in all {
+        let Some(stripe) = stripes.get(done.index) else {
+            continue;
+        };
+        if !done.outcome.is_checked {
+            for place in &done.outcome.rebuilt {
+                unchecked.add(alloc, site, stripe, *place)?;
+            }
+        }
+        for finding in &done.outcome.findings {
+            if let (Some(place), Reason::Damaged | Reason::Differs) = (
+                finding.place,
+                &finding.reason,
+            ) {
+                damaged.add(alloc, site, stripe, place)?;
+            }
+        }
+    }
+    let rebuilt = counted(alloc, totals.rebuilt, "fragment")?;
+    let bytes = size_of(alloc, totals.bytes)?;
+    let Names { text, count } = unchecked;
+    let Names {
+        text: damaged_names,
+        count: damaged_count,
+    } = damaged;
+    let left = totals.left;
+    format!(in alloc;
+        "repaired {rebuilt}, {bytes} ({count} unchecked{text}); damaged: {damaged_count}{damaged_names}; not possible: {left}"
+    )
+}
+
+/// What a repair would do.
+pub fn planned(
+    alloc: Global,
+    site: &Site<'_>,
+    stripes: &[Stripe<'_>],
+    all: &[Done],
+    totals: &Totals,
+) -> Result<String, AllocError> {
+    let mut lost = 0u64;
+    let mut lossy = 0u64;
+    let mut read = 0u64;
+    let mut least = u64::MAX;
+    let mut most = 0u64;
+    for done in all {
+        let Some(stripe) = stripes.get(done.index) else {
+            continue;
+        };
+        let length = stripe.files.length().unwrap_or(0);
+        let many = stripe.files.lost(alloc, site.code, length)?.len() as u64;
+        lost = lost.saturating_add(many);
+        lossy = lossy.saturating_add(u64::from(many > 0));
+        least = least.min(length);
+        most = most.max(length);
+        let survivors = done.outcome.survivors.len() as u64;
+        read = read.saturating_add(survivors.saturating_mul(length));
+    }
+    let count = counted(alloc, stripes.len() as u64, "stripe")?;
+    let code = site.code.text();
+    let lengths = lengths_of(alloc, least, most)?;
+    let Totals {
+        rebuilt,
+        unchecked,
+        left,
+        ..
+    } = *totals;
+    let reads = size_of(alloc, read)?;
+    let writes = size_of(alloc, totals.bytes)?;
+    let first = format!(in alloc; "{count} of {code}, {lengths}; {lost} lost in {lossy}")?;
+    format!(in alloc;
+        "{first}; {rebuilt} can be rebuilt ({unchecked} without any check), {left} can't; reads {reads}, writes {writes}"
+    )
+}
+
+/// What a scrub found, and of how many stripes no check covers the fragments.
+pub fn scrubbed(
+    alloc: Global,
+    stripes: usize,
+    totals: &Totals,
+    unchecked: u64,
+) -> Result<String, AllocError> {
+    let count = counted(alloc, stripes as u64, "stripe")?;
+    let unchecked = counted(alloc, unchecked, "stripe")?;
+    let Totals { damaged, left, .. } = *totals;
+    format!(in alloc;
+        "scrubbed {count}: {damaged} damaged, {left} lost or contradictory, {unchecked} without any check"
+    )
+}
+
+/// A count of things.
+pub fn counted(alloc: Global, count: u64, thing: &str) -> Result<String, AllocError> {
+    let ending = if count == 1 { "" } else { "s" };
+    format!(in alloc; "{count} {thing}{ending}")
+}
+
+// The lengths of fragments, from the least to the most.
+fn lengths_of(alloc: Global, least: u64, most: u64) -> Result<String, AllocError> {
+    if least >= most {
+        return size_of(alloc, most);
+    }
+    let least = size_of(alloc, least)?;
+    let most = size_of(alloc, most)?;
+    format!(in alloc; "{least} to {most}")
+}
+
+// So many bytes, in the greatest unit that they fill, with tenths where they don't fill whole ones.
+fn size_of(alloc: Global, bytes: u64) -> Result<String, AllocError> {
+    let mut unit = 1u64;
+    let mut name = if bytes == 1 { "byte" } else { "bytes" };
+    for greater in &UNITS {
+        if bytes / 1024 < unit {
+            break;
+        }
+        unit = unit.saturating_mul(1024);
+        name = greater;
+    }
+    let whole = bytes / unit.max(1);
+    let tenths = (bytes % unit.max(1)) / (unit / 10).max(1);
+    let tenths = tenths.min(9);
+    if tenths == 0 {
+        return format!(in alloc; "{whole} {name}");
+    }
+    format!(in alloc; "{whole}.{tenths} {name}")
+}

@@ -1,0 +1,30 @@
+use Rattle.std.proofs.Common.{◌∙◌, ◌≡◌, sym, ap, subst, arith, cond, refl}
+use Rattle.std.specs.Prelude.{◌||◌, is_some}
+use Rattle.lrc_code.specs.declared.places.Place.{Place}
+use Rattle.lrc_code.specs.Places.{same_place}
+use Rattle.lrc_code.specs.Sets.{is_in}
+use Rattle.store_repair.specs.Opened.{AreOpened}
+use Rattle.store_repair.proofs.OpenedLemmas.{opened_more}
+use Rattle.store_repair.proofs.opening.open_all.Goals as goal
+use Rattle.store_repair.proofs.opening.open_all.Goals.{then-is_some, else-is_some}
+
+pub places-preserved : goal.places-preserved
+places-preserved g c =
+    let set = c.places.set in
+    let x = c.in_ok-fragment.fragment in
+    let p = c.nth_place-place.result in
+    let step : (q : Place) → is_in c.if-is_some.set q ≡ cond (is_some x) (same_place p q || is_in set q) (is_in set q) =
+    λ q. elim c.if-is_some.branch [
+      | then-is_some w ↦ ap (λ s. is_in s q) w.set-is ∙ w.with-set.ensures q
+          ∙ rw (sym c.is_some.ensures ∙ w.if-is_some.true) refl
+      | else-is_some w ↦ ap (λ s. is_in s q) w.set-is ∙ rw (sym c.is_some.ensures ∙ w.if-is_some.false) refl
+    ] in
+    record {
+      bound = omega (arith, c.places-test.true, c.in_ok-push.ensures.len);
+      opened = subst (AreOpened g.S.Survivor.Fragment.shown c.args.code c.args.stripe.now.name.now c.args.length
+          (g.S.Store.files c.args.store.now) c.if-is_some.set) (sym c.in_ok-push.ensures.items)
+          (opened_more g.S.Survivor.Fragment.shown c.args.code c.args.stripe.now.name.now c.args.length
+          (g.S.Store.files c.args.store.now) set c.if-is_some.set c.places.fragments.items x p
+          (c.nth_place-place.ensures ∙ c.len-in-places.ensures ∙ c.places.fragments.ok.0) c.in_ok-fragment.ensures step
+          c.places.invariant.opened);
+    }

@@ -1,0 +1,22 @@
+//! How stripes are repaired.
+use lrc_code::Code;
+
+/// Which survivors of a stripe are read.
+#[derive(Clone, Copy, Debug, PartialEq, Eq)]
+pub enum Reads {
+    /// All, so that damage among them shows.
+    All,
+    /// As few as determine what is lost. Where one of these can't be read, all.
+    Few,
+}
+
+/// How stripes are repaired.
+#[derive(Clone, Copy, Debug)]
+pub struct Repair {
+    pub code: Code,
+    pub reads: Reads,
+    /// Whether fragments that are damaged or of another length are replaced by rebuilt ones that a check covers. What was there is kept.
+    pub replace_damaged: bool,
+    /// Whether rebuilt fragments go elsewhere than to the store's own, so that nothing of these is in their way.
+    pub elsewhere: bool,
+}
