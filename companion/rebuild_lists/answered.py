@@ -1,4 +1,7 @@
-"""Reports beside the lists that they answer: which requests have an answer, and whether a report is whole."""
+"""Reports beside the lists that they answer: which requests have an answer, and whether a report is whole.
+
+The program writes reports in place, so one that is cut short may end with a line: `put` holds those of a run to their lists, and that of
+`merge` to the digest beside it."""
 
 from __future__ import annotations
 
@@ -7,7 +10,7 @@ import pathlib
 
 from .files import is_there
 from .formats import FEEDS, Refused, counted, list_name, report_name
-from .lists import Served, code_of, served_list
+from .lists import Served, served_list
 from .reports import read_report, reports_of
 
 
@@ -40,8 +43,8 @@ def answered_feeds(folder: pathlib.Path, rack: int, report: pathlib.Path) -> lis
         feed = feeds[answer.feed] if answer.feed < len(feeds) else None
         if feed is None or feed.answered == feed.before_close:
             raise Refused(f"{report}: line {line}: an answer to no request of {folder / list_name(rack, answer.feed)}")
-        row = feed.served.requests[feed.answered][1]
-        if [*answer.fields[:3], answer.code] != [row[1], row[2], str(int(row[3])), code_of(row)]:
+        _, request = feed.served.requests[feed.answered]
+        if not answer.is_to(request):
             raise Refused(f"{report}: line {line}: not the answer to request {feed.answered} of {feed.served.path}")
         feed.answered += 1
     return feeds

@@ -10,7 +10,7 @@ import re
 
 from .files import contents, folder_named, is_there, why_left_out, why_unreadable
 from .formats import FEEDS, LIST_BYTES, LIST_NAME, PLACES, RACKS, REQUESTS, WIDE, counted, list_name
-from .lists import faults, header_fault, stripe_fault, survivors_of
+from .lists import Request, faults, header_fault, stripe_fault
 from .progress import Progress
 from .records import Record, as_program
 
@@ -84,28 +84,30 @@ def check_records(found: Checked, name: str, read: list[Record], fields: int) ->
         elif is_closed:
             cut_off += 1
         else:
-            check_survivors(found, where, record.fields)
+            check_survivors(found, where, Request.of(record.fields))
     if cut_off:
         found.note(f"{name}: {counted(cut_off, 'request')} after the first close, not answered")
     return is_closed
 
 
-def check_survivors(found: Checked, where: str, row: list[str]) -> None:
+def check_survivors(found: Checked, where: str, request: Request) -> None:
     """Notes the survivors of a request that the program leaves out."""
     found.requests += 1
     found.shown(found.requests)
-    for place in survivors_of(row):
-        why = why_left_out(found.folder / f"{row[1]}.{place}", int(row[3]))
+    for name in map(request.fragment, request.survivors):
+        why = why_left_out(found.folder / name, request.length)
         if why:
-            found.note(f"{where}: the survivor {row[1]}.{place} {why}, and is left out")
+            found.note(f"{where}: the survivor {name} {why}, and is left out")
 
 
 def check_rack(found: Checked, rack: int) -> set[str]:
     """Checks the lists of a rack, and answers their names."""
-    names, closed = [], []
+    names: list[str] = []
+    closed: list[str] = []
     while len(names) < FEEDS and is_there(found.folder / list_name(rack, len(names))):
         names.append(list_name(rack, len(names)))
-        closed += [names[-1]] * check_list(found, names[-1])
+        if check_list(found, names[-1]):
+            closed.append(names[-1])
     if len(names) > 1 and closed:
         found.note(f"{names[0]}: the rack ends with the close of {closed[0]}, so requests of its other feeds may have no answer")
     if len(names) == FEEDS and is_there(found.folder / list_name(rack, FEEDS)):
@@ -115,7 +117,8 @@ def check_rack(found: Checked, rack: int) -> set[str]:
 
 
 def check_names(found: Checked, read: set[str]) -> None:
-    """Notes the files that look like lists or fragments, and which the program doesn't read."""
+    """Notes the files that look like lists or fragments, and which the program doesn't read; of fragments without any list how many."""
+    unlisted = 0
     for name in sorted(entry.name for entry in os.scandir(found.folder)):
         stripe, _, place = name.rpartition(".")
         numbers = LIST_NAME.fullmatch(name)
@@ -127,8 +130,12 @@ def check_names(found: Checked, read: set[str]) -> None:
             found.note(f"{name!r}: isn't read, since {why_unread(found.folder, int(numbers[1]), int(numbers[2] or 0))}")
         elif re.fullmatch(r"rack.*\.csv", name, re.IGNORECASE | re.DOTALL):
             found.note(f"{name!r}: isn't read: lists have names such as rack0.csv and rack0.feed1.csv")
+        elif place in PLACES[WIDE] and not found.racks:
+            unlisted += 1
         elif place in PLACES[WIDE] and stripe_fault(stripe):
             found.note(f"{name!r}: no list can name it: {stripe_fault(stripe)}")
+    if unlisted:
+        found.note(f"{counted(unlisted, 'fragment')} and no list: `rebuild-store lost` makes one, and `rebuild-store scrub` needs none")
 
 
 def why_unread(folder: pathlib.Path, rack: int, feed: int) -> str:
@@ -142,11 +149,11 @@ def why_unread(folder: pathlib.Path, rack: int, feed: int) -> str:
     return f"a folder has at most {RACKS} racks, and a rack {FEEDS} feeds"
 
 
-def check(words: argparse.Namespace) -> int:
+def check(args: argparse.Namespace) -> int:
     """Checks the lists of a folder, in the order in which the program reads them."""
     read: set[str] = set()
     with Progress("requests checked") as shown:
-        found = Checked(folder_named(words.folder), shown)
+        found = Checked(folder_named(args.folder), shown)
         while found.racks < RACKS and is_there(found.folder / list_name(found.racks, 0)):
             read |= check_rack(found, found.racks)
             found.racks += 1

@@ -7,6 +7,7 @@ import os
 import re
 import signal
 import sys
+from collections.abc import Callable
 
 from . import VERSION
 from .check import check
@@ -27,7 +28,7 @@ STORE = "the folder of the surviving fragments"
 OUT = "a served folder, or one that merge made"
 
 
-def number(least: int, most: int):
+def number(least: int, most: int) -> Callable[[str], int]:
     """A reader of a number in these limits."""
     def read(text: str) -> int:
         if not re.fullmatch("[0-9]{1,9}", text) or not least <= int(text) <= most:
@@ -49,11 +50,12 @@ class RackAndNumber(argparse.Action):
             parser.error(str(error))
 
 
-def add(commands, run, name: str, says: str, **words: str) -> argparse.ArgumentParser:
+def add(commands: argparse._SubParsersAction[argparse.ArgumentParser], run: Callable[[argparse.Namespace], int], name: str, says: str,
+        **arguments: str) -> argparse.ArgumentParser:
     """Adds a command with the arguments that follow it, each with its help. Options are added to what comes back."""
     command = commands.add_parser(name, help=says, description=f"{says[0].upper()}{says[1:]}.", allow_abbrev=False)
-    for word, text in words.items():
-        command.add_argument(word, metavar="IN" if word == "folder" else word.upper(), help=text)
+    for argument, text in arguments.items():
+        command.add_argument(argument, metavar="IN" if argument == "folder" else argument.upper(), help=text)
     command.set_defaults(run=run)
     return command
 
@@ -66,7 +68,7 @@ def add_outs(command: argparse.ArgumentParser) -> None:
     command.add_argument("outs", metavar="OUT", nargs="+", help=OUT)
 
 
-def add_jobs(commands) -> None:
+def add_jobs(commands: argparse._SubParsersAction[argparse.ArgumentParser]) -> None:
     """The commands for a long list in many jobs."""
     command = add(commands, split, "split", "make folders of the requests of a long list",
                   list="the request list: records of rebuild, and no close", store=STORE,
@@ -85,7 +87,7 @@ def add_jobs(commands) -> None:
         work="the folder that split made, all of it served", result="the folder to make, with report.csv and the rebuilt fragments")
 
 
-def add_results(commands) -> None:
+def add_results(commands: argparse._SubParsersAction[argparse.ArgumentParser]) -> None:
     """The commands for what came of a run."""
     command = add(commands, tell, "tell", "count the outcomes in reports, and name what wasn't rebuilt")
     add_outs(command)
@@ -118,10 +120,10 @@ def parser() -> argparse.ArgumentParser:
     return whole
 
 
-def run(words: argparse.Namespace) -> int:
+def run(args: argparse.Namespace) -> int:
     """Does what the arguments ask, and answers the exit status."""
     try:
-        status = words.run(words)
+        status = args.run(args)
         sys.stdout.flush()
         return status
     except Refused as refused:

@@ -93,7 +93,7 @@ def same_bytes(path: pathlib.Path, other: pathlib.Path) -> bool:
 
 
 def folder_named(name: str) -> pathlib.Path:
-    """A folder that a word of the command line names."""
+    """A folder that an argument names."""
     if not os.path.isdir(name):
         raise Refused(f"{name}: not a folder")
     return pathlib.Path(name)

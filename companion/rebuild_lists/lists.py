@@ -20,14 +20,40 @@ class Fault:
     text: str
 
 
-def survivors_of(row: Sequence[str]) -> list[str]:
-    """The places that a request names as survivors."""
-    return row[4].split(" ") if row[4] else []
+def survivors_of(record: Sequence[str]) -> list[str]:
+    """The places that the record of a request names as survivors."""
+    return record[4].split(" ") if record[4] else []
 
 
-def code_of(row: Sequence[str]) -> str:
-    """The code of a request; a list without the field is of the (6,2,2) code."""
-    return row[5] if len(row) > 5 else NARROW
+def code_of(record: Sequence[str]) -> str:
+    """The code that the record of a request names; a list without the field is of the (6,2,2) code."""
+    return record[5] if len(record) > 5 else NARROW
+
+
+@dataclasses.dataclass(frozen=True)
+class Request:
+    """A request of a list: a record without a fault, as it is in the list, and what its fields say."""
+
+    record: list[str]
+    stripe: str
+    target: str
+    length: int
+    survivors: list[str]
+    code: str
+
+    @classmethod
+    def of(cls, record: list[str]) -> Request:
+        _, stripe, target, length = record[:4]
+        return cls(record, stripe, target, int(length), survivors_of(record), code_of(record))
+
+    @property
+    def name(self) -> str:
+        """The name of the wanted fragment in a store."""
+        return self.fragment(self.target)
+
+    def fragment(self, place: str) -> str:
+        """The name of the stripe's fragment at a place."""
+        return f"{self.stripe}.{place}"
 
 
 def stripe_fault(stripe: str) -> str | None:
@@ -52,22 +78,23 @@ def form_faults(record: Sequence[str], fields: int) -> Iterator[Fault]:
     if len(record) != fields:
         yield Fault("E20", f"the record {','.join(record)!r} has {counted(len(record), 'field')}, and the header has {fields}")
         return
-    if record[0] == "close":
+    order, _, target, length = record[:4]
+    if order == "close":
         yield from close_faults(record)
         return
-    if record[0] != "rebuild":
-        yield Fault("E20", f"the order {record[0]!r} isn't rebuild or close")
+    if order != "rebuild":
+        yield Fault("E20", f"the order {order!r} isn't rebuild or close")
     code = code_of(record)
     if code not in PLACES:
         yield Fault("E20", f"the code {code!r} isn't 6-2-2 or 12-2-2")
     else:
-        if record[2] not in PLACES[code]:
-            yield Fault("E20", f"the target {record[2]!r} isn't a place of the code {code}")
+        if target not in PLACES[code]:
+            yield Fault("E20", f"the target {target!r} isn't a place of the code {code}")
         for place in survivors_of(record):
             if place not in PLACES[code]:
                 yield Fault("E20", f"the survivor {place!r} isn't a place of the code {code}")
-    if not re.fullmatch("[0-9]{1,7}", record[3]):
-        yield Fault("E20", f"the length {record[3]!r} isn't 1 to {LONGEST} in one to seven digits")
+    if not re.fullmatch("[0-9]{1,7}", length):
+        yield Fault("E20", f"the length {length!r} isn't 1 to {LONGEST} in one to seven digits")
 
 
 def limit_faults(record: Sequence[str]) -> Iterator[Fault]:
@@ -117,12 +144,14 @@ def rows_of(path: str | pathlib.Path, wrong_with: Callable[[list[str], int], str
         raise Refused(f"{path}: no header, which is {','.join(HEADER)}, with or without ,code")
 
 
-def requests(path: str | pathlib.Path) -> Iterator[tuple[int, list[str]]]:
-    """The header of a list to split, and then its requests."""
+def requests(path: str | pathlib.Path) -> tuple[list[str], Iterator[tuple[int, Request]]]:
+    """The header of a list to split, and its requests, each with the number of its line."""
     def wrong_with(record: list[str], fields: int) -> str | None:
         wrong = faults(record, fields)
         return wrong[0].text if wrong else None
-    return rows_of(path, wrong_with)
+    rows = rows_of(path, wrong_with)
+    _, header = next(rows)
+    return header, ((line, Request.of(record)) for line, record in rows)
 
 
 @dataclasses.dataclass
@@ -131,7 +160,7 @@ class Served:
     before the first close, or None where there is no close."""
 
     path: pathlib.Path
-    requests: list[tuple[int, list[str]]]
+    requests: list[tuple[int, Request]]
     closed: int | None
 
 
@@ -145,4 +174,4 @@ def served_list(path: pathlib.Path) -> Served:
         raise Refused(f"{path}: has mistakes, which `rebuild-lists check {path.parent}` names")
     orders = [it.fields[0] for it in read[1:]]
     closed = orders.index("close") if "close" in orders else None
-    return Served(path, [(it.line, it.fields) for it in read[1:] if it.fields[0] == "rebuild"], closed)
+    return Served(path, [(it.line, Request.of(it.fields)) for it in read[1:] if it.fields[0] == "rebuild"], closed)

@@ -9,7 +9,7 @@ from collections.abc import Iterator
 
 from .files import new_folder, same_bytes
 from .formats import REPORT, Refused, counted, list_name, report_name
-from .lists import code_of, requests
+from .lists import requests
 from .progress import Progress
 from .records import records
 from .reports import Answer, Tally, read_report, write_sums
@@ -42,12 +42,13 @@ def answers(work: pathlib.Path, count: int) -> Iterator[Answer]:
     """Each answer of the served folders in the order of the list that was split."""
     for number in range(count):
         for path, report in lists_of(work, number):
-            asked = [row for _, row in requests(path)][1:]
+            _, lines = requests(path)
+            asked = [request for _, request in lines]
             found = list(read_report(report))
             if len(found) != len(asked):
                 raise Refused(f"{report}: {counted(len(found), 'answer')}, and its list has {counted(len(asked), 'request')}")
-            for row, answer in zip(asked, found):
-                if [*answer.fields[:3], answer.code] != [row[1], row[2], str(int(row[3])), code_of(row)]:
+            for request, answer in zip(asked, found):
+                if not answer.is_to(request):
                     raise Refused(f"{report}: line {answer.number + 2}: not the answer to request {answer.number} of {path}")
                 yield answer
 
@@ -61,7 +62,7 @@ def is_coded(work: pathlib.Path, count: int) -> bool:
 def earlier(path: pathlib.Path, answer: Answer) -> str:
     """The number of the first answer of a report that rebuilt the place of this one with another digest."""
     return next(row[0] for _, row in records(path)
-                if row[1:3] == answer.fields[:2] and row[4] == "rebuilt" and row[5] != answer.digest)
+                if row[1:3] == [answer.stripe, answer.target] and row[4] == "rebuilt" and row[5] != answer.digest)
 
 
 def keep(answer: Answer, number: int, kept: pathlib.Path, report) -> None:
@@ -81,29 +82,30 @@ def merge_into(part: pathlib.Path, work: pathlib.Path, count: int) -> Tally:
     """Writes the report, the fragments and their digests into a folder, and answers how many there are of each outcome."""
     tally = Tally()
     digests: dict[str, str] = {}
-    code = ["code"] * is_coded(work, count)
+    coded = is_coded(work, count)
     with open(part / "report.csv", "x", encoding="ascii", newline="") as file, Progress("answers merged") as shown:
         rows = csv.writer(file, lineterminator="\n")
-        rows.writerow(REPORT + code)
+        rows.writerow([*REPORT, "code"] if coded else REPORT)
         for number, answer in enumerate(answers(work, count)):
             if answer.rebuilt:
                 keep(answer, number, part / answer.name, file)
                 digests[answer.name] = answer.digest
-            rows.writerow([number] + answer.fields + [answer.code] * len(code))
+            row = [number, answer.stripe, answer.target, answer.length, answer.outcome, answer.digest, answer.unread]
+            rows.writerow([*row, answer.code] if coded else row)
             tally.add(answer.outcome, answer.unread)
             shown(number + 1)
     write_sums(part, digests)
     return tally
 
 
-def merge(words: argparse.Namespace) -> int:
+def merge(args: argparse.Namespace) -> int:
     """Merges the reports of all folders, which must have been served."""
-    work = pathlib.Path(words.work)
+    work = pathlib.Path(args.work)
     count = folders_of(work)
     missing = unserved(work, count)
     if missing:
         raise Refused(f"{work}/out: a report is missing of these folders: {','.join(map(str, missing))}")
-    with new_folder(words.result) as part:
+    with new_folder(args.result) as part:
         tally = merge_into(part, work, count)
     print(f"merged {tally}")
     return 0

@@ -40,16 +40,16 @@ def lists_for(out: pathlib.Path, named: str | None, store: pathlib.Path) -> path
     raise Refused(f"{out}: --lists names the folder of its lists, with which its reports are compared")
 
 
-def rebuilt_of(words: argparse.Namespace, store: pathlib.Path, tally: Tally) -> dict[str, Answer]:
+def rebuilt_of(args: argparse.Namespace, store: pathlib.Path, tally: Tally) -> dict[str, Answer]:
     """The rebuilt fragments by name. All reports and digests are compared here, so that nothing is written where one differs."""
-    if words.lists and len(words.lists) != len(words.outs):
-        raise Refused(f"--lists is given {len(words.lists)} times for {len(words.outs)} OUT: once for each, in their order, or never")
+    if args.lists and len(args.lists) != len(args.outs):
+        raise Refused(f"--lists is given {len(args.lists)} times for {len(args.outs)} OUT: once for each, in their order, or never")
     found: dict[str, Answer] = {}
     with Progress("fragments compared") as shown:
-        for place, name in enumerate(words.outs):
+        for place, name in enumerate(args.outs):
             reports = reports_of(folder_named(name))
             if reports[0].name != "report.csv":
-                hold_to_lists(pathlib.Path(name), lists_for(pathlib.Path(name), words.lists and words.lists[place], store))
+                hold_to_lists(pathlib.Path(name), lists_for(pathlib.Path(name), args.lists and args.lists[place], store))
             for report in reports:
                 for answer in read_report(report):
                     tally.add(answer.outcome, answer.unread)
@@ -84,7 +84,7 @@ def regular(path: pathlib.Path) -> os.stat_result | None:
 def neighbour(store: pathlib.Path, answer: Answer) -> os.stat_result | None:
     """What the system says of another fragment of the stripe. A store that the fragment was rebuilt from has some."""
     for place in PLACES[answer.code]:
-        found = regular(store / f"{answer.fields[0]}.{place}") if place != answer.fields[1] else None
+        found = regular(store / f"{answer.stripe}.{place}") if place != answer.target else None
         if found and found.st_size == answer.length:
             return found
     return None
@@ -93,7 +93,7 @@ def neighbour(store: pathlib.Path, answer: Answer) -> os.stat_result | None:
 def planned(store: pathlib.Path, found: dict[str, Answer], overwrite: bool) -> Plan:
     """What there is to do for a store, which is refused where it isn't the one that the fragments were rebuilt from."""
     plan = Plan()
-    strange = []
+    strange: list[str] = []
     for name, answer in found.items():
         if has_bytes_of(store / name, answer):
             plan.same += 1
@@ -104,7 +104,7 @@ def planned(store: pathlib.Path, found: dict[str, Answer], overwrite: bool) -> P
             continue
         other = neighbour(store, answer)
         if other is None:
-            strange.append(answer.fields[0])
+            strange.append(answer.stripe)
             continue
         plan.replaced += is_taken
         plan.write[name] = answer, regular(store / name) or other
@@ -136,16 +136,16 @@ def write_all(store: pathlib.Path, plan: Plan, overwrite: bool) -> int:
     return written
 
 
-def put(words: argparse.Namespace) -> int:
+def put(args: argparse.Namespace) -> int:
     """Copies the rebuilt fragments of served folders into the store. The status says whether all requests were rebuilt, and all their
     fragments are there."""
-    store = folder_named(words.store)
+    store = folder_named(args.store)
     tally = Tally()
-    found = rebuilt_of(words, store, tally)
+    found = rebuilt_of(args, store, tally)
     with held_alone(store):
-        plan = planned(store, found, words.overwrite)
+        plan = planned(store, found, args.overwrite)
         try:
-            written = write_all(store, plan, words.overwrite)
+            written = write_all(store, plan, args.overwrite)
         finally:
             sync_folder(store)
     for name in plan.others:

@@ -24,11 +24,13 @@ class Record:
 FIELD = re.compile('(?:"((?:[^"]|"")*)("?))?([^,\r\n]*)')
 LINE_ENDS = re.compile("[\r\n]*")
 LINE_END = re.compile("\r\n?|\n")
+# What a text may begin with to say that it is UTF-8.
+MARK = b"\xef\xbb\xbf"
 
 
 def as_program(data: bytes) -> Iterator[Record]:
     """The records of a list just as the program reads them, also where a stricter reader would find a fault in the quotes."""
-    text = data[3 * data.startswith(b"\xef\xbb\xbf"):].decode("utf-8", "surrogateescape")
+    text = data[len(MARK) if data.startswith(MARK) else 0:].decode("utf-8", "surrogateescape")
     at = LINE_ENDS.match(text).end()
     line = 1 + len(LINE_END.findall(text, 0, at))
     while at < len(text):

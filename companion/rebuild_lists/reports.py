@@ -10,6 +10,7 @@ import re
 from collections.abc import Iterator, Sequence
 
 from .formats import FED_REPORT, NARROW, OUTCOMES, PLACES, REPORT, Refused, counted
+from .lists import Request
 from .records import records
 
 # The digests of a merged result's files, as sha256sum writes and checks them.
@@ -20,40 +21,32 @@ SERVED_FRAGMENT = re.compile(r"rack(0|[1-9][0-9]*)-(0|[1-9][0-9]*)\.")
 
 @dataclasses.dataclass
 class Answer:
-    """An answer of a report: its number in the report and its feed, the fields after these but for the code, and the path of its
-    fragment, which is there where the outcome is rebuilt."""
+    """An answer of a report: its number in the report and its feed, what its other fields say, and the path of its fragment, which is
+    there where the outcome is rebuilt. Between the places of the survivors that were left out, `unread`, are spaces."""
 
     number: int
     feed: int
-    fields: list[str]
+    stripe: str
+    target: str
+    length: int
+    outcome: str
+    digest: str
+    unread: str
     code: str
     fragment: pathlib.Path
 
     @property
     def name(self) -> str:
         """The name of the fragment in a store."""
-        return f"{self.fields[0]}.{self.fields[1]}"
-
-    @property
-    def length(self) -> int:
-        return int(self.fields[2])
-
-    @property
-    def outcome(self) -> str:
-        return self.fields[3]
+        return f"{self.stripe}.{self.target}"
 
     @property
     def rebuilt(self) -> bool:
         return self.outcome == "rebuilt"
 
-    @property
-    def digest(self) -> str:
-        return self.fields[4]
-
-    @property
-    def unread(self) -> str:
-        """The survivors that were left out, with spaces between them."""
-        return self.fields[5]
+    def is_to(self, request: Request) -> bool:
+        """Whether it may be the answer to a request."""
+        return (self.stripe, self.target, self.length, self.code) == (request.stripe, request.target, request.length, request.code)
 
     def pieces(self) -> Iterator[bytes]:
         """The fragment's bytes, a piece at a time, since `join` makes long ones. Refused at the end where their number or their
@@ -154,9 +147,10 @@ def read_report(path: pathlib.Path) -> Iterator[Answer]:
         fields, code = row[1:7], row[7] if row[7:] else NARROW
         if not re.fullmatch("[0-3]", feed) or not is_answer(fields, code):
             raise Refused(f"{path}: line {line}: not an answer")
-        name = f"{fields[0]}.{fields[1]}"
+        stripe, target, length, outcome, digest, unread = fields
+        name = f"{stripe}.{target}"
         fragment = path.with_name(name if path.name == "report.csv" else f"{rack}-{number}.{name}")
-        yield Answer(number, int(feed), fields, code, fragment)
+        yield Answer(number, int(feed), stripe, target, int(length), outcome, digest, unread, code, fragment)
 
 
 def is_answer(fields: Sequence[str], code: str) -> bool:

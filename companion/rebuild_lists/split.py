@@ -5,11 +5,11 @@ from __future__ import annotations
 import argparse
 import pathlib
 import shutil
-from collections.abc import Iterable, Iterator
+from collections.abc import Callable, Iterable, Iterator
 
 from .files import folder_named, new_folder
 from .formats import BATCHES, counted, list_name
-from .lists import requests, survivors_of
+from .lists import Request, requests
 from .progress import Progress
 from .records import write_records
 
@@ -22,25 +22,26 @@ class Split:
         self.folders = self.there = self.absent = self.held = 0
 
 
-def fill_folder(made: Split, folder: pathlib.Path, racks: list[list[list[str]]], header: list[str], bring) -> None:
+def fill_folder(made: Split, folder: pathlib.Path, racks: list[list[Request]], header: list[str],
+                bring: Callable[[pathlib.Path, str], bool]) -> None:
     """Makes one folder: its lists, and the surviving fragments that they name. `bring` puts a fragment of the store into the
     folder, and answers whether the store has it."""
     folder.mkdir()
-    rows = [row for rack in racks for row in rack]
+    requested = [request for asked in racks for request in asked]
     for rack, asked in enumerate(racks):
-        write_records(folder / list_name(rack, 0), [header] + asked)
-    for name in sorted({f"{row[1]}.{place}" for row in rows for place in survivors_of(row)}):
+        write_records(folder / list_name(rack, 0), [header] + [request.record for request in asked])
+    for name in sorted({request.fragment(place) for request in requested for place in request.survivors}):
         if bring(folder, name):
             made.there += 1
         else:
             made.absent += 1
-    rebuilt = sum(int(row[3]) for row in rows)
-    listed = sum(int(row[3]) * len(survivors_of(row)) for row in rows)
+    rebuilt = sum(request.length for request in requested)
+    listed = sum(request.length * len(request.survivors) for request in requested)
     made.folders += 1
     made.held = max(made.held, rebuilt + min(listed, BATCHES))
 
 
-def brought_from(store: pathlib.Path, copy: bool):
+def brought_from(store: pathlib.Path, copy: bool) -> Callable[[pathlib.Path, str], bool]:
     """What brings a fragment of the store into a folder: as a copy, or as a link."""
     def bring(folder: pathlib.Path, name: str) -> bool:
         if not (store / name).is_file():
@@ -53,16 +54,16 @@ def brought_from(store: pathlib.Path, copy: bool):
     return bring
 
 
-def folders(rows: Iterable[list[str]], racks: int, most: int) -> Iterator[list[list[list[str]]]]:
-    """The rows cut into folders of at most this many racks, each of at most `most` rows."""
-    folder: list[list[list[str]]] = [[]]
-    for row in rows:
+def folders(asked: Iterable[Request], racks: int, most: int) -> Iterator[list[list[Request]]]:
+    """Requests cut into folders of at most this many racks, each of at most `most` requests."""
+    folder: list[list[Request]] = [[]]
+    for request in asked:
         if len(folder[-1]) == most:
             if len(folder) == racks:
                 yield folder
                 folder = []
             folder.append([])
-        folder[-1].append(row)
+        folder[-1].append(request)
     if folder[-1]:
         yield folder
 
@@ -71,23 +72,23 @@ def counted_requests(path: str) -> int:
     """How many requests a list has, which is refused here where it has a mistake."""
     total = 0
     with Progress("lines read") as shown:
-        for line, _ in requests(path):
+        _, lines = requests(path)
+        for line, _ in lines:
             total += 1
             shown(line)
-    return total - 1
+    return total
 
 
-def split(words: argparse.Namespace) -> int:
+def split(args: argparse.Namespace) -> int:
     """Reads the whole list once for its mistakes, and then again to cut it, so that a bad list makes no folder."""
-    bring = brought_from(folder_named(words.store).resolve(), words.copy)
-    total = counted_requests(words.list)
+    bring = brought_from(folder_named(args.store).resolve(), args.copy)
+    total = counted_requests(args.list)
     made = Split()
-    with new_folder(words.work) as work, Progress("folders made") as shown:
+    with new_folder(args.work) as work, Progress("folders made") as shown:
         (work / "in").mkdir()
         (work / "out").mkdir()
-        rows = (row for _, row in requests(words.list))
-        header = next(rows)
-        for number, racks in enumerate(folders(rows, words.racks, words.requests)):
+        header, lines = requests(args.list)
+        for number, racks in enumerate(folders((request for _, request in lines), args.racks, args.requests)):
             fill_folder(made, work / "in" / str(number), racks, header, bring)
             shown(made.folders)
     print(f"split {counted(total, 'request')} into {counted(made.folders, 'folder')}; "

@@ -14,18 +14,18 @@ from .progress import Progress
 from .reports import SERVED_FRAGMENT, Tally, read_report, reports_of
 
 
-def tell(words: argparse.Namespace) -> int:
+def tell(args: argparse.Namespace) -> int:
     """Counts the outcomes of all reports, and names each request that wasn't rebuilt or had a survivor left out. The status says
     whether all were rebuilt."""
-    if words.lists and len(words.outs) != 1:
+    if args.lists and len(args.outs) != 1:
         raise Refused("--lists takes a single OUT, the one that the folder was served into")
     tally = Tally()
     unended = 0
     with Progress("answers read") as shown:
-        for name in words.outs:
+        for name in args.outs:
             unended += tell_folder(tally, folder_named(name), shown)
-    missing = tell_unanswered(folder_named(words.lists), pathlib.Path(words.outs[0])) if words.lists else 0
-    print(f"{tally}; {counted(missing, 'request')} without an answer" if words.lists else tally)
+    missing = tell_unanswered(folder_named(args.lists), pathlib.Path(args.outs[0])) if args.lists else 0
+    print(f"{tally}; {counted(missing, 'request')} without an answer" if args.lists else tally)
     return 1 if unended or missing or tally.not_rebuilt else 0
 
 
@@ -64,7 +64,7 @@ def tell_unanswered(folder: pathlib.Path, out: pathlib.Path) -> int:
     count = 0
     for rack in range(racks_of(folder)):
         for feed in answered_feeds(folder, rack, out / report_name(rack)):
-            for line, row in feed.served.requests[feed.answered:]:
-                print(f"{feed.served.path}: line {line}: {row[1]}.{row[2]}: no answer")
+            for line, request in feed.served.requests[feed.answered:]:
+                print(f"{feed.served.path}: line {line}: {request.name}: no answer")
                 count += 1
     return count

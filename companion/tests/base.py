@@ -34,7 +34,7 @@ class Store(unittest.TestCase):
             (self.store / f"{stripe}.{place}").write_bytes(data)
 
     def call(self, *words, program=PROGRAM, **how):
-        """Runs the companion in the scratch folder, with the built program where the word needs it."""
+        """Runs the companion in the scratch folder, with the built program where the command needs it."""
         words = [str(word) for word in words]
         if words[0] in ("serve", "damaged") and "--program" not in words:
             words += ["--program", str(program)]

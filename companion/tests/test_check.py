@@ -52,6 +52,14 @@ note: 'rack1.csv': is a link to nothing, which is read as if it weren't there
 note: 'rack2.csv': isn't read, since rack1.csv isn't there
 in: good: 1 rack, 1 list, 2 requests; 13 notes""")
 
+    def test_a_store_without_lists(self):
+        for name in "My.Name.x1", "3f2504e0-4f89-11d3-9a0c-0305e82c3301.x1", "notes.txt":
+            self.list("", name)
+        self.done(self.call("check", "in"), """\
+mistake: rack0.csv: E23: isn't there
+note: 11 fragments and no list: `rebuild-store lost` makes one, and `rebuild-store scrub` needs none
+in: 1 mistake: 0 racks, 0 lists, 0 requests; 1 note""", 1)
+
     def test_limits(self):
         self.list(FIVE + "close,,,,\n" * 4097 + "rebuild,A,x0,1,\n")
         for feed in 1, 2, 3, 4:

@@ -22,10 +22,10 @@ pub enum ReplyResult {
     Starved,
 }
 
-/// What became of the request of a rack and a number; in a run the field `rack` is the slot of the request's feed. Its type keeps that a
-/// `Done` outcome is the request's answer.
+/// What became of the request of a rack and a number. Its type keeps that a `Done` outcome is the request's answer.
 #[derive(Debug, Drop)]
 pub struct Reply<'a> {
+    /// The number in the field `rack` of the job: in a run a slot, as `Job` says.
     pub rack: usize,
     pub number: u64,
     pub request: &'a Request,

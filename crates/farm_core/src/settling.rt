@@ -13,7 +13,8 @@ use farm_lanes::{EndedPut, Item, TakeEnd, settle};
 use std::alloc::Global;
 use std::sync::Wait;
 
-// Takes so many items of the request lane, and replies to the jobs among them.
+// Takes so many items of the request lane, and replies to the jobs among them. There are none: what is left is the end mark after the
+// stops, which are put after all jobs. But no contract says in which order the items of several put ends are taken.
 fn take_left<'a, R: Wait, P: Pause>(
     rt: &R,
     alloc: Global,
@@ -24,9 +25,10 @@ fn take_left<'a, R: Wait, P: Pause>(
 ) -> HandedIn<'a>
     ensures { TookLeft jobs.old count all.entry.board all.entry.fault jobs.new result.board result.fault }
 {
-    let HandedIn { board, fault } = all;
-    let mut board = board;
-    let mut fault = fault;
+    let HandedIn {
+        mut board,
+        mut fault,
+    } = all;
     for _ in 0..count {
         match jobs.take(rt) {
             Item::Value {
@@ -50,7 +52,8 @@ fn take_left<'a, R: Wait, P: Pause>(
     HandedIn { board, fault }
 }
 
-// Takes so many items of the reply lane, and hands in the replies among them.
+// Takes so many items of the reply lane, and hands in the replies among them. There are none, since the collector has taken all up to each
+// worker's end, but no contract says so.
 fn take_replies<'a, R: Wait>(
     rt: &R,
     replies: &mut TakeEnd<Reply<'a>>,
@@ -59,9 +62,10 @@ fn take_replies<'a, R: Wait>(
 ) -> HandedIn<'a>
     ensures { TookReplies replies.old count all.entry.board all.entry.fault replies.new result.board result.fault }
 {
-    let HandedIn { board, fault } = all;
-    let mut board = board;
-    let mut fault = fault;
+    let HandedIn {
+        mut board,
+        mut fault,
+    } = all;
     for _ in 0..count {
         match replies.take(rt) {
             Item::Value { value, .. } => fault = hand_in(&mut board, fault, value),
@@ -103,7 +107,7 @@ fn conclude<'a>(all: HandedIn<'a>) -> Board<'a>
     if fault.is_some() {
         unreachable!();
     }
-    board.has_rooms();
+    board.learn_rooms();
     board
 }
 

@@ -19,7 +19,7 @@ mod reports;
 
 pub use lists::listed::Listed;
 pub use lists::listing::{ListFault, MOST_LIST_BYTES, MOST_RECORDS, Record, read_list};
-pub use lists::requests::{ReadRequest, requests_before_close};
+pub use lists::requests::{ReadRequest, count_requests, requests_before_close};
 pub use names::{fragment_file, list_file};
 pub use rack_files::{NamedFile, make_files};
 pub use reports::digests::digests_of_racks;

@@ -3,13 +3,12 @@ use Rattle.std.proofs.Common.{◌≡◌, ◌≤◌, ◌+◌, ◌-◌, ◌++◌, 
 use Rattle.std.specs.List.{AllZip, slice_range}
 use Rattle.std.proofs.Math.Seq.{take-add}
 use Rattle.std.proofs.lemmas.List.{length-drop, length-map, length-take-le, map-append}
-use Rattle.std.proofs.lemmas.Simd.{map-map}
 use Rattle.lrc_code.specs.declared.outcomes.Outcome.{Outcome}
 use Rattle.farm_core.specs.Merge.{AreMergedAnswers}
 use Rattle.farm_core.specs.Orders.{before_close}
 use Rattle.farm_core.specs.declared.orders.Order.{Order}
 use Rattle.farm_core.proofs.Works.{zip_append}
-use Rattle.farm_serving.specs.AnsweredRacks.{AreAnswered, all_records, all_requests, listed_counts}
+use Rattle.farm_serving.specs.AnsweredRacks.{AreAnswered, all_requests}
 use Rattle.farm_shelves.specs.Files.{Shown}
 use Rattle.farm_serving.specs.Pairs.{zip_with}
 use Rattle.farm_lists.specs.Report.{RequestRead, listed_before_close, read_of}
@@ -26,15 +25,6 @@ pub range_length : {A : Type 0} (xs : List A) (a b : ℕ) → a ≤ b → b ≤ 
 range_length xs a b within past = length-take-le (b - a) (drop a xs) (omega (arith, length-drop a xs, within, past))
 
 -- ---- how many requests, in memory and as lists
-
-pub counts_same : (racks : List (Vec (Vec Record Global) Global))
-    → listed_counts (all_records racks) ≡ map (λ feeds. map (λ list. length (listed_before_close list.items)) feeds.items) racks
-counts_same [] = refl
-counts_same (feeds ∷ racks) =
-    ap (λ (t : List ℕ). t ∷ listed_counts (all_records racks))
-    (map-map (λ (list : List Record). length (listed_before_close list)) (λ (list : Vec Record Global). list.items) feeds.items)
-    ∙ ap (λ (t : List (List ℕ)). map (λ (list : Vec Record Global). length (listed_before_close list.items)) feeds.items ∷ t)
-    (counts_same racks)
 
 pub lengths_same : (feeds : List (Vec ReadRequest Global))
     → map (λ requests. length requests) (map (λ (us : Vec ReadRequest Global). map read_of us.items) feeds)

@@ -65,14 +65,14 @@ few_answers counts fs feeds small fits =
 -- ---- of all racks
 
 abbrev Lists : Type 0
-Lists = Vec (Vec Record Global) Global
+Lists = List (List Record)
 
 abbrev Answers : Type 0
 Answers = Vec (ℕ × Outcome) Global
 
 -- how many requests are before the close of each list
 abbrev pub listed_counts : Lists → List ℕ
-listed_counts lists = map (λ (l : Vec Record Global). length (listed_before_close l.items)) lists.items
+listed_counts lists = map (λ (list : List Record). length (listed_before_close list)) lists
 
 abbrev pub FitLists : Lists → Answers → Type 0
 FitLists lists answers = FitsFeeds (listed_counts lists) (map (λ (a : ℕ × Outcome). a.0) answers.items)
@@ -92,32 +92,32 @@ fit_counts counts (x ∷ xs) (r ∷ racks) (a ∷ answers) same fit = (
   fit_counts counts xs racks answers (ap (λ (ns : List (List ℕ)). drop 1 ns) same) fit.1,
 )
 
-counts_few : (ls : List (Vec Record Global)) → AllByRecursion (λ (v : Vec Record Global). length v.items ≤ 4096) ls
-    → AllByRecursion (λ n. n ≤ 4096) (map (λ v. length (listed_before_close v.items)) ls)
+counts_few : (ls : Lists) → AllByRecursion (λ (list : List Record). length list ≤ 4096) ls
+    → AllByRecursion (λ n. n ≤ 4096) (listed_counts ls)
 counts_few [] few = tt
-counts_few (l ∷ ls) few = (omega (arith, served_few l.items, few.0), counts_few ls few.1)
+counts_few (l ∷ ls) few = (omega (arith, served_few l, few.0), counts_few ls few.1)
 
-rack_few : (l : Lists) (a : Answers) → (0 < length l.items) × (length l.items ≤ 4)
-    → All (λ (v : Vec Record Global). length v.items ≤ 4096) l.items → FitLists l a → length a.items ≤ 16384
+rack_few : (l : Lists) (a : Answers) → (0 < length l) × (length l ≤ 4) → All (λ (list : List Record). length list ≤ 4096) l → FitLists l a
+    → length a.items ≤ 16384
 rack_few l a feeds small fit =
-    let counts = counts_few l.items (recursion_from_All (λ (v : Vec Record Global). length v.items ≤ 4096) l.items small) in
-    let size = length-map l.items (λ (v : Vec Record Global). length (listed_before_close v.items)) in
+    let counts = counts_few l (recursion_from_All (λ (list : List Record). length list ≤ 4096) l small) in
+    let size = length-map l (λ (list : List Record). length (listed_before_close list)) in
     let few = few_answers (listed_counts l) (map (λ (x : ℕ × Outcome). x.0) a.items) (omega (arith, feeds.1, size))
     (All-from_recursion (λ n. n ≤ 4096) (listed_counts l) counts) fit in
     omega (arith, few, length-map a.items (λ (x : ℕ × Outcome). x.0))
 
-each_few : (lists : List Lists) (answers : List Answers) → AllByRecursion (λ (l : Lists). (0 < length l.items) × (length l.items ≤ 4)) lists
-    → AllByRecursion (λ (l : Lists). All (λ (v : Vec Record Global). length v.items ≤ 4096) l.items) lists → AllZip FitLists lists answers
+each_few : (lists : List Lists) (answers : List Answers) → AllByRecursion (λ (l : Lists). (0 < length l) × (length l ≤ 4)) lists
+    → AllByRecursion (λ (l : Lists). All (λ (list : List Record). length list ≤ 4096) l) lists → AllZip FitLists lists answers
     → AllByRecursion (λ (a : Answers). length a.items ≤ 16384) answers
 each_few [] [] feeds small fit = tt
 each_few [] (a ∷ answers) feeds small fit = absurd fit
 each_few (l ∷ lists) [] feeds small fit = absurd fit
 each_few (l ∷ lists) (a ∷ answers) feeds small fit = (rack_few l a feeds.0 small.0 fit.0, each_few lists answers feeds.1 small.1 fit.1)
 
-pub all_few : (lists : List Lists) (answers : List Answers) → All (λ (l : Lists). (0 < length l.items) × (length l.items ≤ 4)) lists
-    → All (λ (l : Lists). All (λ (v : Vec Record Global). length v.items ≤ 4096) l.items) lists → AllZip FitLists lists answers
+pub all_few : (lists : List Lists) (answers : List Answers) → All (λ (l : Lists). (0 < length l) × (length l ≤ 4)) lists
+    → All (λ (l : Lists). All (λ (list : List Record). length list ≤ 4096) l) lists → AllZip FitLists lists answers
     → All (λ (a : Answers). length a.items ≤ 16384) answers
 all_few lists answers feeds small fit =
     All-from_recursion (λ (a : Answers). length a.items ≤ 16384) answers
-    (each_few lists answers (recursion_from_All (λ (l : Lists). (0 < length l.items) × (length l.items ≤ 4)) lists feeds)
-    (recursion_from_All (λ (l : Lists). All (λ (v : Vec Record Global). length v.items ≤ 4096) l.items) lists small) fit)
+    (each_few lists answers (recursion_from_All (λ (l : Lists). (0 < length l) × (length l ≤ 4)) lists feeds)
+    (recursion_from_All (λ (l : Lists). All (λ (list : List Record). length list ≤ 4096) l) lists small) fit)

@@ -13,52 +13,36 @@ use Rattle.farm_core.specs.declared.orders.RackList.{RackList}
 use Rattle.farm_lists.specs.Report.{listed_before_close}
 use Rattle.farm_lists.specs.declared.lists.listing.Record.{Record}
 
-abbrev Lists : Type 0
-Lists = Vec (Vec Record Global) Global
-
 abbrev pub Rack : Type 0
 Rack = Vec RackList Global
 
 abbrev served : List (List Order) → List ℕ
 served feeds = map (λ (os : List Order). length (before_close os)) feeds
 
-abbrev listed : Lists → List ℕ
-listed l = map (λ (v : Vec Record Global). length (listed_before_close v.items)) l.items
+abbrev listed : List (Vec Record Global) → List ℕ
+listed lists = map (λ (v : Vec Record Global). length (listed_before_close v.items)) lists
 
 -- as many feeds as lists, where they have as many requests, feed by feed
-same_few : (feeds : List (List Order)) (l : Lists) → served feeds ≡ listed l → (0 < length l.items) × (length l.items ≤ 4)
-    → IsFewFeeds feeds
-same_few feeds l same few =
-    let sizes : length (served feeds) ≡ length (listed l) = ap (λ (ns : List ℕ). length ns) same in
-    let a = length-map l.items (λ (v : Vec Record Global). length (listed_before_close v.items)) in
+pub same_few : (feeds : List (List Order)) (lists : List (Vec Record Global)) → served feeds ≡ listed lists
+    → (0 < length lists) × (length lists ≤ 4) → IsFewFeeds feeds
+same_few feeds lists same few =
+    let sizes : length (served feeds) ≡ length (listed lists) = ap (λ (ns : List ℕ). length ns) same in
+    let a = length-map lists (λ (v : Vec Record Global). length (listed_before_close v.items)) in
     let b = length-map feeds (λ (os : List Order). length (before_close os)) in
     (omega (arith, few.0, sizes, a, b), omega (arith, few.1, sizes, a, b))
 
-each_few : (racks : List Rack) (lists : List Lists) → map (λ r. served r.items) racks ≡ map listed lists
-    → AllByRecursion (λ (l : Lists). (0 < length l.items) × (length l.items ≤ 4)) lists
+each_few : (racks : List Rack) → AllByRecursion (λ (r : Rack). IsFewFeeds r.items) racks
     → (k : ℕ) (feeds : List (List Order)) → get_elem? (map (λ r. r.items) racks) k ≡ some feeds → IsFewFeeds feeds
-each_few [] lists same few k feeds at = absurd (some-ne-none feeds (sym at))
-each_few (r ∷ racks) [] same few k feeds at = absurd (let sizes = ap (λ (ns : List (List ℕ)). length ns) same in omega (arith, sizes))
-each_few (r ∷ racks) (l ∷ lists) same few zero feeds at =
-    subst IsFewFeeds (some-injective r.items feeds at) (same_few r.items l (ap (λ (ns : List (List ℕ)). get_or ns 0 []) same) few.0)
-each_few (r ∷ racks) (l ∷ lists) same few (suc k) feeds at =
-    each_few racks lists (ap (λ (ns : List (List ℕ)). drop 1 ns) same) few.1 k feeds at
+each_few [] few k feeds at = absurd (some-ne-none feeds (sym at))
+each_few (r ∷ racks) few zero feeds at = subst IsFewFeeds (some-injective r.items feeds at) few.0
+each_few (r ∷ racks) few (suc k) feeds at = each_few racks few.1 k feeds at
 
-pub few_feeds : (racks : List Rack) (lists : List Lists) → map (λ r. map (λ os. length (before_close os)) r.items) racks
-    ≡ map (λ l. map (λ v. length (listed_before_close v.items)) l.items) lists
-    → length lists ≤ 16 → All (λ l. (0 < length l.items) × (length l.items ≤ 4)) lists → AreFeeds (map (λ r. r.items) racks)
-few_feeds racks lists same most few =
-    let sizes = ap (λ (ns : List (List ℕ)). length ns) same in (
-      omega (
-        arith,
-        sizes,
-        length-map racks (λ (r : Rack). served r.items),
-        length-map racks (λ (r : Rack). r.items),
-        length-map lists listed,
-        most,
-      ),
-      each_few racks lists same (recursion_from_All (λ (l : Lists). (0 < length l.items) × (length l.items ≤ 4)) lists few),
-    )
+pub few_feeds : (racks : List Rack) → length racks ≤ 16 → All (λ (r : Rack). IsFewFeeds r.items) racks
+    → AreFeeds (map (λ r. r.items) racks)
+few_feeds racks most few = (
+  omega (arith, length-map racks (λ (r : Rack). r.items), most),
+  each_few racks (recursion_from_All (λ (r : Rack). IsFewFeeds r.items) racks few),
+)
 
 -- the feeds of a single rack
 pub feeds_of_one : (racks : List Rack) (feeds : List RackList) → map (λ r. r.items) racks ≡ feeds ∷ [] → (0 < length feeds)

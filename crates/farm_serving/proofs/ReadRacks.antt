@@ -1,9 +1,11 @@
 -- The lists of the racks and of their feeds, one more.
 use Rattle.std.proofs.Common.{◌≡◌, ◌<◌, ◌≤◌, ◌+◌, ◌++◌, ◌∙◌, Global, Vec, ℕ, List, [], ◌∷◌, true, false, Option, Some, None, Ok, length}
-use Rattle.std.proofs.Common.{map, refl, sym, ap, arith, option_map, subst}
+use Rattle.std.proofs.Common.{All, map, refl, sym, ap, arith, option_map, subst}
 use Rattle.std.specs.Prelude.{is_some}
 use Rattle.std.proofs.lemmas.Bool.{false≢true}
+use Rattle.std.specs.List.{AllByRecursion}
 use Rattle.std.proofs.lemmas.List.{length-map, map-append}
+use Rattle.std.proofs.lemmas.List.Elements.{All-from_recursion, recursion_from_All}
 use Rattle.farm_lists.specs.Listing.{list_of}
 use Rattle.farm_lists.specs.declared.lists.listing.Record.{Record}
 use Rattle.farm_shelves.specs.Files.{Files, Shown}
@@ -80,10 +82,13 @@ fifth_explains there rack feeds k e all have is = (
 abbrev Feeds : Type 0
 Feeds = Vec (Vec Record Global) Global
 
-abbrev records : Feeds → List (List Record)
+abbrev Rack : Type 0
+Rack = List (List Record)
+
+abbrev pub records : Feeds → Rack
 records feeds = map (λ (v : Vec Record Global). v.items) feeds.items
 
-have_rack_more : (there : Files) (k : ℕ) (racks : List (List (List Record))) (feeds : List (List Record)) (n : ℕ) → k + length racks ≡ n
+pub have_rack_more : (there : Files) (k : ℕ) (racks : List (List (List Record))) (feeds : List (List Record)) (n : ℕ) → k + length racks ≡ n
     → HaveLists there k racks → AreFeeds there n feeds
     → HaveLists there k (racks ++ feeds ∷ [])
 have_rack_more there k [] feeds n e have are = let same : n ≡ k =
@@ -98,18 +103,22 @@ feeds_all there rack feeds have none some few =
     let size = length-map feeds.items (λ (v : Vec Record Global). v.items) in
     (have, ap (λ n. there (list_name rack n)) size ∙ none, omega (arith, size), omega (arith, size))
 
-pub racks_push : (there : Files) (racks : List Feeds) (feeds : Feeds) (k : ℕ) → length racks ≡ k → HaveLists there 0 (map records racks)
-    → AreFeeds there k (records feeds) → HaveLists there 0 (map records (racks ++ feeds ∷ []))
-racks_push there racks feeds k e have are =
-    let P : List (List (List Record)) → Type 0 = λ ls. HaveLists there 0 ls in
-    subst P (sym (map-append records racks (feeds ∷ [])))
-    (have_rack_more there 0 (map records racks) (records feeds) k (omega (arith, e, length-map racks records)) have are)
+-- the records of lists that have few are few
+pub lists_few : (feeds : List (Vec Record Global)) → All (λ (v : Vec Record Global). length v.items ≤ 4096) feeds
+    → All (λ (list : List Record). length list ≤ 4096) (map (λ v. v.items) feeds)
+lists_few feeds few =
+    All-from_recursion (λ (list : List Record). length list ≤ 4096) (map (λ (v : Vec Record Global). v.items) feeds)
+    (each feeds (recursion_from_All (λ (v : Vec Record Global). length v.items ≤ 4096) feeds few))
+  where
+    each : (ls : List (Vec Record Global)) → AllByRecursion (λ (v : Vec Record Global). length v.items ≤ 4096) ls
+        → AllByRecursion (λ (list : List Record). length list ≤ 4096) (map (λ (v : Vec Record Global). v.items) ls)
+    each [] few = tt
+    each (l ∷ ls) few = (few.0, each ls few.1)
 
-pub racks_all : (there : Files) (racks : List Feeds) (k : ℕ) → length racks ≡ k → 0 < k → k ≤ 16 → HaveLists there 0 (map records racks)
-    → there (list_name k 0) ≡ None → AreLists there (map records racks)
+pub racks_all : (there : Files) (racks : List Rack) (k : ℕ) → length racks ≡ k → 0 < k → k ≤ 16 → HaveLists there 0 racks
+    → there (list_name k 0) ≡ None → AreLists there racks
 racks_all there racks k e some few have none =
-    let size : length (map records racks) ≡ k = length-map racks records ∙ e in
-    (have, ap (λ n. there (list_name n 0)) size ∙ none, omega (arith, size), omega (arith, size))
+    (have, ap (λ n. there (list_name n 0)) e ∙ none, omega (arith, e), omega (arith, e))
 
 -- no feed of the rack is there
 pub none_at : (there : Files) (rack : ℕ) (feeds : Feeds) → there (list_name rack (length feeds.items)) ≡ None → length feeds.items ≡ 0
@@ -117,26 +126,17 @@ pub none_at : (there : Files) (rack : ℕ) (feeds : Feeds) → there (list_name 
 none_at there rack feeds none empty = ap (λ n. there (list_name rack n)) (sym empty) ∙ none
 
 -- the lists of the next rack's feeds can't be read
-pub rack_explains : (f : ServeFault) (there : Files) (racks : List Feeds) (k : ℕ) → length racks ≡ k → k < 16
-    → HaveLists there 0 (map records racks) → IsRackFault f k there → Explains f there
+pub rack_explains : (f : ServeFault) (there : Files) (racks : List Rack) (k : ℕ) → length racks ≡ k → k < 16
+    → HaveLists there 0 racks → IsRackFault f k there → Explains f there
 rack_explains (fault.List j i reason) there racks k e few have is =
-    let size : length (map records racks) ≡ j = length-map racks records ∙ e ∙ sym is.0 in
-    (map records racks, have, size, omega (arith, is.0), subst (λ r. RefusesFeed there r i reason) (sym is.0) is.1)
-rack_explains fault.BadFeeds there racks k e few have is =
-    let size : length (map records racks) ≡ k = length-map racks records ∙ e in
-    (map records racks, have, omega (arith, size), subst (HasFifthFeed there) (sym size) is)
+    (racks, have, e ∙ sym is.0, omega (arith, is.0), subst (λ r. RefusesFeed there r i reason) (sym is.0) is.1)
+rack_explains fault.BadFeeds there racks k e few have is = (racks, have, omega (arith, e), subst (HasFifthFeed there) (sym e) is)
 rack_explains fault.Device there racks k e few have is = tt
 rack_explains fault.OutOfMemory there racks k e few have is = tt
 rack_explains fault.TooManyRacks there racks k e few have is = absurd is
 rack_explains fault.NoRacks there racks k e few have is = absurd is
 rack_explains fault.NoThread there racks k e few have is = absurd is
 
-pub many_explain : (there : Files) (racks : List Feeds) (k : ℕ) → length racks ≡ k → k ≡ 16 → HaveLists there 0 (map records racks)
+pub many_explain : (there : Files) (racks : List Rack) (k : ℕ) → length racks ≡ k → k ≡ 16 → HaveLists there 0 racks
     → is_some (there (list_name 16 0)) ≡ true → Explains fault.TooManyRacks there
-many_explain there racks k e all have is = (
-  map records racks,
-  have,
-  length-map racks records ∙ e
-      ∙ all,
-  λ none. false≢true (ap is_some (sym none) ∙ is),
-)
+many_explain there racks k e all have is = (racks, have, e ∙ all, λ none. false≢true (ap is_some (sym none) ∙ is))

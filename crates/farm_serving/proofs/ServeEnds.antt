@@ -17,16 +17,13 @@ use Rattle.farm_shelves.specs.declared.shelf.ShelfFault.{ShelfFault}
 use Rattle.farm_shelves.specs.declared.shelf.ShelfFault.TheVariants as shelf
 
 abbrev pub Lists : Type 0
-Lists = Vec (Vec Record Global) Global
+Lists = List (List Record)
 
 abbrev pub Answers : Type 0
 Answers = Vec (ℕ × Outcome) Global
 
 abbrev pub Requests : Type 0
 Requests = Vec (Vec ReadRequest Global) Global
-
-abbrev pub records : Lists → List (List Record)
-records lists = map (λ (l : Vec Record Global). l.items) lists.items
 
 abbrev requests : Requests → List (List RequestRead)
 requests rack = map (λ (rs : Vec ReadRequest Global). map read_of rs.items) rack.items
@@ -44,9 +41,9 @@ total_is (a ∷ answers) =
 
 pub written_is : (there : Files) (lists : List Lists) (racks lent : List Requests) (answers given : List Answers)
     (reads : List (List (List Reads))) (files : List (List ℕ × List ℕ))
-    → lent ≡ racks → given ≡ answers → map requests racks ≡ all_read there (map records lists) reads
+    → lent ≡ racks → given ≡ answers → map requests racks ≡ all_read there lists reads
     → files ≡ files_from 0 (map requests lent) (map (λ a. a.items) given)
-    → files ≡ written_files there (map records lists) reads (map (λ a. a.items) answers)
+    → files ≡ written_files there lists reads (map (λ a. a.items) answers)
 written_is there lists racks lent answers given reads files a b is made =
     let outcomes : Answers → List (ℕ × Outcome) = λ o. o.items in
     made

@@ -11,10 +11,6 @@ use Rattle.farm_serving.specs.Serving.{AreAllReads, Reads, all_read, orders_all}
 use Rattle.farm_lists.specs.declared.lists.listing.Record.{Record}
 use Rattle.farm_lists.specs.declared.lists.requests.ReadRequest.{ReadRequest}
 
--- the lists of racks, feed by feed
-abbrev pub all_records : List (Vec (Vec Record Global) Global) → List (List (List Record))
-all_records racks = map (λ feeds. map (λ list. list.items) feeds.items) racks
-
 -- the answers of racks
 abbrev pub all_answers : List (Vec (ℕ × Outcome) Global) → List (List (ℕ × Outcome))
 all_answers racks = map (λ answers. answers.items) racks

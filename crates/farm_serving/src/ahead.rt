@@ -1,10 +1,10 @@
 //! The files that are read after a batch, which the shelf may read ahead while the batch is answered. No contract says which they are,
 //! since a shelf that reads others ahead, or none, only takes longer.
-ghost use Rattle.std.specs.Prelude.{◌<◌, ◌≤◌, length};
-ghost use Rattle.std.specs.List.{All};
-ghost use Rattle.farm_core.specs.Limits.{feed_limit, order_limit, rack_limit};
+ghost use Rattle.std.specs.Prelude.{◌≤◌, length};
+ghost use Rattle.farm_core.specs.Limits.{feed_limit, rack_limit};
 
 use crate::cutting::{end_of_positions, end_of_racks, lists_through_close, piece_of};
+use crate::rack_lists::RackLists;
 use crate::reading::fragments::push_fragment_files;
 use farm_core::limits::MOST_ORDERS;
 use farm_lists::{Record, requests_before_close};
@@ -16,25 +16,23 @@ const MANY_FILES: usize = 4096;
 /// The files of the survivors that are read first of the batch that begins at a rack; none after the last rack.
 pub(crate) fn files_of_batch(
     alloc: Global,
-    racks: &[Vec<Vec<Record>>],
+    racks: &[RackLists],
     first: usize,
     most: u64,
 ) -> Result<Vec<(String, usize)>, AllocError>
-    requires racks { length racks.now ≤ rack_limit }
-    requires feeds { All (λ feeds. (0 < length feeds.items) × (length feeds.items ≤ feed_limit)) racks.now }
-    requires orders { All (λ feeds. All (λ l. length l.items ≤ order_limit) feeds.items) racks.now }
+    requires { length racks.now ≤ rack_limit }
 {
     if first >= racks.len() {
         return Ok(Vec::new(alloc));
     }
     let end = end_of_racks(racks, first, most);
     if end == first + 1 {
-        let lists = lists_through_close(alloc, racks[first].as_slice())?;
+        let lists = lists_through_close(alloc, racks[first].feeds())?;
         return files_of_piece(alloc, lists.as_slice(), 0, most);
     }
     let mut files = Vec::new(alloc);
     for rack in first..end {
-        let lists = lists_through_close(alloc, racks[rack].as_slice())?;
+        let lists = lists_through_close(alloc, racks[rack].feeds())?;
         push_files(alloc, &mut files, lists.as_slice())?;
     }
     Ok(files)

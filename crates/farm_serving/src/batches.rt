@@ -4,11 +4,12 @@ ghost use Rattle.std.specs.List.{All};
 ghost use Rattle.farm_core.specs.Limits.{feed_limit, order_limit, rack_limit};
 ghost use Rattle.farm_serving.specs.Limits.{all_survivors, rack_survivors};
 ghost use Rattle.farm_core.specs.Merge.{AreAllMergedAnswers, AreMergedAnswers, AreOpen, HaveClose, joined};
-ghost use Rattle.farm_serving.specs.AnsweredRacks.{AreAnswered, IsAnsweredOnce, all_answers, all_records, all_requests, rack_requests};
+ghost use Rattle.farm_serving.specs.AnsweredRacks.{AreAnswered, IsAnsweredOnce, all_answers, all_requests, rack_requests};
 ghost use Rattle.farm_serving.specs.Serving.{Reads, all_failures, rack_failures};
 
 use crate::ahead::{files_of_batch, files_of_piece, or_others};
 use crate::cutting::{end_of_positions, end_of_racks, lists_through_close, piece_of};
+use crate::rack_lists::RackLists;
 use crate::reading::fragments::{read_feeds, read_piece};
 use farm_core::limits::MOST_ORDERS;
 use farm_core::{FarmError, Feeds, Pause, RackList, Settings, run_feeds};
@@ -23,12 +24,39 @@ use std::thread::Threads;
 /// survivor counts 512 bytes beside its own, and each request as many, so that a batch is bounded in files too.
 pub const MOST_BATCH_BYTES: u64 = 16_777_216;
 
+/// An answer: the number of the feed that lists its request, and the outcome.
+pub type FeedAnswer = (usize, Outcome);
+
 /// Of each rack the answers, each with its feed's number, and feed by feed the requests before the close, each with the places of the
 /// survivors that weren't read.
 #[derive(Drop)]
 pub struct Answered<'a> {
-    pub answers: Vec<Vec<(usize, Outcome)>>,
+    pub answers: Vec<Vec<FeedAnswer>>,
     pub requests: Vec<Vec<Vec<ReadRequest<'a>>>>,
+}
+
+/// How batches are answered: by farms of these settings with this pause, each batch with survivors of so many bytes at most, as
+/// `MOST_BATCH_BYTES` counts them.
+#[derive(Drop)]
+pub struct Batching<'p, P> {
+    pub settings: Settings,
+    pub pause: &'p P,
+    pub most: u64,
+}
+
+// What one batch is answered with: the farm's settings, its pause, and the files that are read after the batch.
+#[derive(Drop)]
+struct Batch<'b, P> {
+    settings: Settings,
+    pause: &'b P,
+    after: &'b [(String, usize)],
+}
+
+// The answers to the pieces of a rack so far, and whether a close has ended it.
+#[derive(Drop)]
+struct RackAnswers {
+    answers: Vec<FeedAnswer>,
+    ended: bool,
 }
 
 // Gives a pause the numbers that the racks and requests of a batch have among those of all lists: a request's number is drawn within its
@@ -81,18 +109,14 @@ pub fn answer_lists<'a, R: Threads + Wait + Sync, I: Shelf, P: Pause>(
     rt: &R,
     alloc: Global,
     input: &mut I,
-    lists: &'a [Vec<Vec<Record>>],
-    settings: Settings,
-    pause: &P,
-    most: u64,
+    racks: &'a [RackLists],
+    batching: &Batching<'_, P>,
 ) -> Result<Answered<'a>, FarmError>
     requires room { I.failed input.old < 2 ^ 62 }
-    requires racks { length lists.now ≤ rack_limit }
-    requires feeds { All (λ feeds. (0 < length feeds.items) × (length feeds.items ≤ feed_limit)) lists.now }
-    requires orders { All (λ feeds. All (λ l. length l.items ≤ order_limit) feeds.items) lists.now }
+    requires count { length racks.now ≤ rack_limit }
     ensures same { I.files input.new ≡ I.files input.old }
     ensures answered { IfOk result (λ v. (reads : List (List (List Reads)))
-        × AreAnswered (I.files input.old) (all_records lists.now) reads (all_answers v.answers.items) (all_requests v.requests.items)
+        × AreAnswered (I.files input.old) racks.now reads (all_answers v.answers.items) (all_requests v.requests.items)
         × (I.failed input.new ≡ I.failed input.old + all_failures reads)) }
     ensures more { I.failed input.old ≤ I.failed input.new }
     ensures few { I.failed input.new ≤ I.failed input.old + all_survivors }
@@ -100,26 +124,21 @@ pub fn answer_lists<'a, R: Threads + Wait + Sync, I: Shelf, P: Pause>(
     let mut answers = Vec::new(alloc);
     let mut requests = Vec::new(alloc);
     let mut first = 0;
-    while first < lists.len() {
-        let end = end_of_racks(lists, first, most);
-        let batch = BatchPause {
-            pause,
-            rack: first,
-            number: 0,
-            position: 0,
-        };
+    while first < racks.len() {
+        let end = end_of_racks(racks, first, batching.most);
         // Without memory for their names they are read in their turn.
-        let after = files_of_batch(alloc, lists, end, most).unwrap_or(Vec::new(alloc));
-        let mut part = answer_racks(
-            rt,
-            alloc,
-            input,
-            &lists[first..end],
-            after.as_slice(),
-            settings,
-            &batch,
-            most,
-        )?;
+        let after = files_of_batch(alloc, racks, end, batching.most).unwrap_or(Vec::new(alloc));
+        let batch = Batch {
+            settings: batching.settings,
+            pause: &BatchPause {
+                pause: batching.pause,
+                rack: first,
+                number: 0,
+                position: 0,
+            },
+            after: after.as_slice(),
+        };
+        let mut part = answer_racks(rt, alloc, input, &racks[first..end], &batch, batching.most)?;
         answers.append(&mut part.answers)?;
         requests.append(&mut part.requests)?;
         first = end;
@@ -127,33 +146,29 @@ pub fn answer_lists<'a, R: Threads + Wait + Sync, I: Shelf, P: Pause>(
     Ok(Answered { answers, requests })
 }
 
-// The answers to the lists of the racks of one batch, or of one rack, which is cut. After it these files are read.
+// The answers to the lists of the racks of one batch, or of one rack, which is cut.
 fn answer_racks<'a, R: Threads + Wait + Sync, I: Shelf, P: Pause>(
     rt: &R,
     alloc: Global,
     input: &mut I,
-    racks: &'a [Vec<Vec<Record>>],
-    after: &[(String, usize)],
-    settings: Settings,
-    pause: &P,
+    racks: &'a [RackLists],
+    batch: &Batch<'_, P>,
     most: u64,
 ) -> Result<Answered<'a>, FarmError>
     requires room { I.failed input.old + rack_survivors * length racks.now < 2 ^ 63 }
-    requires racks { length racks.now ≤ rack_limit }
-    requires feeds { All (λ feeds. (0 < length feeds.items) × (length feeds.items ≤ feed_limit)) racks.now }
-    requires orders { All (λ feeds. All (λ l. length l.items ≤ order_limit) feeds.items) racks.now }
+    requires count { length racks.now ≤ rack_limit }
     ensures same { I.files input.new ≡ I.files input.old }
     ensures answered { IfOk result (λ v. (reads : List (List (List Reads)))
-        × AreAnswered (I.files input.old) (all_records racks.now) reads (all_answers v.answers.items) (all_requests v.requests.items)
+        × AreAnswered (I.files input.old) racks.now reads (all_answers v.answers.items) (all_requests v.requests.items)
         × (I.failed input.new ≡ I.failed input.old + all_failures reads)) }
     ensures more { I.failed input.old ≤ I.failed input.new }
     ensures few { I.failed input.new ≤ I.failed input.old + rack_survivors * length racks.now }
 {
     if let Some(lists) = only_rack(racks) {
-        return answer_rack(rt, alloc, input, lists, after, settings, pause, most);
+        return answer_rack(rt, alloc, input, lists, batch, most);
     }
-    let (feeds, requests) = read_feeds(rt, alloc, input, racks, settings.workers())?;
-    let answers = answer_feeds(rt, alloc, input, after, feeds, settings, pause)?;
+    let (feeds, requests) = read_feeds(rt, alloc, input, racks, batch.settings.workers())?;
+    let answers = answer_feeds(rt, alloc, input, feeds, batch)?;
     Ok(Answered { answers, requests })
 }
 
@@ -162,31 +177,29 @@ fn answer_feeds<R: Threads + Wait + Sync, I: Shelf, P: Pause>(
     rt: &R,
     alloc: Global,
     input: &mut I,
-    after: &[(String, usize)],
     feeds: Feeds,
-    settings: Settings,
-    pause: &P,
-) -> Result<Vec<Vec<(usize, Outcome)>>, FarmError>
+    batch: &Batch<'_, P>,
+) -> Result<Vec<Vec<FeedAnswer>>, FarmError>
     ensures answers { IfOk result (λ v. AreAllMergedAnswers feeds (map (λ answers. answers.items) v.items)) }
     ensures same { I.files input.new ≡ I.files input.old }
     ensures calm { I.failed input.new ≡ I.failed input.old }
 {
-    let run = move || -> Result<Vec<Vec<(usize, Outcome)>>, FarmError>
+    let settings = batch.settings;
+    let pause = batch.pause;
+    let run = move || -> Result<Vec<Vec<FeedAnswer>>, FarmError>
         ensures { IfOk result (λ v. AreAllMergedAnswers feeds (map (λ answers. answers.items) v.items)) }
     { run_feeds(rt, alloc, &feeds, settings, pause) };
-    input.read_beside(rt, alloc, after, settings.workers(), run)
+    input.read_beside(rt, alloc, batch.after, settings.workers(), run)
 }
 
 // The lists of a single rack.
-fn only_rack(racks: &[Vec<Vec<Record>>]) -> Option<&[Vec<Record>]>
-    requires feeds { All (λ feeds. (0 < length feeds.items) × (length feeds.items ≤ feed_limit)) racks.now }
-    requires orders { All (λ feeds. All (λ l. length l.items ≤ order_limit) feeds.items) racks.now }
-    ensures lists { IfSome result (λ lists. (all_records racks.now ≡ map (λ list. list.items) lists.now ∷ []) × (length racks.now ≡ 1)) }
+fn only_rack(racks: &[RackLists]) -> Option<&[Vec<Record>]>
+    ensures lists { IfSome result (λ lists. (racks.now ≡ map (λ list. list.items) lists.now ∷ []) × (length racks.now ≡ 1)) }
     ensures feeds { IfSome result (λ lists. (0 < length lists.now) × (length lists.now ≤ feed_limit)) }
     ensures orders { IfSome result (λ lists. All (λ l. length l.items ≤ order_limit) lists.now) }
 {
     match racks {
-        [lists] => Some(lists.as_slice()),
+        [rack] => Some(rack.feeds()),
         _ => None,
     }
 }
@@ -198,9 +211,7 @@ fn answer_rack<'a, R: Threads + Wait + Sync, I: Shelf, P: Pause>(
     alloc: Global,
     input: &mut I,
     lists: &'a [Vec<Record>],
-    after: &[(String, usize)],
-    settings: Settings,
-    pause: &P,
+    batch: &Batch<'_, P>,
     most: u64,
 ) -> Result<Answered<'a>, FarmError>
     requires room { I.failed input.old + rack_survivors < 2 ^ 63 }
@@ -215,37 +226,33 @@ fn answer_rack<'a, R: Threads + Wait + Sync, I: Shelf, P: Pause>(
     ensures few { I.failed input.new ≤ I.failed input.old + rack_survivors }
 {
     let served = lists_through_close(alloc, lists)?;
-    let mut answers = Vec::new(alloc);
+    let mut so_far = RackAnswers {
+        answers: Vec::new(alloc),
+        ended: false,
+    };
     let mut requests = none_of_each(alloc, served.as_slice())?;
-    let mut ended = false;
     let mut first = 0;
     while first < MOST_ORDERS {
         let end = end_of_positions(served.as_slice(), first, most);
         let part = piece_of(alloc, served.as_slice(), first, end)?;
-        let (orders, later) = read_piece(rt, alloc, input, part.as_slice(), settings.workers())?;
+        let workers = batch.settings.workers();
+        let (orders, later) = read_piece(rt, alloc, input, part.as_slice(), workers)?;
         requests = append_each(alloc, requests, later)?;
-        let batch = BatchPause {
-            pause,
-            rack: 0,
-            number: answers.len(),
-            position: first,
-        };
         let own = files_of_piece(alloc, served.as_slice(), end, most).unwrap_or(Vec::new(alloc));
-        let files = or_others(own.as_slice(), after);
-        ended = answer_piece(
-            rt,
-            alloc,
-            input,
-            files,
-            orders,
-            settings,
-            &batch,
-            ended,
-            &mut answers,
-        )?;
+        let piece = Batch {
+            settings: batch.settings,
+            pause: &BatchPause {
+                pause: batch.pause,
+                rack: 0,
+                number: so_far.answers.len(),
+                position: first,
+            },
+            after: or_others(own.as_slice(), batch.after),
+        };
+        so_far = answer_piece(rt, alloc, input, orders, &piece, so_far)?;
         first = end;
     }
-    Ok(one_rack(alloc, answers, requests)?)
+    Ok(one_rack(alloc, so_far.answers, requests)?)
 }
 
 // No requests of each list.
@@ -281,31 +288,28 @@ fn append_each<'a>(
     Ok(all)
 }
 
-// Adds the answers to a piece's orders, which are dropped with the survivors, unless a close ended the rack before. Whether one ended it
-// now.
+// The answers to a rack with those to a piece's orders, which are dropped with the survivors, unless a close ended the rack before.
 fn answer_piece<R: Threads + Wait + Sync, I: Shelf, P: Pause>(
     rt: &R,
     alloc: Global,
     input: &mut I,
-    after: &[(String, usize)],
     orders: Vec<RackList>,
-    settings: Settings,
-    pause: &P,
-    ended: bool,
-    answers: &mut Vec<(usize, Outcome)>,
-) -> Result<bool, FarmError>
+    piece: &Batch<'_, P>,
+    so_far: RackAnswers,
+) -> Result<RackAnswers, FarmError>
     requires { (0 < length orders.items) × (length orders.items ≤ feed_limit) }
-    ensures answered { IfOk result (IsAnsweredOnce orders.items ended answers.old.items answers.new.items) }
+    ensures answered { IfOk result (λ v. IsAnsweredOnce orders.items so_far.ended so_far.answers.items v.answers.items v.ended) }
     ensures same { I.files input.new ≡ I.files input.old }
     ensures calm { I.failed input.new ≡ I.failed input.old }
 {
-    if ended {
-        return Ok(true);
+    if so_far.ended {
+        return Ok(so_far);
     }
-    let closes = have_close(orders.as_slice());
-    let mut more = answer_orders(rt, alloc, input, after, orders, settings, pause)?;
+    let ended = have_close(orders.as_slice());
+    let RackAnswers { mut answers, .. } = so_far;
+    let mut more = answer_orders(rt, alloc, input, orders, piece)?;
     answers.append(&mut more)?;
-    Ok(closes)
+    Ok(RackAnswers { answers, ended })
 }
 
 // Whether some list has a close.
@@ -328,18 +332,16 @@ fn answer_orders<R: Threads + Wait + Sync, I: Shelf, P: Pause>(
     rt: &R,
     alloc: Global,
     input: &mut I,
-    after: &[(String, usize)],
     orders: Vec<RackList>,
-    settings: Settings,
-    pause: &P,
-) -> Result<Vec<(usize, Outcome)>, FarmError>
+    batch: &Batch<'_, P>,
+) -> Result<Vec<FeedAnswer>, FarmError>
     requires { (0 < length orders.items) × (length orders.items ≤ feed_limit) }
     ensures answered { IfOk result (λ v. AreMergedAnswers orders.items v.items) }
     ensures same { I.files input.new ≡ I.files input.old }
     ensures calm { I.failed input.new ≡ I.failed input.old }
 {
     let feeds = feeds_of_rack(alloc, orders)?;
-    let mut answers = answer_feeds(rt, alloc, input, after, feeds, settings, pause)?;
+    let mut answers = answer_feeds(rt, alloc, input, feeds, batch)?;
     let Some(outcomes) = answers.pop() else {
         unreachable!();
     };
@@ -359,7 +361,7 @@ fn feeds_of_rack(alloc: Global, orders: Vec<RackList>) -> Result<Feeds, AllocErr
 // The answers and the requests of one rack as those of all racks.
 fn one_rack<'a>(
     alloc: Global,
-    answers: Vec<(usize, Outcome)>,
+    answers: Vec<FeedAnswer>,
     requests: Vec<Vec<ReadRequest<'a>>>,
 ) -> Result<Answered<'a>, AllocError>
     ensures answers { IfOk result (λ v. all_answers v.answers.items ≡ answers.items ∷ []) }

@@ -5,8 +5,9 @@ ghost use Rattle.farm_core.specs.Limits.{feed_limit, order_limit, rack_limit};
 ghost use Rattle.farm_serving.specs.Pieces.{IsBatchEnd, list_bytes, listed_bytes, piece, rack_bytes, record_bytes, record_most};
 ghost use Rattle.farm_serving.specs.Pieces.{request_room, survivor_room, through_close};
 
+use crate::rack_lists::RackLists;
 use farm_core::limits::MOST_ORDERS;
-use farm_lists::{Listed, Record, requests_before_close};
+use farm_lists::{Listed, Record, count_requests};
 use std::alloc::{AllocError, Global};
 
 // What a survivor takes in memory beside its bytes, and a request beside its survivors: names, paths and rooms. With them a batch is
@@ -66,23 +67,20 @@ fn rack_bytes(lists: &[Vec<Record>]) -> u64
 
 /// Where the batch ends that begins at a rack: it has this rack, and those after it while their survivors take at most so many bytes
 /// together, by what is listed.
-pub(crate) fn end_of_racks(lists: &[Vec<Vec<Record>>], first: usize, most: u64) -> usize
-    requires first { first < length lists.now }
-    requires racks { length lists.now ≤ rack_limit }
-    requires feeds { All (λ feeds. (0 < length feeds.items) × (length feeds.items ≤ feed_limit)) lists.now }
-    requires orders { All (λ feeds. All (λ l. length l.items ≤ order_limit) feeds.items) lists.now }
-    ensures within { (first < result) × (result ≤ length lists.now) }
-    ensures end { IsBatchEnd (λ from to. sum_by (λ feeds. rack_bytes feeds.items) (slice_range lists.now from to))
-        (length lists.now) most first result }
+pub(crate) fn end_of_racks(racks: &[RackLists], first: usize, most: u64) -> usize
+    requires first { first < length racks.now }
+    requires count { length racks.now ≤ rack_limit }
+    ensures within { (first < result) × (result ≤ length racks.now) }
+    ensures end { IsBatchEnd (λ from to. sum_by listed_bytes (slice_range racks.now from to)) (length racks.now) most first result }
 {
     let mut bytes = 0u64;
-    for rack in first..lists.len() {
-        bytes += rack_bytes(lists[rack].as_slice());
+    for rack in first..racks.len() {
+        bytes += rack_bytes(racks[rack].feeds());
         if rack > first && bytes > most {
             return rack;
         }
     }
-    lists.len()
+    racks.len()
 }
 
 // The bytes of the survivors of a list's record at a position, where it has one there.
@@ -137,22 +135,21 @@ pub(crate) fn lists_through_close<'a>(
 {
     let mut cut = Vec::new(alloc);
     for index in 0..lists.len() {
-        cut.push(list_through_close(alloc, lists[index].as_slice())?)?;
+        cut.push(list_through_close(lists[index].as_slice()))?;
     }
     Ok(cut)
 }
 
 // A list up to its first close, with that close.
-fn list_through_close(alloc: Global, list: &[Record]) -> Result<&[Record], AllocError>
-    ensures { IfOk result (λ served. served.now ≡ through_close list.now) }
+fn list_through_close(list: &[Record]) -> &[Record]
+    ensures { result.now ≡ through_close list.now }
 {
-    let requests = requests_before_close(alloc, list)?;
-    let count = requests.len();
+    let count = count_requests(list);
     // A record that isn't among the requests before the close is the close or after it.
     if count < list.len() {
-        Ok(&list[..count + 1])
+        &list[..count + 1]
     } else {
-        Ok(list)
+        list
     }
 }
 

@@ -6,15 +6,14 @@ ghost use Rattle.farm_serving.specs.Causes.{of_farm, of_shelf};
 use farm_core::FarmError;
 use farm_lists::ListFault;
 use farm_shelves::ShelfFault;
-use std::alloc::AllocError;
-use std::fmt;
+use std::alloc::{AllocError, AllocFailed};
 use thiserror::Error;
 
 /// Why serving a folder ended.
 #[derive(Clone, Copy, Debug, Error, PartialEq, Eq)]
 pub enum ServeFault {
     /// The list of a rack's feed is refused; it is the first that is.
-    #[error("{}: {fault}", ListName {rack: *.rack, feed: *.feed})]
+    #[error("the list of feed {feed} of rack {rack}: {fault}")]
     List {
         rack: usize,
         feed: usize,
@@ -40,28 +39,18 @@ pub enum ServeFault {
     OutOfMemory,
 }
 
-// Shown as the name of the file that lists a rack's feed.
-#[derive(Drop)]
-struct ListName {
-    rack: usize,
-    feed: usize,
-}
-
-impl fmt::Display for ListName {
-    fn fmt<W: fmt::Write>(&self, f: &mut fmt::Formatter<W>) -> fmt::Result {
-        let ListName { rack, feed } = self;
-        if *feed == 0 {
-            write!(f, "rack{rack}.csv")
-        } else {
-            write!(f, "rack{rack}.feed{feed}.csv")
-        }
-    }
-}
-
 impl From<AllocError> for ServeFault {
     ghost from_gives = { λ _ f. f ≡ fault.OutOfMemory };
 
     fn from(_error: AllocError) -> ServeFault {
+        ServeFault::OutOfMemory
+    }
+}
+
+impl<T: Drop> From<AllocFailed<T>> for ServeFault {
+    ghost from_gives = { λ _ f. f ≡ fault.OutOfMemory };
+
+    fn from(_error: AllocFailed<T>) -> ServeFault {
         ServeFault::OutOfMemory
     }
 }

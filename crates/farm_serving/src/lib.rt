@@ -22,12 +22,13 @@ mod batches;
 mod cutting;
 mod faults;
 mod folders;
+mod rack_lists;
 mod reading;
 mod serving;
 pub mod serving_laws;
 mod writing;
 
-pub use batches::{Answered, MOST_BATCH_BYTES, answer_lists};
+pub use batches::{Answered, Batching, FeedAnswer, MOST_BATCH_BYTES, answer_lists};
 pub use farm_lists::{
     ListFault, Listed, ReadRequest, Record, ReportRow, ReportShape, list_file, merged_report_text,
     read_list, report_laws, report_text,
@@ -35,5 +36,6 @@ pub use farm_lists::{
 pub use farm_shelves::{FolderShelf, MemoryShelf, ReadAheadShelf, Shelf, ShelfFault};
 pub use faults::ServeFault;
 pub use folders::{Folders, serve_folders};
+pub use rack_lists::RackLists;
 pub use reading::lists::read_lists;
 pub use serving::{Served, serve};

@@ -9,14 +9,13 @@ ghost use Rattle.farm_shelves.specs.Files.{put_all};
 ghost use Rattle.farm_serving.specs.Faults.{CountsServing, Explains, LeavesOutput};
 ghost use Rattle.farm_serving.specs.Serving.{Reads, Serves, all_failures, written_files};
 
-use crate::batches::{Answered, MOST_BATCH_BYTES, answer_lists};
+use crate::batches::{Answered, Batching, FeedAnswer, MOST_BATCH_BYTES, answer_lists};
 use crate::faults::ServeFault;
 use crate::reading::lists::read_lists;
 use crate::writing::write_files;
 use farm_core::{Pause, Settings};
 use farm_lists::make_files;
 use farm_shelves::Shelf;
-use lrc_code::Outcome;
 use std::alloc::Global;
 use std::sync::Wait;
 use std::thread::Threads;
@@ -68,14 +67,17 @@ pub fn serve<R: Threads + Wait + Sync, I: Shelf, O: Shelf, P: Pause>(
         (O.failed output.new)) }
 {
     let lists = read_lists(alloc, input)?;
+    let batching = Batching {
+        settings,
+        pause,
+        most: MOST_BATCH_BYTES,
+    };
     let Answered { answers, requests } = answer_lists(
         rt,
         alloc,
         input,
         lists.as_slice(),
-        settings,
-        pause,
-        MOST_BATCH_BYTES,
+        &batching,
     )?;
     let files = make_files(
         rt,
@@ -92,7 +94,7 @@ pub fn serve<R: Threads + Wait + Sync, I: Shelf, O: Shelf, P: Pause>(
 }
 
 // The number of answers over all racks.
-fn count_answers(answers: &[Vec<(usize, Outcome)>]) -> u64
+fn count_answers(answers: &[Vec<FeedAnswer>]) -> u64
     requires racks { length answers.now ≤ rack_limit }
     requires few { All (λ a. length a.items ≤ rack_answers) answers.now }
     ensures { result ≡ sum_by (λ a. length a.items) answers.now }

@@ -25,5 +25,5 @@ mod scanning;
 pub mod statuses;
 mod words;
 
-pub use line::{line_mode, line_mode_in, line_status};
+pub use line::{line_mode, line_mode_in_threads, line_status};
 pub use outcomes::{LineCount, LineFault};

@@ -44,7 +44,7 @@ pub fn line_mode<R: Read, W: Write>(
 
 /// Replies to each line of the whole input as `line_mode`. An input of 262,144 bytes or more is replied to in up to four threads; where
 /// none can be started, this one makes all replies.
-pub fn line_mode_in<T: Threads + Sync, R: Read, W: Write>(
+pub fn line_mode_in_threads<T: Threads + Sync, R: Read, W: Write>(
     rt: &T,
     alloc: Global,
     input: &mut R,

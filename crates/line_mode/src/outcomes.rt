@@ -39,7 +39,7 @@ impl From<AllocError> for LineFault {
 
 impl LineFault {
     /// The fault's number in the table of refusals.
-    pub fn code(self) -> u8
+    pub fn number(self) -> u8
         ensures { result ≡ fault_number self }
     {
         match self {

@@ -6,7 +6,7 @@ ghost use Rattle.std.specs.String.{string_bytes};
 ghost use Rattle.lrc_code.specs.Requests.{refusal};
 ghost use Rattle.lrc_code.specs.Survivors.{survivor_of, survivors_of};
 ghost use Rattle.lrc_code.specs.Text.{every};
-ghost use Rattle.line_mode.specs.Line.{line_code, request_in, request_of, is_printable, survivor, words};
+ghost use Rattle.line_mode.specs.Line.{line_code, request_in, request_of, is_printable, survivor, words as line_words};
 ghost use Rattle.line_mode.specs.Parts.{asked_of};
 ghost use Rattle.line_mode.specs.LineReply.{refusal_of};
 
@@ -68,7 +68,7 @@ fn parse_parts(alloc: Global, line: &[u8]) -> Result<Option<Parts>, AllocError>
         return Ok(None);
     };
     let parts = match parse_line_code(first) {
-        None => parse_request(alloc, Code::Narrow, first, words)?,
+        None => parse_request(alloc, Code::UNNAMED, first, words)?,
         Some(code) => {
             let Some(stripe) = words.next() else {
                 return Ok(None);
@@ -94,12 +94,11 @@ fn parse_request(
     alloc: Global,
     code: Code,
     stripe: &[u8],
-    others: LineWords<'_>,
+    mut words: LineWords<'_>,
 ) -> Result<Option<Parts>, AllocError>
     requires { list_all is_printable stripe.now ≡ true }
-    ensures { IfOk result (λ parts. option_map asked_of parts ≡ request_in code (stripe.now ∷ words others.entry.rest.now)) }
+    ensures { IfOk result (λ parts. option_map asked_of parts ≡ request_in code (stripe.now ∷ line_words words.entry.rest.now)) }
 {
-    let mut words = others;
     let (Some(target), Some(length)) = (words.next(), words.next()) else {
         return Ok(None);
     };
@@ -131,13 +130,13 @@ fn copy_text(alloc: Global, text: &[u8]) -> Result<String, AllocError>
 fn parse_survivors(
     alloc: Global,
     code: Code,
-    others: LineWords<'_>,
+    words: LineWords<'_>,
 ) -> Result<Option<Vec<Fragment>>, AllocError>
     ensures { IfOk result (λ fragments. option_map (λ fs. survivors_of fs.items) fragments
-        ≡ every (map (survivor code) (words others.entry.rest.now))) }
+        ≡ every (map (survivor code) (line_words words.entry.rest.now))) }
 {
     let mut survivors = Vec::with_capacity(alloc, MOST_SURVIVORS)?;
-    for word in others {
+    for word in words {
         let Some(fragment) = parse_survivor(alloc, code, word)? else {
             return Ok(None);
         };

@@ -9,8 +9,8 @@ use crate::scanning::find_byte;
 use std::alloc::{AllocError, Global};
 use std::thread::{Threads, join};
 
-// An input of fewer bytes isn't worth a thread.
-const LEAST_PIECES: usize = 262_144;
+// The least bytes of an input that is cut: of fewer, a piece isn't worth a thread.
+const LEAST_CUT_BYTES: usize = 262_144;
 
 // How often a piece is cut in two: there are at most four.
 const MOST_CUTS: u8 = 2;
@@ -59,19 +59,8 @@ fn reply_in_halves<R: Threads + Sync>(
             ensures { IfOk result (Answers back.entry.now) }
         { reply_in_halves(rt, alloc, back, left) },
     );
-    joined(input, cut, first?, &second?)
-}
-
-// The replies to two pieces of an input, one after the other.
-fn joined(input: &[u8], cut: usize, first: Replies, second: &Replies) -> Result<Replies, AllocError>
-    requires limit { length input.now ≤ input_limit }
-    requires cut { IsCut input.now cut }
-    requires first { Answers (take cut input.now) first }
-    requires second { Answers (drop cut input.now) second.now }
-    ensures { IfOk result (Answers input.now) }
-{
-    let mut replies = first;
-    replies.append(second)?;
+    let mut replies = first?;
+    replies.append(&second?)?;
     Ok(replies)
 }
 
@@ -79,7 +68,7 @@ fn joined(input: &[u8], cut: usize, first: Replies, second: &Replies) -> Result<
 fn cut_of(input: &[u8]) -> Option<usize>
     ensures { IfSome result (IsCut input.now) }
 {
-    if input.len() < LEAST_PIECES {
+    if input.len() < LEAST_CUT_BYTES {
         return None;
     }
     let half = input.len() / 2;

@@ -18,7 +18,7 @@ pub(crate) enum LineRefusal {
 
 impl LineRefusal {
     /// The refusal's number in the table of refusals.
-    pub(crate) fn code(self) -> u8
+    pub(crate) fn number(self) -> u8
         ensures { result ≡ fault_number self }
     {
         match self {

@@ -115,7 +115,7 @@ fn push_reply(alloc: Global, text: &mut Vec<u8>, reply: &LineReply) -> Result<()
         Ok(Outcome::Contradiction) => text.extend_from_slice(b"contradiction"),
         Ok(Outcome::Several) => text.extend_from_slice(b"several"),
         Err(refusal) => {
-            let line = format!(in alloc; "refused E{}", refusal.code())?;
+            let line = format!(in alloc; "refused E{}", refusal.number())?;
             text.extend_from_slice(line.as_bytes())
         }
     }

@@ -1,5 +1,5 @@
 //! Runs of line mode over texts, and assertions on what they write and answer.
-use line_mode::{LineCount, LineFault, line_mode, line_mode_in};
+use line_mode::{LineCount, LineFault, line_mode, line_mode_in_threads};
 use std::alloc::{AllocError, Global};
 use std::io::{Read, Write};
 use std::process::Abort;
@@ -25,7 +25,7 @@ impl Mode {
     ) -> Result<LineCount, LineFault> {
         match self {
             Mode::Alone => line_mode(alloc, input, output),
-            Mode::InThreads => line_mode_in(rt, alloc, input, output),
+            Mode::InThreads => line_mode_in_threads(rt, alloc, input, output),
         }
     }
 }

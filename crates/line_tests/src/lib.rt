@@ -11,10 +11,8 @@ mod digits;
 #[cfg(test)]
 mod limits;
 #[cfg(test)]
-mod rows;
-#[cfg(test)]
 mod threads;
 #[cfg(test)]
-mod vectors;
-#[cfg(test)]
 mod words;
+#[cfg(test)]
+mod worked_lines;

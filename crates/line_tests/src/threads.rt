@@ -1,5 +1,5 @@
 //! Long inputs, whose lines are replied to in threads.
-use line_mode::{LineCount, line_mode_in};
+use line_mode::{LineCount, line_mode_in_threads};
 use std::alloc::{AllocError, Global};
 use std::fmt::Write;
 use std::process::Abort;
@@ -32,7 +32,7 @@ fn assert_replies_in<R: Threads + Abort + Sync>(
 ) {
     let mut output = Vec::new(alloc);
     let mut rest = input.as_bytes();
-    let answer = line_mode_in(rt, alloc, &mut rest, &mut output);
+    let answer = line_mode_in_threads(rt, alloc, &mut rest, &mut output);
     assert!(rt;
         output.as_slice() == text.as_bytes(),
         "{} bytes",

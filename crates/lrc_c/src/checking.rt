@@ -12,6 +12,7 @@ ghost use Rattle.lrc_c.specs.Windows.{AreCoupled, AreRooms, AreWritten};
 
 use crate::arguments::{are_whole, code_numbered, set_of};
 use crate::lent::Lent;
+use crate::statuses::{BAD_ARGUMENT, CONTRADICTION, DONE};
 use crate::windows::{Checks, Couples, Wanted, Wants, write_checked};
 use lrc_code::{Code, PlaceSet, are_bytes};
 use lrc_field::{Gf, no_terms, terms_in};
@@ -81,7 +82,7 @@ fn is_possible(code: Code, set: PlaceSet, at: &[Lent; 16], len: usize) -> bool
     ensures yes { result ≡ true → IsPossible (tables_of code) (is_in set) (at_place (lent at.now)) len }
     ensures no { result ≡ false → IsContradiction (tables_of code) (is_in set) (at_place (lent at.now)) len }
 {
-    are_sixteen(at);
+    learn_sixteen(at);
     let checks = check_rows(code, set);
     are_zero(checks, at, len)
 }
@@ -100,8 +101,8 @@ pub(crate) fn are_zero(rows: [[Gf; 16]; 4], at: &[Lent; 16], len: usize) -> bool
     write_if_zero(rows, at, nothing, len, &mut [], &mut [], &mut [], &mut [])
 }
 
-/// Lent bytes are bytes.
-pub(crate) fn lent_are_bytes(at: &[Lent])
+/// Lent bytes are bytes. Does nothing: it is called for its contract.
+pub(crate) fn learn_lent_bytes(at: &[Lent])
     ensures { All AreBytes (lent at.now) }
 {
     for one in at {
@@ -109,12 +110,12 @@ pub(crate) fn lent_are_bytes(at: &[Lent])
     }
 }
 
-/// Sixteen slices of bytes.
-pub(crate) fn are_sixteen(at: &[Lent; 16])
+/// Sixteen slices of bytes. Does nothing: it is called for its contract.
+pub(crate) fn learn_sixteen(at: &[Lent; 16])
     ensures bytes { All AreBytes (lent at.now) }
     ensures count { length (lent at.now) ≡ 16 }
 {
-    lent_are_bytes(at);
+    learn_lent_bytes(at);
 }
 
 /// Tests the survivors, whose bits are set; their bytes are in `at` by the places' indexes, and have the length. 0:
@@ -127,11 +128,15 @@ pub extern "C" fn lrc_verify_at(code: u8, survivors: u32, at: &[Lent; 16], len: 
     ensures refused { ((c : Code) → ¬ IsSurveyed code survivors (lent at.now) len c) → result ≡ 3 }
 {
     let Some(own) = code_numbered(code) else {
-        return 3;
+        return BAD_ARGUMENT;
     };
     let set = set_of(survivors);
     if !are_whole(own, set, at, len) {
-        return 3;
+        return BAD_ARGUMENT;
     }
-    if is_possible(own, set, at, len) { 0 } else { 1 }
+    if is_possible(own, set, at, len) {
+        DONE
+    } else {
+        CONTRADICTION
+    }
 }

@@ -9,8 +9,9 @@ ghost use Rattle.lrc_c.specs.Windows.{AreCoupled, AreRooms, AreWritten};
 ghost use Rattle.lrc_c.specs.Encoded.{AreSources};
 
 use crate::arguments::code_numbered;
-use crate::checking::lent_are_bytes;
+use crate::checking::learn_lent_bytes;
 use crate::lent::Lent;
+use crate::statuses::{BAD_ARGUMENT, DONE};
 use crate::windows::{Checks, Couples, Wanted, Wants, write_checked};
 use lrc_code::{Code, ParityRows};
 use lrc_field::{no_pairs, no_terms, pairs_in, terms_in};
@@ -42,7 +43,7 @@ fn encode_parities(
     ensures { IsEncoding (tables_of code) (length px.old) (lent sources.now)
         (lent sources.now ++ (px.new ∷ py.new ∷ p0.new ∷ p1.new ∷ [])) }
 {
-    lent_are_bytes(sources);
+    learn_lent_bytes(sources);
     write_parities(&code.parities(), sources, px, py, p0, p1);
 }
 
@@ -127,23 +128,23 @@ pub extern "C" fn lrc_encode_into(
 {
     let len = px.len();
     if py.len() != len {
-        return 3;
+        return BAD_ARGUMENT;
     }
     if p0.len() != len {
-        return 3;
+        return BAD_ARGUMENT;
     }
     if p1.len() != len {
-        return 3;
+        return BAD_ARGUMENT;
     }
     if !have_length(sources, len) {
-        return 3;
+        return BAD_ARGUMENT;
     }
     let Some(own) = code_numbered(code) else {
-        return 3;
+        return BAD_ARGUMENT;
     };
     if sources.len() != own.data_count() {
-        return 3;
+        return BAD_ARGUMENT;
     }
     encode_parities(own, sources, px, py, p0, p1);
-    0
+    DONE
 }

@@ -8,6 +8,7 @@ ghost use Rattle.lrc_field.specs.Sums.{sums};
 
 use crate::combining::{are_used, combine};
 use crate::lent::Lent;
+use crate::statuses::{BAD_ARGUMENT, DONE};
 use lrc_field::{Gf, add_into, scale_add_into};
 
 /// Adds `src` to `dst` byte by byte. 0: done; 3: the lengths differ, and nothing is written.
@@ -17,10 +18,10 @@ pub extern "C" fn lrc_add(dst: &mut [u8], src: &[u8]) -> u32
     ensures refused { length dst.old ≢ length src.now → (result ≡ 3) × (dst.new ≡ dst.old) }
 {
     if dst.len() != src.len() {
-        return 3;
+        return BAD_ARGUMENT;
     }
     add_into(dst, src);
-    0
+    DONE
 }
 
 /// Adds `scalar` times `src` to `dst`, byte by byte in the field. 0: done; 3: the lengths differ, and nothing is written.
@@ -30,10 +31,10 @@ pub extern "C" fn lrc_scale_add(dst: &mut [u8], scalar: u8, src: &[u8]) -> u32
     ensures refused { length dst.old ≢ length src.now → (result ≡ 3) × (dst.new ≡ dst.old) }
 {
     if dst.len() != src.len() {
-        return 3;
+        return BAD_ARGUMENT;
     }
     scale_add_into(dst, Gf::new(scalar), src);
-    0
+    DONE
 }
 
 /// Writes the sum of up to sixteen sources, each times its coefficient, over `out`. Sources whose coefficient is not 00
@@ -46,14 +47,14 @@ pub extern "C" fn lrc_combine(coefficients: &[Gf], sources: &[Lent], out: &mut [
     ensures refused { ¬ CanCombine coefficients.now (lent sources.now) (length out.old) → (result ≡ 3) × (out.new ≡ out.old) }
 {
     if coefficients.len() != sources.len() {
-        return 3;
+        return BAD_ARGUMENT;
     }
     if coefficients.len() > 16 {
-        return 3;
+        return BAD_ARGUMENT;
     }
     if !are_used(coefficients, sources, out.len()) {
-        return 3;
+        return BAD_ARGUMENT;
     }
     combine(coefficients, sources, out);
-    0
+    DONE
 }

@@ -18,6 +18,7 @@ mod planning;
 mod reading;
 mod rebuilding;
 mod rebuilding_many;
+mod statuses;
 #[cfg(test)]
 mod tests;
 mod updating;

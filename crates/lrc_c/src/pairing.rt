@@ -6,9 +6,13 @@ ghost use Rattle.lrc_field.specs.Pairs.{first_sum_at, second_sum_at, HavePairsRo
 use lrc_field::{Gf, Pair, combine_pairs_into};
 
 /// Pairs are written over at least so many bytes at once.
-pub(crate) const LEAST: usize = 96;
+pub(crate) const LEAST_PAIRED_BYTES: usize = 96;
 
-// What a coefficient's products cost alone, beside what a pair's do.
+// What the products of a pair of coefficients cost, in the unit of `cost`.
+const PAIR_COST: usize = 13;
+
+// What the products of one coefficient cost alone, in eighths of what they cost where it is neither 0 nor 1. These are times that were
+// measured; a wrong one makes a call slower.
 fn cost(coefficient: Gf) -> usize
     ensures { result ≤ 8 }
 {
@@ -18,8 +22,6 @@ fn cost(coefficient: Gf) -> usize
         _ => 8,
     }
 }
-
-const PAIR_COST: usize = 13;
 
 /// Whether two combinations are faster as pairs than each alone.
 pub(crate) fn are_worth_pairing(firsts: &[Gf; 16], seconds: &[Gf; 16]) -> bool {

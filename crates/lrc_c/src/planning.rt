@@ -11,9 +11,10 @@ ghost use Rattle.lrc_c.specs.Arguments.{is_set, IsLost};
 ghost use Rattle.lrc_c.specs.Lent.{lent};
 
 use crate::arguments::{lost_place, set_of};
-use crate::checking::are_sixteen;
+use crate::checking::learn_sixteen;
 use crate::combining::{are_used, combine};
 use crate::lent::Lent;
+use crate::statuses::{BAD_ARGUMENT, DONE, SEVERAL};
 use lrc_field::Gf;
 use lrc_plan::plan_rows;
 
@@ -38,7 +39,7 @@ pub extern "C" fn lrc_plan_into(code: u8, survivors: u32, target: u8, plan: &mut
     ensures refused { ((c : Code) (p : Place) → ¬ IsLost code survivors target c p) → (result ≡ 3) × (plan.new ≡ plan.old) }
 {
     let Some(lost) = lost_place(code, survivors, target) else {
-        return 3;
+        return BAD_ARGUMENT;
     };
     let rows = plan_rows(lost.code, set_of(survivors), lost.place);
     // The checker follows an array from one field to another by a variable alone.
@@ -47,9 +48,9 @@ pub extern "C" fn lrc_plan_into(code: u8, survivors: u32, target: u8, plan: &mut
     match rows.value {
         Some(value) => {
             plan.value = value;
-            0
+            DONE
         }
-        None => 2,
+        None => SEVERAL,
     }
 }
 
@@ -65,10 +66,10 @@ pub extern "C" fn lrc_apply(row: &[Gf; 16], at: &[Lent; 16], out: &mut [u8]) -> 
         → (s : Place → List ℕ) → Keeps (tables_of c) survives (at_place (lent at.now)) (length out.old) s → s p ≡ out.new }
     ensures refused { ¬ AreUsed row.now (lent at.now) (length out.old) → (result ≡ 3) × (out.new ≡ out.old) }
 {
-    are_sixteen(at);
+    learn_sixteen(at);
     if !are_used(row, at, out.len()) {
-        return 3;
+        return BAD_ARGUMENT;
     }
     combine(row, at, out);
-    0
+    DONE
 }

@@ -13,8 +13,9 @@ ghost use Rattle.lrc_c.specs.Arguments.{is_set, IsAsked};
 ghost use Rattle.lrc_c.specs.Rebuilt.{status_of, IsAnswerAt};
 
 use crate::arguments::{are_whole, lost_place, set_of};
-use crate::checking::{are_sixteen, are_zero, write_if_zero};
+use crate::checking::{are_zero, learn_sixteen, write_if_zero};
 use crate::lent::Lent;
+use crate::statuses::{BAD_ARGUMENT, CONTRADICTION, DONE, SEVERAL};
 use crate::windows::{Wanted, Wants};
 use lrc_code::{Code, Place, PlaceSet};
 use lrc_field::{Gf, no_terms, terms_in};
@@ -36,7 +37,7 @@ fn rebuild(code: Code, set: PlaceSet, at: &[Lent; 16], target: Place, out: &mut 
     requires lost { is_in set target ≡ false }
     ensures { IsAnswerAt (tables_of code) (is_in set) (at_place (lent at.now)) (length out.old) target result out.new }
 {
-    are_sixteen(at);
+    learn_sixteen(at);
     let len = out.len();
     let plan = plan_rows(code, set, target);
     let Some(row) = plan.value else {
@@ -74,9 +75,9 @@ fn status_of(answer: Answer) -> u32
     ensures { result ≡ status_of answer }
 {
     match answer {
-        Answer::Rebuilt => 0,
-        Answer::Contradiction => 1,
-        Answer::Several => 2,
+        Answer::Rebuilt => DONE,
+        Answer::Contradiction => CONTRADICTION,
+        Answer::Several => SEVERAL,
     }
 }
 
@@ -98,15 +99,15 @@ pub extern "C" fn lrc_rebuild_into(
         → (result ≡ 3) × (out.new ≡ out.old) }
 {
     let Some(lost) = lost_place(code, survivors, target) else {
-        return 3;
+        return BAD_ARGUMENT;
     };
     let len = out.len();
     if len == 0 {
-        return 3;
+        return BAD_ARGUMENT;
     }
     let set = set_of(survivors);
     if !are_whole(lost.code, set, at, len) {
-        return 3;
+        return BAD_ARGUMENT;
     }
     let answer = rebuild(lost.code, set, at, lost.place, out);
     status_of(answer)

@@ -12,9 +12,10 @@ ghost use Rattle.lrc_c.specs.RebuiltMany.{AreAllAsked, AreAnswered, AreBothSums,
 ghost use Rattle.lrc_c.specs.RebuiltMany.{IsTermRow, IsTargetAnswered, IsUsedRow, IsWantedOf, status_at};
 
 use crate::arguments::{are_whole, code_numbered, set_of};
-use crate::checking::{are_sixteen, write_coupled_if_zero};
+use crate::checking::{learn_sixteen, write_coupled_if_zero};
 use crate::lent::Lent;
 use crate::pairing::are_worth_pairing;
+use crate::statuses::{BAD_ARGUMENT, CONTRADICTION, DONE, SEVERAL};
 use crate::windows::{Couples, Wanted, Wants};
 use lrc_code::{Code, Place, PlaceSet, Reduced};
 use lrc_field::{Gf, Pair, Term, no_pairs, no_terms, pairs_in, terms_in};
@@ -114,7 +115,7 @@ fn aim_of<'s, 'a>(
 {
     let at = survivors.at;
     let reduced = survivors.reduced;
-    are_sixteen(at);
+    learn_sixteen(at);
     let Target::Lost(place) = target else {
         return (without_row(Aim::Nothing), &[]);
     };
@@ -178,9 +179,9 @@ fn status_at(aim: Aim, possible: bool) -> u32
     ensures { result ≡ status_at aim possible }
 {
     match aim {
-        Aim::Nothing => 0,
-        Aim::Several => { if possible { 2 } else { 1 } }
-        Aim::Sums => { if possible { 0 } else { 1 } }
+        Aim::Nothing => DONE,
+        Aim::Several => { if possible { SEVERAL } else { CONTRADICTION } }
+        Aim::Sums => { if possible { DONE } else { CONTRADICTION } }
     }
 }
 
@@ -207,7 +208,7 @@ fn rebuild_four(
     ensures third { IsTargetAnswered code (is_in set) (lent at.now) len targets.third result.third c.new }
     ensures fourth { IsTargetAnswered code (is_in set) (lent at.now) len targets.fourth result.fourth d.new }
 {
-    are_sixteen(at);
+    learn_sixteen(at);
     let reduced = reduce_by_lost(code, set);
     let checks = checks_from(code, &reduced, set);
     let survivors = Survivors {
@@ -275,27 +276,27 @@ pub extern "C" fn lrc_rebuild_many_into(
         → (result ≡ 3) × (statuses.new ≡ statuses.old) × (a.new ≡ a.old) × (b.new ≡ b.old) × (c.new ≡ c.old) × (d.new ≡ d.old) }
 {
     let Some(own) = code_numbered(code) else {
-        return 3;
+        return BAD_ARGUMENT;
     };
     if len == 0 {
-        return 3;
+        return BAD_ARGUMENT;
     }
     let set = set_of(survivors);
     if !are_whole(own, set, at, len) {
-        return 3;
+        return BAD_ARGUMENT;
     }
     let [number_a, number_b, number_c, number_d] = *targets;
     let Some(first) = target_of(own, set, number_a, a.len(), len) else {
-        return 3;
+        return BAD_ARGUMENT;
     };
     let Some(second) = target_of(own, set, number_b, b.len(), len) else {
-        return 3;
+        return BAD_ARGUMENT;
     };
     let Some(third) = target_of(own, set, number_c, c.len(), len) else {
-        return 3;
+        return BAD_ARGUMENT;
     };
     let Some(fourth) = target_of(own, set, number_d, d.len(), len) else {
-        return 3;
+        return BAD_ARGUMENT;
     };
     let asked = Targets {
         first,

@@ -13,6 +13,7 @@ ghost use Rattle.lrc_code.specs.Reduction.{coefficient_at};
 ghost use Rattle.lrc_c.specs.Updated.{is_parity, AreCoefficients, IsRoom, IsUpdate, IsUpdated};
 
 use crate::arguments::code_numbered;
+use crate::statuses::{BAD_ARGUMENT, DONE};
 use lrc_code::{Code, Place};
 use lrc_field::{Gf, scale_add_into};
 
@@ -125,28 +126,28 @@ pub extern "C" fn lrc_update_into(
         → (result ≡ 3) × (px.new ≡ px.old) × (py.new ≡ py.old) × (p0.new ≡ p0.old) × (p1.new ≡ p1.old) }
 {
     let Some(own) = code_numbered(code) else {
-        return 3;
+        return BAD_ARGUMENT;
     };
     let Some(changed) = data_place(own, place) else {
-        return 3;
+        return BAD_ARGUMENT;
     };
     let len = difference.len();
     if !is_room(px.len(), len) {
-        return 3;
+        return BAD_ARGUMENT;
     }
     if !is_room(py.len(), len) {
-        return 3;
+        return BAD_ARGUMENT;
     }
     if !is_room(p0.len(), len) {
-        return 3;
+        return BAD_ARGUMENT;
     }
     if !is_room(p1.len(), len) {
-        return 3;
+        return BAD_ARGUMENT;
     }
     let coefficients = coefficients_of(own, changed);
     update(coefficients.px, difference, px);
     update(coefficients.py, difference, py);
     update(coefficients.p0, difference, p0);
     update(coefficients.p1, difference, p1);
-    0
+    DONE
 }

@@ -4,7 +4,7 @@ ghost use Rattle.std.specs.Bool.{IsTrue};
 ghost use Rattle.lrc_c.specs.Windows.{AreCoupled, AreReady, AreRooms, AreWritten, AreZeroWithin, HasRoom, IsSomeWritten, MayBeCouple};
 
 use crate::combining::{is_zero, write_window};
-use crate::pairing::{LEAST, write_pairs};
+use crate::pairing::{LEAST_PAIRED_BYTES, write_pairs};
 use lrc_field::{Pair, Term};
 
 /// How many bytes of each fragment a window has.
@@ -125,7 +125,7 @@ fn write_two(
     ensures first_sums { IsSomeWritten one.entry a.old from → IsSomeWritten one.entry a.new to }
     ensures second_sums { IsSomeWritten other.entry b.old from → IsSomeWritten other.entry b.new to }
 {
-    if !pairs.is_empty() && to - from >= LEAST {
+    if !pairs.is_empty() && to - from >= LEAST_PAIRED_BYTES {
         write_pairs(pairs, a, b, from, to);
         return;
     }

@@ -5,7 +5,7 @@
 //! type of faults:
 //!
 //! ```rust
-//! let answered = line_mode_in(&rt, rt.alloc(), &mut rt.stdin(), &mut rt.stdout());
+//! let answered = line_mode_in_threads(&rt, rt.alloc(), &mut rt.stdin(), &mut rt.stdout());
 //! ExitCode::from(line_status(&answered))
 //! ```
 //!
@@ -21,7 +21,7 @@ use farm_core::{Settings, SettingsFault};
 use farm_faults::{farm_status, fault_line};
 use farm_serving::{Served, serve_folders};
 use line_mode::statuses::{DEVICE, DONE, NO_RESOURCES, USAGE};
-use line_mode::{line_mode_in, line_status};
+use line_mode::{line_mode_in_threads, line_status};
 use std::io::ErrorKind;
 use std::process::ExitCode;
 use std::sync::Wait;
@@ -69,14 +69,14 @@ fn arguments(rt: &HostRuntime) -> io::Result<Vec<String>> {
 
 // Replies to the lines of standard input on standard output, and gives the exit status.
 fn answer_lines<T: Threads + Sync>(rt: &T, system: &HostRuntime) -> u8 {
-    let answered = line_mode_in(
+    let answered = line_mode_in_threads(
         rt,
         system.alloc(),
         &mut system.stdin(),
         &mut system.stdout(),
     );
     if let Err(fault) = answered {
-        let _ = eprintln!(system; "E{}", fault.code());
+        let _ = eprintln!(system; "E{}", fault.number());
     }
     line_status(&answered)
 }

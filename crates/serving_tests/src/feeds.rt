@@ -436,22 +436,16 @@ fn feeds_of_both_codes(rt: HostRuntime) -> Result<(), AllocError> {
     Ok(())
 }
 
-// The text of a fault names the feed's file.
+// The text of a fault says of which list it is.
 #[test]
-fn texts_of_faults(rt: HostRuntime) -> Result<(), AllocError> {
-    assert!(&rt; is_named(rt.alloc(), 0, 0, "rack0.csv")?);
-    assert!(&rt; is_named(rt.alloc(), 11, 3, "rack11.feed3.csv")?);
-    Ok(())
-}
-
-fn is_named(alloc: Global, rack: usize, feed: usize, name: &str) -> Result<bool, AllocError> {
-    let reason = ListFault::BadHeader;
+fn a_fault_names_its_feed_and_rack(rt: HostRuntime) -> Result<(), AllocError> {
     let fault = ServeFault::List {
-        rack,
-        feed,
-        fault: reason,
+        rack: 11,
+        feed: 3,
+        fault: ListFault::BadHeader,
     };
-    let expected = format!(in alloc; "{name}: {reason}")?;
-    let text = format!(in alloc; "{fault}")?;
-    Ok(text.as_str() == expected.as_str())
+    let text = format!(in rt.alloc(); "{fault}")?;
+    let expected = "the list of feed 3 of rack 11: the first record is not the header";
+    assert_eq!(rt; text.as_str(), expected);
+    Ok(())
 }

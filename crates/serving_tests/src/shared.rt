@@ -1,7 +1,8 @@
 //! Lists, fragments and reports, and calls of `serve` and `answer_lists`.
 use farm_core::{NoPause, Pause, Settings};
 use farm_serving::{
-    Answered, MemoryShelf, ServeFault, Served, Shelf, ShelfFault, answer_lists, read_lists, serve,
+    Answered, Batching, MemoryShelf, ServeFault, Served, Shelf, ShelfFault, answer_lists,
+    read_lists, serve,
 };
 use lists_tests::samples::LIST;
 use std::alloc::{AllocError, Global};
@@ -274,7 +275,12 @@ pub(crate) fn are_answered<R: Threads + Wait + Sync, I: Shelf, P: Pause, F: Fn(&
     let Ok(lists) = read_lists(alloc, input) else {
         return Err(AllocError);
     };
-    match answer_lists(rt, alloc, input, lists.as_slice(), settings, pause, most) {
+    let batching = Batching {
+        settings,
+        pause,
+        most,
+    };
+    match answer_lists(rt, alloc, input, lists.as_slice(), &batching) {
         Ok(answered) => Ok(are_right(&answered)),
         Err(_) => Err(AllocError),
     }

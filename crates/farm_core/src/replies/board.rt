@@ -1,4 +1,5 @@
-//! Holds the replies to the requests of racks' feeds by the numbers that the feeds drew, in whatever order they come.
+//! The farm's own collection of replies: those to the requests of racks' feeds, by the numbers that the feeds drew, in whatever order they
+//! come. For racks of one list each, numbered as listed, callers have `Collector`.
 ghost use Rattle.std.specs.Prelude.{◌≡◌, ◌≤◌, IfOk, IfErr, OnOk, OnErr, None, length, ◌++◌, ◌∷◌, [], List};
 ghost use Rattle.std.specs.List.{AllZip};
 ghost use Rattle.farm_core.specs.Boards.{HoldsNothing, HasRooms, IsHeldToo, filled, most_served, IsOutcomeOf, IsNotHeld, HasHeld};
@@ -59,8 +60,8 @@ impl<'a> Board<'a> {
         Ok(Board { lists, rows })
     }
 
-    /// There is a row for each rack, with a cell for each number that its feeds may draw.
-    pub(crate) fn has_rooms(&self)
+    /// There is a row for each rack, with a cell for each number that its feeds may draw. Does nothing: it is called for its contract.
+    pub(crate) fn learn_rooms(&self)
         ensures { HasRooms self.now.racks self.now.table }
     {
         let _lists = &self.lists;

@@ -1,4 +1,5 @@
-//! Gathers the replies to the requests of some racks, in whatever order they come.
+//! The collection of replies that callers are given: those to the requests of racks of one list each, numbered as listed, in whatever order
+//! they come. The farm itself puts replies on a `Board`.
 ghost use Rattle.std.specs.Prelude.{◌≡◌, IfOk, IfErr, IfSome, IfNone, MatchResult, OnOk, OnErr, None, map};
 ghost use Rattle.std.specs.List.{AllZip};
 ghost use Rattle.farm_core.specs.Replies.{Answers, HasNoGaps, IsLeastGap, IsNothingYet, IsAdded, reply_at, IsComplete, IsInPlace};

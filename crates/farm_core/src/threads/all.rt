@@ -63,11 +63,10 @@ fn start_racks<'s, 'a: 's, E, R: Threads + Wait + Sync, P: Pause>(
         let RackRoom {
             gate,
             feeders,
-            handles,
+            mut handles,
             feds,
             rights,
         } = rack;
-        let mut handles = handles;
         if left.is_some() {
             let mut none = None;
             end_feeders(shared.rt, feeders, &mut none);
@@ -144,10 +143,9 @@ fn join_racks<'a, R: Threads>(
         let RackFeeders {
             gate,
             handles,
-            feds,
+            mut feds,
             rights,
         } = rack;
-        let mut feds = feds;
         if join_feeders(rt, handles, &mut feds) {
             close_rack(gate, feds, rights, put_ends);
         } else {
@@ -167,13 +165,12 @@ fn join_left<'a, R: Threads>(rt: &R, left: Option<Vec<FeederHandle<'a>>>) {
 }
 
 // Puts so many jobs that say to stop, and ends.
-fn put_stops<'a, R: Wait>(rt: &R, stops: PutEnd<Job<'a>>, count: usize) -> EndedPut<Job<'a>>
+fn put_stops<'a, R: Wait>(rt: &R, mut stops: PutEnd<Job<'a>>, count: usize) -> EndedPut<Job<'a>>
     requires unused { IsUnusedPut stops }
     requires few { count ≤ worker_limit }
     ensures stops { HasPutStops stops.entry result }
     ensures count { length result.put ≡ count + 1 }
 {
-    let mut stops = stops;
     for _ in 0..count {
         stops.put(rt, Job::Stop);
     }
@@ -233,12 +230,11 @@ pub(crate) fn join_all<'a, R: Threads + Wait>(
 /// Ends all put ends of both lanes, where no thread was started, and takes each mark.
 pub(crate) fn end_all<'a, R: Wait>(
     rt: &R,
-    desk: TakeEnd<Reply<'a>>,
+    mut desk: TakeEnd<Reply<'a>>,
     workers: Vec<WorkerEnds<'a>>,
     racks: Vec<RackRoom<'a>>,
     stops: PutEnd<Job<'a>>,
 ) {
-    let mut desk = desk;
     let mut taker = None;
     for ends in workers {
         taker = Some(end_worker(rt, ends, &mut desk));

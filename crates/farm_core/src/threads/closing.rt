@@ -10,8 +10,8 @@ use crate::jobs::Job;
 use crate::threads::feeder::Fed;
 use farm_lanes::{EndedPut, Gate, Right, Seat};
 
-// Reads the gate, so that the seat's record is known to be sound.
-fn look(gate: &Gate, seat: Seat) -> Seat
+// Splits nothing off a seat and joins it again, which changes nothing: the gate's contract then says that the seat's record is sound.
+fn learn_sound(gate: &Gate, seat: Seat) -> Seat
     requires own { seat.gate ≡ gate.now.id }
     requires within { seat.has.draws ≤ seat.has.share }
     ensures gate { result.gate ≡ gate.now.id }
@@ -22,13 +22,13 @@ fn look(gate: &Gate, seat: Seat) -> Seat
     gate.join(seat, none)
 }
 
-// Spends rights. Where they are all rights of the gate, the seat knows of no closing.
-fn spend_all(gate: &Gate, seat: Seat, rights: Vec<Right>)
+// Spends rights. Where they are all rights of the gate, the seat knows of no closing. Nobody draws from the gate afterwards, so that this
+// has no effect: it is done for the contract of a close, by which a gate whose rights are all left wasn't closed.
+fn spend_all(gate: &Gate, mut seat: Seat, rights: Vec<Right>)
     requires own { (seat.gate ≡ gate.now.id) × Each (λ r. r ≡ gate.now.id) rights.items }
     requires sound { IsSound gate.now.size seat.has }
     ensures { seat.has.used ≡ 0 → length seat.has.made ≡ 0 → length rights.items ≡ gate.now.size.rights → seat.has.knows ≡ false }
 {
-    let mut seat = seat;
     for right in rights {
         let _closed = gate.close(&mut seat, right);
     }
@@ -49,8 +49,8 @@ fn keep(rights: &mut Vec<Right>, right: Option<Right>)
 /// Joins what a rack's feeders gave back: the put ends in order. What they drew is a lawful merge of their lists.
 pub(crate) fn close_rack<'a>(
     gate: &Gate,
-    feds: Vec<Fed<'a>>,
-    rights: Vec<Right>,
+    mut feds: Vec<Fed<'a>>,
+    mut rights: Vec<Right>,
     put_ends: &mut Vec<EndedPut<Job<'a>>>,
 )
     requires some { 0 < length feds.items }
@@ -63,8 +63,6 @@ pub(crate) fn close_rack<'a>(
     ensures drawn { (rack : ℕ) (lists : List (List Order)) → AreFed gate.now rack lists feds.entry.items
         → HasDrawn rack lists (map (λ (f : TheFed). f.jobs) feds.entry.items) }
 {
-    let mut feds = feds;
-    let mut rights = rights;
     let Some(last) = feds.pop() else {
         unreachable!();
     };
@@ -74,7 +72,7 @@ pub(crate) fn close_rack<'a>(
         jobs: last_jobs,
         ..
     } = last;
-    let mut joined = look(gate, seat);
+    let mut joined = learn_sound(gate, seat);
     for fed in feds {
         let Fed {
             seat,

@@ -36,12 +36,10 @@ fn clear<'a, R: Wait>(rt: &R, desk: Desk<'a>) -> Cleared<'a>
     ensures { HasCleared desk.entry.board.racks desk.entry.replies result.all.board result.all.fault result.replies }
 {
     let Desk {
-        board,
-        replies,
+        mut board,
+        mut replies,
         workers,
     } = desk;
-    let mut board = board;
-    let mut replies = replies;
     let mut fault = None;
     let mut ended = 0;
     for _ in rt.forever() {

@@ -18,11 +18,11 @@ use std::sync::Wait;
 use std::sync::atomic::Ordering;
 use std::thread::{Promise, PromisedHandle, Scope, Threads};
 
-/// What a feeder gives back: its slot, its feed and list, its seat, the right unless it was spent on closing, what the close was
-/// answered if it made it, and its end.
+/// What a feeder gives back: its slot (`Job` says what that is), its feed and list, its seat, the right unless it was spent on closing,
+/// what the close was answered if it made it, and its end.
 #[derive(Drop)]
 pub struct Fed<'a> {
-    /// The slot that the feeder's jobs name.
+    /// The slot that the feeder's jobs name, for its rack and feed.
     pub rack: usize,
     pub feed: usize,
     pub list: &'a RackList,
@@ -37,12 +37,12 @@ pub struct Fed<'a> {
 pub fn feed<'a, R: Wait, P: Pause>(
     rt: &R,
     gate: &Gate,
-    seat: Seat,
+    mut seat: Seat,
     right: Right,
     slot: usize,
     feed: usize,
     list: &'a RackList,
-    jobs: PutEnd<Job<'a>>,
+    mut jobs: PutEnd<Job<'a>>,
     pause: &P,
 ) -> Fed<'a>
     requires own { (seat.gate ≡ gate.now.id) × (right ≡ gate.now.id) }
@@ -52,8 +52,6 @@ pub fn feed<'a, R: Wait, P: Pause>(
     ensures given { (result.rack ≡ slot) × (result.feed ≡ feed) × (result.list.now ≡ list.now) }
     ensures fed { HasFed gate.now seat slot list.now jobs.entry result.seat result.right result.close result.jobs }
 {
-    let mut seat = seat;
-    let mut jobs = jobs;
     let mut position = 0;
     for order in list.orders() {
         pause.ahead(slot, feed, position);

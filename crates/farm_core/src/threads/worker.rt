@@ -21,6 +21,9 @@ use std::sync::Wait;
 use std::sync::atomic::Ordering;
 use std::thread::{Promise, PromisedHandle, Scope, Threads};
 
+// A put end may put fewer items than this.
+const MOST_PUTS: u64 = 4_294_967_295;
+
 /// What a worker gives back: its ends, the one that puts ended.
 #[derive(Drop)]
 pub struct Worked<'a> {
@@ -61,18 +64,16 @@ pub(crate) fn reply_to<'a, P: Pause>(
 pub fn work<'a, R: Wait, P: Pause>(
     rt: &R,
     alloc: Global,
-    jobs: TakeEnd<Job<'a>>,
-    replies: PutEnd<Reply<'a>>,
+    mut jobs: TakeEnd<Job<'a>>,
+    mut replies: PutEnd<Reply<'a>>,
     pause: &P,
 ) -> Worked<'a>
     requires unused { IsUnusedTake jobs × IsUnusedPut replies }
     ensures worked { HasWorked jobs.entry replies.entry result.jobs result.replies }
     ensures stopped { HasStopped result.jobs.taken result.replies.put }
 {
-    let mut jobs = jobs;
-    let mut replies = replies;
     for _ in rt.forever() {
-        if replies.puts() >= 4_294_967_295 {
+        if replies.puts() >= MOST_PUTS {
             break;
         }
         match jobs.take(rt) {

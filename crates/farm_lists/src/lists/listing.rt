@@ -9,13 +9,14 @@ ghost use Rattle.lrc_code.specs.Text.{every, is_space, place_named};
 ghost use Rattle.lrc_code.specs.Codes.{tables_of};
 ghost use Rattle.farm_lists.specs.Listing.{IsFaultOf, IsRecordFault, SoFar, Stops, close_at, coded_header, header};
 ghost use Rattle.farm_lists.specs.Listing.{list_of, listed, order_at, order_in, record_limit, places, rebuild_at};
+ghost use Rattle.farm_lists.specs.declared.lists.listing.ListFault.TheVariants as fault;
 ghost use Rattle.farm_lists.specs.Views.{HasFields, IsOrderFault, IsRebuildFault, field_count};
 
 use crate::lists::listed::Listed;
 use csv::{ByteRecord, ReaderBuilder};
 use lrc_code::text::parse_number;
 use lrc_code::{Code, Place, RequestFault};
-use std::alloc::{AllocError, Global};
+use std::alloc::{AllocError, AllocFailed, Global};
 use thiserror::Error;
 
 /// A record of a list.
@@ -48,6 +49,22 @@ pub enum ListFault {
     /// E16: memory was refused.
     #[error("out of memory")]
     OutOfMemory,
+}
+
+impl From<AllocError> for ListFault {
+    ghost from_gives = { λ _ f. f ≡ fault.OutOfMemory };
+
+    fn from(_error: AllocError) -> ListFault {
+        ListFault::OutOfMemory
+    }
+}
+
+impl<T: Drop> From<AllocFailed<T>> for ListFault {
+    ghost from_gives = { λ _ f. f ≡ fault.OutOfMemory };
+
+    fn from(_error: AllocFailed<T>) -> ListFault {
+        ListFault::OutOfMemory
+    }
 }
 
 /// The most bytes of a list. `specs/Listing.antt` has it for contracts.
@@ -100,9 +117,9 @@ fn take_row(
         → Stops f (rows ++ fields_of row.now ∷ [])) }
 {
     if number == 0 {
-        let short = is_header(false, row);
-        *coded = !short;
-        return if short || (!short && is_header(true, row)) {
+        let plain = is_header(false, row);
+        *coded = !plain;
+        return if plain || is_header(true, row) {
             Ok(())
         } else {
             Err(ListFault::BadHeader)
@@ -112,10 +129,8 @@ fn take_row(
         return Err(ListFault::TooManyOrders);
     }
     let order = order_of(alloc, *coded, number, row)?;
-    match list.push(order) {
-        Ok(()) => Ok(()),
-        Err(_) => Err(ListFault::OutOfMemory),
-    }
+    list.push(order)?;
+    Ok(())
 }
 
 // The fields of a record. Only a list whose header names it has the last.
@@ -187,7 +202,7 @@ fn order_of(
     };
     match fields.code {
         Some(name) => order_in(alloc, Code::parse(name), name.is_empty(), number, &fields),
-        None => order_in(alloc, Some(Code::Narrow), true, number, &fields),
+        None => order_in(alloc, Some(Code::UNNAMED), true, number, &fields),
     }
 }
 
@@ -249,15 +264,10 @@ fn rebuild_of(
     let Some(length) = parse_number(fields.length) else {
         return Err(ListFault::BadRecord { number });
     };
-    let survivors = match parse_places(alloc, code, fields.survivors) {
-        Ok(Some(survivors)) => survivors,
-        Ok(None) => return Err(ListFault::BadRecord { number }),
-        Err(_) => return Err(ListFault::OutOfMemory),
+    let Some(survivors) = parse_places(alloc, code, fields.survivors)? else {
+        return Err(ListFault::BadRecord { number });
     };
-    let Ok(stripe) = Vec::from_slice(alloc, fields.stripe) else {
-        return Err(ListFault::OutOfMemory);
-    };
-    let Ok(stripe) = String::from_utf8(stripe) else {
+    let Ok(stripe) = String::from_utf8(Vec::from_slice(alloc, fields.stripe)?) else {
         return Err(ListFault::Refused {
             number,
             fault: RequestFault::BadStripe,

@@ -1,5 +1,5 @@
 //! The requests that lists have before their first closes, and what was read of each.
-ghost use Rattle.std.specs.Prelude.{◌≡◌, IfOk, map};
+ghost use Rattle.std.specs.Prelude.{◌≡◌, IfOk, length, map};
 ghost use Rattle.farm_lists.specs.Report.{listed_before_close};
 
 use crate::lists::listed::Listed;
@@ -26,4 +26,18 @@ pub fn requests_before_close(alloc: Global, list: &[Record]) -> Result<Vec<&List
         }
     }
     Ok(requests)
+}
+
+/// How many requests a list has before its first close. Takes no memory.
+pub fn count_requests(list: &[Record]) -> usize
+    ensures { result ≡ length (listed_before_close list.now) }
+{
+    let mut count = 0;
+    for record in list {
+        match record {
+            Record::Rebuild(_) => count += 1,
+            Record::Close => return count,
+        }
+    }
+    count
 }

@@ -166,19 +166,18 @@ fn push_row(
     let length = decimal_text(alloc, u64::from(row.listed.length()))?;
     let digest = hexadecimal(alloc, digest)?;
     let unread = spaced_names(alloc, row.unread)?;
-    let line = row_line(
-        alloc,
-        shape,
-        number.as_bytes(),
-        feed.as_bytes(),
-        row.listed.stripe().as_bytes(),
-        row.listed.target().name().as_bytes(),
-        length.as_bytes(),
-        outcome_word(row.outcome),
-        digest.as_bytes(),
-        unread.as_slice(),
-        row.listed.code().text().as_bytes(),
-    )?;
+    let texts = RowTexts {
+        number: number.as_bytes(),
+        feed: feed.as_bytes(),
+        stripe: row.listed.stripe().as_bytes(),
+        target: row.listed.target().name().as_bytes(),
+        length: length.as_bytes(),
+        outcome: outcome_word(row.outcome),
+        digest: digest.as_bytes(),
+        unread: unread.as_slice(),
+        code: row.listed.code().text().as_bytes(),
+    };
+    let line = row_line(alloc, shape, &texts)?;
     text.extend_from_slice(line.as_slice())?;
     Ok(())
 }
@@ -190,10 +189,9 @@ fn decimal_text(alloc: Global, number: u64) -> Result<String, AllocError>
     number.to_string(alloc)
 }
 
-// The text of a row's fields: those of the feed and of the code are there if they are asked for.
-fn row_line<'a>(
-    alloc: Global,
-    shape: ReportShape,
+// The texts of a row's fields, in the order of a report that has them all.
+#[derive(Clone, Copy)]
+struct RowTexts<'a> {
     number: &'a [u8],
     feed: &'a [u8],
     stripe: &'a [u8],
@@ -203,15 +201,25 @@ fn row_line<'a>(
     digest: &'a [u8],
     unread: &'a [u8],
     code: &'a [u8],
-) -> Result<Vec<u8>, AllocError>
+}
+
+// The line of a row: the fields of the feed and of the code are in it if they are asked for.
+fn row_line(alloc: Global, shape: ReportShape, row: &RowTexts<'_>) -> Result<Vec<u8>, AllocError>
     ensures { IfOk result (λ v. v.items ≡ row_text default_writer
-        (number.now ∷ (field_if shape.feeds feed.now ++ stripe.now ∷ target.now ∷ length.now ∷ outcome.now ∷ digest.now ∷ unread.now
-        ∷ field_if shape.codes code.now))) }
+        (row.now.number.now ∷ (field_if shape.feeds row.now.feed.now ++ row.now.stripe.now ∷ row.now.target.now ∷ row.now.length.now
+        ∷ row.now.outcome.now ∷ row.now.digest.now ∷ row.now.unread.now ∷ field_if shape.codes row.now.code.now))) }
 {
-    let mut fields = vec![in alloc; number]?;
-    push_if(&mut fields, shape.feeds, feed)?;
-    fields.extend_from_slice(&[stripe, target, length, outcome, digest, unread])?;
-    push_if(&mut fields, shape.codes, code)?;
+    let mut fields = vec![in alloc; row.number]?;
+    push_if(&mut fields, shape.feeds, row.feed)?;
+    fields.extend_from_slice(&[
+        row.stripe,
+        row.target,
+        row.length,
+        row.outcome,
+        row.digest,
+        row.unread,
+    ])?;
+    push_if(&mut fields, shape.codes, row.code)?;
     match row_bytes(alloc, fields.as_slice()) {
         Ok(line) => Ok(line),
         Err(_) => Err(AllocError),

@@ -13,6 +13,7 @@ ghost use Rattle.farm_lists.specs.Report.{listed_before_close, read_of};
 ghost use Rattle.lrc_code.specs.Survivors.{survivors_of};
 ghost use Rattle.farm_lists.specs.declared.lists.listing.Record.{Record};
 ghost use Rattle.farm_shelves.specs.Files.{Files};
+ghost use Rattle.farm_serving.specs.AnsweredRacks.{listed_counts};
 ghost use Rattle.farm_serving.specs.Ahead.{fragment_reads, named_limit};
 ghost use Rattle.farm_serving.specs.Serving.{AreAllReads, AreRackReads, AreReads, Reads, all_failures, all_read, asked, asked_feed};
 ghost use Rattle.farm_serving.specs.Serving.{failures, feed_failures, feed_read, fragment, orders_all, orders_feed, orders_rack};
@@ -20,6 +21,7 @@ ghost use Rattle.farm_serving.specs.Serving.{rack_failures, rack_read, request_r
 ghost use Rattle.farm_lists.specs.Parts.{ArePart};
 
 use crate::cutting::lists_through_close;
+use crate::rack_lists::RackLists;
 use farm_core::{Feeds, Order, RackList};
 use farm_lists::{Listed, ReadRequest, Record, fragment_file, requests_before_close};
 use farm_shelves::{Shelf, ShelfFault};
@@ -294,34 +296,27 @@ pub(crate) fn read_feeds<'a, R: Threads + Sync, I: Shelf>(
     rt: &R,
     alloc: Global,
     input: &mut I,
-    lists: &'a [Vec<Vec<Record>>],
+    racks: &'a [RackLists],
     threads: usize,
 ) -> Result<(Feeds, Vec<Vec<Vec<ReadRequest<'a>>>>), AllocError>
-    requires room { I.failed input.old + rack_survivors * length lists.now < 2 ^ 63 }
-    requires racks { length lists.now ≤ rack_limit }
-    requires feeds { All (λ feeds. (0 < length feeds.items) × (length feeds.items ≤ feed_limit)) lists.now }
-    requires orders { All (λ feeds. All (λ l. length l.items ≤ order_limit) feeds.items) lists.now }
+    requires room { I.failed input.old + rack_survivors * length racks.now < 2 ^ 63 }
+    requires count { length racks.now ≤ rack_limit }
     ensures same { I.files input.new ≡ I.files input.old }
-    ensures read { IfOk result (λ v. (reads : List (List (List Reads)))
-        × AreAllReads (map (λ feeds. map (λ l. l.items) feeds.items) lists.now) reads
+    ensures read { IfOk result (λ v. (reads : List (List (List Reads))) × AreAllReads racks.now reads
         × (I.failed input.new ≡ I.failed input.old + all_failures reads)
-        × ((there : Files) → I.files input.old ≡ Some there
-        → (v.0 ≡ orders_all there (map (λ feeds. map (λ l. l.items) feeds.items) lists.now) reads)
-        × (map (λ fs. map (λ rs. map read_of rs.items) fs.items) v.1.items
-        ≡ all_read there (map (λ feeds. map (λ l. l.items) feeds.items) lists.now) reads))) }
-    ensures orders { IfOk result (λ v. map (λ feeds. map (λ os. length (before_close os)) feeds) v.0
-        ≡ map (λ feeds. map (λ l. length (listed_before_close l.items)) feeds.items) lists.now) }
-    ensures counted { IfOk result (λ v. map (λ fs. map (λ rs. length rs.items) fs.items) v.1.items
-        ≡ map (λ feeds. map (λ l. length (listed_before_close l.items)) feeds.items) lists.now) }
+        × ((there : Files) → I.files input.old ≡ Some there → (v.0 ≡ orders_all there racks.now reads)
+        × (map (λ fs. map (λ rs. map read_of rs.items) fs.items) v.1.items ≡ all_read there racks.now reads))) }
+    ensures orders { IfOk result (λ v. map (λ feeds. map (λ os. length (before_close os)) feeds) v.0 ≡ listed_counts racks.now) }
+    ensures counted { IfOk result (λ v. map (λ fs. map (λ rs. length rs.items) fs.items) v.1.items ≡ listed_counts racks.now) }
     ensures more { I.failed input.old ≤ I.failed input.new }
-    ensures few { I.failed input.new ≤ I.failed input.old + rack_survivors * length lists.now }
+    ensures few { I.failed input.new ≤ I.failed input.old + rack_survivors * length racks.now }
 {
-    let mut racks = Vec::new(alloc);
+    let mut lists = Vec::new(alloc);
     let mut read = Vec::new(alloc);
-    for rack in 0..lists.len() {
-        let (feeds, requests) = read_rack(rt, alloc, input, lists[rack].as_slice(), threads)?;
-        racks.push(feeds)?;
+    for rack in 0..racks.len() {
+        let (feeds, requests) = read_rack(rt, alloc, input, racks[rack].feeds(), threads)?;
+        lists.push(feeds)?;
         read.push(requests)?;
     }
-    Ok((Feeds::from_checked(racks), read))
+    Ok((Feeds::from_checked(lists), read))
 }

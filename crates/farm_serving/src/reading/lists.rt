@@ -6,15 +6,15 @@ ghost use Rattle.farm_core.specs.Limits.{feed_limit, order_limit, rack_limit};
 ghost use Rattle.farm_lists.specs.Listing.{list_of};
 ghost use Rattle.farm_lists.specs.declared.lists.listing.Record.{Record};
 ghost use Rattle.farm_shelves.specs.Files.{Files};
-ghost use Rattle.farm_serving.specs.declared.faults.ServeFault.TheVariants as serving_fault;
 ghost use Rattle.farm_lists.specs.Names.{list_name};
 ghost use Rattle.farm_serving.specs.Serving.{AreLists, HaveFeeds};
 ghost use Rattle.farm_serving.specs.Faults.{CountsFault, Explains, IsListFault, IsRackFault, IsReadFault, serve_fault};
 
 use crate::faults::ServeFault;
+use crate::rack_lists::RackLists;
 use farm_core::limits::{MOST_FEEDS, MOST_RACKS};
 use farm_lists::{ListFault, MOST_LIST_BYTES, Record, list_file, read_list};
-use farm_shelves::{Shelf, ShelfFault};
+use farm_shelves::Shelf;
 use std::alloc::Global;
 
 // One byte more than a list may have.
@@ -35,14 +35,9 @@ fn read_feed_list<I: Shelf>(
     ensures calm { IfOk result (λ list. I.failed input.new ≡ I.failed input.old) }
     ensures fault { IfErr result (λ f. IsListFault f rack feed (I.files input.old) (I.failed input.old) (I.failed input.new)) }
 {
-    let Ok(name) = list_file(alloc, rack, feed) else {
-        return Err(ServeFault::OutOfMemory);
-    };
-    let bytes = match input.read(alloc, name.as_str(), LIST_ROOM) {
-        Ok(Some(bytes)) => bytes,
-        Ok(None) => return Ok(None),
-        Err(ShelfFault::Device) => return Err(ServeFault::Device),
-        Err(ShelfFault::OutOfMemory) => return Err(ServeFault::OutOfMemory),
+    let name = list_file(alloc, rack, feed)?;
+    let Some(bytes) = input.read(alloc, name.as_str(), LIST_ROOM)? else {
+        return Ok(None);
     };
     match read_list(alloc, bytes.as_slice()) {
         Ok(list) => Ok(Some(list)),
@@ -79,7 +74,7 @@ fn read_rack_lists<I: Shelf>(
     let mut feeds = Vec::new(alloc);
     for feed in 0..MOST_FEEDS {
         match read_feed_list(alloc, input, rack, feed)? {
-            Some(list) => push_list(&mut feeds, list)?,
+            Some(list) => feeds.push(list)?,
             None => return Ok(feeds),
         }
     }
@@ -89,18 +84,14 @@ fn read_rack_lists<I: Shelf>(
     Ok(feeds)
 }
 
-/// The lists of all racks, feed by feed: of each rack its feeds, up to one that is absent, and then those of the next rack.
-pub fn read_lists<I: Shelf>(
-    alloc: Global,
-    input: &mut I,
-) -> Result<Vec<Vec<Vec<Record>>>, ServeFault>
+/// The lists of all racks: of each rack its feeds, up to one that is absent, and then those of the next rack.
+pub fn read_lists<I: Shelf>(alloc: Global, input: &mut I) -> Result<Vec<RackLists>, ServeFault>
     requires { I.failed input.old < 2 ^ 62 }
     ensures same { I.files input.new ≡ I.files input.old }
-    ensures lists { IfOk result (λ v. (there : Files) → I.files input.old ≡ Some there
-        → AreLists there (map (λ feeds. map (λ l. l.items) feeds.items) v.items)) }
+    ensures lists { IfOk result (λ v. (there : Files) → I.files input.old ≡ Some there → AreLists there v.items) }
     ensures racks { IfOk result (λ v. length v.items ≤ rack_limit) }
-    ensures feeds { IfOk result (λ v. All (λ feeds. (0 < length feeds.items) × (length feeds.items ≤ feed_limit)) v.items) }
-    ensures orders { IfOk result (λ v. All (λ feeds. All (λ l. length l.items ≤ order_limit) feeds.items) v.items) }
+    ensures feeds { IfOk result (λ v. All (λ feeds. (0 < length feeds) × (length feeds ≤ feed_limit)) v.items) }
+    ensures orders { IfOk result (λ v. All (λ feeds. All (λ l. length l ≤ order_limit) feeds) v.items) }
     ensures calm { IfOk result (λ v. I.failed input.new ≡ I.failed input.old) }
     ensures why { IfErr result (λ f. (there : Files) → I.files input.old ≡ Some there → Explains f there) }
     ensures fault { IfErr result (λ f. CountsFault f (I.failed input.old) (I.failed input.new)) }
@@ -114,22 +105,12 @@ pub fn read_lists<I: Shelf>(
             }
             return Ok(racks);
         }
-        push_list(&mut racks, feeds)?;
+        racks.push(RackLists::from_checked(feeds))?;
     }
     if has_list(alloc, input, MOST_RACKS, 0)? {
         return Err(ServeFault::TooManyRacks);
     }
     Ok(racks)
-}
-
-fn push_list<T: Drop>(lists: &mut Vec<T>, list: T) -> Result<(), ServeFault>
-    ensures pushed { OnOk result (lists.new.items ≡ lists.old.items ++ list ∷ []) }
-    ensures memory { IfErr result (λ f. f ≡ serving_fault.OutOfMemory) }
-{
-    match lists.push(list) {
-        Ok(()) => Ok(()),
-        Err(_) => Err(ServeFault::OutOfMemory),
-    }
 }
 
 // Whether the list of a rack's feed is there.
@@ -145,13 +126,6 @@ fn has_list<I: Shelf>(
     ensures calm { IfOk result (λ has. I.failed input.new ≡ I.failed input.old) }
     ensures fault { IfErr result (λ f. IsReadFault f (I.failed input.old) (I.failed input.new)) }
 {
-    let Ok(name) = list_file(alloc, rack, feed) else {
-        return Err(ServeFault::OutOfMemory);
-    };
-    match input.read(alloc, name.as_str(), 0) {
-        Ok(Some(_)) => Ok(true),
-        Ok(None) => Ok(false),
-        Err(ShelfFault::Device) => Err(ServeFault::Device),
-        Err(ShelfFault::OutOfMemory) => Err(ServeFault::OutOfMemory),
-    }
+    let name = list_file(alloc, rack, feed)?;
+    Ok(input.read(alloc, name.as_str(), 0)?.is_some())
 }

@@ -4,87 +4,118 @@ use crate::farm::requests::{Entry, GLOBAL, LOCAL, SEVERAL, racks_of};
 use crate::farm::running::{answers_of, settings_of};
 use farm_core::Pause;
 use std::alloc::AllocError;
+use std::process::Abort;
 use std::sync::atomic::{AtomicBool, AtomicU64, Ordering};
 
-// Counts calls, and notes one that names an order or a request that isn't there. Each count has a decimal digit for each rack, or for
-// each feed.
+// Counts the calls for each rack's requests and for each feed's orders, and notes one that names a request or an order that isn't there.
 #[derive(Drop)]
 struct Calls {
     strange: AtomicBool,
-    before: AtomicU64,
-    after: AtomicU64,
-    ahead: AtomicU64,
-    behind: AtomicU64,
+    before: [AtomicU64; 3],
+    after: [AtomicU64; 3],
+    ahead: [AtomicU64; 7],
+    behind: [AtomicU64; 7],
 }
 
 impl Calls {
     fn new() -> Calls {
         Calls {
             strange: AtomicBool::new(false),
-            before: AtomicU64::new(0),
-            after: AtomicU64::new(0),
-            ahead: AtomicU64::new(0),
-            behind: AtomicU64::new(0),
+            before: three_zeros(),
+            after: three_zeros(),
+            ahead: seven_zeros(),
+            behind: seven_zeros(),
         }
     }
 
-    // Whether no call was strange, and so many requests and orders were given.
-    fn are(&self, requests: u64, orders: u64) -> bool {
-        !self.strange.load(Ordering::SeqCst)
-            && self.before.load(Ordering::SeqCst) == requests
-            && self.after.load(Ordering::SeqCst) == requests
-            && self.ahead.load(Ordering::SeqCst) == orders
-            && self.behind.load(Ordering::SeqCst) == orders
+    // Asserts that no call was strange, and how many there were for the requests of each rack and for the orders of each feed.
+    fn assert_are(&self, rt: &impl Abort, requests: [u64; 3], orders: [u64; 7]) {
+        assert!(rt; !self.strange.load(Ordering::SeqCst));
+        assert_eq!(rt; counts_of_racks(&self.before), requests);
+        assert_eq!(rt; counts_of_racks(&self.after), requests);
+        assert_eq!(rt; counts_of_feeds(&self.ahead), orders);
+        assert_eq!(rt; counts_of_feeds(&self.behind), orders);
     }
 
-    fn count(&self, calls: &AtomicU64, digit: Option<u64>) {
-        match digit {
-            Some(one) => {
-                calls.fetch_add(one, Ordering::SeqCst);
-            }
-            None => self.strange.store(true, Ordering::SeqCst),
+    fn count(&self, counts: &[AtomicU64], index: Option<usize>) {
+        let Some(index) = index else {
+            self.strange.store(true, Ordering::SeqCst);
+            return;
+        };
+        if index < counts.len() {
+            counts[index].fetch_add(1, Ordering::SeqCst);
         }
     }
 }
 
-// One in the digit of a rack.
-fn rack_digit(rack: usize, number: u64) -> Option<u64> {
+fn three_zeros() -> [AtomicU64; 3] {
+    [AtomicU64::new(0), AtomicU64::new(0), AtomicU64::new(0)]
+}
+
+fn seven_zeros() -> [AtomicU64; 7] {
+    [
+        AtomicU64::new(0),
+        AtomicU64::new(0),
+        AtomicU64::new(0),
+        AtomicU64::new(0),
+        AtomicU64::new(0),
+        AtomicU64::new(0),
+        AtomicU64::new(0),
+    ]
+}
+
+fn counts_of_racks(counts: &[AtomicU64; 3]) -> [u64; 3] {
+    let mut found = [0; 3];
+    for index in 0..3usize {
+        found[index] = counts[index].load(Ordering::SeqCst);
+    }
+    found
+}
+
+fn counts_of_feeds(counts: &[AtomicU64; 7]) -> [u64; 7] {
+    let mut found = [0; 7];
+    for index in 0..7usize {
+        found[index] = counts[index].load(Ordering::SeqCst);
+    }
+    found
+}
+
+// The rack of a request of `SEVEN_FEEDS`, by its number within the rack.
+fn rack_of(rack: usize, number: u64) -> Option<usize> {
     match (rack, number) {
-        (0, 0) => Some(1),
-        (1, 0..=2) => Some(10),
-        (2, 0..=3) => Some(100),
+        (0, 0) | (1, 0..=2) | (2, 0..=3) => Some(rack),
         _ => None,
     }
 }
 
-// One in the digit of a feed.
-fn feed_digit(rack: usize, feed: usize, position: usize) -> Option<u64> {
+// Which of `SEVEN_FEEDS` an order is of, by its position within the feed.
+fn feed_of(rack: usize, feed: usize, position: usize) -> Option<usize> {
     match (rack, feed, position) {
-        (0, 0, 0) => Some(1),
-        (1, 0, 0) => Some(10),
-        (1, 1, 0..=1) => Some(100),
-        (2, 1, 0) => Some(1000),
-        (2, 2, 0) => Some(10_000),
-        (2, 3, 0..=1) => Some(100_000),
+        (0, 0, 0) => Some(0),
+        (1, 0, 0) => Some(1),
+        (1, 1, 0..=1) => Some(2),
+        (2, 1, 0) => Some(4),
+        (2, 2, 0) => Some(5),
+        (2, 3, 0..=1) => Some(6),
         _ => None,
     }
 }
 
 impl Pause for Calls {
     fn before(&self, rack: usize, number: u64) {
-        self.count(&self.before, rack_digit(rack, number));
+        self.count(&self.before, rack_of(rack, number));
     }
 
     fn after(&self, rack: usize, number: u64) {
-        self.count(&self.after, rack_digit(rack, number));
+        self.count(&self.after, rack_of(rack, number));
     }
 
     fn ahead(&self, rack: usize, feed: usize, position: usize) {
-        self.count(&self.ahead, feed_digit(rack, feed, position));
+        self.count(&self.ahead, feed_of(rack, feed, position));
     }
 
     fn behind(&self, rack: usize, feed: usize, position: usize) {
-        self.count(&self.behind, feed_digit(rack, feed, position));
+        self.count(&self.behind, feed_of(rack, feed, position));
     }
 }
 
@@ -96,12 +127,13 @@ const SEVEN_FEEDS: &[&[&[Entry]]] = &[
 
 // Racks of one, two and four feeds.
 #[test]
-fn orders_of_seven_feeds(rt: HostRuntime) -> Result<(), AllocError> {
+fn each_order_of_seven_feeds_is_given_once(rt: HostRuntime) -> Result<(), AllocError> {
     let alloc = rt.alloc();
     let feeds = feeds_of(&rt, alloc, SEVEN_FEEDS)?;
     let calls = Calls::new();
     let answers = answers_of_feeds(&rt, alloc, &feeds, settings_of(&rt, 3, 1), &calls)?;
-    assert!(rt; answers.len() == 3 && calls.are(431, 211_211));
+    assert_eq!(rt; answers.len(), 3);
+    calls.assert_are(&rt, [1, 3, 4], [1, 1, 2, 0, 1, 1, 2]);
     Ok(())
 }
 
@@ -109,11 +141,12 @@ const TWO_LISTS: &[&[Entry]] = &[&[LOCAL], &[GLOBAL]];
 
 // Racks of one list each: a list is its rack's feed 0.
 #[test]
-fn orders_of_two_lists(rt: HostRuntime) -> Result<(), AllocError> {
+fn each_order_of_two_lists_is_given_once(rt: HostRuntime) -> Result<(), AllocError> {
     let alloc = rt.alloc();
     let racks = racks_of(&rt, alloc, TWO_LISTS)?;
     let calls = Calls::new();
     let answers = answers_of(&rt, alloc, &racks, settings_of(&rt, 2, 1), &calls)?;
-    assert!(rt; answers.len() == 2 && calls.are(11, 11));
+    assert_eq!(rt; answers.len(), 2);
+    calls.assert_are(&rt, [1, 1, 0], [1, 1, 0, 0, 0, 0, 0]);
     Ok(())
 }

@@ -3,16 +3,13 @@ use Rattle.std.proofs.lemmas.List.{map-append}
 use Rattle.std.proofs.lemmas.List.Sums.{sum_by-append}
 use Rattle.std.specs.List.{slice_range}
 use Rattle.lrc_code.specs.declared.outcomes.Outcome.{Outcome}
-use Rattle.farm_serving.specs.AnsweredRacks.{AreAnswered, all_answers, all_records, all_requests}
+use Rattle.farm_serving.specs.AnsweredRacks.{AreAnswered, all_answers, all_requests}
 use Rattle.farm_serving.specs.Serving.{rack_failures}
 use Rattle.farm_lists.specs.declared.lists.listing.Record.{Record}
 use Rattle.farm_lists.specs.declared.lists.requests.ReadRequest.{ReadRequest}
 use Rattle.farm_serving.proofs.AnsweredRacks.{answered_append, answered_none, range_length, take_range}
 use Rattle.farm_lists.specs.Report.{RequestRead, read_of}
 use Rattle.farm_serving.proofs.batches.answer_lists.Goals as goal
-
-abbrev records : Vec (Vec Record Global) Global → List (List Record)
-records feeds = map (λ (l : Vec Record Global). l.items) feeds.items
 
 abbrev outcomes : Vec (ℕ × Outcome) Global → List (ℕ × Outcome)
 outcomes answers = answers.items
@@ -35,13 +32,12 @@ loop-first-preserved g c =
     let (reads, so, within, same, failed, few) = c.loop-first.invariant in
     let (qs, now, rose) = c.in_ok-part.ensures.answered in
     let shown = g.I.Shelf.files c.args.input.now in
-    let lists : List (Vec (Vec Record Global) Global) = c.args.lists.now in
+    let racks : List (List (List Record)) = c.args.racks.now in
     let i : ℕ = c.loop-first.first in
     let j : ℕ = c.end_of_racks-end.result in
-    let part : List (Vec (Vec Record Global) Global) = slice_range lists i j in
-    let split : all_records (take j lists) ≡ all_records (take i lists) ++ all_records part =
-    ap all_records (take_range lists i j (omega (arith, c.end_of_racks-end.ensures.within.0))) ∙ map-append records (take i lists) part in
-    let here = subst (λ t. AreAnswered t (all_records part) qs (all_answers c.in_ok-part.part.answers.items)
+    let part : List (List (List Record)) = slice_range racks i j in
+    let split = take_range racks i j (omega (arith, c.end_of_racks-end.ensures.within.0)) in
+    let here = subst (λ t. AreAnswered t part qs (all_answers c.in_ok-part.part.answers.items)
     (all_requests c.in_ok-part.part.requests.items)) same now in
     let answers_are : all_answers c.append.new.self.items
     ≡ all_answers c.loop-first.answers.items ++ all_answers c.in_ok-part.part.answers.items =
@@ -51,7 +47,7 @@ loop-first-preserved g c =
     ap all_requests c.in_ok-append-2.ensures.items ∙ map-append requests c.loop-first.requests.items c.in_ok-part.part.requests.items in (
       reads ++ qs,
       rw (split, answers_are, requests_are)
-          (answered_append shown (all_records (take i lists)) (all_records part) reads qs (all_answers c.loop-first.answers.items)
+          (answered_append shown (take i racks) part reads qs (all_answers c.loop-first.answers.items)
           (all_answers c.in_ok-part.part.answers.items)
           (all_requests c.loop-first.requests.items) (all_requests c.in_ok-part.part.requests.items) so here),
       omega (arith, c.end_of_racks-end.ensures.within.1),
@@ -61,7 +57,7 @@ loop-first-preserved g c =
         arith,
         few,
         c.in_ok-part.ensures.few,
-        range_length lists i j
+        range_length racks i j
             (omega (arith, c.end_of_racks-end.ensures.within.0)) c.end_of_racks-end.ensures.within.1,
         c.end_of_racks-end.ensures.within.0,
       ),

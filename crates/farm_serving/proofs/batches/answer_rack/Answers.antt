@@ -43,7 +43,7 @@ loop-first-init g c =
     let lists : List (Vec Record Global) = c.args.lists.now in
     let through : map lent c.as_slice.result.now ≡ map served lists = ap (map lent) c.as_slice.ensures.value ∙ c.in_ok-served.ensures in (
       map (λ _. []) lists,
-      rw c.new-answers.ensures.items
+      rw c.new.ensures.items
           (so_far_none (g.I.Shelf.files c.args.input.now) lists (rack_requests c.in_ok-requests.requests.items)
           (c.in_ok-requests.ensures ∙ none_same lent served c.as_slice.result.now lists through)),
       omega arith,
@@ -70,29 +70,30 @@ loop-first-preserved g c =
     lengths_same c.in_ok-orders.later.items ∙ c.in_ok-orders.ensures.counted
     ∙ sym (map-map (λ (l : List Record). length (listed_before_close l)) lent c.as_slice-in-loop-first-3.result.now)
     ∙ ap (map (λ (l : List Record). length (listed_before_close l))) is in
-    let more = so_far_more shown (fronts lists i) (pieces lists i j) reads qs c.loop-first.answers.items c.answer_piece.new.answers.items
+    let more = so_far_more shown (fronts lists i) (pieces lists i j) reads qs c.loop-first.so_far.answers.items
+    c.in_ok-so_far.so_far.answers.items
     (rack_requests c.loop-first.requests.items) (rack_requests c.in_ok-orders.later.items)
-    c.loop-first.ended c.in_ok-ended.ended c.in_ok-orders.orders.items split so read
+    c.loop-first.so_far.ended c.in_ok-so_far.so_far.ended c.in_ok-orders.orders.items split so read
     (subst (λ (ls : List (List Record)). AllZip AreOrdersOf ls c.in_ok-orders.orders.items) is c.in_ok-orders.ensures.orders) counted
     (λ there e.
     let t = gives there (same ∙ e) in
     (t.0 ∙ ap (λ (ls : List (List Record)). orders_rack there ls qs) is, t.1 ∙ ap (λ (ls : List (List Record)). rack_read there ls qs) is))
-    c.in_ok-ended.ensures.answered in (
+    c.in_ok-so_far.ensures.answered in (
       joined reads qs,
       rw c.in_ok-requests-2.ensures
-          (subst (λ (fs : List (List Record)). AreSoFar shown fs (joined reads qs) c.answer_piece.new.answers.items
-          (joined (rack_requests c.loop-first.requests.items) (rack_requests c.in_ok-orders.later.items)) c.in_ok-ended.ended)
+          (subst (λ (fs : List (List Record)). AreSoFar shown fs (joined reads qs) c.in_ok-so_far.so_far.answers.items
+          (joined (rack_requests c.loop-first.requests.items) (rack_requests c.in_ok-orders.later.items)) c.in_ok-so_far.so_far.ended)
           (fronts_further lists i j ordered) more),
       omega (arith, c.end_of_positions-end.ensures.within.1),
-      c.in_ok-ended.ensures.same ∙ c.in_ok-orders.ensures.same ∙ same,
+      c.in_ok-so_far.ensures.same ∙ c.in_ok-orders.ensures.same ∙ same,
       omega (
         arith,
-        c.in_ok-ended.ensures.calm,
+        c.in_ok-so_far.ensures.calm,
         rose,
         failed,
         failures_more (fronts lists i) (pieces lists i j) reads qs split so.read read,
       ),
-      omega (arith, c.in_ok-ended.ensures.calm, (fails g at _ c.in_ok-orders.ensures.few).0),
+      omega (arith, c.in_ok-so_far.ensures.calm, (fails g at _ c.in_ok-orders.ensures.few).0),
     )
 
 pub read_piece-requires-clause-room : goal.read_piece-requires-clause-room
@@ -110,7 +111,7 @@ append_each-requires g c =
     let (reads, so, most, same, failed, few) = c.loop-first.invariant in
     let at : After-as_slice-in-loop-first-3 g = (goal.at.append_each-requires g c).After-as_slice-in-loop-first-3 in
     requests_size (g.I.Shelf.files c.args.input.now) c.args.lists.now c.as_slice-in-loop-first-3.result.now c.loop-first.first
-    c.end_of_positions-end.result reads c.loop-first.answers.items c.loop-first.ended
+    c.end_of_positions-end.result reads c.loop-first.so_far.answers.items c.loop-first.so_far.ended
     c.loop-first.requests.items c.in_ok-orders.later.items so (the_piece g at) c.in_ok-orders.ensures.counted
 
 pub answer_piece-requires-after_bounds : goal.answer_piece-requires-after_bounds
@@ -133,11 +134,11 @@ pub returns-in_err-requests-2-clause-few : goal.returns-in_err-requests-2-clause
 returns-in_err-requests-2-clause-few g c = (fails g (goal.at.returns-in_err-requests-2-clause-few g c).After-as_slice-in-loop-first-3 _
     c.in_ok-orders.ensures.few).1
 
-pub returns-in_err-ended-clause-few : goal.returns-in_err-ended-clause-few
-returns-in_err-ended-clause-few g c = omega (
+pub returns-in_err-so_far-clause-few : goal.returns-in_err-so_far-clause-few
+returns-in_err-so_far-clause-few g c = omega (
   arith,
-  c.in_err-ended.ensures.calm,
-  (fails g (goal.at.returns-in_err-ended-clause-few g c).After-as_slice-in-loop-first-3 _
+  c.in_err-so_far.ensures.calm,
+  (fails g (goal.at.returns-in_err-so_far-clause-few g c).After-as_slice-in-loop-first-3 _
       c.in_ok-orders.ensures.few).1,
 )
 
@@ -157,8 +158,8 @@ returns-clause-answered g c =
     let all : c.loop-first.first ≡ 4096 = omega (arith, most, c.loop-first-test.false) in (
       reads,
       rw (c.in_ok-one_rack.ensures.answers, c.in_ok-one_rack.ensures.requests)
-          (so_far_all (g.I.Shelf.files c.args.input.now) c.args.lists.now reads c.loop-first.answers.items
-          (rack_requests c.loop-first.requests.items) c.loop-first.ended c.loop-first.first
+          (so_far_all (g.I.Shelf.files c.args.input.now) c.args.lists.now reads c.loop-first.so_far.answers.items
+          (rack_requests c.loop-first.requests.items) c.loop-first.so_far.ended c.loop-first.first
           (subst (λ (n : ℕ). All (λ (l : Vec Record Global). length l.items ≤ n) c.args.lists.now) (sym all) c.requires.orders) so),
       failed,
     )

@@ -8,7 +8,8 @@ use Rattle.farm_serving.proofs.batches.answer_rack.Given as goal
 abbrev pub invariant-loop-first : goal.invariant-loop-first
 invariant-loop-first g l =
     (reads : List (List Reads))
-    × AreSoFar (g.I.Shelf.files l.fn.input) (fronts l.lists l.first) reads l.answers.items (rack_requests l.requests.items) l.ended
+    × AreSoFar (g.I.Shelf.files l.fn.input) (fronts l.lists l.first) reads l.so_far.answers.items (rack_requests l.requests.items)
+    l.so_far.ended
     × (l.first ≤ 4096)
     × (g.I.Shelf.files l.input ≡ g.I.Shelf.files l.fn.input)
     × (g.I.Shelf.failed l.input ≡ g.I.Shelf.failed l.fn.input + rack_failures reads)

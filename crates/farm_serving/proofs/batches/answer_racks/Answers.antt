@@ -1,5 +1,5 @@
-use Rattle.std.proofs.Common.{◌∙◌, sym}
-use Rattle.farm_serving.proofs.AnsweredRacks.{counts_same, requests_counted}
+use Rattle.std.proofs.Common.{◌∙◌}
+use Rattle.farm_serving.proofs.AnsweredRacks.{requests_counted}
 use Rattle.farm_serving.proofs.batches.answer_racks.Goals as goal
 
 pub returns-clause-answered : goal.returns-clause-answered
@@ -9,9 +9,9 @@ returns-clause-answered g c =
       record {
         read = are;
         orders = c.in_ok-feeds.feeds;
-        ordered = c.in_ok-feeds.ensures.orders ∙ sym (counts_same c.args.racks.now);
+        ordered = c.in_ok-feeds.ensures.orders;
         merged = c.in_ok-answers.ensures.answers;
-        counted = requests_counted c.in_ok-feeds.requests.items ∙ c.in_ok-feeds.ensures.counted ∙ sym (counts_same c.args.racks.now);
+        counted = requests_counted c.in_ok-feeds.requests.items ∙ c.in_ok-feeds.ensures.counted;
         given = shown;
       },
       c.in_ok-answers.ensures.calm ∙ rose,

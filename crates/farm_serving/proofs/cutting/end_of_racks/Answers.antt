@@ -1,17 +1,13 @@
-use Rattle.std.proofs.Common.{◌≡◌, ◌∙◌, Vec, Global, ℕ, ap, arith, sym}
-use Rattle.farm_lists.specs.declared.lists.listing.Record.{Record}
-use Rattle.farm_serving.specs.Pieces.{rack_bytes}
+use Rattle.std.proofs.Common.{◌≡◌, ◌∙◌, ap, arith, sym}
+use Rattle.farm_serving.specs.Pieces.{listed_bytes}
 use Rattle.farm_serving.proofs.PieceBytes.{sum_further, sum_of_none}
 use Rattle.farm_serving.proofs.cutting.end_of_racks.Goals as goal
 use Rattle.farm_serving.proofs.cutting.end_of_racks.Goals.{else-rack-first-via-then-rack-first+else-bytes-most}
 use Rattle.farm_serving.proofs.cutting.end_of_racks.Goals.{else-rack-first-via-else-rack-first}
 
-abbrev bytes_of : Vec (Vec Record Global) Global → ℕ
-bytes_of feeds = rack_bytes feeds.items
-
 pub loop-rack-init : goal.loop-rack-init
 loop-rack-init c = record {
-  bytes = sym (sum_of_none bytes_of c.args.lists.now c.args.first);
+  bytes = sym (sum_of_none listed_bytes c.args.racks.now c.args.first);
   few = omega arith;
   fits = λ later. absurd (omega (arith, later));
 }
@@ -19,10 +15,10 @@ loop-rack-init c = record {
 pub returns-then-bytes-most-clause-end : goal.returns-then-bytes-most-clause-end
 returns-then-bytes-most-clause-end c =
     let so = c.loop-rack.invariant in
-    let here : c.rack_bytes-bytes.result ≡ bytes_of c.index-lists-rack.result =
-    c.rack_bytes-bytes.ensures.bytes ∙ ap rack_bytes c.as_slice.ensures.value in
-    let more = sum_further bytes_of c.args.lists.now c.args.first c.loop-rack.rack c.index-lists-rack.result c.loop-rack.auto.rack
-    c.loop-rack-test.true c.index-lists-rack.is in (
+    let here : c.rack_bytes-bytes.result ≡ listed_bytes c.index-racks-rack.result =
+    c.rack_bytes-bytes.ensures.bytes ∙ ap listed_bytes c.feeds.ensures.value in
+    let more = sum_further listed_bytes c.args.racks.now c.args.first c.loop-rack.rack c.index-racks-rack.result c.loop-rack.auto.rack
+    c.loop-rack-test.true c.index-racks-rack.is in (
       λ later. (let fits = so.fits later in omega (arith, fits, so.bytes)),
       λ less. omega (arith, more, so.bytes, here, c.if-bytes-most.true),
     )
@@ -30,10 +26,10 @@ returns-then-bytes-most-clause-end c =
 pub loop-rack-preserved : goal.loop-rack-preserved
 loop-rack-preserved c =
     let so = c.loop-rack.invariant in
-    let here : c.rack_bytes-bytes.result ≡ bytes_of c.index-lists-rack.result =
-    c.rack_bytes-bytes.ensures.bytes ∙ ap rack_bytes c.as_slice.ensures.value in
-    let more = sum_further bytes_of c.args.lists.now c.args.first c.loop-rack.rack c.index-lists-rack.result c.loop-rack.auto.rack
-    c.loop-rack-test.true c.index-lists-rack.is in
+    let here : c.rack_bytes-bytes.result ≡ listed_bytes c.index-racks-rack.result =
+    c.rack_bytes-bytes.ensures.bytes ∙ ap listed_bytes c.feeds.ensures.value in
+    let more = sum_further listed_bytes c.args.racks.now c.args.first c.loop-rack.rack c.index-racks-rack.result c.loop-rack.auto.rack
+    c.loop-rack-test.true c.index-racks-rack.is in
     record {
       bytes = omega (arith, more, so.bytes, here);
       few = omega (arith, so.few, c.rack_bytes-bytes.ensures.few);

@@ -1,7 +1,6 @@
 use Rattle.std.proofs.Common.{◌≡◌, ◌≤◌, ◌∙◌, Vec, Global, List, ℕ, Some, ap, sym, subst, arith, length, map, option_map}
 use Rattle.std.specs.List.{AllZip, All}
 use Rattle.std.specs.Prelude.{sum_by}
-use Rattle.std.proofs.lemmas.List.{length-map}
 use Rattle.std.proofs.lemmas.Result.{err_from_is_err_and}
 use Rattle.lrc_code.specs.declared.outcomes.Outcome.{Outcome}
 use Rattle.farm_core.specs.Merge.{AreAllMergedAnswers}
@@ -12,11 +11,10 @@ use Rattle.farm_serving.specs.Causes.{of_farm}
 use Rattle.farm_serving.specs.Faults.{Explains}
 use Rattle.farm_shelves.specs.Files.{Files, StopsWriting, put_all}
 use Rattle.farm_lists.specs.Named.{named}
-use Rattle.farm_lists.specs.Report.{listed_before_close}
 use Rattle.farm_lists.specs.Rows.{FitsFeeds}
 use Rattle.farm_serving.specs.Serving.{AreAllReads, Reads, Serves, all_read, orders_all, written_files}
-use Rattle.farm_serving.proofs.AnsweredRacks.{counts_same, requests_counted}
-use Rattle.farm_serving.proofs.ServeEnds.{Answers, Lists, Requests, farm_explains, records, total_is, where_shown, write_leaves, written_is}
+use Rattle.farm_serving.proofs.AnsweredRacks.{requests_counted}
+use Rattle.farm_serving.proofs.ServeEnds.{Answers, Requests, farm_explains, total_is, where_shown, write_leaves, written_is}
 use Rattle.farm_serving.proofs.FewAnswers.{FitLists, all_few, fit_counts, listed_counts}
 use Rattle.farm_serving.proofs.Fits.{all_answers_fit}
 use Rattle.farm_lists.proofs.MakingAll.{all_zip-length}
@@ -24,17 +22,12 @@ use Rattle.farm_serving.proofs.serving.serve.Goals as goal
 use Rattle.farm_serving.proofs.serving.serve.Goals.{After-as_slice-3, After-as_slice-4, After-as_slice-5}
 use Rattle.farm_serving.proofs.serving.serve.Given.{Over}
 
--- the lists that were handed to reading are those that were read
-same_lists : (g : Over) (c : After-as_slice-3 g) → c.as_slice.result.now ≡ c.in_ok-lists.lists.items
-same_lists g c = c.as_slice.ensures.value
-
 -- the answers of each rack fit the requests before its lists' closes
 fit : (g : Over) (c : After-as_slice-3 g) → AllZip FitLists c.in_ok-lists.lists.items c.in_ok-answers.field-0.answers.items
 fit g c =
     let (reads, so, rose) = c.in_ok-answers.ensures.answered in
     fit_counts listed_counts c.in_ok-lists.lists.items so.orders c.in_ok-answers.field-0.answers.items
-    (so.ordered ∙ counts_same c.as_slice.result.now ∙ ap (map
-    (λ (l : Lists). map (λ (v : Vec Record Global). length (listed_before_close v.items)) l.items)) (same_lists g c))
+    (so.ordered ∙ ap (map listed_counts) c.as_slice.ensures.value)
     (all_answers_fit so.orders (map (λ (a : Answers). a.items) c.in_ok-answers.field-0.answers.items) so.merged)
 
 -- how many requests each feed has
@@ -59,12 +52,12 @@ make_files-requires-clause-answers g c = λ _ _. lent g c
 
 -- where the input shows its files, they are served
 shown_serves : (g : Over) (c : After-as_slice-3 g) (there : Files) → g.I.Shelf.files c.args.input.now ≡ Some there
-    → Serves there (map records c.in_ok-lists.lists.items) c.in_ok-answers.ensures.answered.0
+    → Serves there c.in_ok-lists.lists.items c.in_ok-answers.ensures.answered.0
     (map (λ a. a.items) c.in_ok-answers.field-0.answers.items)
 shown_serves g c there e =
     let (reads, so, rose) = c.in_ok-answers.ensures.answered in
-    let lists : List (List (List Record)) = map records c.in_ok-lists.lists.items in
-    let same : map records c.as_slice.result.now ≡ lists = ap (map records) c.as_slice.ensures.value in
+    let lists : List (List (List Record)) = c.in_ok-lists.lists.items in
+    let same : c.as_slice.result.now ≡ lists = c.as_slice.ensures.value in
     let t = so.given there (c.in_ok-lists.ensures.same ∙ e) in
     let answers : List (List (ℕ × Outcome)) = map (λ (a : Answers). a.items) c.in_ok-answers.field-0.answers.items in
     record {
@@ -76,11 +69,11 @@ shown_serves g c there e =
 
 -- the files that are made are those that serving writes
 shown_files : (g : Over) (c : After-as_slice-4 g) (there : Files) → g.I.Shelf.files c.args.input.now ≡ Some there
-    → map named c.as_slice-4.result.now ≡ written_files there (map records c.in_ok-lists.lists.items) c.in_ok-answers.ensures.answered.0
+    → map named c.as_slice-4.result.now ≡ written_files there c.in_ok-lists.lists.items c.in_ok-answers.ensures.answered.0
     (map (λ a. a.items) c.in_ok-answers.field-0.answers.items)
 shown_files g c there e =
     let (reads, so, rose) = c.in_ok-answers.ensures.answered in
-    let same : map records c.as_slice.result.now ≡ map records c.in_ok-lists.lists.items = ap (map records) c.as_slice.ensures.value in
+    let same : c.as_slice.result.now ≡ c.in_ok-lists.lists.items = c.as_slice.ensures.value in
     let t = so.given there (c.in_ok-lists.ensures.same ∙ e) in
     written_is there c.in_ok-lists.lists.items c.in_ok-answers.field-0.requests.items c.as_slice-2.result.now
     c.in_ok-answers.field-0.answers.items c.as_slice-3.result.now reads (map named c.as_slice-4.result.now)
@@ -107,7 +100,7 @@ returns-in_err-write_files-clause-output g c =
     × StopsWriting c.in_err-write_files.field-0.0 (written_files t lists reads answers) (g.O.Shelf.files c.args.output.now)
     (g.O.Shelf.files c.write_files.new.output))
     (λ t e. (
-      map records c.in_ok-lists.lists.items,
+      c.in_ok-lists.lists.items,
       c.in_ok-answers.ensures.answered.0,
       map (λ (a : Answers). a.items) c.in_ok-answers.field-0.answers.items,
       shown_serves g at.After-as_slice-3 t e,
@@ -132,13 +125,13 @@ pub returns-clause-served : goal.returns-clause-served
 returns-clause-served g c =
     let at = goal.at.returns-clause-served g c in
     let (reads, so, rose) = c.in_ok-answers.ensures.answered in
-    let lists : List (List (List Record)) = map records c.in_ok-lists.lists.items in
+    let lists : List (List (List Record)) = c.in_ok-lists.lists.items in
     let answers : List (List (ℕ × Outcome)) = map (λ (a : Answers). a.items) c.in_ok-answers.field-0.answers.items in (
       lists,
       reads,
       answers,
       omega (arith, rose, c.in_ok-lists.ensures.calm),
-      omega (arith, length-map c.in_ok-lists.lists.items records, c.len.ensures),
+      omega (arith, c.len.ensures),
       c.count_answers.ensures ∙ ap (sum_by (λ (a : Answers). length a.items)) c.as_slice-5.ensures.value
           ∙ total_is c.in_ok-answers.field-0.answers.items,
       where_shown (g.I.Shelf.files c.args.input.now)

@@ -7,5 +7,5 @@ use Rattle.line_mode.proofs.parsing.parse_survivors.Given as goal
 
 abbrev pub invariant-loop-word : goal.invariant-loop-word
 invariant-loop-word l =
-    every (map (survivor l.fn.code) (words l.fn.others.rest.now))
+    every (map (survivor l.fn.code) (words l.fn.words.rest.now))
     ≡ option_map (λ more. survivors_of l.survivors.items ++ more) (every (map (survivor l.fn.code) (words l.word-iterator.rest.now)))

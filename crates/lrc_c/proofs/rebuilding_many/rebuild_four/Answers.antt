@@ -8,12 +8,12 @@ use Rattle.lrc_c.proofs.rebuilding_many.rebuild_four.Goals as goal
 
 pub write_coupled_if_zero-possible-requires-clause-used : goal.write_coupled_if_zero-possible-requires-clause-used
 write_coupled_if_zero-possible-requires-clause-used c = used c.args.code (is_in c.args.set) (lent c.args.at.now) c.args.len c.requires.whole
-    c.are_sixteen.ensures.bytes c.are_sixteen.ensures.count c.checks_from-checks.result c.checks_from-checks.ensures.checks
+    c.learn_sixteen.ensures.bytes c.learn_sixteen.ensures.count c.checks_from-checks.result c.checks_from-checks.ensures.checks
 
 pub returns-clause-first : goal.returns-clause-first
 returns-clause-first c =
-    target_answered c.args.code (is_in c.args.set) (lent c.args.at.now) c.args.len c.requires.whole c.are_sixteen.ensures.bytes
-    c.are_sixteen.ensures.count
+    target_answered c.args.code (is_in c.args.set) (lent c.args.at.now) c.args.len c.requires.whole c.learn_sixteen.ensures.bytes
+    c.learn_sixteen.ensures.count
     c.checks_from-checks.result c.checks_from-checks.ensures.checks c.requires.some c.write_coupled_if_zero-possible.result
     c.args.targets.first _ _
     c.wanted_of.result c.write_coupled_if_zero-possible.new.a (length c.args.a.now) c.status_at.result
@@ -23,8 +23,8 @@ returns-clause-first c =
 
 pub returns-clause-second : goal.returns-clause-second
 returns-clause-second c =
-    target_answered c.args.code (is_in c.args.set) (lent c.args.at.now) c.args.len c.requires.whole c.are_sixteen.ensures.bytes
-    c.are_sixteen.ensures.count
+    target_answered c.args.code (is_in c.args.set) (lent c.args.at.now) c.args.len c.requires.whole c.learn_sixteen.ensures.bytes
+    c.learn_sixteen.ensures.count
     c.checks_from-checks.result c.checks_from-checks.ensures.checks c.requires.some c.write_coupled_if_zero-possible.result
     c.args.targets.second _ _
     c.wanted_of-2.result c.write_coupled_if_zero-possible.new.b (length c.args.b.now) c.status_at-2.result
@@ -34,8 +34,8 @@ returns-clause-second c =
 
 pub returns-clause-third : goal.returns-clause-third
 returns-clause-third c =
-    target_answered c.args.code (is_in c.args.set) (lent c.args.at.now) c.args.len c.requires.whole c.are_sixteen.ensures.bytes
-    c.are_sixteen.ensures.count
+    target_answered c.args.code (is_in c.args.set) (lent c.args.at.now) c.args.len c.requires.whole c.learn_sixteen.ensures.bytes
+    c.learn_sixteen.ensures.count
     c.checks_from-checks.result c.checks_from-checks.ensures.checks c.requires.some c.write_coupled_if_zero-possible.result
     c.args.targets.third _ _
     c.wanted_of-3.result c.write_coupled_if_zero-possible.new.c (length c.args.c.now) c.status_at-3.result
@@ -45,8 +45,8 @@ returns-clause-third c =
 
 pub returns-clause-fourth : goal.returns-clause-fourth
 returns-clause-fourth c =
-    target_answered c.args.code (is_in c.args.set) (lent c.args.at.now) c.args.len c.requires.whole c.are_sixteen.ensures.bytes
-    c.are_sixteen.ensures.count
+    target_answered c.args.code (is_in c.args.set) (lent c.args.at.now) c.args.len c.requires.whole c.learn_sixteen.ensures.bytes
+    c.learn_sixteen.ensures.count
     c.checks_from-checks.result c.checks_from-checks.ensures.checks c.requires.some c.write_coupled_if_zero-possible.result
     c.args.targets.fourth _ _
     c.wanted_of-4.result c.write_coupled_if_zero-possible.new.d (length c.args.d.now) c.status_at-4.result

@@ -16,9 +16,9 @@ use Rattle.farm_core.proofs.threads.closing.close_rack.Goals as goal
 abbrev seats : Fed → SeatRecord
 seats f = f.seat.has
 
-pub look-joined-requires-clause-own : goal.look-joined-requires-clause-own
-look-joined-requires-clause-own c = (each_middle (IsOfGate c.args.gate.now.id) c.args.feds.items c.pop.new.self.items [] c.in-Some.last
-    c.in-Some.ensures.items c.requires.own).0
+pub learn_sound-joined-requires-clause-own : goal.learn_sound-joined-requires-clause-own
+learn_sound-joined-requires-clause-own c = (each_middle (IsOfGate c.args.gate.now.id) c.args.feds.items c.pop.new.self.items []
+    c.in-Some.last c.in-Some.ensures.items c.requires.own).0
 
 pub join-joined-requires : goal.join-joined-requires
 join-joined-requires c =
@@ -83,7 +83,7 @@ returns-clause-drawn c = λ rack lists fed.
     ∙ (sym (rights_snoc done last) ∙ ap rights_of all_is)) in
     rack_drawn c.args.gate.now rack lists c.args.feds.items fed s (length c.keep-2.new.rights.items)
     (subst (λ (l : List SeatRecord). IsJoint s l) (sym (map_snoc seats done last) ∙ ap (map seats) all_is)
-    (joint_turn s last.seat.has (map seats done) (was.2 (last.seat.has ∷ []) c.look-joined.ensures.same)))
+    (joint_turn s last.seat.has (map seats done) (was.2 (last.seat.has ∷ []) c.learn_sound-joined.ensures.same)))
     was.3
     (λ back. ap (λ (l : List TableId). length l) rights_are ∙ all_back c.args.feds.items back)
     c.spend_all.ensures

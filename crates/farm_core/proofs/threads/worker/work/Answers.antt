@@ -6,8 +6,8 @@ use Rattle.farm_lanes.specs.LaneEnds.{TakeView, PutView, with_taken}
 use Rattle.farm_core.specs.declared.jobs.Job.TheVariants.{Solve, Stop}
 use Rattle.farm_core.proofs.Works.{work_begins, work_replies, work_passes, work_ends, goes_on, none_stops}
 use Rattle.farm_core.proofs.threads.worker.work.Goals as goal
-use Rattle.farm_core.proofs.threads.worker.work.Goals.{in-None, in-Some+then-puts-ge4294967295}
-use Rattle.farm_core.proofs.threads.worker.work.Goals.{in-Some+else-puts-ge4294967295+in-Value-default-default-Stop}
+use Rattle.farm_core.proofs.threads.worker.work.Goals.{in-None, in-Some+then-puts-ge-MOST_PUTS}
+use Rattle.farm_core.proofs.threads.worker.work.Goals.{in-Some+else-puts-ge-MOST_PUTS+in-Value-default-default-Stop}
 use Rattle.farm_core.specs.Replies.{Replied}
 use Rattle.farm_core.specs.Jobs.{HasWorked, HasStopped}
 use Rattle.farm_core.specs.declared.jobs.Job.{Job}
@@ -50,9 +50,9 @@ returns-clause-worked g c =
     let P = λ (j : TakeView Job). HasWorked c.args.jobs c.args.replies j c.end.result in
     elim c.match-next.branch [
       | in-None w ↦ subst P (sym w.jobs-is) (ends c.loop.jobs c.loop.replies c.end.result c.loop.invariant.0 c.end.ensures)
-      | in-Some+then-puts-ge4294967295 w ↦ subst P (sym w.jobs-is)
+      | in-Some+then-puts-ge-MOST_PUTS w ↦ subst P (sym w.jobs-is)
           (ends c.loop.jobs c.loop.replies c.end.result c.loop.invariant.0 c.end.ensures)
-      | in-Some+else-puts-ge4294967295+in-Value-default-default-Stop w ↦
+      | in-Some+else-puts-ge-MOST_PUTS+in-Value-default-default-Stop w ↦
           (let h = w.in-Value-default-default-Stop in
           subst P (sym w.jobs-is)
           (ends w.take.new.self c.loop.replies c.end.result
@@ -70,9 +70,9 @@ returns-clause-stopped g c =
     ∙ length_push c.loop.replies.put (End c.loop.replies.sender (length c.loop.replies.put)) in
     elim c.match-next.branch [
       | in-None w ↦ absurd (true≢false (sym w.in-None.ensures.steps))
-      | in-Some+then-puts-ge4294967295 w ↦ subst P (sym w.jobs-is)
-          (inr ((let limit = was.2 in let enough = w.if-puts-ge4294967295.true in let puts = w.puts.ensures in omega arith), was.1))
-      | in-Some+else-puts-ge4294967295+in-Value-default-default-Stop w ↦
+      | in-Some+then-puts-ge-MOST_PUTS w ↦ subst P (sym w.jobs-is)
+          (inr ((let limit = was.2 in let enough = w.if-puts-ge-MOST_PUTS.true in let puts = w.puts.ensures in omega arith), was.1))
+      | in-Some+else-puts-ge-MOST_PUTS+in-Value-default-default-Stop w ↦
           (let h = w.in-Value-default-default-Stop in let x : Item Job = Value h.sender h.number Stop in
           subst P (sym w.jobs-is)
           (inl (

@@ -2,7 +2,6 @@ use Rattle.std.proofs.lemmas.Result.{err_from_is_err_and}
 use Rattle.csv.specs.Records.{fields_of}
 use Rattle.farm_lists.proofs.Orders.{push_fault, push_many, push_order}
 use Rattle.farm_lists.proofs.lists.listing.take_row.Goals as goal
-use Rattle.farm_lists.proofs.lists.listing.take_row.Goals.{in-Ok, in-Err}
 
 pub returns-then-number-gt-MOST_RECORDS-clause-err : goal.returns-then-number-gt-MOST_RECORDS-clause-err
 returns-then-number-gt-MOST_RECORDS-clause-err c = λ rows e so. push_many c.args.coded.now rows _
@@ -15,14 +14,10 @@ returns-in_err-order-clause-err c =
     (fields_of c.args.row.now) c.args.number e c.if-number-eq0.false c.if-number-gt-MOST_RECORDS.false so c.in_err-order.ensures.err)
 
 pub returns-clause-ok : goal.returns-clause-ok
-returns-clause-ok c =
-    elim c.match-push.branch [
-      | in-Ok w ↦ rw w.result-is (
-        c.if-number-gt-MOST_RECORDS.false,
-        λ rows e so.
-            rw w.in-Ok.ensures.items
-            (push_order c.args.coded.now rows _ (fields_of c.args.row.now) c.args.number c.in_ok-order.order e c.if-number-eq0.false
-            c.if-number-gt-MOST_RECORDS.false so c.in_ok-order.ensures.ok),
-      )
-      | in-Err w ↦ rw w.result-is tt
-    ]
+returns-clause-ok c = (
+  c.if-number-gt-MOST_RECORDS.false,
+  λ rows e so.
+      rw c.in_ok-push.ensures.items
+      (push_order c.args.coded.now rows _ (fields_of c.args.row.now) c.args.number c.in_ok-order.order e c.if-number-eq0.false
+      c.if-number-gt-MOST_RECORDS.false so c.in_ok-order.ensures.ok),
+)

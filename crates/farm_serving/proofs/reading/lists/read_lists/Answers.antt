@@ -1,16 +1,21 @@
 use Rattle.std.proofs.Common.{◌≡◌, ◌<◌, ◌≤◌, ◌∙◌, ◌∷◌, ◌==◌, [], ℕ, zero, suc, true, false, true≢false, List, arith, ap, sym, length, subst}
 use Rattle.std.proofs.Common.{All, Vec, Global}
 use Rattle.std.proofs.lemmas.Bool.Decides.{nat_tests}
-use Rattle.std.proofs.lemmas.List.{length-append}
+use Rattle.std.proofs.lemmas.List.{length-append, length-map}
 use Rattle.std.proofs.lemmas.List.Elements.{All-push}
 use Rattle.std.proofs.lemmas.Result.{err_from_is_err_and}
 use Rattle.farm_lists.specs.declared.lists.listing.Record.{Record}
 use Rattle.farm_lists.specs.Names.{list_name}
-use Rattle.farm_serving.proofs.ReadRacks.{feeds_all, many_explain, none_at, not_some, rack_explains, racks_all, racks_push}
+use Rattle.farm_serving.specs.Serving.{AreFeeds}
+use Rattle.farm_serving.proofs.ReadRacks.{feeds_all, have_rack_more, lists_few, many_explain, none_at, not_some, rack_explains}
+use Rattle.farm_serving.proofs.ReadRacks.{racks_all, records}
 use Rattle.farm_serving.proofs.reading.lists.read_lists.Goals as goal
 
 abbrev Feeds : Type 0
 Feeds = Vec (Vec Record Global) Global
+
+abbrev Rack : Type 0
+Rack = List (List Record)
 
 some_of : (n : ℕ) → false ≡ (n == 0) → 0 < n
 some_of zero said = absurd (true≢false (sym said))
@@ -29,21 +34,27 @@ returns-in_err-feeds-clause-why g c =
 pub loop-rack-preserved : goal.loop-rack-preserved
 loop-rack-preserved g c =
     let (same, calm, size, few, small, have) = c.loop-rack.invariant in
-    let items = c.in_ok-push_list.ensures.pushed in
+    let items = c.in_ok-push.ensures.items in
     let here : Feeds = c.in_ok-feeds.feeds in
+    let rack : Rack = c.from_checked.result in
+    let is : rack ≡ records here = c.from_checked.ensures in
+    let sized : length rack ≡ length here.items =
+    ap (λ (ls : Rack). length ls) is ∙ length-map here.items (λ (v : Vec Record Global). v.items) in
     let some : 0 < length here.items = let more = some_of _ c.if-is_empty.ensures in omega (arith, more, c.in_ok-feeds.feeds.ok.0) in (
       c.in_ok-feeds.ensures.same ∙ same,
       c.in_ok-feeds.ensures.calm ∙ calm,
-      ap length items ∙ omega (arith, size, length-append c.loop-rack.racks.items (here ∷ [])),
-      (let P : Feeds → Type 0 = λ v. (0 < length v.items) × (length v.items ≤ 4) in
-          subst (λ (vs : List Feeds). All P vs) (sym items)
-          (All-push P c.loop-rack.racks.items here few (some, c.in_ok-feeds.ensures.feeds))),
-      (let P : Feeds → Type 0 = λ f. All (λ (v : Vec Record Global). length v.items ≤ 4096) f.items in
-          subst (λ (vs : List Feeds). All P vs) (sym items) (All-push P c.loop-rack.racks.items here small c.in_ok-feeds.ensures.orders)),
+      ap length items ∙ omega (arith, size, length-append c.loop-rack.racks.items (rack ∷ [])),
+      (let P : Rack → Type 0 = λ feeds. (0 < length feeds) × (length feeds ≤ 4) in
+          subst (λ (vs : List Rack). All P vs) (sym items)
+          (All-push P c.loop-rack.racks.items rack few (omega (arith, sized, some), omega (arith, sized, c.in_ok-feeds.ensures.feeds)))),
+      (let P : Rack → Type 0 = λ feeds. All (λ (list : List Record). length list ≤ 4096) feeds in
+          subst (λ (vs : List Rack). All P vs) (sym items)
+          (All-push P c.loop-rack.racks.items rack small (subst P (sym is) (lists_few here.items c.in_ok-feeds.ensures.orders)))),
       λ there e.
           let (read, none) = c.in_ok-feeds.ensures.lists there (same ∙ e) in
-          rw items (racks_push there c.loop-rack.racks.items here c.loop-rack.rack size (have there e)
-          (feeds_all there c.loop-rack.rack here read none some c.in_ok-feeds.ensures.feeds)),
+          rw items (have_rack_more there 0 c.loop-rack.racks.items rack c.loop-rack.rack (omega (arith, size)) (have there e)
+          (subst (λ (ls : Rack). AreFeeds there c.loop-rack.rack ls) (sym is)
+          (feeds_all there c.loop-rack.rack here read none some c.in_ok-feeds.ensures.feeds))),
     )
 
 pub returns-then-rack-eq0-clause-why : goal.returns-then-rack-eq0-clause-why

@@ -10,7 +10,7 @@ use Rattle.farm_serving.proofs.reading.lists.read_rack_lists.Goals as goal
 pub loop-feed-preserved : goal.loop-feed-preserved
 loop-feed-preserved g c =
     let (same, calm, size, small, have) = c.loop-feed.invariant in
-    let items = c.in_ok-push_list-in-Some.ensures.pushed in (
+    let items = c.in_ok-push-in-Some.ensures.items in (
       c.in_ok-list.ensures.same ∙ same,
       c.in_ok-list.ensures.calm ∙ calm,
       ap length items ∙ omega (arith, size, length-append c.loop-feed.feeds.items (c.in-Some.list ∷ [])),

@@ -193,7 +193,7 @@ const FAULTS: [(LineFault, u8, u8); 3] = [
 #[test]
 fn gives_fault_numbers(rt: HostRuntime) {
     for (fault, number, status) in FAULTS {
-        assert_eq!(rt; fault.code(), number, "{fault:?}");
+        assert_eq!(rt; fault.number(), number, "{fault:?}");
         assert_eq!(rt; line_status(&Err(fault)), status, "{fault:?}");
     }
 }

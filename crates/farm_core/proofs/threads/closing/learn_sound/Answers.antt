@@ -3,7 +3,7 @@ use Rattle.farm_lanes.specs.GateView.{SeatView}
 use Rattle.farm_lanes.specs.SeatChanges.{joined}
 use Rattle.farm_core.specs.Feed.{IsJoint}
 use Rattle.farm_core.proofs.Joints.{joint_look}
-use Rattle.farm_core.proofs.threads.closing.look.Goals as goal
+use Rattle.farm_core.proofs.threads.closing.learn_sound.Goals as goal
 
 pub returns-clause-same : goal.returns-clause-same
 returns-clause-same c =
