@@ -124,10 +124,11 @@ uninstall-library:
 	rm -f "$(PLACE)/$(LIBDIR)/liblrc.so" "$(PLACE)/$(LIBDIR)/$(SONAME)" "$(PLACE)/$(LIBDIR)/liblrc.so.$(LIBRARY_VERSION)"
 
 # The erasure code plugin for Ceph over the C library: ceph/out/libec_azure_lrc.so. It needs Debian's libradospp-dev, librados-dev and g++,
-# which is seen before anything is proved. CPU=x86-64-v2 has it run on processors without AVX2 too.
+# which is seen before anything is proved. CPU=x86-64-v2 has it run on processors without AVX2 too; each level's stays in ceph/out/LEVEL.
 ceph: ceph-needs
 	@$(MAKE) --no-print-directory library
 	@$(MAKE) --no-print-directory -C ceph
+	@$(MAKE) --no-print-directory -C ceph OUT=out/$(CPU) LIBRARY=../crates/lrc_c/out/$(CPU)/liblrc_c.a out/$(CPU)/libec_azure_lrc.so
 
 ceph-needs:
 	@$(MAKE) --no-print-directory -C ceph needs
@@ -144,14 +145,16 @@ install-ceph:
 uninstall-ceph:
 	rm -f "$(DESTDIR)$(CEPH_PLUGINS)/libec_azure_lrc.so" "$(PLACE)/bin/rebuild-ceph"
 
-# Tries the plugin in Ceph itself, as far as that is installed; twenty to forty minutes. It is no part of the gate.
-try-ceph: ceph
+# Tries the plugin in Ceph itself, as far as that is installed, for both levels; half an hour to an hour. It is no part of the gate.
+try-ceph:
+	@$(MAKE) --no-print-directory ceph CPU=x86-64-v2
+	@$(MAKE) --no-print-directory ceph
 	scripts/try-ceph.sh
 
 # What the gate runs after the proofs, over the programs and tests that they leave in each crate's out/. No two of these share a file
 # that one of them writes, so several run at once.
 AFTER := refusals.py try.sh no-compile.sh reference-lines.sh ends.sh demo.sh examples.py manual.sh completions.sh install.sh \
-  version.sh numbers.py growth.py memory.py companion-test.py ceph.sh repair-store.py \
+  version.sh numbers.py tables.py growth.py memory.py companion-test.py ceph.sh repair-store.py \
   encode-store.py store-options.py store-disks.py store-faults.py file-faults.py packages-test.sh
 
 # library.sh builds in a copy of its own, so it runs beside the proofs.
@@ -160,6 +163,8 @@ test:
 	scripts/architecture.py
 	scripts/sweep.py
 	scripts/documented.py
+	scripts/pages.py
+	scripts/format-page.py
 	@$(MAKE) --no-print-directory -j2 proofs library.sh
 	@$(MAKE) --no-print-directory --output-sync=target -j$(shell nproc) $(AFTER)
 

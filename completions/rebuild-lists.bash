@@ -1,6 +1,6 @@
-# The completions of rebuild-lists for bash: its words, their options with numbers that are in their ranges, files and folders.
+# The completions of rebuild-lists for bash: its commands, their options with numbers that are in their ranges, files and folders.
 
-# Sets `place` to how many words that are no options are before the current one, after the word of the command.
+# Sets `place` to how many arguments that are no options are before the current one, after the command.
 _rebuild_lists_place() {
   local index=2
   place=0
@@ -29,7 +29,7 @@ _rebuild_lists() {
     mapfile -t COMPREPLY < <(compgen -W "$offered" -- "$current")
     return
   fi
-  # What each word takes: a folder, a list, a number; the last goes on where a + is after it.
+  # What each argument takes: a folder, a list, a number; the last goes on where a + is after it.
   case ${COMP_WORDS[1]} in
     check) kinds='folder' ;;
     split) kinds='list folder folder' options='--racks --requests --copy' ;;

@@ -1,12 +1,12 @@
-# The completions of rebuild-lists for fish: its words, their options with numbers that are in their ranges, files and folders.
+# The completions of rebuild-lists for fish: its commands, their options with numbers that are in their ranges, files and folders.
 
-# Whether the word of the command is one of these.
+# Whether the command is one of these.
 function __rebuild_lists_word_is
     set -l words (commandline -opc)
     test (count $words) -ge 2; and contains -- $words[2] $argv
 end
 
-# Whether the next word that is no option of one of these commands has a number from this one to that one, counted from 1.
+# Whether the next argument that is no option of one of these commands has a number from this one to that one, counted from 1.
 function __rebuild_lists_place_is
     set -l words (commandline -opc)
     __rebuild_lists_word_is $argv[3..]; or return 1

@@ -1,12 +1,12 @@
 # The completions of rebuild-store for bash: its commands, their options with the values that they take, files and folders.
 
-# Sets `place` to how many words that are no options are before the current one, after the word of the command.
+# Sets `place` to how many arguments that are no options are before the current one, after the command.
 _rebuild_store_place() {
   local index=2
   place=0
   while ((index < COMP_CWORD)); do
     case ${COMP_WORDS[index]} in
-      --code | --names | --layout | --stripes | --part | --workers | --sums | --report | --to)
+      --code | --names | --layout | --stripes | --part | --workers | --sums | --report | --to | --reads)
         # The shell cuts --workers=4 into three words.
         [ "${COMP_WORDS[index + 1]}" != = ] || ((index++))
         ((index++))
@@ -30,17 +30,17 @@ _rebuild_store() {
     mapfile -t COMPREPLY < <(compgen -W "$offered" -- "$current")
     return
   fi
-  # What each word takes: a folder, a file, a name; the last goes on where a + is after it.
+  # What each argument takes: a folder, a file, a name; the last goes on where a + is after it.
   options='--code --names --layout'
   case ${COMP_WORDS[1]} in
     repair)
       kinds='folder'
-      options+=' --stripes --part --workers --sums --report --json --dry-run --replace-damaged --to'
+      options+=' --stripes --part --workers --sums --report --json --dry-run --replace-damaged --to --reads'
       ;;
-    lost) kinds='folder' options+=' --stripes --part' ;;
+    lost) kinds='folder' options+=' --stripes --part --json' ;;
     scrub) kinds='folder' options+=' --stripes --part --workers --sums --report --json' ;;
-    encode) kinds='folder file+' options='--code' ;;
-    read) kinds='folder name' options='' ;;
+    encode) kinds='folder file+' ;;
+    read) kinds='folder name' options='--names --layout' ;;
     help)
       [ "$COMP_CWORD" != 2 ] || mapfile -t COMPREPLY < <(compgen -W "$commands" -- "$current")
       return
@@ -55,6 +55,7 @@ _rebuild_store() {
   case $before in
     --code) offered='6-2-2 12-2-2' ;;
     --layout) offered='plain groups' ;;
+    --reads) offered='all few' ;;
     --workers) offered='1 2 3 4 5 6 7 8 9 10 11 12 13 14 15 16' ;;
     --names | --part) return ;;
     --stripes | --sums | --report) kinds=file ;;

@@ -1,12 +1,12 @@
 # The completions of rebuild-store for fish: its commands, their options with the values that they take, files and folders.
 
-# Whether the word of the command is one of these.
+# Whether the command is one of these.
 function __rebuild_store_command_is
     set -l words (commandline -opc)
     test (count $words) -ge 2; and contains -- $words[2] $argv
 end
 
-# Whether the next word that is no option of one of these commands has a number from this one to that one, counted from 1.
+# Whether the next argument that is no option of one of these commands has a number from this one to that one, counted from 1.
 function __rebuild_store_place_is
     set -l words (commandline -opc)
     __rebuild_store_command_is $argv[3..]; or return 1
@@ -15,7 +15,7 @@ function __rebuild_store_place_is
     for word in $words[3..]
         if test $skip = 1
             set skip 0
-        else if contains -- $word --code --names --layout --stripes --part --workers --sums --report --to
+        else if contains -- $word --code --names --layout --stripes --part --workers --sums --report --to --reads
             set skip 1
         else if not string match -q -- '-*' $word
             set place (math $place + 1)
@@ -38,13 +38,13 @@ complete -c rebuild-store -n '__rebuild_store_command_is help; and test (count (
 set -l all repair lost scrub encode read
 set -l coded repair lost scrub encode
 complete -c rebuild-store -n "__rebuild_store_command_is $coded" -l code -x -a '6-2-2 12-2-2' -d 'The code of the store'
+complete -c rebuild-store -n "__rebuild_store_command_is $all" -l names -x -d 'How files are named'
+complete -c rebuild-store -n "__rebuild_store_command_is $all" -l layout -x -a 'plain groups' -d 'How shards number the places'
 set -l over repair lost scrub
-complete -c rebuild-store -n "__rebuild_store_command_is $over" -l names -x -d 'How files are named'
-complete -c rebuild-store -n "__rebuild_store_command_is $over" -l layout -x -a 'plain groups' -d 'How shards number the places'
 complete -c rebuild-store -n "__rebuild_store_command_is $over" -l stripes -r -F -d 'Names of the stripes that have to be there'
 complete -c rebuild-store -n "__rebuild_store_command_is $over" -l part -x -d 'Work on one part of the stripes, as 1/10'
+complete -c rebuild-store -n "__rebuild_store_command_is $over" -l json -d 'Write JSON'
 set -l held repair scrub
-complete -c rebuild-store -n "__rebuild_store_command_is $held" -l json -d 'Write JSON'
 complete -c rebuild-store -n "__rebuild_store_command_is $held" -l workers -x -a '(seq 1 16)' -d 'Threads that work on stripes, 1 to 16'
 complete -c rebuild-store -n "__rebuild_store_command_is $held" -l sums -r -F -d 'Digests of the fragments'
 complete -c rebuild-store -n "__rebuild_store_command_is $held" -l report -r -F -d 'Write what became of each fragment'
@@ -52,5 +52,6 @@ complete -c rebuild-store -n '__rebuild_store_command_is repair' -l dry-run -d '
 complete -c rebuild-store -n '__rebuild_store_command_is repair' -l replace-damaged -d 'Replace damaged fragments, and keep them'
 complete -c rebuild-store -n '__rebuild_store_command_is repair' -l to -x -a '(__fish_complete_directories (commandline -ct) "Folder")' \
     -d 'Folder for rebuilt fragments'
+complete -c rebuild-store -n '__rebuild_store_command_is repair' -l reads -x -a 'all few' -d 'Survivors that are read'
 complete -c rebuild-store -n "__rebuild_store_place_is 1 1 $all" -a '(__fish_complete_directories (commandline -ct) "Folder")'
 complete -c rebuild-store -n '__rebuild_store_place_is 2 999 encode' -F

@@ -1,6 +1,6 @@
 # The completions of rebuild for fish: its commands, its options with numbers that are in their ranges, and folders.
 
-# Whether the first word is this one.
+# Whether the first argument is this one.
 function __rebuild_command_is
     set -l words (commandline -opc)
     test (count $words) -ge 2; and test $words[2] = $argv[1]

@@ -1,6 +1,6 @@
 #!/usr/bin/env bash
 # The job of a Slurm array for a store: each task repairs the part of its number, of as many parts as the array has tasks, from 1 on. All
-# nodes must have rebuild-store on PATH and the store, whose folder is the first word; further words are options, as --code 12-2-2.
+# nodes must have rebuild-store on PATH and the store, whose folder is the first argument; further arguments are options, as --code 12-2-2.
 #SBATCH --job-name=rebuild-store
 #SBATCH --cpus-per-task=1
 #SBATCH --mem=1G

@@ -19,9 +19,9 @@ toolchain   {identity}
 """
 SAID = """\
 Each crate below was proved by that toolchain from the sources of that commit. With it are the number of functions that its sources define,
-and a sum of its sources, of the toolchain's identity and of the crates below it, which the record of its proof has. Of `main`, which joins
-the others to the system, only safety is proved. The toolchain, the C library, the system and the processor are trusted; docs/PROOFS.md of
-the sources says more. `rebuild-lists` (Python), the completions and the plugin for Ceph (C++) are tested, and not proved.
+and a sum of its sources, of the toolchain's identity and of the crates below it, which the record of its proof has. `main`, which joins the
+others to the system, is proved only to be memory-safe. The toolchain, the C library, the system and the processor are trusted;
+docs/PROOFS.md of the sources says more. `rebuild-lists` (Python), the completions and the plugin for Ceph (C++) are tested, and not proved.
 """
 
 

@@ -1,5 +1,6 @@
 #!/usr/bin/env python3
-"""Tests that each file that docs/ARCHITECTURE.md names is there, and that each source and script says at its head what it is for.
+"""Tests that each file that docs/ARCHITECTURE.md and CONTRIBUTING.md name is there, that they name each source, and that each source and
+script says at its head what it is for.
 
     architecture.py            tests
     architecture.py files      prints each file of crates/*/src with the first sentence of its comment
@@ -10,7 +11,7 @@ import re
 import sys
 
 ROOT = pathlib.Path(__file__).resolve().parent.parent
-MAP = ROOT / "docs/ARCHITECTURE.md"
+MAPS = [ROOT / "docs/ARCHITECTURE.md", ROOT / "CONTRIBUTING.md"]
 
 
 def first_sentence(lines):
@@ -55,6 +56,34 @@ def scripts():
             yield file.name, comment_of_script(file)
 
 
+def lists_modules_alone(source):
+    lines = (ROOT / "crates" / source).read_text().splitlines()
+    return all(re.match(r"//|#!|#\[cfg|(pub(\(crate\))? )?mod \w+;|pub use |    |\};|$", line) for line in lines)
+
+
+def is_named(source, crate, name):
+    """Whether a name in the maps, of a file or a folder, is that of a source; `crate` is the one that was named last."""
+    if not name.startswith(crate + "/"):
+        name = f"{crate}/src/{name}" if name.endswith("/") else name
+    if name.endswith("/"):
+        return source.startswith(name)
+    return source == name or source.startswith(f"{crate}/src/") and source.endswith("/" + name)
+
+
+def unnamed():
+    """The sources that no line of the maps names: a path after `crates/`, or what is in the crate that was named last."""
+    left = {name for name, _ in sources() if not lists_modules_alone(name)}
+    crates = {name.split("/")[0] for name in left}
+    for page in MAPS:
+        crate = ""
+        for name in re.findall(r"`([\w/.-]+)`", page.read_text()):
+            if name.split("/")[0] in crates:
+                crate = name.split("/")[0]
+            if crate and name.endswith((".rt", "/")):
+                left = {source for source in left if not is_named(source, crate, name)}
+    return sorted(left)
+
+
 def main():
     lists = {"files": sources, "scripts": scripts}
     if sys.argv[1:] and sys.argv[1] in lists:
@@ -65,10 +94,12 @@ def main():
     if silent:
         sys.exit(f"architecture: these don't say at their head what they are for: {', '.join(silent)}")
     files = ["/" + str(it.relative_to(ROOT)) for it in ROOT.rglob("*.*") if ".git" not in it.parts and "out" not in it.parts]
-    named = set(re.findall(r"`([\w/.-]+\.(?:rt|antt|py|sh|h|txt|5))`", MAP.read_text()))
+    named = {name for page in MAPS for name in re.findall(r"`([\w/.-]+\.(?:rt|antt|py|sh|h|txt|5))`", page.read_text())}
     absent = [name for name in sorted(named) if not any(file.endswith("/" + name) for file in files)]
     if absent:
-        sys.exit(f"architecture: docs/ARCHITECTURE.md names files that aren't there: {', '.join(absent)}")
+        sys.exit(f"architecture: the maps name files that aren't there: {', '.join(absent)}")
+    if unnamed():
+        sys.exit(f"architecture: the maps don't name {', '.join(unnamed())}")
     counts = len(list(sources())), len(list(scripts()))
     print(f"architecture: {counts[0]} sources and {counts[1]} scripts say what they are for, and {len(named)} named files are there")
 

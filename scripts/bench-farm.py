@@ -138,7 +138,7 @@ def main(level, numbers):
         peers = build(scratch, level)
         print(f"\nFolders of so many racks and requests for fragments of so many bytes, half of them in one group, in {scratch.parent}:")
         print(f"ms from the program's start to its end, the least of {PASSES} runs in turn. A ratio is the C program's time over ours.\n")
-        print("| | Folder | Threads | ours | careful C | ratio | by eight | ratio | careless C | ratio | our peak MB | load |")
+        print("| | Folder | Workers | ours | careful C | ratio | by eight | ratio | careless C | ratio | our peak MB | load |")
         print("|---|---|---|---|---|---|---|---|---|---|---|---|")
         for number, shape in enumerate(SHAPES, 1):
             if not numbers or number in numbers:

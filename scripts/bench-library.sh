@@ -1,5 +1,5 @@
 #!/usr/bin/env bash
-# Times encoding and rebuilding through the C library beside ISA-L, on one thread. The first word is the processor level to build
+# Times encoding and rebuilding through the C library beside ISA-L, on one thread. The first argument is the processor level to build
 # for.
 set -euo pipefail
 cd "$(dirname "$0")/.."

@@ -221,7 +221,7 @@ decoded = time.time()
 assert whole == data
 shares[3] = bytes([shares[3][0] ^ 1]) + shares[3][1:]
 wrong = Decoder(6, 10).decode(shares, numbers, rest) != data
-print(f"{encoded - start:.2f} {decoded - encoded:.2f} {'other bytes, without a word' if wrong else 'the same bytes'}")
+print(f"{encoded - start:.2f} {decoded - encoded:.2f} {'other bytes, and nothing said' if wrong else 'the same bytes'}")
 """
 
 

@@ -1,6 +1,6 @@
 #!/usr/bin/env bash
 # Times the kernels and `solve` beside plain loops in C, and beside ISA-L where its headers are installed. All programs
-# run in turn, and the shortest time of each is shown. The first word is the processor level to build for.
+# run in turn, and the shortest time of each is shown. The first argument is the processor level to build for.
 set -euo pipefail
 cd "$(dirname "$0")/.."
 level=${1:?'the processor level, as x86-64-v3'}

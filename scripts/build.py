@@ -29,6 +29,8 @@ import time
 
 ROOT = pathlib.Path(__file__).resolve().parent.parent
 ROOMS = ROOT / "out" / "rooms"
+# How many seconds whole builds took here, each on a line after the names of what was built.
+TIMES = ROOT / "out" / "build-times"
 PARTS = ("src", "specs", "proofs")
 # What is in a crate's out/ beside the record of the build: the prover's work, the library, and what is built.
 WORK = ("incremental", "rlib")
@@ -89,7 +91,7 @@ class Crate:
     def command(self, level, jobs):
         verb = "run" if self.is_program else "lib"
         option = f"--target={level}" if is_target(level) else f"--cpu={level}"
-        # A program is run once it is built, with the words that the gate runs it with.
+        # A program is run once it is built, with the arguments that the gate runs it with.
         words = self.folder / "args"
         given = ["--", *words.read_text().splitlines()] if self.is_program and words.is_file() else []
         return ["rt", verb, "--jobs", str(jobs), *([option] if self.has_levels() else []), *given]
@@ -365,6 +367,17 @@ def with_all_below(tops):
     return list(dict.fromkeys(it for top in tops for it in [*top.all_below(), top]))
 
 
+def times():
+    """How long whole builds took here, by the names of what was built."""
+    lines = TIMES.read_text().splitlines() if TIMES.is_file() else []
+    return {names: int(seconds) for names, _, seconds in (line.rpartition(" ") for line in lines)}
+
+
+def keep_time(names, seconds):
+    TIMES.parent.mkdir(exist_ok=True)
+    TIMES.write_text("".join(f"{names} {seconds}\n" for names, seconds in {**times(), names: seconds}.items()))
+
+
 def described(tops, level):
     """What is proved and built, in words."""
     below = len(with_all_below(tops)) - len(tops)
@@ -402,13 +415,19 @@ def main(names, level, jobs):
     if build.done:
         print(f"As they were proved before: {', '.join(it.name for it in build.done)}")
     else:
-        print("The first time this takes minutes, the program some twelve on four processors; after a change what changed is proved.")
+        seen = times().get(" ".join(names))
+        print(f"The whole took {minutes(seen)} here before." if seen else "README says how long it was seen to take.",
+              "After a change what changed is proved.")
     sys.stdout.flush()
+    is_whole = not build.done
     try:
         build.run()
     finally:
         settle(crates)
-    print(f"Built in {minutes(int(time.monotonic() - start))}: {show(tops, level)}")
+    took = int(time.monotonic() - start)
+    if is_whole:
+        keep_time(" ".join(names), took)
+    print(f"Built in {minutes(took)}: {show(tops, level)}")
 
 
 if __name__ == "__main__":

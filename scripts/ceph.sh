@@ -2,8 +2,9 @@
 # Compiles the plugin for Ceph and runs its host tests, where Ceph's headers are installed (Debian's libradospp-dev and librados-dev, with
 # its common library); else it says that it left them out. Nothing of Ceph is started: scripts/try-ceph.sh does that.
 #   every set of one to four lost shards of both codes in both layouts, also under the address and undefined sanitizers; what is wrong
-#   answered with an error; each allocation refused in turn; the least reads; words and releases that are refused; the table of calls
-#   beside those of shipped plugins; `make install-ceph` and `make uninstall-ceph`
+#   answered with an error; each allocation refused in turn; threads at once, also under the thread sanitizer; where the plugin says what is
+#   wrong; the least reads; words and releases that are refused; the table of calls, and what odd calls do, beside shipped plugins;
+#   `make install-ceph` and `make uninstall-ceph`
 # rebuild-ceph, which needs none of this, is tried before.
 # All is built in a copy of the repository, with what the proofs have left: the gate's other scripts run beside this one.
 set -euo pipefail
@@ -43,6 +44,14 @@ done
 cd "$scratch/copy"
 quietly 'make ceph' make -s ceph JOBS=1 CXX="$compiler"
 
+# Where something lacks, that is said before anything is proved.
+lacks() { # WORD LINE
+  if make -s -C ceph needs "$1" > "$scratch/said" 2>&1; then fail "'make ceph' goes on with $1"; fi
+  grep -qF "$2" "$scratch/said" || fail "'make ceph' with $1 says $(cat "$scratch/said")"
+}
+lacks "CEPH=$scratch/none" "no $scratch/none/libceph-common.so.2: it needs Ceph 16.2"
+lacks CXX=no-such-compiler "no no-such-compiler here: it needs Debian's g++"
+
 plain=$PWD/ceph/out
 watched=$scratch/watched
 quietly 'the plugin under sanitizers' make -s -C ceph "OUT=$watched" CXX="$compiler" \
@@ -57,6 +66,16 @@ for out in "$plain" "$watched"; do
   done
   quietly 'refused words' "$out/host" words plugin=azure_lrc
   quietly 'releases' "$out/host" version plugin=azure_lrc
+  quietly 'what the plugin says' "$out/host" said plugin=azure_lrc
+done
+raced=$scratch/raced
+quietly 'the plugin under the thread sanitizer' make -s -C ceph "OUT=$raced" CXX="$compiler" CXXFLAGS='-O1 -g -fsanitize=thread'
+# The sanitizer doesn't start where addresses are too random.
+fixed=()
+if setarch -R true 2> "$scratch/said"; then fixed=(setarch -R); fi
+export TSAN_OPTIONS=halt_on_error=1 PLUGINS=$raced/plugins
+for profile in "${profiles[@]}"; do
+  quietly "threads of $profile under the thread sanitizer" ${fixed[@]+"${fixed[@]}"} "$raced/host" threads "$profile"
 done
 export PLUGINS=$plain/plugins
 quietly 'the least reads of (6,2,2)' "$plain/host" least plugin=azure_lrc 3
@@ -64,6 +83,8 @@ quietly 'the least reads of (12,2,2)' "$plain/host" least plugin=azure_lrc,code=
 shipped=$(dirname "$common")/erasure-code
 if [ -d "$shipped" ] && command -v readelf > /dev/null; then
   quietly 'the calls beside those of shipped plugins' ceph/tests/abi.sh "$plain" "$shipped"
+  quietly 'odd calls beside shipped plugins' "$plain/host" beside plugin=azure_lrc plugin=isa,technique=cauchy,k=6,m=4 \
+    plugin=jerasure,technique=reed_sol_van,k=6,m=4 plugin=lrc,k=6,m=2,l=4 plugin=shec,k=6,m=4,c=3 plugin=clay,k=6,m=4,d=9
 else
   echo 'ceph: left out: the calls beside those of shipped plugins (none is installed, or no readelf)'
 fi
@@ -73,6 +94,10 @@ quietly 'make install-ceph' make -s install-ceph "DESTDIR=$scratch/root"
 came=$(cd "$scratch/root" && find . -type f -printf '%m %P\n' | sort)
 [ "$came" = "$(printf '644 %s\n755 usr/local/bin/rebuild-ceph' "$installed")" ] || fail "what comes is $(find "$scratch/root" -type f)"
 cmp "$plain/libec_azure_lrc.so" "$scratch/root/$installed" || fail 'another plugin was installed'
+for level in ceph/out/x86-64-v*; do
+  quietly 'make install-ceph of a level' make -s install-ceph "LEVEL=${level##*/}" "DESTDIR=$scratch/root"
+  cmp "$level/libec_azure_lrc.so" "$scratch/root/$installed" || fail "the plugin of another level than ${level##*/} was installed"
+done
 quietly 'make uninstall-ceph' make -s uninstall-ceph "DESTDIR=$scratch/root"
 [ -z "$(find "$scratch/root" -type f)" ] || fail "what stays is $(find "$scratch/root" -type f)"
 [ "$(nm -D --defined-only "$plain/libec_azure_lrc.so" | awk '{ print $3 }' | sort | tr '\n' ' ')" = \

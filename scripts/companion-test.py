@@ -1,5 +1,5 @@
 #!/usr/bin/env python3
-"""Runs the tests of the companion, which are in companion/tests: all of them, or those of the modules that words name, as
+"""Runs the tests of the companion, which are in companion/tests: all of them, or those of the modules that arguments name, as
 `test_check`. FOLDERS=2000 in the environment has it try as many random folders, where 200 are the usual number."""
 
 import pathlib

@@ -1,15 +1,15 @@
 #!/usr/bin/env bash
 # Tests the completions of bash, zsh and fish: each shell that is installed is asked for the completions of some lines, and
 # they are compared with what they must be. Bash is asked for what the function of the file answers, the others for what
-# they would offer. The options of farm are those of its help, the words and options of rebuild-lists those of its own, and each option of
-# a command of rebuild-store is offered.
+# they would offer. The options of farm are those of its help, the commands and options of rebuild-lists those of its own, and each option
+# of a command of rebuild-store is offered.
 set -euo pipefail
 cd "$(dirname "$0")/.."
 completions=$PWD/completions
 scratch=$(mktemp -d)
 trap 'rm -rf "$scratch"' EXIT
 workers='1 2 3 4 5 6 7 8 9 10 11 12 13 14 15 16'
-repair='--code --dry-run --help --json --layout --names --part --replace-damaged --report --stripes --sums --to --workers -h'
+repair='--code --dry-run --help --json --layout --names --part --reads --replace-damaged --report --stripes --sums --to --workers -h'
 
 # Each line, up to where the key is pressed, and what is offered there: the folder below has two folders and a file.
 mkdir -p "$scratch/here/lists" "$scratch/here/served"
@@ -79,7 +79,8 @@ rebuild-store help repair :
 rebuild-store repair :lists served
 rebuild-store repair lists s:
 rebuild-store repair -:$repair
-rebuild-store repair lists --re:--replace-damaged --report
+rebuild-store repair lists --re:--reads --replace-damaged --report
+rebuild-store repair --reads :all few
 rebuild-store repair --code :12-2-2 6-2-2
 rebuild-store repair --code=6:6-2-2
 rebuild-store repair --workers :$workers
@@ -92,7 +93,7 @@ rebuild-store repair --names :
 rebuild-store repair --part :
 rebuild-store repair --code 6-2-2 --to served l:lists
 rebuild-store lost l:lists
-rebuild-store lost -:--code --help --layout --names --part --stripes -h
+rebuild-store lost -:--code --help --json --layout --names --part --stripes -h
 rebuild-store lost --stripes l:list.csv lists
 rebuild-store scrub l:lists
 rebuild-store scrub -:--code --help --json --layout --names --part --report --stripes --sums --workers -h
@@ -100,10 +101,12 @@ rebuild-store scrub --sums list.:list.csv
 rebuild-store encode :lists served
 rebuild-store encode lists :list.csv lists served
 rebuild-store encode lists list.csv :list.csv lists served
-rebuild-store encode -:--code --help -h
+rebuild-store encode -:--code --help --layout --names -h
+rebuild-store encode --layout :groups plain
 rebuild-store read l:lists
 rebuild-store read lists :
-rebuild-store read -:--help -h
+rebuild-store read -:--help --layout --names -h
+rebuild-store read --layout :groups plain
 END
 
 # What bash offers: the line is cut as bash cuts it, at spaces and with = as a word of its own.

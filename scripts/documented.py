@@ -1,17 +1,21 @@
 #!/usr/bin/env python3
-"""Tests that docs/DEFINITIONS.md names each definition that a public contract cites, and docs/PROOFS.md each public call, and that what
-both name is there.
+"""Tests that each definition that a public contract cites says what it means, by a comment above it in specs/ or by docs/DEFINITIONS.md,
+that each public call says by a comment what it does, that docs/PROOFS.md names each of which no contract says more, and that what both
+pages name is there.
 
 A public contract is that of a function that a crate hands out: a `pub fn` of its root, of a public module or of a type that the root names,
 or a function of such a trait. The words of its clauses that are defined in a crate's specs/ are the names; which crate's is said by the
-imports of its file. A call may also be named by its type or module alone, where the page says so of all its calls.
+imports of its file. A call may also be named by its type alone, where the page says so of all its calls.
 
-    documented.py names     prints each name with the calls that cite it
-    documented.py calls     prints each public call"""
+    documented.py definitions           prints each such definition with its meaning
+    documented.py definitions NAME..    prints those of these names, whole, with the calls that cite them
+    documented.py calls                 prints each public call with what it does
+    documented.py calls NAME..          prints those of these names with their contracts"""
 
 import collections
 import pathlib
 import re
+import signal
 import sys
 
 ROOT = pathlib.Path(__file__).resolve().parent.parent
@@ -62,7 +66,8 @@ def handed_out(crate):
 
 
 def calls():
-    """The public calls: of each its crate, its name, with its type where it has one, its contract and the names that its file imports."""
+    """The public calls: of each its crate, its name, with its type where it has one, its contract, the names that its file imports, and
+    its comment."""
     for crate in crates():
         root, names, modules = handed_out(crate)
         for file in sorted((crate / "src").rglob("*.rt")):
@@ -84,7 +89,18 @@ def calls():
                                          or file.stem in modules or 'extern "C"' in line):
                     continue
                 call = f"{place}::{function[2]}" if place else function[2]
-                yield crate.name, call, contract(lines, number, function[1]), imported, file.stem
+                yield crate.name, call, contract(lines, number, function[1]), imported, comment(lines, number)
+
+
+def comment(lines, number):
+    """The first paragraph of what is said above the function that begins in a line."""
+    while lines[number - 1].lstrip().startswith("#["):
+        number -= 1
+    last = number
+    while lines[number - 1].lstrip().startswith("///"):
+        number -= 1
+    said = [line.strip(" /") for line in lines[number:last]]
+    return " ".join(said[:said.index("")] if "" in said else said)
 
 
 def contract(lines, number, indent):
@@ -116,13 +132,35 @@ def spans(text):
     return [span for span in re.findall(r"`([^`]+)`", text)]
 
 
+def meaning(crate, file, name):
+    """The comment above a definition, and its lines."""
+    path = next((CRATES / crate / "specs").rglob(f"{file}.antt"))
+    lines = path.read_text().splitlines()
+    begin = next(number for number, line in enumerate(lines) if name in SIGNATURE.findall(line) + MEMBER.findall(line))
+    first = begin
+    while first and lines[first - 1].lstrip().startswith("--"):
+        first -= 1
+    last = next((number for number in range(begin, len(lines)) if not lines[number]), len(lines))
+    return " ".join(line.strip(" -") for line in lines[first:begin]), lines[begin:last]
+
+
+def show_definitions(names):
+    for (crate, file, name), where in sorted(cited_names().items()):
+        says, lines = meaning(crate, file, name)
+        if names and name not in names:
+            continue
+        print(f"{crate} {file}.{name}: {says or 'docs/DEFINITIONS.md says it'}")
+        if names:
+            print(*lines, f"cited by {', '.join(where)}", sep="\n")
+
+
 def missing_definitions():
     page = (ROOT / "docs/DEFINITIONS.md").read_text()
     words = {word for span in spans(page) for word in re.findall(r"[\w'◌]+", span)}
     modules = {span[:-2] for span in spans(page) if span.endswith(".*")}
     for (crate, file, name), where in sorted(cited_names().items()):
-        if name not in words and file not in modules:
-            yield f"docs/DEFINITIONS.md doesn't have {file}.{name} of {crate}, which {where[0]} cites"
+        if not meaning(crate, file, name)[0] and name not in words and file not in modules:
+            yield f"neither a comment nor docs/DEFINITIONS.md says what {file}.{name} of {crate} is, which {where[0]} cites"
     known = definitions()
     files = {file for places in known.values() for _, file in places}
     for line in re.findall(r"^- (.*(?:\n  .*)*)", page, re.M):
@@ -145,31 +183,40 @@ def gone_calls(page, there):
                 yield f"docs/PROOFS.md names {span}, which isn't there"
 
 
+def show_calls(names):
+    for crate, call, clauses, _, says in calls():
+        if not names or call in names or call.rpartition("::")[2] in names:
+            print(f"{crate} {call}: {says}")
+            if names:
+                print(clauses or "    no contract: only safety is proved")
+
+
 def missing_calls():
     page = (ROOT / "docs/PROOFS.md").read_text()
     yield from gone_calls(page, {call for _, call, *_ in calls()})
-    words = {word for span in spans(page) for word in re.findall(r"\w+", span)}
-    alone = {span for span in spans(page) if re.fullmatch(r"\w+", span)}
-    for crate, call, _, _, module in calls():
+    named = set(spans(page))
+    for crate, call, clauses, _, says in calls():
         place, _, name = call.rpartition("::")
-        if name not in words and place not in alone and module not in alone:
-            yield f"docs/PROOFS.md doesn't have {call} of {crate}"
+        if not says:
+            yield f"{call} of {crate} has no comment that says what it does"
+        if "ensures" not in clauses and not named & {call, name, place}:
+            yield f"docs/PROOFS.md doesn't have {call} of {crate}, which has no contract"
 
 
 def main():
-    if sys.argv[1:] == ["names"]:
-        for (crate, file, name), where in sorted(cited_names().items()):
-            print(f"{crate} {file}.{name}: {', '.join(where)}")
+    # A reader of the lists may end early, as `head` does.
+    signal.signal(signal.SIGPIPE, signal.SIG_DFL)
+    if sys.argv[1:2] == ["definitions"]:
+        show_definitions(sys.argv[2:])
         return
-    if sys.argv[1:] == ["calls"]:
-        for crate, call, *_ in calls():
-            print(crate, call)
+    if sys.argv[1:2] == ["calls"]:
+        show_calls(sys.argv[2:])
         return
     found = [*missing_definitions(), *missing_calls()]
     if found:
         print(*found, sep="\n")
         sys.exit(f"documented: {len(found)} things are missing, or aren't there")
-    print(f"documented: the pages have the {len(cited_names())} definitions of public contracts and the {len(list(calls()))} public calls")
+    print(f"documented: {len(cited_names())} definitions of public contracts and {len(list(calls()))} public calls say what they are")
 
 
 if __name__ == "__main__":

@@ -184,7 +184,7 @@ def test_names_that_are_there(folder, code, choose):
     _, errors = run("encode", folder, other / "f0", "--code", code, status=1)
     check("f0.file: is there already, with other bytes" in errors, errors)
     output, _ = run("encode", folder, source, "--code", code, status=0)
-    check(output == "encoded 1 files; not encoded: 0\n", output)
+    check(output == "encoded 1 file; not encoded: 0\n", output)
     check({path.name: (path.read_bytes(), path.stat().st_ino) for path in folder.iterdir()} == before, "what was there changed")
     for make in (lambda p: p.write_bytes(b"other"), os.mkfifo, os.mkdir, lambda p: p.symlink_to("nowhere")):
         path = folder / "new.p0"
@@ -208,6 +208,38 @@ def test_names_that_are_there(folder, code, choose):
     check(is_store(folder, code, files), "the store isn't what it was")
 
 
+def test_names(folder, code, choose):
+    """Fragments go into a folder for each disk, by the shards' numbers, and are read from there."""
+    data = choose.randbytes(5001)
+    source = folder.with_name(folder.name + "-file")
+    source.write_bytes(data)
+    fragments = fragments_of(code, data)
+    xs, ys = ([place for place in CODES[code][0] if place[0] == group] for group in "xy")
+    for layout, order in (("plain", [*xs, *ys, "px", "py", "p0", "p1"]), ("groups", [*xs, "px", *ys, "py", "p0", "p1"])):
+        store = folder.with_name(f"{folder.name}-{layout}")
+        store.mkdir()
+        names = ["--names", "disk{shard}/{stripe}", "--layout", layout]
+        _, errors = run("encode", store, source, "--code", code, *names, status=3)
+        check("disk0: No such file or directory" in errors and not list(store.glob("**/*")), errors)
+        for number in range(len(order)):
+            (store / f"disk{number}").mkdir()
+        (store / "disk1/.rebuild-store-3").write_bytes(b"left")
+        (store / ".rebuild-store-4").write_bytes(b"left")
+        run("encode", store, source, "--code", code, *names, status=0)
+        wanted = {f"disk{number}/{source.name}": fragments[place] for number, place in enumerate(order)}
+        wanted[f"{source.name}.file"] = f"{len(data)} {digest(data)} {code}\n".encode()
+        wanted["SHA256SUMS"] = "".join(f"{digest(wanted[name])}  {name}\n" for name in sorted(wanted)).encode()
+        there = {str(path.relative_to(store)): path.read_bytes() for path in store.glob("**/*") if path.is_file()}
+        check(there == wanted, f"{sorted(there)} are there")
+        (store / f"disk0/{source.name}").unlink()
+        output, errors = run("read", store, source.name, *names, status=0, text=False)
+        check(output == data and f"disk0/{source.name}: left out" in errors, errors)
+        run("repair", store, "--code", code, *names, status=0)
+        check((store / f"disk0/{source.name}").read_bytes() == wanted[f"disk0/{source.name}"], "a shard isn't what it was")
+    run("encode", folder, source, "--names", "{stripe}", status=2)
+    run("read", folder, source.name, "--names", "{place}", status=2)
+
+
 def test_refusals(folder, code, choose):
     """Each path that is no file to encode, and each line of sums that says nothing, has a clear line; other files are encoded."""
     files = encoded(folder, code, choose, [77])
@@ -218,7 +250,7 @@ def test_refusals(folder, code, choose):
     os.mkfifo(other / "fifo")
     paths = [other, other / "fifo", other / "none", other / ".rebuild-store-7", f"{other}/", other / "good"]
     output, errors = run("encode", folder, *paths, "--code", code, status=3)
-    check(output == "encoded 1 files; not encoded: 5\n", output)
+    check(output == "encoded 1 file; not encoded: 5\n", output)
     for line in ("is no regular file", "fifo: is no regular file", "No such file", "can't have this name"):
         check(line in errors, errors)
     files["good"] = b"good"
@@ -281,7 +313,7 @@ def main():
     check(PROGRAM.exists(), f"{PROGRAM} isn't built: run 'make store' first")
     choose = random.Random(20261126)
     with tempfile.TemporaryDirectory() as scratch:
-        for test in (test_lengths, test_losses, test_damage, test_names_that_are_there, test_refusals, test_kills):
+        for test in (test_lengths, test_losses, test_damage, test_names_that_are_there, test_names, test_refusals, test_kills):
             for code in CODES:
                 test(pathlib.Path(scratch) / f"{test.__name__}-{code}", code, choose)
     print(f"encode-store: {passed} checks passed")

@@ -1,6 +1,6 @@
 #!/usr/bin/env bash
 # Runs the built program to each of its ends, and compares its exit status, its output and what it says on standard
-# error: what joins the proved parts to the system's words, input and output is only seen by running it.
+# error: what joins the proved parts to the system's arguments, input and output is only seen by running it.
 set -euo pipefail
 cd "$(dirname "$0")/.."
 program=$PWD/crates/rebuild/out/rebuild

@@ -1,10 +1,10 @@
 #!/usr/bin/env python3
 """Runs the commands that documents show, and compares what they write with what the documents show.
 
-An example is an indented block whose first line begins with `$ `. Each such line is a command, and the lines after it, up
-to the next command, are what it writes. The commands of a document run in turn in one empty folder, with the built programs
-as `rebuild` and `rebuild-store` and the companion as `rebuild-lists`. The words are the documents; without words it takes
-README.md and docs/FORMATS.md."""
+An example is an indented block whose first line begins with `$ `. Each such line is a command, which lines that begin with `> ` go on
+with, and the lines after it, up to the next command, are what it writes. The commands of a document run in turn in one empty folder, with
+the built programs as `rebuild` and `rebuild-store` and the companion as `rebuild-lists`. The arguments are the documents; without any it
+takes README.md and docs/FORMATS.md."""
 
 import os
 import pathlib
@@ -39,6 +39,8 @@ def examples(text):
             if line.startswith("$ "):
                 command = [line[2:], []]
                 yield command
+            elif line.startswith("> ") and not command[1]:
+                command[0] += "\n" + line[2:]
             else:
                 command[1].append(line)
 
@@ -48,8 +50,9 @@ def run(document, folder):
     made = 0
     for command, shown in list(examples((ROOT / document).read_text())):
         environment = os.environ | {"PATH": f"{folder / 'bin'}:{os.environ['PATH']}", "LC_ALL": "C"}
-        ran = subprocess.run(["bash", "-c", command], cwd=folder / "work", env=environment, capture_output=True, timeout=60)
-        said = (ran.stdout + ran.stderr).decode().splitlines()
+        ran = subprocess.run(["bash", "-c", command], cwd=folder / "work", env=environment, stdout=subprocess.PIPE,
+                             stderr=subprocess.STDOUT, timeout=60)
+        said = ran.stdout.decode().splitlines()
         if said != shown:
             sys.exit(f"examples {document}: {command}\nshows {shown}\nand wrote {said}")
         made += 1

@@ -41,7 +41,7 @@ END
 END
 }
 
-# try ROOT PREFIX WORDS..: installs with these words into the root, and then removes what came.
+# try ROOT PREFIX ARGUMENTS..: installs with these arguments into the root, and then removes what came.
 try() {
   local root=$1 prefix=$2 rights place source
   shift 2

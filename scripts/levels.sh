@@ -11,7 +11,7 @@ if grep -q avx2 /proc/cpuinfo; then
   levels+=(x86-64-v3)
 fi
 for level in "${levels[@]}"; do
-  # The number of processors, where a word says it, is build.py's.
+  # The number of processors, where an argument says it, is build.py's.
   scripts/build.py rebuild rebuild_store "$level" "$@"
   for script in ends.sh demo.sh reference-lines.sh examples.py manual.sh growth.py companion-test.py repair-store.py; do
     echo "levels: $level: $script"

@@ -2,7 +2,7 @@
 # Builds the C library, which the gate proves and doesn't build, and tries it: what the archive asks of a linker, the header by several
 # compilers and standards, its inline calls, the tests in C, `make install-library`, the shared object, the commands of docs/LIBRARY.md as
 # a user runs them, the examples in C, Python, Go and Rust, and the library for ARM under qemu. All this is done with the build for
-# x86-64-v2, and the tests again with that for x86-64-v3 where the processor has AVX2. What isn't installed is left out with a word. All
+# x86-64-v2, and the tests again with that for x86-64-v3 where the processor has AVX2. What isn't installed is named and left out. All
 # this is done in a copy of the repository, since the gate runs it beside `rt ci`, which holds the crates.
 set -euo pipefail
 cd "$(dirname "$0")/.."

@@ -2,7 +2,7 @@
 """Runs the tests over each wrong body of crates/*/must-fail and crates/*/wrong-bodies, in a copy of the repository and without a
 proof, and says which of them the tests notice too. With names of crates it tries theirs.
 
-An edit that no test notices may still change an answer: a proof says more than tests. docs/WRONG_BODIES.md says which those are.
+An edit that no test notices may still change an answer: a proof says more than tests. CONTRIBUTING.md says which those are.
 """
 
 import pathlib

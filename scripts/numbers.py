@@ -1,7 +1,7 @@
 #!/usr/bin/env python3
 """Compares the numbers that the documents say with those of the sources: the coefficients of both codes, the field's polynomial, and
 the limits. The coefficients are those of lrc_code/src/tables.rt and of the independent computation reference.py; the manual page of the
-formats is compared with docs/FORMATS.md by manual.sh."""
+formats is compared with docs/FORMATS.md by format-page.py."""
 
 import pathlib
 import re
@@ -36,24 +36,24 @@ def constant(path, name):
 
 
 def tables(document):
-    """The tables of a document whose head has the places of data fragments: each as its places and its rows by name."""
+    """The tables of a document whose head has all places: each as its places and its rows by name."""
     found, rows = [], None
     for line in text(document).splitlines():
-        cells = [cell.strip(" `") for cell in line.strip("|").split("|")]
-        if not line.startswith("|"):
+        cells = line.split()
+        if not line.startswith("    "):
             rows = None
-        elif cells[1:3] == ["x0", "x1"]:
+        elif cells[:2] == ["x0", "x1"] and cells[-1] == "p1":
             rows = {}
-            found.append((cells[0], cells[1:], rows))
-        elif rows is not None and not cells[1].startswith("-"):
-            rows[cells[0]] = [int(cell, 16) for cell in cells[1:]]
+            found.append((cells, rows))
+        elif rows is not None:
+            rows[" ".join(cells[:2])] = [int(cell, 16) for cell in cells[2:]]
     return found
 
 
 def compare_codes():
     equations = tables("docs/FORMATS.md")
     compare("how many codes docs/FORMATS.md has", len(equations), len(CODES))
-    for (heading, (name, table)), (_, places, rows) in zip(CODES.items(), equations):
+    for (heading, (name, table)), (places, rows) in zip(CODES.items(), equations):
         body = re.search(rf"{table}: [^=]*= \[(.*?)\n\];", text("crates/lrc_code/src/tables.rt"), re.S)[1]
         numbers = [int(number, 0) for number in re.findall(r"0x[0-9a-f]+|\d+", body)]
         count = len(numbers) // 4
@@ -70,10 +70,9 @@ def compare_polynomial():
     powers = {0: "1", 1: "x"}
     written = " + ".join(powers.get(k, f"x^{k}") for k in reversed(range(9)) if number >> k & 1)
     for path in ("README.md", "docs/FORMATS.md"):
-        compare(f"the polynomial of {path}", re.search(r"polynomial ([x^0-9 +]*) \((\w+) in hexadecimal\)", text(path)).groups(),
+        page = " ".join(text(path).split())
+        compare(f"the polynomial of {path}", re.search(r"polynomial ([x^0-9 +]*) \((\w+) in hexadecimal\)", page).groups(),
                 (written, f"{number:X}"))
-    page = text("man/rebuild.5").replace(r"\(ha", "^")
-    compare("the polynomial of rebuild.5", f"{written}, which is {number:X} in hexadecimal." in page, True)
     compare("the polynomial of lrc.h", f"polynomial {number:X};" in text("include/lrc.h"), True)
 
 
@@ -92,42 +91,32 @@ def limits():
         "README.md": [
             f"| racks in a folder, feeds of a rack | {racks}, {feeds} |",
             f"| records in a list; bytes of a list | {records:,}; {list_bytes:,} |",
-            f"| bytes of a fragment | 1 to {length:,} |",
+            f"| bytes of a fragment | of a list 1 to {length:,}, else any length |",
             f"| bytes of line mode's input | {lines:,} |",
             f"| 1 to {workers} (4 if not given), 1 to {queue:,} (16) |",
-            f"A fragment has at most {length:,} bytes.",
-            f"{batch // 2**20} MiB",
+            f"Fragments then have at most {length:,} bytes, and stripes' names 1 to {name} characters",
+            f"two batches of {batch // 2**20} MiB",
         ],
         "docs/FORMATS.md": [
-            f"| 1 to {workers}, else E11 | 4 |",
-            f"| 1 to {queue:,}, else E12 | 16 |",
             f"A stripe's name has 1 to {name} characters",
-            f"a fragment has 1 to {length:,} bytes",
+            f"A fragment has 1 to {length:,} bytes",
             f"An input holds at most {lines:,} bytes",
             f"A folder has 1 to {racks} racks",
             f"A list holds at most {list_bytes:,} bytes",
             f"{length + 1:,} bytes of it are read",
-            f"| E11 | the number of workers isn't 1 to {workers} |",
-            f"| E12 | the queue isn't 1 to {queue:,} |",
-            f"| E18 | there are more than {racks} racks |",
-            f"| E26 | a list has more than {records:,} records |",
+            f"`E2`: a length isn't 1 to {length:,}.",
+            f"`E11`: the number of workers isn't 1 to {workers}.",
+            f"`E12`: the capacity of the queues isn't 1 to {queue:,}.",
+            f"`E18`: there are more than {racks} racks.",
+            f"`E25`: a list is longer than {list_bytes:,} bytes, or the input of line mode is longer than {lines:,} bytes.",
+            f"`E26`: a list has more than {records:,} records.",
+            f"`E28`: a rack has no feed, or more than {feeds}.",
         ],
         "man/rebuild.1": [
             f"1 to {racks} racks",
             f"threads that rebuild fragments, 1 to {workers}.",
             f"1 to {queue:,}.",
             f"An input holds at most {lines:,} bytes.",
-            f"A list has more than {records:,} records.",
-            f"A list is longer than {list_bytes:,} bytes",
-            f"A length isn't 1 to {length:,}.",
-        ],
-        "man/rebuild.5": [
-            f"has 1 to {name} characters",
-            f"A fragment has 1 to {length:,} bytes.",
-            f"1 to {racks} racks",
-            f"A list holds at most {list_bytes:,} bytes.",
-            f"at most {lines:,} bytes",
-            f"At most {length + 1:,} bytes of it are read.",
         ],
     }
 

@@ -107,7 +107,7 @@ tarball() {
       install -D -m 755 "$tree/crates/$program/out/$level/$program" "$to/libexec/$level/${program//_/-}"
     done
   done
-  install -m 644 -t "$to/share/doc/bucketuntil" "$tree"/out/{PROVED,*.cdx.json} "$tree"/{README,CHANGELOG}.md \
+  install -m 644 -t "$to/share/doc/bucketuntil" "$tree"/out/{PROVED,*.cdx.json} "$tree"/{README,CHANGELOG,CONTRIBUTING}.md \
     "$tree"/docs/{FORMATS,SCALE,PROOFS,DEFINITIONS,LIBRARY}.md
   cp -r "$tree/demo/farm" "$to/share/doc/bucketuntil/sample"
   (cd "$to" && find . -type f -printf '%P\0' | LC_ALL=C sort -z | xargs -0 sha256sum > "$work/sums" && mv "$work/sums" SHA256SUMS)

@@ -4,7 +4,7 @@
 Products are carry-less products reduced by x^8 + x^4 + x^3 + x^2 + 1, and a request is answered by Gaussian elimination of
 the code's equations over its lost places, position by position. It is slow, and meant for comparison alone.
 
-With the words `lines NUMBER SEED` it writes so many random lines instead: whole and damaged stripes of both codes, and
+With the arguments `lines NUMBER SEED` it writes so many random lines instead: whole and damaged stripes of both codes, and
 lines that are refused."""
 
 import random

@@ -7,9 +7,12 @@ the program leaves is compared byte by byte with what was there.
 Each expected line, status and file is worked out here; nothing is taken from the program's own output."""
 
 import fcntl
+import hashlib
+import itertools
 import os
 import pathlib
 import random
+import re
 import shutil
 import subprocess
 import sys
@@ -18,6 +21,7 @@ import time
 
 # No compiled copy of the modules is left beside them.
 sys.dont_write_bytecode = True
+from reference import code_of, eliminated
 from store import stripe
 
 ROOT = pathlib.Path(__file__).resolve().parent.parent
@@ -74,14 +78,76 @@ def test_losses(folder, code, choose):
             lost += 1
     before = sorted(path.name for path in folder.iterdir())
     output, _ = run("repair", folder, "--dry-run", "--code", code, status=1)
-    check(output.startswith(f"would repair {lost} fragments "), output)
+    held = re.fullmatch(rf"27 stripes of {code}, 1 byte to 192 KiB; {lost} lost in \d+; {lost} can be rebuilt \(0 without any check\), "
+                        r"0 can't; reads [\d.]+ MiB, writes [\d.]+ [MK]iB\n", output)
+    check(held, output)
     check(sorted(path.name for path in folder.iterdir()) == before, "a dry run changed the store")
     output, errors = run("repair", folder, "--code", code, "--workers", choose.choice([1, 4, 16]), status=0)
-    check(output.startswith(f"repaired {lost} fragments ") and output.endswith("damaged: 0; not possible: 0\n"), output + errors)
+    check(output.startswith(f"repaired {lost} fragments, ") and output.endswith("(0 unchecked); damaged: 0; not possible: 0\n"),
+          output + errors)
     check(is_whole(folder, stripes), "the store isn't what it was")
     run("scrub", folder, "--code", code, status=0)
     output, _ = run("repair", folder, "--code", code, status=0)
-    check(output.startswith("repaired 0 fragments "), output)
+    check(output == "repaired 0 fragments, 0 bytes (0 unchecked); damaged: 0; not possible: 0\n", output)
+
+
+def fewest(code, lost):
+    """How many survivors at least determine what is lost: found by trying all sets of them, the smallest first."""
+    places, equations = code_of(code)
+    wanted = [places.index(place) for place in lost]
+    others = [k for k in range(len(places)) if k not in wanted]
+    for size in range(len(others) + 1):
+        for read in itertools.combinations(others, size):
+            unread = [k for k in range(len(places)) if k not in read]
+            rows, pivots = eliminated(equations, unread)
+            known = {pivot for row, pivot in zip(rows, pivots) if pivot is not None and not any(row[k] for k in unread if k != pivot)}
+            if known.issuperset(wanted):
+                return size
+    return None
+
+
+def test_fewest(folder, code, choose):
+    """With --reads few as few survivors are read as determine what is lost, damage elsewhere isn't looked for, and what can't be read is
+    made up for by all the others."""
+    places, _ = code_of(code)
+    if code == "6-2-2":
+        losses = [choose.sample(places, k) for k in (1, 1, 2, 2, 2, 3, 3, 3, 3)] + [["x0", "x1", "y0", "y1"], ["x0", "px", "y0", "y1"]]
+        least = [fewest(code, lost) for lost in losses]
+    else:
+        # A group's fragment takes six others (Huang et al., section 2), and two of two groups twelve.
+        losses = [[place] for place in places if place[0] in "xy"] + [["x0", "y3"], ["px", "py"]]
+        least = [6] * 12 + [12, 12]
+        losses += [["px"], ["py"]]
+        least += [6, 6]
+    stripes = make(folder, code, [1024] * len(losses), choose)
+    for name, lost in zip(stripes, losses):
+        for place in lost:
+            (folder / f"{name}.{place}").unlink()
+    (folder / "whole.x0").write_bytes(b"")
+    for place in places:
+        (folder / f"whole.{place}").write_bytes(bytes(1024))
+    stripes["whole"] = dict.fromkeys(places, bytes(1024))
+    many = sum(map(len, losses))
+    output, _ = run("repair", folder, "--code", code, "--reads", "few", "--dry-run", status=1)
+    check(f"; {many} lost in {len(losses)}; {many} can be rebuilt ({many} without any check), 0 can't; reads {sum(least)} KiB, "
+          f"writes {many} KiB\n" in output, f"{output}, and {sum(least)} KiB are the least")
+    wrong = folder / "whole.y1"
+    wrong.write_bytes(b"damaged!" * 128)
+    output, errors = run("repair", folder, "--code", code, "--reads", "few", status=0)
+    check(output.startswith(f"repaired {many} fragments, {many} KiB ({many} unchecked: ") and errors == "", output + errors)
+    _, errors = run("scrub", folder, "--code", code, status=1)
+    wrong.write_bytes(bytes(1024))
+    check(is_whole(folder, stripes), "the store isn't what it was")
+    # Of few, one differs from the digests: all others are read, and the one that differs is named.
+    (folder / "s000.x0").unlink()
+    (folder / "s000.x1").write_bytes(bytes(1024))
+    sums = folder.with_name(folder.name + "-sums")
+    sums.write_text(f"{hashlib.sha256(stripes['s000']['x1']).hexdigest()}  s000.x1\n")
+    output, errors = run("repair", folder, "--code", code, "--reads", "few", "--sums", sums, status=1)
+    check("s000.x1: differs from the checksums\n" in errors, errors)
+    check(output.startswith("repaired 1 fragment, 1 KiB (0 unchecked)"), output)
+    (folder / "s000.x1").write_bytes(stripes["s000"]["x1"])
+    check(is_whole(folder, stripes), "the store isn't what it was")
 
 
 def test_damage(folder, code, choose):
@@ -184,7 +250,7 @@ def test_odd_names(folder, code, choose):
     with open(odd, "wb") as file:
         file.write(b"odd")
     output, errors = run("repair", folder, "--code", code, status=0)
-    check(output.startswith(f"repaired {len(names)} fragments "), output + errors)
+    check(output.startswith(f"repaired {len(names)} fragments, "), output + errors)
     with open(odd, "rb") as file:
         check(file.read() == b"odd", "a name that is no UTF-8 was not left alone")
     os.unlink(odd)
@@ -253,7 +319,7 @@ def test_refusals(folder):
 
 def main():
     choose = random.Random(2026)
-    tests = (test_losses, test_damage, test_too_many, test_odd_files, test_owner_and_mode, test_requests, test_odd_names,
+    tests = (test_losses, test_fewest, test_damage, test_too_many, test_odd_files, test_owner_and_mode, test_requests, test_odd_names,
              test_two_at_once, test_kills, test_other_stores)
     with tempfile.TemporaryDirectory() as scratch:
         place = pathlib.Path(scratch)

@@ -1,7 +1,7 @@
 #!/usr/bin/env bash
 # Runs what docs/SCALE.md shows, over a small store that is made here: the built program in several jobs, by GNU parallel, over
 # ssh and by a Slurm array, where these are installed. Compares each file that comes with that of a single run, and says what
-# was skipped. With the word `times` it also times folders served by 1, 2 and 4 jobs. It is no part of the gate.
+# was skipped. With the argument `times` it also times folders served by 1, 2 and 4 jobs. It is no part of the gate.
 set -euo pipefail
 cd "$(dirname "$0")/.."
 repository=$PWD

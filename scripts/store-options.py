@@ -14,6 +14,7 @@ import json
 import os
 import pathlib
 import random
+import re
 import subprocess
 import sys
 import tempfile
@@ -96,7 +97,7 @@ def test_disks(folder, code, choose):
             for path in (store / f"disk{number}").iterdir():
                 path.unlink()
         output, errors = run("repair", *options, status=0)
-        check(output.startswith("repaired 6 fragments of 1800 bytes"), output + errors)
+        check(output == "repaired 6 fragments, 1.7 KiB (0 unchecked); damaged: 0; not possible: 0\n", output + errors)
         hold_whole(store, stripes, name_of)
         (store / "disk0/a").unlink()
         (store / "disk0").rename(store / "gone")
@@ -155,7 +156,7 @@ def test_parts(folder, code, choose):
     for part in (1, 2, 3):
         mine = [name for name in stripes if part_of(name, 3) == part]
         output, errors = run("repair", folder, "--code", code, "--part", f"{part}/3", status=0)
-        check(output.startswith(f"repaired {len(mine)} fragments "), output + errors)
+        check(re.match(rf"repaired {len(mine)} fragments?, ", output), output + errors)
         for name in mine:
             del left[name]
         for name in stripes:
@@ -234,6 +235,26 @@ def test_sums(folder, code, choose):
     check("line 1 isn't as sha256sum writes it" in errors, errors)
 
 
+def test_requests(folder, code, choose):
+    """The requests as JSON: one for each lost fragment, of any name and length, with the survivors."""
+    stripes = stripes_of(code, choose, ["a", 'quoted "b", c'], 70_000)
+    lay(folder, stripes, plain)
+    places = shards(code, "plain")
+    wanted = []
+    for name, lost in zip(stripes, (["x0", "py"], ["y1"])):
+        for place in lost:
+            (folder / plain(name, place)).unlink()
+            left = {other for other in places if other not in lost}
+            wanted.append({"order": "rebuild", "stripe": name, "target": place, "length": 70_000, "survivors": left, "code": code})
+    output, errors = run("lost", folder, "--code", code, "--json", status=1)
+    said = [json.loads(line) for line in output.splitlines()]
+    for row in said:
+        check(len(row["survivors"]) == len(set(row["survivors"])), f"{row}")
+        row["survivors"] = set(row["survivors"])
+    check(len(said) == len(wanted) and all(row in said for row in wanted), f"{said}")
+    check(errors == "2 stripes; 3 fragments lost, 0 of them not in the list\n", errors)
+
+
 def test_reports(folder, code, choose):
     """The report and the JSON lines say what became of each fragment."""
     names = ["a", 'quoted "b", c', "line\nbreak"]
@@ -261,7 +282,7 @@ def test_reports(folder, code, choose):
 def main():
     choose = random.Random(26)
     for code in DATA:
-        for test in (test_disks, test_place_first, test_stripes, test_parts, test_another_folder, test_sums, test_reports):
+        for test in (test_disks, test_place_first, test_stripes, test_parts, test_another_folder, test_sums, test_requests, test_reports):
             with tempfile.TemporaryDirectory() as scratch:
                 folder = pathlib.Path(scratch) / "store"
                 folder.mkdir()

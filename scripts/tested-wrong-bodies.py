@@ -1,7 +1,7 @@
 #!/usr/bin/env python3
 """Tries the wrong bodies of library/wrong-bodies and companion/wrong-bodies, which tests alone can see: each in a copy, in which its tests
 must fail. Those of the header are tried by scripts/inline-calls.py, and those of the companion, over the built program, by the test of
-companion/tests that the edit's line `tests:` names. With the words `library` or `companion` it tries those. SHOW=1 in the environment
+companion/tests that the edit's line `tests:` names. With the arguments `library` or `companion` it tries those. SHOW=1 in the environment
 shows why tests fail."""
 
 import concurrent.futures

@@ -2,7 +2,7 @@
 # Tries the built plugin in the Ceph that is installed. It installs nothing, says what it left out, and stops what it started.
 #
 #   scripts/try-ceph.sh [part]..      all parts without a word:
-#     abi       the table of calls beside those of the shipped plugins
+#     abi       the table of calls, and what odd calls do, beside those of the shipped plugins
 #     host      every set of one to four lost shards, errors, refused memory, least reads, by a program that loads plugins as Ceph does
 #     tool      the same sets by ceph-erasure-code-tool
 #     pool      a cluster for each code: OSDs stopped, objects read, overwritten, recovered, scrubbed, a damaged shard repaired
@@ -12,10 +12,12 @@
 #     groups    three such racks with a group in each of two; one is cut off
 #     four      four OSDs lost with min_size k
 #     damaged   a shard with wrong bytes and a right checksum, with fast_read off and on
-#     store     shards taken out of stopped OSDs by rebuild-ceph, rebuilt by rebuild-store, and put back
+#     levels    OSDs with the plugin for x86-64-v2 beside others with that for x86-64-v3; the former on a processor without AVX2 (qemu-user)
 #     reads     chunks read for one and two lost shards, beside Ceph's other codes
 #     recovery  bytes that OSDs send for a lost one, beside Ceph's other codes
 #     bench     encoding and decoding beside isa and the others
+#     store     shards taken out of stopped OSDs by rebuild-ceph, rebuilt by rebuild-store, and put back
+#     incomplete groups that Ceph calls incomplete: what is determined comes back, and the pool is whole
 #
 # Clusters are on the loopback, on the processors CPUS (0,1), with at most MEMORY megabytes (5000) and SECONDS_MOST seconds (1500) for
 # each, in a folder below TMPDIR that is removed at the end, or kept where a part failed.
@@ -75,15 +77,28 @@ part_abi() {
     return 0
   fi
   "$tests/abi.sh" ceph/out "$shipped"
+  "$host" beside plugin=azure_lrc "${peers[@]}"
+}
+
+# in_short COMMAND..: what the plugin says of each call that it refuses is shown only where the command fails.
+in_short() {
+  local said ended=0
+  said=$(mktemp)
+  "$@" 2> "$said" || ended=$?
+  [ "$ended" = 0 ] || cat "$said" >&2
+  rm -f "$said"
+  return "$ended"
 }
 
 part_host() {
   local it
   for it in "${codes[@]}"; do
-    "$host" sets "plugin=azure_lrc,$it" 1 5000 100000
-    "$host" odd "plugin=azure_lrc,$it"
-    "$host" starved "plugin=azure_lrc,$it"
+    in_short "$host" sets "plugin=azure_lrc,$it" 1 5000 100000
+    in_short "$host" odd "plugin=azure_lrc,$it"
+    in_short "$host" starved "plugin=azure_lrc,$it"
+    "$host" threads "plugin=azure_lrc,$it"
   done
+  "$host" said plugin=azure_lrc
   "$host" words plugin=azure_lrc
   "$host" version plugin=azure_lrc
   "$host" least plugin=azure_lrc 3
@@ -144,13 +159,33 @@ part_damaged() {
   in_cluster damaged.sh
 }
 
-part_store() {
-  has 'shards as a store' "${daemons[@]}" || return 0
+# with_store WHAT SCRIPT: a script that takes shards out of OSDs and rebuilds them.
+with_store() {
+  has "$1" "${daemons[@]}" || return 0
   if [ ! -x crates/rebuild_store/out/rebuild_store ]; then
-    left_out+=("shards as a store (run 'make store' first)")
+    left_out+=("$1 (run 'make store' first)")
     return 0
   fi
-  in_cluster store.sh "$PWD/crates/rebuild_store/out/rebuild_store" "$PWD/ceph/rebuild-ceph"
+  in_cluster "$2" "$PWD/crates/rebuild_store/out/rebuild_store" "$PWD/ceph/rebuild-ceph"
+}
+
+part_store() { with_store 'shards as a store' store.sh; }
+
+part_incomplete() { with_store 'incomplete groups' incomplete.sh; }
+
+part_levels() {
+  local level it
+  has 'two levels' "${daemons[@]}" objdump || return 0
+  for level in x86-64-v2 x86-64-v3; do
+    [ ! -f "ceph/out/$level/libec_azure_lrc.so" ] || continue
+    left_out+=("two levels (run 'make ceph CPU=$level' first)")
+    return 0
+  done
+  in_cluster levels.sh "$PWD/ceph/out"
+  has 'a processor without AVX2' qemu-x86_64 || return 0
+  for it in "${codes[@]}"; do
+    PLUGINS=$PWD/ceph/out/x86-64-v2 in_short qemu-x86_64 -cpu Nehalem "$host" sets "plugin=azure_lrc,$it" 5000
+  done
 }
 
 part_reads() { "$host" cost plugin=azure_lrc plugin=azure_lrc,code=12-2-2 "${peers[@]}" plugin=isa,technique=cauchy,k=12,m=4; }
@@ -178,7 +213,7 @@ if [ -n "$RELEASE" ]; then export RELEASE; else unset RELEASE; fi
 echo "Ceph ${RELEASE:-(no ceph-osd is installed)}; $(sed -n 's/^model name\t: //p' /proc/cpuinfo | head -n 1)," \
   "$(getconf _NPROCESSORS_ONLN) processors"
 parts=("$@")
-[ $# -gt 0 ] || parts=(abi host tool pool images files racks groups four damaged store reads recovery bench)
+[ $# -gt 0 ] || parts=(abi host tool pool images files racks groups four damaged levels reads recovery bench store incomplete)
 for part in "${parts[@]}"; do
   declare -F "part_$part" > /dev/null || { echo "There is no part $part." >&2; exit 2; }
 done

@@ -1,6 +1,6 @@
 #!/usr/bin/env bash
 # Tests the edits in must-fail, wrong-bodies and no-compile of crates/*, and in wrong-bodies of library/ and companion/: the text that an
-# edit replaces is in its file once, and each edit that docs/WRONG_BODIES.md names in quotes is there. With the argument `rows` it prints
+# edit replaces is in its file once, and each edit that CONTRIBUTING.md names in quotes is there. With the argument `rows` it prints
 # them all, each with its kind and its file.
 set -euo pipefail
 cd "$(dirname "$0")/.."
@@ -28,6 +28,6 @@ shopt -s nullglob
 scripts/edits.py crates/*/{must-fail,wrong-bodies,no-compile}/*.edit {library,companion}/wrong-bodies/*.edit
 
 while read -r name; do
-  grep -qF " $name  " "$scratch/edits" || { echo "docs/WRONG_BODIES.md: there is no edit \"$name\""; exit 1; }
-done < <(tr '\n' ' ' < docs/WRONG_BODIES.md | grep -o '"[^"]*"' | tr -d '"' | tr -s ' ')
+  grep -qF " $name  " "$scratch/edits" || { echo "CONTRIBUTING.md: there is no edit \"$name\""; exit 1; }
+done < <(tr '\n' ' ' < CONTRIBUTING.md | grep -o '"[^"]*"' | tr -d '"' | tr -s ' ')
 echo "wrong bodies: $(wc -l < "$scratch/edits") edits, each of a text that is in its file once"

@@ -3,7 +3,7 @@
 
     lrc.py [LIBRARY]
 
-LIBRARY is the shared object, liblrc.so.0 where no word names it."""
+LIBRARY is the shared object, liblrc.so.0 where no argument names it."""
 
 import ctypes
 import os
