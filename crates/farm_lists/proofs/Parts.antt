@@ -14,7 +14,7 @@ use Rattle.lrc_code.specs.Codes.{tables_of}
 use Rattle.lrc_code.specs.Places.{index_of, same_place}
 use Rattle.lrc_code.specs.Requests.{Asked, Survivor, has_other_length, is_among, is_name, is_repeated, refusal}
 use Rattle.lrc_code.proofs.PlaceSums.{index_of-lt}
-use Rattle.farm_lists.specs.Listed.{ListedRequest, is_listed, lists_places, listed_refusal, stands_twice}
+use Rattle.farm_lists.specs.Listed.{ListedRequest, is_listed, lists_places, listed_refusal, is_listed_twice}
 use Rattle.farm_lists.specs.Parts.{ArePart}
 
 or_parts : (a b : Bool) → (a || b) ≡ false → (a ≡ false) × (b ≡ false)
@@ -61,10 +61,10 @@ not_among len (p ∷ ps) ss q part none =
           (not_among len ps here.1 q here.5 parts.1)
     ]
 
-not_repeated : (len : ℕ) (ps : List Place) (ss : List Survivor) → ArePart len ps ss → stands_twice ps ≡ false → is_repeated ss ≡ false
+not_repeated : (len : ℕ) (ps : List Place) (ss : List Survivor) → ArePart len ps ss → is_listed_twice ps ≡ false → is_repeated ss ≡ false
 not_repeated len [] ss part none = ap is_repeated part
 not_repeated len (p ∷ ps) ss part none =
-    let parts = or_parts (is_listed p ps) (stands_twice ps) none in
+    let parts = or_parts (is_listed p ps) (is_listed_twice ps) none in
     elim part [
       | inl less ↦ not_repeated len ps ss less parts.1
       | inr here ↦ ap is_repeated here.2 ∙ ap₂ (λ a b. a || b)
@@ -100,15 +100,15 @@ pub record Passes (r : ListedRequest) : Type 0 where
   pub named : is_name r.stripe ≡ true
   pub sized : (nat_le 1 r.len && nat_le r.len 65536) ≡ true
   pub placed : lists_places r ≡ true
-  pub once : stands_twice r.survivors ≡ false
+  pub once : is_listed_twice r.survivors ≡ false
   pub lost : is_listed r.target r.survivors ≡ false
 
 pub passes : (r : ListedRequest) → listed_refusal r ≡ None → Passes r
-passes r e = by (is_name r.stripe) (nat_le 1 r.len && nat_le r.len 65536) (lists_places r) (stands_twice r.survivors)
+passes r e = by (is_name r.stripe) (nat_le 1 r.len && nat_le r.len 65536) (lists_places r) (is_listed_twice r.survivors)
     (is_listed r.target r.survivors) refl refl refl refl refl e
   where
     by : (a b w c d : Bool) → is_name r.stripe ≡ a → (nat_le 1 r.len && nat_le r.len 65536) ≡ b → lists_places r ≡ w
-        → stands_twice r.survivors ≡ c → is_listed r.target r.survivors ≡ d
+        → is_listed_twice r.survivors ≡ c → is_listed r.target r.survivors ≡ d
         → cond (not a) (Some fault.BadStripe) (cond (not b) (Some fault.BadLength)
         (cond (not w) (Some fault.WrongCode) (cond c (Some fault.Repeated) (cond d (Some fault.NotLost) None)))) ≡ None → Passes r
     by true true true false false h k o l m q = record { named = h; sized = k; placed = o; once = l; lost = m }
@@ -152,10 +152,10 @@ apart : (p : Place) (ps : List Place) → is_listed p ps ≡ false → AllByRecu
 apart p [] none = tt
 apart p (q ∷ ps) none = let parts = or_parts (same_place p q) (is_listed p ps) none in (parts.0, apart p ps parts.1)
 
-distinct : (ps : List Place) → stands_twice ps ≡ false → IsDistinct eqb (map index_of ps)
+distinct : (ps : List Place) → is_listed_twice ps ≡ false → IsDistinct eqb (map index_of ps)
 unfolding IsDistinct
 distinct [] once = tt
-distinct (p ∷ ps) once = let parts = or_parts (is_listed p ps) (stands_twice ps) once in (apart p ps parts.0, distinct ps parts.1)
+distinct (p ∷ ps) once = let parts = or_parts (is_listed p ps) (is_listed_twice ps) once in (apart p ps parts.0, distinct ps parts.1)
 
 below_sixteen : (ps : List Place) (n : ℕ) → list_any (eqb n) (map index_of ps) ≡ true → n < 16
 below_sixteen [] n is = cc
@@ -170,6 +170,6 @@ below_sixteen (p ∷ ps) n is = by (eqb n (index_of p)) refl is (λ rest. below_
 pub at_most_fifteen : (r : ListedRequest) → listed_refusal r ≡ None → length r.survivors ≤ 15
 at_most_fifteen r e =
     let all : List Place = r.target ∷ r.survivors in
-    let once : stands_twice all ≡ false = ap₂ (λ a b. a || b) (passes r e).lost (passes r e).once in
+    let once : is_listed_twice all ≡ false = ap₂ (λ a b. a || b) (passes r e).lost (passes r e).once in
     let bound = length-le_from_distinct_below (map index_of all) 16 (distinct all once) (below_sixteen all) in
     omega (arith, bound, length-map all index_of)

@@ -14,11 +14,11 @@ const REQUEST_FAULTS: &[(RequestFault, &str)] = &[
         RequestFault::WrongCode,
         "the target or a survivor is not a place of the code",
     ),
-    (RequestFault::Repeated, "a survivor's place stands twice"),
+    (RequestFault::Repeated, "a survivor is listed twice"),
     (RequestFault::NotLost, "the target is among the survivors"),
     (
         RequestFault::WrongLength,
-        "a survivor has not as many bytes as the length says",
+        "a survivor does not have as many bytes as the length says",
     ),
 ];
 

@@ -3,8 +3,8 @@ ghost use Rattle.std.specs.Prelude.{◌≡◌, length, IfOk};
 
 use lrc_code::text::parse_number;
 use lrc_code::{
-    Bytes, Code, Fragment, Group, Place, PlaceSet, Request, RequestFault, encode, encode_wide,
-    first_refusal, is_stripe_name, reduce, reduce_in,
+    AskedPlaces, Bytes, Code, Fragment, Group, Place, PlaceSet, Request, RequestFault, encode,
+    encode_wide, first_refusal, is_stripe_name, reduce, reduce_in,
 };
 use lrc_field::Gf;
 use std::alloc::{AllocError, Global};
@@ -187,9 +187,11 @@ fn refusal_of_lengths(repeated: bool, among: bool) -> Option<u8> {
     match first_refusal(
         "a",
         1,
-        true,
-        repeated,
-        among,
+        AskedPlaces {
+            are_of_the_code: true,
+            has_repeated: repeated,
+            has_target: among,
+        },
         Some(RequestFault::WrongLength),
     ) {
         Some(fault) => Some(fault.code()),
@@ -200,7 +202,12 @@ fn refusal_of_lengths(repeated: bool, among: bool) -> Option<u8> {
 // The refusals before E5 ask for no bytes.
 #[test]
 fn refusals_without_bytes(rt: HostRuntime) {
-    assert!(&rt; first_refusal("a", 1, true, false, false, None).is_none());
+    let places = AskedPlaces {
+        are_of_the_code: true,
+        has_repeated: false,
+        has_target: false,
+    };
+    assert!(&rt; first_refusal("a", 1, places, None).is_none());
     assert!(&rt; refusal_of_lengths(false, false) == Some(5));
     assert!(&rt; refusal_of_lengths(true, true) == Some(3));
 }

@@ -5,9 +5,9 @@ ghost use Rattle.std.specs.String.{string_bytes};
 ghost use Rattle.lrc_code.specs.Places.{same_place};
 ghost use Rattle.lrc_code.specs.Code.{has_place as code_has};
 ghost use Rattle.lrc_code.specs.Codes.{tables_of};
-ghost use Rattle.farm_lists.specs.Listed.{ListedRequest, is_listed, listed_refusal, stands_twice, survivor_limit};
+ghost use Rattle.farm_lists.specs.Listed.{ListedRequest, is_listed, listed_refusal, is_listed_twice, survivor_limit};
 
-use lrc_code::{Code, Place, RequestFault, first_refusal};
+use lrc_code::{AskedPlaces, Code, Place, RequestFault, first_refusal};
 use std::marker::Model;
 
 /// A request as it is listed, before its fragments are read. None of the first four refusals holds of it.
@@ -68,7 +68,7 @@ fn are_places(code: Code, target: Place, survivors: &[Place]) -> bool
 }
 
 fn has_repeated(places: &[Place]) -> bool
-    ensures { result ≡ stands_twice places.now }
+    ensures { result ≡ is_listed_twice places.now }
 {
     match places {
         [] => false,
@@ -95,9 +95,11 @@ fn refusal(
     first_refusal(
         stripe,
         length,
-        are_places(code, target, survivors),
-        has_repeated(survivors),
-        has_place(target, survivors),
+        AskedPlaces {
+            are_of_the_code: are_places(code, target, survivors),
+            has_repeated: has_repeated(survivors),
+            has_target: has_place(target, survivors),
+        },
         None,
     )
 }

@@ -7,6 +7,10 @@ ghost use Rattle.lrc_plan.specs.Terms.{IsCombined};
 use lrc_field::{Term, combine_into};
 use std::alloc::{AllocError, Global};
 
+// So many positions are summed at a time; no fewer than twice as many are left for another part, so that none is shorter than one that is
+// summed by tables.
+const PART_BYTES: usize = 4096;
+
 /// The sum of the terms at each of `len` positions, in a vector. The vector is written once: nothing is filled with zeros but the part
 /// that is about to be written.
 pub(crate) fn combined(alloc: Global, len: usize, terms: &[Term]) -> Result<Vec<u8>, AllocError>
@@ -21,8 +25,7 @@ pub(crate) fn combined(alloc: Global, len: usize, terms: &[Term]) -> Result<Vec<
     Ok(bytes)
 }
 
-// Appends the sums at the next 4,096 positions, or at all that are left where these are fewer than 8,192, so that no part is shorter than
-// one that is summed by tables.
+// Appends the sums at the next `PART_BYTES` positions, or at all that are left where these are fewer than two parts.
 fn append_part(bytes: &mut Vec<u8>, len: usize, terms: &[Term]) -> Result<(), AllocError>
     requires few { length terms.now ≤ 16 }
     requires lengths { HaveLength len terms.now }
@@ -34,7 +37,11 @@ fn append_part(bytes: &mut Vec<u8>, len: usize, terms: &[Term]) -> Result<(), Al
 {
     let from = bytes.len();
     let left = len - from;
-    let part = if left < 8192 { left } else { 4096 };
+    let part = if left < 2 * PART_BYTES {
+        left
+    } else {
+        PART_BYTES
+    };
     bytes.resize(from + part, 0)?;
     combine_into(bytes.slice_mut(from..), from, terms);
     Ok(())
