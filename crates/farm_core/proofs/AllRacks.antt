@@ -18,7 +18,7 @@ use Rattle.farm_lanes.specs.Lists.{Each}
 use Rattle.farm_lanes.proofs.Lists.{at_below, at_snoc_or, at_either, at_map, sum_map}
 use Rattle.farm_lanes.proofs.Numbers.{times-cons, same_test, other_test}
 use Rattle.farm_lanes.proofs.Sums.{total_none}
-use Rattle.farm_core.specs.declared.orders.Order.{Order}
+use Rattle.farm_orders.specs.declared.orders.Order.{Order}
 use Rattle.farm_core.specs.declared.jobs.Job.{Job}
 use Rattle.farm_core.specs.declared.jobs.Job.TheVariants.{Solve, Stop}
 use Rattle.farm_core.specs.Jobs.{IsOfFeed, AsksNothing, HasPutStops, job_weight, IsSoJob, IsSoItem}

@@ -12,7 +12,7 @@ use Rattle.farm_lanes.proofs.Values.{values-append}
 use Rattle.farm_lanes.specs.LaneEnds.{PutView, TakeView, take_end, with_taken, AreAllEnds, puts_of, takes_of}
 use Rattle.farm_lanes.specs.LaneRecord.{values}
 use Rattle.farm_lanes.specs.LaneSettled.{IsSettled}
-use Rattle.farm_core.specs.declared.orders.Order.{Order}
+use Rattle.farm_orders.specs.declared.orders.Order.{Order}
 use Rattle.farm_core.specs.declared.jobs.Job.{Job}
 use Rattle.farm_core.specs.Replies.{Replied}
 use Rattle.farm_core.specs.declared.replies.CollectFault.{CollectFault}

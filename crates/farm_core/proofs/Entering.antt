@@ -2,7 +2,7 @@
 use Rattle.std.proofs.Common.{ℕ, ◌≡◌, ◌<◌, List, [], length, get_or, set, arith, ap, ◌∙◌, Option, Some, length-set}
 use Rattle.std.specs.Prelude.{Result, Ok, Err, OnOk, IfErr}
 use Rattle.std.proofs.Math.Seq.{map-set_same}
-use Rattle.farm_core.specs.declared.orders.Order.{Order}
+use Rattle.farm_orders.specs.declared.orders.Order.{Order}
 use Rattle.farm_core.specs.declared.replies.CollectFault.{CollectFault}
 use Rattle.farm_core.specs.declared.replies.CollectFault.TheVariants.{Stranger, Double}
 use Rattle.farm_core.specs.Boards.{HasRooms, IsNotHeld}

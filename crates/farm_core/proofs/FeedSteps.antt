@@ -21,11 +21,11 @@ use Rattle.farm_lanes.specs.SeatChanges.{accepted, made_close, missed_close}
 use Rattle.farm_lanes.specs.declared.gate.AlreadyClosed.{AlreadyClosed}
 use Rattle.std.specs.Prelude.{Result, Ok, Err, MatchResult}
 use Rattle.std.specs.Result.{result_ok}
-use Rattle.farm_core.specs.declared.orders.Order.{Order}
-use Rattle.farm_core.specs.declared.orders.Order.TheVariants.{Rebuild}
+use Rattle.farm_orders.specs.declared.orders.Order.{Order}
+use Rattle.farm_orders.specs.declared.orders.Order.TheVariants.{Rebuild}
 use Rattle.farm_core.specs.declared.jobs.Job.{Job}
 use Rattle.farm_core.specs.declared.jobs.Job.TheVariants.{Solve, Stop}
-use Rattle.farm_core.specs.Orders.{before_close, HasClose}
+use Rattle.farm_orders.specs.Orders.{before_close, HasClose}
 use Rattle.farm_core.specs.Jobs.{IsOfSlot, numbers_of, requests_of}
 use Rattle.farm_core.specs.Feed.{HasFed, CountUp, AreRising, IsMade, IsRightLeft, refused_draws}
 use Rattle.farm_core.proofs.Works.{put_more}

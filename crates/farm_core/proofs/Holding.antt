@@ -6,7 +6,7 @@ use Rattle.std.specs.Option.{is_some}
 use Rattle.std.proofs.lemmas.Bool.{cases_eq}
 use Rattle.farm_lanes.proofs.Lists.{at_front, at_back}
 use Rattle.farm_lanes.proofs.Numbers.{once_le, once_lt}
-use Rattle.farm_core.specs.declared.orders.Order.{Order}
+use Rattle.farm_orders.specs.declared.orders.Order.{Order}
 use Rattle.farm_core.specs.declared.replies.CollectFault.{CollectFault}
 use Rattle.farm_core.specs.declared.replies.CollectFault.TheVariants.{Stranger, Double}
 use Rattle.farm_core.specs.Replies.{Replied, Entry, entry_of}

@@ -22,7 +22,7 @@ use Rattle.farm_lanes.specs.Lists.{Each}
 use Rattle.atomic_table.specs.Seated.{TableId}
 use Rattle.std.specs.List.{sum_by}
 use Rattle.std.proofs.lemmas.List.Sums.{sum_by-cons}
-use Rattle.farm_core.specs.declared.orders.Order.{Order}
+use Rattle.farm_orders.specs.declared.orders.Order.{Order}
 use Rattle.farm_core.specs.declared.threads.given.Feeder.{Feeder}
 use Rattle.farm_core.specs.declared.threads.feeder.Fed.{Fed}
 use Rattle.farm_core.specs.declared.threads.rack_feeders.RackFeeders.{RackFeeders}
@@ -30,8 +30,7 @@ use Rattle.farm_core.specs.Feed.{HasFed, IsRightLeft, LeftBy, IsOfGate, AreFed, 
 use Rattle.farm_core.specs.RunFeeds.{slot_of}
 use Rattle.farm_core.specs.Settled.{HavePut}
 use Rattle.farm_core.specs.Ready.{AreAllFeeders, HavePutRacks}
-use Rattle.farm_core.proofs.Settled.{there}
-use Rattle.farm_core.proofs.Merged.{map_length}
+use Rattle.farm_orders.proofs.Members.{map_length, there}
 use Rattle.farm_core.proofs.AllRacks.{puts_none, puts_more}
 
 two_sums : {A B : Type 0} (f : A → ℕ) (g : B → ℕ) (xs : List A) (ys : List B) → length xs ≡ length ys

@@ -15,8 +15,8 @@ use Rattle.farm_lanes.proofs.Lengths.{below_length}
 use Rattle.farm_lanes.proofs.Numbers.{times-append}
 use Rattle.farm_lanes.specs.Counting.{times, once_below, AreBelow}
 use Rattle.farm_lanes.specs.Lists.{Each}
-use Rattle.farm_core.specs.declared.orders.Order.{Order}
-use Rattle.farm_core.specs.Orders.{before_close}
+use Rattle.farm_orders.specs.declared.orders.Order.{Order}
+use Rattle.farm_orders.specs.Orders.{before_close}
 use Rattle.farm_core.specs.Replies.{Replied, Entry}
 use Rattle.farm_core.specs.RunFeeds.{slot_feed}
 use Rattle.farm_core.specs.Feed.{Draws, drawn_numbers, AreDrawn, IsDrawnBy}
@@ -26,7 +26,7 @@ use Rattle.farm_core.specs.Boards.{Held, held_at, HasRoom, HasRooms, most_served
 use Rattle.farm_core.specs.Boards.{HoldsAll}
 use Rattle.farm_core.specs.Jobs.{IsSoReply}
 use Rattle.farm_core.specs.Settled.{AreAllDrawn, IsDrawnAt}
-use Rattle.farm_core.proofs.Settled.{there}
+use Rattle.farm_orders.proofs.Members.{map_length, place_is, there}
 use Rattle.farm_core.proofs.Progress.{no_some}
 use Rattle.farm_core.proofs.Merges.{drawn_is_lawful, merge_of_one}
 
@@ -44,16 +44,7 @@ module _ {A B : Type 0} where
   zip_places R (x ∷ xs) [] same each = absurd (omega arith)
   zip_places R (x ∷ xs) (y ∷ ys) same each = (each 0 x y refl refl, zip_places R xs ys (omega arith) (λ k. each (suc k)))
 
-  pub map_length : (f : A → B) (xs : List A) → length (map f xs) ≡ length xs
-  map_length f [] = refl
-  map_length f (x ∷ xs) = ap suc (map_length f xs)
-
 module _ {A : Type 0} where
-  pub place_is : (xs : List A) (k : ℕ) (x d : A) → get_elem? xs k ≡ some x → get_or xs k d ≡ x
-  place_is [] k x d at = absurd (some-ne-none x (sym at))
-  place_is (y ∷ ys) zero x d at = some-injective y x at
-  place_is (y ∷ ys) (suc k) x d at = place_is ys k x d at
-
   take_le : (n : ℕ) (xs : List A) → length (take n xs) ≤ length xs
   take_le zero xs = omega arith
   take_le (suc n) [] = omega arith

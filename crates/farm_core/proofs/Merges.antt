@@ -1,3 +1,4 @@
+use Rattle.farm_orders.proofs.Members.{there}
 -- What was drawn makes a lawful merge.
 use Rattle.std.proofs.Common.{◌≡◌, ◌≢◌, ℕ, zero, suc, ◌+◌, ◌<◌, ◌≤◌, List, [], ◌∷◌, length, take, map, true, false, refl, sym, ap, ◌∙◌}
 use Rattle.std.proofs.Common.{subst, inl, inr, ⊎_elim, arith, nat_lt, cond}
@@ -12,12 +13,11 @@ use Rattle.farm_lanes.proofs.Lists.{at_below, at_map}
 use Rattle.farm_lanes.proofs.Numbers.{times-cons, test_one, once_le, once_lt, same_test, other_test}
 use Rattle.farm_lanes.proofs.Sums.{total_two, total_part}
 use Rattle.farm_lanes.specs.Counting.{times}
-use Rattle.farm_core.specs.declared.orders.Order.{Order}
-use Rattle.farm_core.specs.Orders.{before_close, HasClose}
+use Rattle.farm_orders.specs.declared.orders.Order.{Order}
+use Rattle.farm_orders.specs.Orders.{before_close, HasClose}
 use Rattle.farm_core.specs.Feed.{AreRising, Draws, drawn_numbers, drawn_requests, DrewAll, AreDrawn, IsDrawnBy}
 use Rattle.farm_core.specs.Expected.{AreAnswers}
 use Rattle.farm_core.specs.Merge.{of_feed, IsWhole, IsLawfulMerge, IsFedAnswer, MergeOfOneIsIt, AnswersOfOneAreIts}
-use Rattle.farm_core.proofs.Settled.{there}
 
 lt_true : (x s : ℕ) → x < s → nat_lt x s ≡ true
 lt_true x s low = grind (arith, nat_tests)

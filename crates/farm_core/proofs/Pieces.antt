@@ -8,9 +8,9 @@ use mathlib.Core.Option.{some, some-ne-none, some-injective}
 use lib.ListN.{get_elem?}
 use Rattle.lrc_code.specs.Requests.{Asked}
 use Rattle.farm_lanes.proofs.Lists.{at_below}
-use Rattle.farm_core.specs.declared.orders.Order.{Order}
-use Rattle.farm_core.specs.declared.orders.Order.TheVariants.{Rebuild, Close}
-use Rattle.farm_core.specs.Orders.{before_close, HasClose}
+use Rattle.farm_orders.specs.declared.orders.Order.{Order}
+use Rattle.farm_orders.specs.declared.orders.Order.TheVariants.{Rebuild, Close}
+use Rattle.farm_orders.specs.Orders.{before_close, HasClose}
 use Rattle.farm_core.specs.Merge.{AreOpen, CloseEndsAll, HaveClose, IsWhole, PiecesJoin, joined, of_feed}
 
 -- ---- one feed

@@ -4,10 +4,10 @@ use Rattle.std.proofs.Common.{inr, Some, None}
 use Rattle.std.specs.Prelude.{IsSome}
 use Rattle.std.proofs.lemmas.List.{get_or_default, drop_more, get_or-drop, drop-drop, length-drop, at_drop_all}
 use Rattle.std.proofs.lemmas.Bool.{cases_eq}
-use Rattle.farm_core.specs.Orders.{before_close, HasClose}
+use Rattle.farm_orders.specs.Orders.{before_close, HasClose}
 use Rattle.farm_core.specs.Replies.{Entry, Collected, reply_at}
-use Rattle.farm_core.specs.declared.orders.Order.{Order}
-use Rattle.farm_core.specs.declared.orders.Order.TheVariants.{Rebuild, Close}
+use Rattle.farm_orders.specs.declared.orders.Order.{Order}
+use Rattle.farm_orders.specs.declared.orders.Order.TheVariants.{Rebuild, Close}
 use Rattle.lrc_code.specs.Requests.{Asked}
 
 pub here : (r k rack number : ℕ) → ((r ≡ rack) × (k ≡ number)) ⊎ ((r ≡ rack) × (k ≡ number) → ⊥)

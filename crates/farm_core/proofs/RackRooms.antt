@@ -1,3 +1,4 @@
+use Rattle.farm_orders.proofs.Members.{place_is, there}
 -- The feeders of a rack, and of all racks.
 use Rattle.std.proofs.Common.{◌≡◌, ℕ, zero, suc, ◌+◌, ◌*◌, ◌/◌, ◌<◌, ◌≤◌, List, [], ◌∷◌, ◌++◌, length, drop, get_or, replicate, refl, sym}
 use Rattle.std.proofs.Common.{ap, ◌∙◌, subst, arith}
@@ -8,10 +9,8 @@ use mathlib.Core.Option.{some, some-ne-none, some-injective}
 use lib.ListN.{get_elem?}
 use Rattle.farm_lanes.proofs.Lists.{at_back, at_below}
 use Rattle.farm_lanes.specs.Lists.{Each}
-use Rattle.farm_core.specs.declared.orders.Order.{Order}
-use Rattle.farm_core.specs.FedLists.{all_feeds_of}
-use Rattle.farm_core.proofs.Merged.{place_is}
-use Rattle.farm_core.proofs.Settled.{there}
+use Rattle.farm_orders.specs.declared.orders.Order.{Order}
+use Rattle.farm_orders.specs.FedLists.{all_feeds_of}
 
 module _ {A : Type 0} where
   pub each_replicate : (P : A → Type 0) (xs : List A) (n : ℕ) (a : A) → xs ≡ replicate n a → P a → Each P xs

@@ -6,7 +6,7 @@ use Rattle.farm_lanes.proofs.Lists.{at_map}
 use Rattle.farm_lanes.proofs.Opens.{popped_put, popped_take}
 use Rattle.farm_lanes.specs.LaneEnds.{LaneName, PutView, TakeView, new_take, AreNewPutEnds, AreNewEnds}
 use Rattle.farm_lanes.specs.Lists.{Each}
-use Rattle.farm_core.specs.declared.orders.Order.{Order}
+use Rattle.farm_orders.specs.declared.orders.Order.{Order}
 use Rattle.farm_core.specs.declared.jobs.Job.{Job}
 use Rattle.farm_core.specs.declared.threads.given.WorkerEnds.{WorkerEnds}
 use Rattle.farm_core.specs.declared.threads.rack_feeders.RackRoom.{RackRoom}
@@ -14,7 +14,7 @@ use Rattle.farm_core.specs.declared.taken.Room.{Room}
 use Rattle.farm_core.specs.Boards.{HoldsNothing}
 use Rattle.farm_core.specs.Replies.{Replied}
 use Rattle.farm_core.specs.Ready.{AreAllGiven, ends_given, rooms_of, IsReady}
-use Rattle.farm_core.proofs.Merged.{map_length}
+use Rattle.farm_orders.proofs.Members.{map_length}
 use Rattle.farm_core.proofs.Starts.{mapped_length}
 
 pub is_ready : (room : Room) (lists : List (List (List Order))) (n w : ℕ) (puts rest : List (PutView Job)) (takes : List (TakeView Job))

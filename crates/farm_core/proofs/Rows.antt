@@ -4,25 +4,19 @@ use Rattle.std.proofs.Common.{Option, Some, None}
 use Rattle.std.specs.Option.{option_map}
 use Rattle.std.specs.List.{AllZip}
 use Rattle.std.proofs.Math.ListN.{get_or-map}
-use Rattle.farm_core.specs.Orders.{before_close, served}
+use Rattle.farm_orders.specs.Orders.{before_close, served}
+use Rattle.farm_orders.proofs.Members.{all_zip_push}
 use Rattle.farm_core.specs.Replies.{Entry, entries, Answers, HasShape, IsGap, entry_of, Replied}
 use Rattle.farm_core.specs.Boards.{filled}
 use Rattle.lrc_code.specs.Answers.{IsAnswer}
 use Rattle.farm_core.specs.declared.replies.ReplyResult.TheVariants.{Done}
 use Rattle.std.proofs.lemmas.List.{map-append}
-use Rattle.farm_core.specs.declared.orders.Order.{Order}
+use Rattle.farm_orders.specs.declared.orders.Order.{Order}
 use Rattle.lrc_code.specs.declared.outcomes.Outcome.{Outcome}
 
 pub entries-replicate : (n : ℕ) → entries (replicate n None) ≡ replicate n None
 entries-replicate zero = refl
 entries-replicate (suc n) = ap (λ t. None ∷ t) (entries-replicate n)
-
-pub all_zip_push : {A B : Type 0} (R : A → B → Type 0) (xs : List A) (ys : List B) (x : A) (y : B) → AllZip R xs ys → R x y
-    → AllZip R (xs ++ x ∷ []) (ys ++ y ∷ [])
-all_zip_push R [] [] x y all here = (here, tt)
-all_zip_push R [] (q ∷ ys) x y all here = absurd all
-all_zip_push R (p ∷ xs) [] x y all here = absurd all
-all_zip_push R (p ∷ xs) (q ∷ ys) x y all here = (all.0, all_zip_push R xs ys x y all.1 here)
 
 -- a row has a cell for each request that is served
 pub shape_at : (racks : List (List Order)) (table : List (List (Option Entry))) → HasShape racks table → (rack : ℕ)

@@ -72,11 +72,6 @@ module _ {A : Type 0} where
   every_append P [] ys a b = b
   every_append P (x ∷ xs) ys a b = (a.0, every_append P xs ys a.1 b)
 
-  pub there : (xs : List A) (k : ℕ) → k < length xs → (x : A) × (get_elem? xs k ≡ some x)
-  there [] k low = absurd (omega arith)
-  there (x ∷ xs) zero low = (x, refl)
-  there (x ∷ xs) (suc k) low = there xs k (omega arith)
-
 pub replies_to-append : (r k : ℕ) (xs ys : List Replied) → replies_to r k (xs ++ ys) ≡ replies_to r k xs + replies_to r k ys
 replies_to-append r k [] ys = omega arith
 replies_to-append r k (x ∷ xs) ys = let e = replies_to-append r k xs ys in omega arith

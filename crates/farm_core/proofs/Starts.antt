@@ -7,7 +7,7 @@ use Rattle.std.specs.declared.thread.PromisedHandle.{PromisedHandle}
 use Rattle.farm_lanes.proofs.Lists.{at_map, at_snoc_or}
 use Rattle.farm_lanes.specs.LaneEnds.{PutView, TakeView, new_put}
 use Rattle.farm_lanes.specs.LaneRecord.{values}
-use Rattle.farm_core.specs.declared.orders.Order.{Order}
+use Rattle.farm_orders.specs.declared.orders.Order.{Order}
 use Rattle.farm_core.specs.declared.jobs.Job.{Job}
 use Rattle.farm_core.specs.declared.threads.worker.Worked.{Worked}
 use Rattle.farm_core.specs.declared.threads.rack_feeders.RackFeeders.{RackFeeders}
@@ -21,9 +21,9 @@ use Rattle.farm_core.specs.Settled.{HasCleared, HasJoined, HavePut}
 use Rattle.farm_core.specs.Threads.{ends_of, feeders_of, WorkersJoined}
 use Rattle.farm_core.specs.Ready.{Given, AreAllFeeders, AreAllGiven, AreEndsOf, HavePutRacks, all_given, as_new, ends_given, rooms_of}
 use Rattle.farm_core.specs.Ready.{started_of, IsReady}
+use Rattle.farm_orders.proofs.Members.{map_length}
 use Rattle.farm_core.proofs.AllRacks.{puts_stops}
 use Rattle.farm_core.proofs.Clears.{collected_racks}
-use Rattle.farm_core.proofs.Merged.{map_length}
 use Rattle.farm_core.proofs.Wholes.{workers_answered, job_ends_are, reply_ends_are}
 
 abbrev pub Handle : Type 0

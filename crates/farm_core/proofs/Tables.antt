@@ -4,10 +4,10 @@ use Rattle.std.proofs.Common.{inl, inr, Option, Some, None}
 use Rattle.std.specs.List.{AllZip}
 use Rattle.std.proofs.lemmas.List.{get_or_default, length-replicate, get_or-set_same, get_or-set_other}
 use Rattle.std.proofs.lemmas.Bool.{cases_eq}
-use Rattle.farm_core.specs.Orders.{before_close}
+use Rattle.farm_orders.specs.Orders.{before_close}
 use Rattle.farm_core.specs.Expected.{AreAnswers, AreExpected}
 use Rattle.farm_core.specs.Replies.{Entry, IsAdded, IsMissing, IsLeastMissing, IsComplete, Answers, HasShape, IsGap, HasNoGaps, IsLeastGap}
-use Rattle.farm_core.specs.declared.orders.Order.{Order}
+use Rattle.farm_orders.specs.declared.orders.Order.{Order}
 use Rattle.farm_core.specs.declared.replies.ReplyResult.TheVariants.{Starved}
 use Rattle.lrc_code.specs.Requests.{Asked}
 use Rattle.lrc_code.specs.declared.outcomes.Outcome.{Outcome}

@@ -16,7 +16,7 @@ use Rattle.farm_core.specs.Replies.{Replied}
 use Rattle.farm_core.specs.declared.threads.worker.WorkOf.{WorkOf}
 use Rattle.farm_core.specs.Jobs.{AreReplies, HasWorked, HasAnswered}
 use Rattle.farm_core.specs.Threads.{WorkersJoined, AreWorkerEnds, ends_of}
-use Rattle.farm_core.proofs.Settled.{there}
+use Rattle.farm_orders.proofs.Members.{there}
 use Rattle.farm_core.proofs.Joins.{answered_all}
 
 abbrev Handle : Type 0

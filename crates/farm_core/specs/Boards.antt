@@ -6,9 +6,9 @@ use Rattle.lrc_code.specs.declared.outcomes.Outcome.{Outcome}
 use Rattle.lrc_code.specs.Answers.{IsAnswer}
 use Rattle.lrc_code.specs.Requests.{Asked}
 use Rattle.farm_lanes.specs.Counting.{once_below}
-use Rattle.farm_core.specs.declared.orders.Order.{Order}
+use Rattle.farm_orders.specs.declared.orders.Order.{Order}
 use Rattle.farm_core.specs.declared.replies.ReplyResult.TheVariants.{Done}
-use Rattle.farm_core.specs.Orders.{before_close}
+use Rattle.farm_orders.specs.Orders.{before_close}
 use Rattle.farm_core.specs.Replies.{Replied, Entry, cell_at, entry_of}
 use Rattle.farm_core.specs.RunFeeds.{slot_rack, slot_feed}
 use Rattle.farm_core.specs.Merge.{IsLawfulMerge}

@@ -4,8 +4,8 @@ use Rattle.std.specs.List.{AllZip}
 use Rattle.lrc_code.specs.declared.outcomes.Outcome.{Outcome}
 use Rattle.lrc_code.specs.Answers.{IsAnswer}
 use Rattle.lrc_code.specs.Requests.{Asked}
-use Rattle.farm_core.specs.declared.orders.Order.{Order}
-use Rattle.farm_core.specs.Orders.{before_close}
+use Rattle.farm_orders.specs.declared.orders.Order.{Order}
+use Rattle.farm_orders.specs.Orders.{before_close}
 
 -- to each request of a list its answer, in order
 abbrev pub AreAnswers : List Asked → List Outcome → Type 0

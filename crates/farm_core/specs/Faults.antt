@@ -5,7 +5,7 @@ use Rattle.farm_core.specs.declared.replies.CollectFault.{CollectFault}
 use Rattle.farm_core.specs.declared.replies.CollectFault.TheVariants.{Stranger, Double}
 use Rattle.farm_core.specs.declared.replies.FinishFault.{FinishFault}
 use Rattle.farm_core.specs.declared.replies.FinishFault.TheVariants.{Missing, OutOfMemory}
-use Rattle.farm_core.specs.Orders.{IsServed}
+use Rattle.farm_orders.specs.Orders.{IsServed}
 
 -- it is to no request that is served, or the second to its request; it is handed back
 abbrev pub IsRefused : Collected → Replied → CollectFault → Type 0

@@ -12,15 +12,15 @@ use Rattle.farm_lanes.specs.LaneRecord.{is_end, values}
 use Rattle.farm_lanes.specs.Lists.{Each, EachAt}
 use Rattle.farm_lanes.specs.LaneEnds.{PutView, put_end}
 use Rattle.farm_lanes.specs.GateView.{GateName, SeatView}
-use Rattle.farm_core.specs.declared.orders.Order.{Order}
+use Rattle.farm_orders.specs.declared.orders.Order.{Order}
 use Rattle.farm_core.specs.declared.jobs.Job.{Job}
-use Rattle.farm_core.specs.Orders.{before_close, HasClose}
+use Rattle.farm_orders.specs.Orders.{before_close, HasClose}
 use Rattle.farm_core.specs.Jobs.{IsOfSlot, numbers_of, requests_of, IsOfFeed}
 use Rattle.lrc_code.specs.Requests.{Asked}
 use Rattle.farm_lanes.specs.Counting.{times, once_below}
 use Rattle.farm_core.specs.declared.jobs.Job.TheVariants.{Solve, Stop}
 use Rattle.farm_core.specs.declared.threads.feeder.Fed.{Fed}
-use Rattle.farm_core.specs.Limits.{feed_limit}
+use Rattle.farm_orders.specs.Limits.{feed_limit}
 use Rattle.farm_core.specs.RunFeeds.{slot_of}
 use Rattle.farm_core.specs.declared.threads.given.Feeder.{Feeder}
 

@@ -1,7 +1,7 @@
-pub mod Limits
-pub mod Orders
+pub use Rattle.farm_orders.specs.Limits
+pub use Rattle.farm_orders.specs.Orders
+pub use Rattle.farm_orders.specs.FedLists
 pub mod Expected
-pub mod FedLists
 pub mod RunFeeds
 pub mod Merge
 pub mod Replies

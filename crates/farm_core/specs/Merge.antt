@@ -7,8 +7,8 @@ use Rattle.lrc_code.specs.declared.outcomes.Outcome.{Outcome}
 use Rattle.lrc_code.specs.Answers.{IsAnswer}
 use Rattle.lrc_code.specs.Requests.{Asked}
 use Rattle.farm_lanes.specs.Lists.{EachAt}
-use Rattle.farm_core.specs.declared.orders.Order.{Order}
-use Rattle.farm_core.specs.Orders.{before_close, HasClose}
+use Rattle.farm_orders.specs.declared.orders.Order.{Order}
+use Rattle.farm_orders.specs.Orders.{before_close, HasClose}
 use Rattle.farm_core.specs.Expected.{AreAnswers}
 
 -- the requests of this feed among requests that each have their feed's number, in order

@@ -3,7 +3,7 @@ use Rattle.std.specs.Prelude.{◌≡◌, ℕ, ◌*◌, ◌/◌, List, length, re
 use mathlib.Core.Option.{some}
 use lib.ListN.{get_elem?}
 use Rattle.farm_lanes.specs.GateView.{GateName, opened}
-use Rattle.farm_core.specs.declared.orders.Order.{Order}
+use Rattle.farm_orders.specs.declared.orders.Order.{Order}
 use Rattle.farm_core.specs.declared.taken.gates.RackSeats.{RackSeats}
 use Rattle.std.specs.List.{flat_map}
 use Rattle.farm_lanes.specs.LaneEnds.{PutView, new_put, LaneName, AreNewPutEnds, new_take}
@@ -17,7 +17,7 @@ use Rattle.farm_core.specs.declared.taken.Room.{Room}
 use Rattle.farm_core.specs.declared.threads.all.Started.{Started}
 use Rattle.farm_core.specs.Replies.{Replied}
 use Rattle.farm_core.specs.Boards.{HoldsNothing}
-use Rattle.farm_core.specs.Limits.{all_feeds_limit, rack_limit, worker_limit}
+use Rattle.farm_orders.specs.Limits.{all_feeds_limit, rack_limit, worker_limit}
 
 -- a new gate with so many seats and rights, and these are they
 pub record IsNewGate (feeds : ℕ) (gate : GateName) (own : RackSeats) : Type 0 where

@@ -2,10 +2,10 @@
 use Rattle.std.specs.Prelude.{ℕ, ◌≡◌, ◌<◌, ◌⊎◌, ⊤, List, [], slice_index_or, Option, Some, None, map, length, option_map}
 use Rattle.lrc_code.specs.Requests.{Asked}
 use Rattle.lrc_code.specs.Answers.{IsAnswer}
-use Rattle.farm_core.specs.declared.orders.Order.{Order}
+use Rattle.farm_orders.specs.declared.orders.Order.{Order}
 use Rattle.farm_core.specs.declared.replies.ReplyResult.{ReplyResult}
 use Rattle.farm_core.specs.declared.replies.ReplyResult.TheVariants.{Done, Starved}
-use Rattle.farm_core.specs.Orders.{served, IsServed, before_close}
+use Rattle.farm_orders.specs.Orders.{served, IsServed, before_close}
 use Rattle.lrc_code.specs.declared.outcomes.Outcome.{Outcome}
 
 -- what a reply may say of a request: its answer, or that memory was refused

@@ -1,10 +1,10 @@
 -- How a run names the feeds of all racks: it counts them through, four slots to a rack. The field `rack` of its jobs and replies is a
 -- feed's slot.
 use Rattle.std.specs.Prelude.{ℕ, ◌+◌, ◌*◌, ◌/◌, ◌%◌, List}
-use Rattle.farm_core.specs.declared.orders.Order.{Order}
-use Rattle.farm_core.specs.declared.feeds.lists.Lists.{Lists}
-use Rattle.farm_core.specs.declared.feeds.lists.Lists.TheVariants.{One, Several}
-use Rattle.farm_core.specs.FedLists.{one_each}
+use Rattle.farm_orders.specs.declared.orders.Order.{Order}
+use Rattle.farm_core.specs.declared.lists.Lists.{Lists}
+use Rattle.farm_core.specs.declared.lists.Lists.TheVariants.{One, Several}
+use Rattle.farm_orders.specs.FedLists.{one_each}
 
 -- the slot of a feed of a rack
 unfoldable pub slot_of : ℕ → ℕ → ℕ

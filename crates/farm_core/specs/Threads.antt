@@ -15,7 +15,7 @@ use Rattle.farm_lanes.specs.GateView.{GateName}
 use Rattle.farm_lanes.specs.Lists.{Each}
 use Rattle.farm_core.specs.declared.threads.feeder.Fed.{Fed}
 use Rattle.farm_core.specs.Feed.{LeftBy}
-use Rattle.farm_core.specs.declared.orders.Order.{Order}
+use Rattle.farm_orders.specs.declared.orders.Order.{Order}
 use Rattle.farm_lanes.specs.Lists.{EachAt}
 use Rattle.farm_core.specs.declared.threads.feeder.FeedOf.{FeedOf}
 use Rattle.farm_core.specs.Jobs.{HasWorked}

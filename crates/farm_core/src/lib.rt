@@ -15,28 +15,25 @@
 //! ```
 #![tactic(auto)]
 
-mod error;
 mod farm;
-mod feeds;
 mod jobs;
-pub mod limits;
+mod lists;
 pub mod merge_laws;
-mod orders;
 mod pause;
 mod replies;
-mod settings;
 mod settling;
+mod slots;
 mod taken;
 mod threads;
 
-pub use error::FarmError;
 pub use farm::{run, run_feeds};
-pub use feeds::{Feeds, FeedsFault};
+pub use farm_orders::{
+    FarmError, Feeds, FeedsFault, Order, RackList, Racks, Settings, SettingsFault, TooManyOrders,
+    TooManyRacks, limits,
+};
 pub use jobs::Job;
-pub use orders::{Order, RackList, Racks, TooManyOrders, TooManyRacks};
 pub use pause::{NoPause, Pause};
 pub use replies::collector::Collector;
 pub use replies::{CollectFault, FinishFault, Reply, ReplyResult};
-pub use settings::{Settings, SettingsFault};
 pub use threads::feeder::{Fed, feed};
 pub use threads::worker::{Worked, work};

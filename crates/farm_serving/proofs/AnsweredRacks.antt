@@ -5,14 +5,14 @@ use Rattle.std.proofs.Math.Seq.{take-add}
 use Rattle.std.proofs.lemmas.List.{length-drop, length-map, length-take-le, map-append}
 use Rattle.lrc_code.specs.declared.outcomes.Outcome.{Outcome}
 use Rattle.farm_core.specs.Merge.{AreMergedAnswers}
-use Rattle.farm_core.specs.Orders.{before_close}
-use Rattle.farm_core.specs.declared.orders.Order.{Order}
+use Rattle.farm_orders.specs.Orders.{before_close}
+use Rattle.farm_orders.specs.declared.orders.Order.{Order}
 use Rattle.farm_core.proofs.Works.{zip_append}
 use Rattle.farm_serving.specs.AnsweredRacks.{AreAnswered, all_requests}
 use Rattle.farm_shelves.specs.Files.{Shown}
-use Rattle.farm_serving.specs.Pairs.{zip_with}
+use Rattle.farm_reading.specs.Pairs.{zip_with}
 use Rattle.farm_lists.specs.Report.{RequestRead, listed_before_close, read_of}
-use Rattle.farm_serving.specs.Serving.{AreRackReads, Reads, orders_rack, rack_read}
+use Rattle.farm_reading.specs.Reading.{AreRackReads, Reads, orders_rack, rack_read}
 use Rattle.farm_lists.specs.declared.lists.listing.Record.{Record}
 use Rattle.farm_lists.specs.declared.lists.requests.ReadRequest.{ReadRequest}
 

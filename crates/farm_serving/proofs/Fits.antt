@@ -9,8 +9,8 @@ use mathlib.Core.Option.{some}
 use lib.ListN.{get_elem?}
 use Rattle.lrc_code.specs.declared.outcomes.Outcome.{Outcome}
 use Rattle.lrc_code.specs.Requests.{Asked}
-use Rattle.farm_core.specs.declared.orders.Order.{Order}
-use Rattle.farm_core.specs.Orders.{before_close}
+use Rattle.farm_orders.specs.declared.orders.Order.{Order}
+use Rattle.farm_orders.specs.Orders.{before_close}
 use Rattle.farm_core.specs.Merge.{AreAllMergedAnswers, AreMergedAnswers, IsFedAnswer, IsLawfulMerge, of_feed}
 use Rattle.farm_lists.specs.Rows.{FitsFeeds}
 

@@ -1,15 +1,8 @@
 pub mod PutAll
-pub mod ReadFiles
-pub mod ReadSurvivors
-pub mod Pairs
-pub mod ReadRequests
-pub mod FewFeeds
-pub mod ReadRacks
 pub mod Fits
 pub mod FewAnswers
 pub mod ServeEnds
 pub mod OneFeedServed
 pub mod AnsweredRacks
-pub mod Pieces
+pub mod Closes
 pub mod RackBatches
-pub mod PieceBytes

@@ -10,9 +10,9 @@ use Rattle.std.proofs.lemmas.List.Sums.{sum_by-append, sum_by-cons}
 use Rattle.lrc_code.specs.declared.outcomes.Outcome.{Outcome}
 use Rattle.lrc_code.specs.Requests.{Asked}
 use Rattle.farm_core.specs.Merge.{AreMergedAnswers, AreOpen, HaveClose, IsFedAnswer, joined}
-use Rattle.farm_core.specs.Orders.{HasClose, before_close}
-use Rattle.farm_core.specs.declared.orders.Order.{Order}
-use Rattle.farm_core.specs.declared.orders.Order.TheVariants.{Rebuild, Close}
+use Rattle.farm_orders.specs.Orders.{HasClose, before_close}
+use Rattle.farm_orders.specs.declared.orders.Order.{Order}
+use Rattle.farm_orders.specs.declared.orders.Order.TheVariants.{Rebuild, Close}
 use Rattle.farm_core.proofs.Pieces.{are_open, close_ends_all, have_comes, have_stays, pieces_join}
 use Rattle.farm_core.proofs.Works.{zip_append}
 use Rattle.farm_serving.specs.AnsweredRacks.{AreAnswered, IsAnsweredOnce, rack_requests}
@@ -22,11 +22,11 @@ use Rattle.farm_lists.specs.Listed.{ListedRequest}
 use Rattle.farm_lists.specs.declared.lists.listing.Record.{Record}
 use Rattle.farm_lists.specs.declared.lists.requests.ReadRequest.{ReadRequest}
 use Rattle.farm_lists.specs.declared.lists.listing.Record.TheVariants as rec
-use Rattle.farm_serving.specs.Pairs.{zip_with}
-use Rattle.farm_serving.specs.Pieces.{AreOrdersOf, piece, record_count, through_close}
-use Rattle.farm_serving.specs.Serving.{AreRackReads, AreReads, Reads, asked, close_of, failures, feed_failures, feed_read, orders_feed}
-use Rattle.farm_serving.specs.Serving.{orders_rack, rack_failures, rack_read, request_read}
-use Rattle.farm_serving.proofs.Pieces.{orders_counted, orders_same, reads_same, same_requests, through_few, requests_same}
+use Rattle.farm_reading.specs.Pairs.{zip_with}
+use Rattle.farm_reading.specs.Pieces.{AreOrdersOf, piece, record_count, through_close}
+use Rattle.farm_reading.specs.Reading.{AreRackReads, AreReads, Reads, asked, close_of, failures, feed_failures, feed_read, orders_feed}
+use Rattle.farm_reading.specs.Reading.{orders_rack, rack_failures, rack_read, request_read}
+use Rattle.farm_reading.proofs.Pieces.{orders_counted, orders_same, reads_same, same_requests, through_few, requests_same}
 
 -- of these lists of a rack's feeds the reads, the orders, the answers and the requests with what was left out, and whether a close ended
 -- the rack

@@ -3,14 +3,16 @@ use Rattle.std.proofs.Common.{◌≡◌, ◌+◌, ◌∙◌, Vec, Global, ℕ, L
 use Rattle.std.specs.Prelude.{IfSome, sum_by}
 use Rattle.std.proofs.lemmas.List.Sums.{sum_by-cons}
 use Rattle.lrc_code.specs.declared.outcomes.Outcome.{Outcome}
-use Rattle.farm_core.specs.declared.error.FarmError.{FarmError}
-use Rattle.farm_core.specs.declared.error.FarmError.TheVariants as farm
+use Rattle.farm_orders.specs.declared.error.FarmError.{FarmError}
+use Rattle.farm_orders.specs.declared.error.FarmError.TheVariants as farm
 use Rattle.farm_shelves.specs.Files.{CountsFailure, Files, Shown}
 use Rattle.farm_lists.specs.Report.{RequestRead, read_of}
-use Rattle.farm_serving.specs.Serving.{AreLists, Reads, all_read, written_files}
+use Rattle.farm_reading.specs.Reading.{AreLists, Reads, all_read}
+use Rattle.farm_serving.specs.Serving.{written_files}
 use Rattle.farm_lists.specs.Written.{files_from}
-use Rattle.farm_serving.specs.Faults.{Explains, LeavesOutput, StopsServing}
-use Rattle.farm_serving.specs.Causes.{of_farm, of_shelf}
+use Rattle.farm_reading.specs.Faults.{Explains}
+use Rattle.farm_serving.specs.Faults.{LeavesOutput, StopsServing}
+use Rattle.farm_reading.specs.Causes.{of_farm, of_shelf}
 use Rattle.farm_lists.specs.declared.lists.listing.Record.{Record}
 use Rattle.farm_lists.specs.declared.lists.requests.ReadRequest.{ReadRequest}
 use Rattle.farm_shelves.specs.declared.shelf.ShelfFault.{ShelfFault}

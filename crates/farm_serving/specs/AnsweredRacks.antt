@@ -3,11 +3,11 @@ use Rattle.std.specs.Prelude.{◌≡◌, ◌++◌, ℕ, Bool, true, false, List,
 use Rattle.std.specs.declared.alloc.Global.{Global}
 use Rattle.lrc_code.specs.declared.outcomes.Outcome.{Outcome}
 use Rattle.farm_core.specs.Merge.{AreAllMergedAnswers, AreMergedAnswers, AreOpen, HaveClose}
-use Rattle.farm_core.specs.Orders.{before_close}
-use Rattle.farm_core.specs.declared.orders.Order.{Order}
+use Rattle.farm_orders.specs.Orders.{before_close}
+use Rattle.farm_orders.specs.declared.orders.Order.{Order}
 use Rattle.farm_shelves.specs.Files.{Files, Shown}
 use Rattle.farm_lists.specs.Report.{RequestRead, listed_before_close, read_of}
-use Rattle.farm_serving.specs.Serving.{AreAllReads, Reads, all_read, orders_all}
+use Rattle.farm_reading.specs.Reading.{AreAllReads, Reads, all_read, orders_all}
 use Rattle.farm_lists.specs.declared.lists.listing.Record.{Record}
 use Rattle.farm_lists.specs.declared.lists.requests.ReadRequest.{ReadRequest}
 
@@ -22,10 +22,6 @@ rack_requests feeds = map (λ requests. map read_of requests.items) feeds
 -- the requests of racks, feed by feed
 abbrev pub all_requests : List (Vec (Vec ReadRequest Global) Global) → List (List (List RequestRead))
 all_requests racks = map (λ feeds. map (λ requests. map read_of requests.items) feeds.items) racks
-
--- how many requests are before the close of each list
-abbrev pub listed_counts : List (List (List Record)) → List (List ℕ)
-listed_counts racks = map (λ feeds. map (λ list. length (listed_before_close list)) feeds) racks
 
 -- Of racks with these lists: the reads of their survivors, and of each rack the answers to a lawful merge of its feeds' orders. Where the
 -- input shows its files, these orders are those that the lists and the reads give, and so are the requests, with the places that were left

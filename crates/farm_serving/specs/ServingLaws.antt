@@ -4,10 +4,11 @@ use Rattle.lrc_code.specs.declared.outcomes.Outcome.{Outcome}
 use Rattle.lrc_code.specs.Requests.{Asked}
 use Rattle.farm_core.specs.Expected.{AreAllAnswers}
 use Rattle.farm_shelves.specs.Files.{Files}
-use Rattle.farm_serving.specs.Pairs.{zip_with}
+use Rattle.farm_reading.specs.Pairs.{zip_with}
 use Rattle.farm_lists.specs.Report.{listed_before_close}
 use Rattle.farm_lists.specs.ReportLaws.{lists_files}
-use Rattle.farm_serving.specs.Serving.{Reads, Serves, asked_feed, rack_read, written_files}
+use Rattle.farm_reading.specs.Reading.{Reads, asked_feed, rack_read}
+use Rattle.farm_serving.specs.Serving.{Serves, written_files}
 use Rattle.farm_lists.specs.declared.lists.listing.Record.{Record}
 
 -- of each list the requests before its close, with the survivors that were read

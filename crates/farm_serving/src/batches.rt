@@ -1,17 +1,17 @@
 //! Answering the lists batch by batch: in memory are the survivors of a batch, and those of the next, which may be read beside it.
 ghost use Rattle.std.specs.Prelude.{◌≡◌, ◌∷◌, [], ◌+◌, ◌*◌, ◌<◌, ◌≤◌, ◌^◌, List, IfOk, IfSome, OnOk, length, map, true, false};
 ghost use Rattle.std.specs.List.{All};
-ghost use Rattle.farm_core.specs.Limits.{feed_limit, order_limit, rack_limit};
-ghost use Rattle.farm_serving.specs.Limits.{all_survivors, rack_survivors};
+ghost use Rattle.farm_orders.specs.Limits.{feed_limit, order_limit, rack_limit};
+ghost use Rattle.farm_reading.specs.Limits.{all_survivors, rack_survivors};
 ghost use Rattle.farm_core.specs.Merge.{AreAllMergedAnswers, AreMergedAnswers, AreOpen, HaveClose, joined};
 ghost use Rattle.farm_serving.specs.AnsweredRacks.{AreAnswered, IsAnsweredOnce, all_answers, all_requests, rack_requests};
-ghost use Rattle.farm_serving.specs.Serving.{Reads, all_failures, rack_failures};
+ghost use Rattle.farm_reading.specs.Reading.{Reads, all_failures, rack_failures};
 
-use crate::ahead::{files_of_batch, files_of_piece, or_others};
-use crate::cutting::{end_of_positions, end_of_racks, lists_through_close, piece_of};
-use crate::rack_lists::RackLists;
-use crate::reading::fragments::{read_feeds, read_piece};
-use farm_core::limits::MOST_ORDERS;
+use farm_reading::ahead::{files_of_batch, files_of_piece};
+use farm_reading::cutting::{end_of_positions, end_of_racks, lists_through_close, piece_of};
+use farm_reading::RackLists;
+use farm_reading::fragments::{read_feeds, read_piece};
+use farm_orders::limits::MOST_ORDERS;
 use farm_core::{FarmError, Feeds, Pause, RackList, Settings, run_feeds};
 use farm_lists::{ReadRequest, Record};
 use farm_shelves::Shelf;
@@ -253,6 +253,14 @@ fn answer_rack<'a, R: Threads + Wait + Sync, I: Shelf, P: Pause>(
         first = end;
     }
     Ok(one_rack(alloc, so_far.answers, requests)?)
+}
+
+// These files, or the others where there are none.
+fn or_others<'a>(
+    files: &'a [(String, usize)],
+    others: &'a [(String, usize)],
+) -> &'a [(String, usize)] {
+    if files.is_empty() { others } else { files }
 }
 
 // No requests of each list.

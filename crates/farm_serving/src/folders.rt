@@ -1,11 +1,11 @@
 //! Serving a folder of the system into another.
 ghost use Rattle.std.specs.Prelude.{◌≡◌, ◌+◌, ◌<◌, ◌≤◌, ◌^◌, IfErr, IfOk};
 ghost use Rattle.farm_serving.specs.Faults.{CountsServing};
-ghost use Rattle.farm_serving.specs.Limits.{all_survivors};
+ghost use Rattle.farm_reading.specs.Limits.{all_survivors};
 ghost use Rattle.farm_shelves.specs.Folder.{folder_failed, folder_path};
 ghost use Rattle.farm_shelves.specs.ReadAhead.{read_ahead_failed, read_ahead_path};
 
-use crate::faults::ServeFault;
+use farm_reading::ServeFault;
 use crate::serving::{Served, serve};
 use farm_core::{NoPause, Settings};
 use farm_shelves::{FolderShelf, ReadAheadShelf};

@@ -17,13 +17,8 @@
 //! ```
 #![tactic(auto)]
 
-mod ahead;
 mod batches;
-mod cutting;
-mod faults;
 mod folders;
-mod rack_lists;
-mod reading;
 mod serving;
 pub mod serving_laws;
 mod writing;
@@ -33,9 +28,7 @@ pub use farm_lists::{
     ListFault, Listed, ReadRequest, Record, ReportRow, ReportShape, list_file, merged_report_text,
     read_list, report_laws, report_text,
 };
+pub use farm_reading::{RackLists, ServeFault, read_lists};
 pub use farm_shelves::{FolderShelf, MemoryShelf, ReadAheadShelf, Shelf, ShelfFault};
-pub use faults::ServeFault;
 pub use folders::{Folders, serve_folders};
-pub use rack_lists::RackLists;
-pub use reading::lists::read_lists;
 pub use serving::{Served, serve};

@@ -2,16 +2,18 @@
 ghost use Rattle.std.specs.Prelude.{◌≡◌, ℕ, List, ◌<◌, ◌+◌, ◌≤◌, ◌^◌, IfOk, IfErr, IfSome, length, map, option_map, sum_by};
 ghost use Rattle.std.specs.List.{All};
 ghost use Rattle.lrc_code.specs.declared.outcomes.Outcome.{Outcome};
-ghost use Rattle.farm_core.specs.Limits.{rack_limit};
-ghost use Rattle.farm_serving.specs.Limits.{all_survivors, rack_answers};
+ghost use Rattle.farm_orders.specs.Limits.{rack_limit};
+ghost use Rattle.farm_reading.specs.Limits.{all_survivors, rack_answers};
 ghost use Rattle.farm_lists.specs.declared.lists.listing.Record.{Record};
 ghost use Rattle.farm_shelves.specs.Files.{put_all};
-ghost use Rattle.farm_serving.specs.Faults.{CountsServing, Explains, LeavesOutput};
-ghost use Rattle.farm_serving.specs.Serving.{Reads, Serves, all_failures, written_files};
+ghost use Rattle.farm_reading.specs.Faults.{Explains};
+ghost use Rattle.farm_serving.specs.Faults.{CountsServing, LeavesOutput};
+ghost use Rattle.farm_reading.specs.Reading.{Reads, all_failures};
+ghost use Rattle.farm_serving.specs.Serving.{Serves, written_files};
 
 use crate::batches::{Answered, Batching, FeedAnswer, MOST_BATCH_BYTES, answer_lists};
-use crate::faults::ServeFault;
-use crate::reading::lists::read_lists;
+use farm_reading::ServeFault;
+use farm_reading::read_lists;
 use crate::writing::write_files;
 use farm_core::{Pause, Settings};
 use farm_lists::make_files;

@@ -4,9 +4,9 @@ use Rattle.lrc_code.specs.Requests.{code_of}
 use Rattle.farm_lists.specs.Names.{list_name}
 use Rattle.farm_lists.specs.declared.lists.listing.ListFault.{ListFault}
 use Rattle.farm_lists.specs.declared.lists.listing.ListFault.TheVariants as list_fault
-use Rattle.farm_serving.specs.declared.faults.ServeFault.{ServeFault}
-use Rattle.farm_serving.specs.declared.faults.ServeFault.TheVariants.{List as OfList, BadFeeds, TooManyRacks, NoRacks, Device, NoThread}
-use Rattle.farm_serving.specs.declared.faults.ServeFault.TheVariants.{OutOfMemory}
+use Rattle.farm_reading.specs.declared.faults.ServeFault.{ServeFault}
+use Rattle.farm_reading.specs.declared.faults.ServeFault.TheVariants.{List as OfList, BadFeeds, TooManyRacks, NoRacks, Device, NoThread}
+use Rattle.farm_reading.specs.declared.faults.ServeFault.TheVariants.{OutOfMemory}
 use Rattle.farm_serving.specs.declared.serving.Served.{Served}
 
 -- the fault as it is reported: memory that was refused while a list was read is no fault of that list

@@ -4,15 +4,15 @@ ghost use Rattle.std.specs.Prelude.{◌≡◌, ◌≤◌, IfOk, IfErr, OnOk, OnE
 ghost use Rattle.std.specs.List.{AllZip};
 ghost use Rattle.farm_core.specs.Boards.{HoldsNothing, HasRooms, IsHeldToo, filled, most_served, IsOutcomeOf, IsNotHeld, HasHeld};
 ghost use Rattle.farm_core.specs.Replies.{entry_of, Replied};
-ghost use Rattle.farm_core.specs.Limits.{feed_limit};
+ghost use Rattle.farm_orders.specs.Limits.{feed_limit};
 ghost use Rattle.farm_core.specs.RunFeeds.{lists_of, slot_feed, slot_rack};
-ghost use Rattle.farm_core.specs.declared.orders.Order.{Order};
+ghost use Rattle.farm_orders.specs.declared.orders.Order.{Order};
 
-use crate::feeds::lists::Lists;
-use crate::feeds::slots::rack_of_slot;
-use crate::orders::RackList;
+use crate::lists::Lists;
 use crate::replies::row::{Row, enter};
 use crate::replies::{CollectFault, Reply};
+use crate::slots::rack_of_slot;
+use farm_orders::RackList;
 use lrc_code::Outcome;
 use std::alloc::{AllocError, Global};
 use std::marker::Model;

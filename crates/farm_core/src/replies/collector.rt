@@ -5,13 +5,13 @@ ghost use Rattle.std.specs.List.{AllZip};
 ghost use Rattle.farm_core.specs.Replies.{Answers, HasNoGaps, IsLeastGap, IsNothingYet, IsAdded, reply_at, IsComplete, IsInPlace};
 ghost use Rattle.farm_core.specs.Replies.{NoneStarved, entry_of};
 ghost use Rattle.farm_core.specs.declared.replies.FinishFault.TheVariants.{OutOfMemory};
-ghost use Rattle.farm_core.specs.Orders.{IsServed};
+ghost use Rattle.farm_orders.specs.Orders.{IsServed};
 ghost use Rattle.farm_core.specs.Expected.{AreExpected};
 ghost use Rattle.farm_core.specs.Faults.{IsRefused, IsUnfinished};
 
-use crate::orders::Racks;
 use crate::replies::row::{Row, enter};
 use crate::replies::{CollectFault, FinishFault, Reply};
+use farm_orders::Racks;
 use lrc_code::Outcome;
 use std::alloc::{AllocError, Global};
 use std::marker::Model;

@@ -8,8 +8,8 @@ ghost use Rattle.farm_core.specs.Faults.{IsNotEntered};
 ghost use Rattle.farm_core.specs.RunFeeds.{slot_feed};
 ghost use Rattle.farm_core.specs.declared.replies.FinishFault.TheVariants.{OutOfMemory};
 
-use crate::feeds::slots::feed_of_slot;
 use crate::replies::{CollectFault, FinishFault, Reply};
+use crate::slots::feed_of_slot;
 use lrc_code::Outcome;
 use std::alloc::{AllocError, Global};
 use std::marker::Model;

@@ -4,7 +4,7 @@ ghost use Rattle.farm_lanes.specs.GateView.{IsRightCount, IsSeatCount};
 ghost use Rattle.farm_core.specs.RunFeeds.{lists_of};
 ghost use Rattle.farm_core.specs.Ready.{IsNewGate, AreGates};
 
-use crate::feeds::lists::Lists;
+use crate::lists::Lists;
 use farm_lanes::{Gate, GateError, Right, Seat};
 use std::alloc::{AllocError, Global};
 

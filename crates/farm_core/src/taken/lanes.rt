@@ -4,7 +4,7 @@ ghost use Rattle.farm_lanes.specs.Lists.{Each};
 ghost use Rattle.farm_lanes.specs.LaneEnds.{LaneName, AreNewEnds, IsCapacity, IsPutterCount, IsTakerCount, IsUnusedPut, IsUnusedTake};
 ghost use Rattle.farm_lanes.specs.LaneEnds.{new_take};
 ghost use Rattle.farm_core.specs.declared.jobs.Job.{Job};
-ghost use Rattle.farm_core.specs.Limits.{all_feeds_limit};
+ghost use Rattle.farm_orders.specs.Limits.{all_feeds_limit};
 
 use crate::jobs::Job;
 use crate::replies::Reply;

@@ -1,13 +1,13 @@
 //! Room for what the threads give back.
 ghost use Rattle.std.specs.Prelude.{◌≡◌, ◌+◌, ◌*◌, ◌≤◌, ◌<◌, [], IfOk, vec_capacity};
-ghost use Rattle.farm_core.specs.Limits.{feed_limit, rack_limit};
+ghost use Rattle.farm_orders.specs.Limits.{feed_limit, rack_limit};
 
 use crate::jobs::Job;
-use crate::limits::MOST_FEEDS;
 use crate::replies::Reply;
 use crate::threads::rack_feeders::RackFeeders;
 use crate::threads::worker::WorkerHandle;
 use farm_lanes::{EndedPut, TakeEnd};
+use farm_orders::limits::MOST_FEEDS;
 use std::alloc::{AllocError, Global};
 
 /// Empty lists with room for the ends that so many racks and workers give back.

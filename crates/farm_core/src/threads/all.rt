@@ -3,7 +3,7 @@ ghost use Rattle.std.specs.Prelude.{◌≡◌, ◌<◌, ◌≤◌, [], true, IfS
 ghost use Rattle.farm_lanes.specs.LaneEnds.{IsUnusedPut};
 ghost use Rattle.farm_core.specs.declared.taken.Room.{Room};
 ghost use Rattle.farm_core.specs.Settled.{HasJoined};
-ghost use Rattle.farm_core.specs.Limits.{worker_limit};
+ghost use Rattle.farm_orders.specs.Limits.{worker_limit};
 ghost use Rattle.farm_core.specs.Ready.{rooms_of, started_of, IsReady, AreStarted, HavePutRacks, AreEndsOf, all_given};
 ghost use Rattle.farm_core.specs.Threads.{ends_of};
 ghost use Rattle.farm_core.specs.Jobs.{HasPutStops};

@@ -2,7 +2,7 @@
 ghost use Rattle.std.specs.Prelude.{◌≡◌, ◌+◌, ◌<◌, ◌≤◌, ◌++◌, ◌∷◌, ℕ, List, [], length, map, false, vec_len, vec_capacity};
 ghost use Rattle.farm_lanes.specs.GateRecord.{IsSound};
 ghost use Rattle.farm_lanes.specs.Lists.{Each};
-ghost use Rattle.farm_core.specs.declared.orders.Order.{Order};
+ghost use Rattle.farm_orders.specs.declared.orders.Order.{Order};
 ghost use Rattle.farm_core.specs.declared.threads.feeder.Fed.{Fed as TheFed};
 ghost use Rattle.farm_core.specs.Feed.{right_back, IsJoint, IsOfGate, AreFed, HasDrawn};
 

@@ -2,17 +2,17 @@
 ghost use Rattle.std.specs.Prelude.{◌≡◌, ◌+◌, ◌≤◌, [], false, true, IfSome, vec_len, vec_capacity};
 ghost use Rattle.farm_lanes.specs.LaneEnds.{IsUnusedPut};
 ghost use Rattle.farm_core.specs.Feed.{HasFed, LeftBy};
-ghost use Rattle.farm_core.specs.Limits.{order_limit};
+ghost use Rattle.farm_orders.specs.Limits.{order_limit};
 ghost use Rattle.farm_core.specs.Threads.{FeedersJoined, feeders_of};
 
-use crate::feeds::slots::slot_number;
 use crate::jobs::Job;
-use crate::orders::{Order, RackList};
 use crate::pause::Pause;
+use crate::slots::slot_number;
 use crate::threads::given::Feeder;
 use crate::threads::worker::take_mark;
 use crate::threads::{Shared, start_thread};
 use farm_lanes::{EndedPut, Gate, PutEnd, Right, Seat, TakeEnd};
+use farm_orders::{Order, RackList};
 use std::snapshot::Snapshot;
 use std::sync::Wait;
 use std::sync::atomic::Ordering;

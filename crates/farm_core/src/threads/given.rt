@@ -1,12 +1,12 @@
 //! What the threads are given.
 ghost use Rattle.std.specs.Prelude.{◌≡◌, ◌+◌, ◌<◌, ◌≤◌, [], false};
 ghost use Rattle.farm_lanes.specs.LaneEnds.{IsUnusedPut, IsUnusedTake};
-ghost use Rattle.farm_core.specs.Limits.{feed_limit, order_limit, rack_limit};
+ghost use Rattle.farm_orders.specs.Limits.{feed_limit, order_limit, rack_limit};
 
 use crate::jobs::Job;
-use crate::orders::RackList;
 use crate::replies::Reply;
 use farm_lanes::{Gate, PutEnd, Right, Seat, TakeEnd};
+use farm_orders::RackList;
 
 /// A worker's ends. Nothing was done with them yet.
 #[derive(Drop)]

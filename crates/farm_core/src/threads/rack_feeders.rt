@@ -1,7 +1,7 @@
 //! The threads of a rack's feeders.
 ghost use Rattle.std.specs.Prelude.{◌≡◌, ◌<◌, ◌≤◌, [], vec_len, vec_capacity};
 ghost use Rattle.farm_lanes.specs.Lists.{Each};
-ghost use Rattle.farm_core.specs.Limits.{feed_limit};
+ghost use Rattle.farm_orders.specs.Limits.{feed_limit};
 ghost use Rattle.farm_core.specs.Threads.{AreOfGate};
 
 use crate::threads::feeder::{Fed, FeederHandle};

@@ -1,7 +1,7 @@
 //! Replies in whatever order they come.
 ghost use Rattle.std.specs.Prelude.{◌≡◌, IfOk, map, slice_index_or, true};
 ghost use Rattle.lrc_code.specs.Requests.{Asked};
-ghost use Rattle.farm_core.specs.Orders.{before_close, served};
+ghost use Rattle.farm_orders.specs.Orders.{before_close, served};
 ghost use Rattle.farm_core.specs.Replies.{IsInPlace};
 
 use crate::farm::requests::{

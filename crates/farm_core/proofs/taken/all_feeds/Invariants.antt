@@ -1,5 +1,5 @@
 use Rattle.std.proofs.Common.{◌≡◌, ◌≤◌, ◌+◌, ◌*◌, drop}
-use Rattle.farm_core.specs.FedLists.{all_feeds_of}
+use Rattle.farm_orders.specs.FedLists.{all_feeds_of}
 use Rattle.farm_core.specs.RunFeeds.{lists_of}
 use Rattle.farm_core.proofs.taken.all_feeds.Given as goal
 

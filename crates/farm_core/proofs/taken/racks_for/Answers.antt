@@ -9,14 +9,14 @@ use Rattle.farm_lanes.specs.GateView.{GateName}
 use Rattle.farm_lanes.specs.LaneEnds.{PutView, IsUnusedPut}
 use Rattle.farm_core.specs.declared.threads.given.Feeder.{Feeder}
 use Rattle.farm_core.specs.declared.jobs.Job.{Job}
-use Rattle.farm_core.specs.declared.orders.Order.{Order}
+use Rattle.farm_orders.specs.declared.orders.Order.{Order}
 use Rattle.farm_core.specs.declared.threads.rack_feeders.RackRoom.{RackRoom}
 use Rattle.farm_core.specs.declared.taken.gates.RackSeats.{RackSeats}
-use Rattle.farm_core.specs.FedLists.{all_feeds_of}
+use Rattle.farm_orders.specs.FedLists.{all_feeds_of}
 use Rattle.farm_core.specs.RunFeeds.{lists_of}
 use Rattle.farm_core.specs.Ready.{Given, ends_given, rooms_of}
 use Rattle.farm_core.specs.Threads.{AreRackFeeders}
-use Rattle.farm_core.proofs.Merged.{map_length}
+use Rattle.farm_orders.proofs.Members.{map_length}
 use Rattle.farm_core.proofs.Middles.{whole_front}
 use Rattle.farm_core.proofs.Rooms.{mapped_snoc}
 use Rattle.farm_core.proofs.RackEnds.{ends_snoc}

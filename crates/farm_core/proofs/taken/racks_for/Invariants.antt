@@ -2,8 +2,8 @@ use Rattle.std.proofs.Common.{◌≡◌, ℕ, ◌+◌, ◌≤◌, ◌++◌, List
 use Rattle.std.specs.Vec.Iter.{into_iter_items, into_iter_len}
 use mathlib.Core.Option.{some}
 use lib.ListN.{get_elem?}
-use Rattle.farm_core.specs.declared.orders.Order.{Order}
-use Rattle.farm_core.specs.FedLists.{all_feeds_of}
+use Rattle.farm_orders.specs.declared.orders.Order.{Order}
+use Rattle.farm_orders.specs.FedLists.{all_feeds_of}
 use Rattle.farm_core.specs.RunFeeds.{lists_of}
 use Rattle.farm_core.specs.Ready.{Given, ends_given, rooms_of}
 use Rattle.farm_core.specs.Threads.{AreRackFeeders}

@@ -5,7 +5,7 @@ use Rattle.std.specs.Prelude.{List}
 use Rattle.farm_core.specs.RunFeeds.{lists_of}
 use Rattle.farm_core.specs.Replies.{Replied}
 use Rattle.farm_core.specs.declared.threads.given.WorkerEnds.{WorkerEnds}
-use Rattle.farm_core.proofs.Merged.{map_length}
+use Rattle.farm_orders.proofs.Members.{map_length}
 use Rattle.farm_core.proofs.Rooms.{front_unused}
 use Rattle.farm_core.proofs.Readies.{is_ready}
 use Rattle.farm_core.proofs.taken.room_for.Goals as goal

@@ -4,7 +4,7 @@ use Rattle.std.proofs.lemmas.List.Sums.{sum_by-append}
 use Rattle.std.specs.List.{slice_range}
 use Rattle.lrc_code.specs.declared.outcomes.Outcome.{Outcome}
 use Rattle.farm_serving.specs.AnsweredRacks.{AreAnswered, all_answers, all_requests}
-use Rattle.farm_serving.specs.Serving.{rack_failures}
+use Rattle.farm_reading.specs.Reading.{rack_failures}
 use Rattle.farm_lists.specs.declared.lists.listing.Record.{Record}
 use Rattle.farm_lists.specs.declared.lists.requests.ReadRequest.{ReadRequest}
 use Rattle.farm_serving.proofs.AnsweredRacks.{answered_append, answered_none, range_length, take_range}

@@ -1,6 +1,6 @@
 use Rattle.std.proofs.Common.{length, take, ◌-◌, ◌≡◌, ◌+◌, ◌*◌, ◌≤◌, List}
 use Rattle.farm_serving.specs.AnsweredRacks.{AreAnswered, all_answers, all_requests}
-use Rattle.farm_serving.specs.Serving.{Reads, all_failures}
+use Rattle.farm_reading.specs.Reading.{Reads, all_failures}
 use Rattle.farm_serving.proofs.batches.answer_lists.Given as goal
 
 abbrev pub invariant-loop-first : goal.invariant-loop-first

@@ -4,8 +4,8 @@ use Rattle.std.specs.List.{AllZip}
 use Rattle.std.proofs.lemmas.Simd.{map-map}
 use Rattle.farm_core.specs.Merge.{joined}
 use Rattle.farm_serving.specs.AnsweredRacks.{rack_requests}
-use Rattle.farm_serving.specs.Pieces.{AreOrdersOf, record_count}
-use Rattle.farm_serving.specs.Serving.{AreRackReads, orders_rack, rack_read}
+use Rattle.farm_reading.specs.Pieces.{AreOrdersOf, record_count}
+use Rattle.farm_reading.specs.Reading.{AreRackReads, orders_rack, rack_read}
 use Rattle.farm_lists.specs.Report.{RequestRead, listed_before_close}
 use Rattle.farm_lists.specs.declared.lists.listing.Record.{Record}
 use Rattle.farm_serving.proofs.AnsweredRacks.{lengths_same}

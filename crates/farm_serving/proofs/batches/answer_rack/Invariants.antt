@@ -1,7 +1,7 @@
 use Rattle.std.proofs.Common.{◌-◌, ◌≡◌, ◌+◌, ◌*◌, ◌≤◌, List}
 use Rattle.farm_serving.specs.AnsweredRacks.{rack_requests}
-use Rattle.farm_serving.specs.Pieces.{record_count}
-use Rattle.farm_serving.specs.Serving.{Reads, rack_failures}
+use Rattle.farm_reading.specs.Pieces.{record_count}
+use Rattle.farm_reading.specs.Reading.{Reads, rack_failures}
 use Rattle.farm_serving.proofs.RackBatches.{AreSoFar, fronts}
 use Rattle.farm_serving.proofs.batches.answer_rack.Given as goal
 

@@ -1,5 +1,5 @@
 use Rattle.std.proofs.Common.{◌∙◌, ◌++◌, ◌∷◌, [], List, map, ap}
-use Rattle.farm_serving.proofs.FewFeeds.{Rack, feeds_of_one}
+use Rattle.farm_reading.proofs.FewFeeds.{Rack, feeds_of_one}
 use Rattle.farm_serving.proofs.batches.feeds_of_rack.Goals as goal
 
 pub from_checked-requires : goal.from_checked-requires

@@ -1,7 +1,8 @@
 use Rattle.std.proofs.Common.{◌<◌, ◌≤◌, List, length, ap, arith, refl}
-use Rattle.farm_core.specs.Orders.{before_close}
-use Rattle.farm_core.specs.declared.orders.Order.{Order}
-use Rattle.farm_serving.proofs.Pieces.{closes_at, has_close, has_no_close, open_all, open_more}
+use Rattle.farm_orders.specs.Orders.{before_close}
+use Rattle.farm_orders.specs.declared.orders.Order.{Order}
+use Rattle.farm_reading.proofs.Pieces.{has_close, has_no_close}
+use Rattle.farm_serving.proofs.Closes.{closes_at, open_all, open_more}
 use Rattle.farm_serving.proofs.batches.have_close.Goals as goal
 
 pub returns-clause-opened : goal.returns-clause-opened

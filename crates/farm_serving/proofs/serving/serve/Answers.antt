@@ -4,15 +4,16 @@ use Rattle.std.specs.Prelude.{sum_by}
 use Rattle.std.proofs.lemmas.Result.{err_from_is_err_and}
 use Rattle.lrc_code.specs.declared.outcomes.Outcome.{Outcome}
 use Rattle.farm_core.specs.Merge.{AreAllMergedAnswers}
-use Rattle.farm_core.specs.declared.orders.Order.{Order}
+use Rattle.farm_orders.specs.declared.orders.Order.{Order}
 use Rattle.farm_lists.specs.declared.lists.listing.Record.{Record}
 use Rattle.farm_lists.specs.declared.lists.requests.ReadRequest.{ReadRequest}
-use Rattle.farm_serving.specs.Causes.{of_farm}
-use Rattle.farm_serving.specs.Faults.{Explains}
+use Rattle.farm_reading.specs.Causes.{of_farm}
+use Rattle.farm_reading.specs.Faults.{Explains}
 use Rattle.farm_shelves.specs.Files.{Files, StopsWriting, put_all}
 use Rattle.farm_lists.specs.Named.{named}
 use Rattle.farm_lists.specs.Rows.{FitsFeeds}
-use Rattle.farm_serving.specs.Serving.{AreAllReads, Reads, Serves, all_read, orders_all, written_files}
+use Rattle.farm_reading.specs.Reading.{AreAllReads, Reads, all_read, orders_all}
+use Rattle.farm_serving.specs.Serving.{Serves, written_files}
 use Rattle.farm_serving.proofs.AnsweredRacks.{requests_counted}
 use Rattle.farm_serving.proofs.ServeEnds.{Answers, Requests, farm_explains, total_is, where_shown, write_leaves, written_is}
 use Rattle.farm_serving.proofs.FewAnswers.{FitLists, all_few, fit_counts, listed_counts}

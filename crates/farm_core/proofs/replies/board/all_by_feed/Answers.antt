@@ -3,7 +3,7 @@ use Rattle.std.specs.List.{AllZip}
 use Rattle.farm_core.specs.Replies.{Entry}
 use Rattle.farm_core.specs.Boards.{filled, IsOutcomeOf}
 use Rattle.lrc_code.specs.declared.outcomes.Outcome.{Outcome}
-use Rattle.farm_core.proofs.Rows.{all_zip_push}
+use Rattle.farm_orders.proofs.Members.{all_zip_push}
 use Rattle.farm_core.proofs.replies.board.all_by_feed.Goals as goal
 
 AnswersRow : List (Option Entry) → Vec (ℕ × Outcome) Global → Type 0

@@ -4,7 +4,7 @@ use Rattle.farm_core.specs.Replies.{Entry}
 use Rattle.farm_core.specs.RunFeeds.{slot_feed}
 use Rattle.farm_core.specs.Boards.{filled, IsOutcomeOf}
 use Rattle.lrc_code.specs.declared.outcomes.Outcome.{Outcome}
-use Rattle.farm_core.proofs.Rows.{all_zip_push}
+use Rattle.farm_orders.proofs.Members.{all_zip_push}
 use Rattle.farm_core.proofs.replies.board.all_filled.Goals as goal
 
 AnswersRow : List (Option Entry) → Vec Outcome Global → Type 0

@@ -2,7 +2,7 @@ use Rattle.std.proofs.Common.{rules, ◌∙◌, List, [], ◌∷◌, ◌++◌, v
 use Rattle.std.specs.List.{AllZip}
 use Rattle.farm_core.specs.Replies.{Entry, Answers}
 use Rattle.lrc_code.specs.declared.outcomes.Outcome.{Outcome}
-use Rattle.farm_core.proofs.Rows.{all_zip_push}
+use Rattle.farm_orders.proofs.Members.{all_zip_push}
 use Rattle.farm_core.proofs.replies.collector.all_outcomes.Goals as goal
 
 AnswersRow : List (Option Entry) → Vec Outcome Global → Type 0

@@ -8,7 +8,7 @@ use Rattle.farm_core.specs.declared.threads.given.Feeder.{Feeder}
 use Rattle.farm_core.specs.declared.threads.feeder.Fed.{Fed}
 use Rattle.farm_core.specs.declared.threads.feeder.FeedOf.{FeedOf}
 use Rattle.farm_core.specs.Threads.{feeders_of}
-use Rattle.farm_core.proofs.Merged.{map_length}
+use Rattle.farm_orders.proofs.Members.{map_length}
 use Rattle.farm_core.proofs.threads.all.start_racks.Goals as goal
 
 pub invariant_of-push_reserved : goal.invariant_of-push_reserved

@@ -1,9 +1,9 @@
 use Rattle.std.proofs.Common.{arith, ◌≡◌, ◌+◌, ◌≤◌, ◌<◌, ◌∙◌, List, length, true, false, true≢false, refl, ap, sym, subst, Some, None}
 use Rattle.farm_lanes.specs.declared.lane.item.Item.TheVariants.{Value}
 use Rattle.farm_lanes.specs.declared.gate.record.SeatRecord.{SeatRecord}
-use Rattle.farm_core.specs.declared.orders.Order.{Order}
+use Rattle.farm_orders.specs.declared.orders.Order.{Order}
 use Rattle.farm_core.specs.declared.jobs.Job.TheVariants.{Solve}
-use Rattle.farm_core.specs.Orders.{before_close, HasClose}
+use Rattle.farm_orders.specs.Orders.{before_close, HasClose}
 use Rattle.farm_core.proofs.Progress.{close_here, end_here, one_request, has_close, closes_before_end}
 use Rattle.farm_core.proofs.FeedSteps.{IsFeeding, feed_more, feed_ends, right_spent, close_holds, draws_known}
 use Rattle.farm_core.proofs.threads.feeder.feed.Goals as goal

@@ -1,5 +1,5 @@
 use Rattle.std.proofs.Common.{◌≡◌, drop}
-use Rattle.farm_core.specs.Orders.{before_close}
+use Rattle.farm_orders.specs.Orders.{before_close}
 use Rattle.farm_core.proofs.FeedSteps.{IsFeeding}
 use Rattle.farm_core.proofs.threads.feeder.feed.Given as goal
 

@@ -1,5 +1,5 @@
 use Rattle.std.proofs.Common.{◌≡◌, ◌++◌, drop, map}
-use Rattle.farm_core.specs.Orders.{before_close}
+use Rattle.farm_orders.specs.Orders.{before_close}
 use Rattle.farm_tests.proofs.farm.collecting.requests_of.Given as goal
 
 abbrev pub invariant-loop-order : goal.invariant-loop-order

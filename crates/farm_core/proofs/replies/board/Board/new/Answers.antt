@@ -1,6 +1,6 @@
 use Rattle.std.proofs.Common.{arith, ◌≡◌, ◌∙◌, List, map, replicate, take, vec_items, ap, sym, subst, Option, None, [], get_or, refl}
 use Rattle.std.proofs.lemmas.List.{take_all}
-use Rattle.farm_core.specs.declared.orders.Order.{Order}
+use Rattle.farm_orders.specs.declared.orders.Order.{Order}
 use Rattle.farm_core.specs.Replies.{Entry}
 use Rattle.farm_core.specs.Boards.{HasRooms, most_served}
 use Rattle.farm_core.specs.RunFeeds.{lists_of}

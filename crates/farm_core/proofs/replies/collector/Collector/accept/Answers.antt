@@ -2,7 +2,7 @@ use Rattle.std.proofs.Common.{arith, ℕ, List, vec_items, subst, Option}
 use Rattle.std.specs.Prelude.{IfErr, OnOk}
 use Rattle.farm_core.specs.Replies.{HasCell, Collected, Entry}
 use Rattle.farm_core.specs.Faults.{IsNotEntered, IsRefused}
-use Rattle.farm_core.specs.Orders.{IsServed}
+use Rattle.farm_orders.specs.Orders.{IsServed}
 use Rattle.farm_core.proofs.Entering.{if_err, on_ok, refused}
 use Rattle.farm_core.proofs.Rows.{shape_at}
 use Rattle.farm_core.proofs.replies.collector.Collector.accept.Goals as goal

@@ -2,8 +2,8 @@ use Rattle.std.proofs.Common.{arith, ◌≡◌, ◌∙◌, List, length, map, re
 use Rattle.std.proofs.Common.{refl}
 use Rattle.std.proofs.lemmas.List.{take_all}
 use Rattle.farm_core.specs.Replies.{Entry, HasShape}
-use Rattle.farm_core.specs.Orders.{before_close}
-use Rattle.farm_core.specs.declared.orders.Order.{Order}
+use Rattle.farm_orders.specs.Orders.{before_close}
+use Rattle.farm_orders.specs.declared.orders.Order.{Order}
 use Rattle.farm_core.proofs.Tables.{shape_nothing, none_yet}
 use Rattle.farm_core.proofs.replies.collector.Collector.new.Goals as goal
 

@@ -1,5 +1,5 @@
 use Rattle.std.proofs.Common.{◌≡◌, ◌≤◌, length, map, take, replicate, vec_items, vec_len, vec_capacity, None}
-use Rattle.farm_core.specs.Orders.{before_close}
+use Rattle.farm_orders.specs.Orders.{before_close}
 use Rattle.farm_core.proofs.replies.collector.Collector.new.Given as goal
 
 abbrev pub invariant-loop-list : goal.invariant-loop-list

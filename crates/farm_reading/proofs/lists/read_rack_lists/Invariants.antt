@@ -1,0 +1,13 @@
+use Rattle.std.proofs.Common.{◌≡◌, ◌≤◌, Vec, Global, All, Some, map, length}
+use Rattle.farm_lists.specs.declared.lists.listing.Record.{Record}
+use Rattle.farm_shelves.specs.Files.{Files}
+use Rattle.farm_reading.specs.Reading.{HaveFeeds}
+use Rattle.farm_reading.proofs.lists.read_rack_lists.Given as goal
+
+abbrev pub invariant-loop-feed : goal.invariant-loop-feed
+invariant-loop-feed g l =
+    (g.I.Shelf.files l.input ≡ g.I.Shelf.files l.fn.input)
+    × (g.I.Shelf.failed l.input ≡ g.I.Shelf.failed l.fn.input)
+    × (length l.feeds.items ≡ l.feed)
+    × All (λ (v : Vec Record Global). length v.items ≤ 4096) l.feeds.items
+    × ((there : Files) → g.I.Shelf.files l.fn.input ≡ Some there → HaveFeeds there l.rack 0 (map (λ v. v.items) l.feeds.items))

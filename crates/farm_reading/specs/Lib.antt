@@ -1,0 +1,7 @@
+pub mod Limits
+pub mod Pairs
+pub mod Reading
+pub mod Faults
+pub mod Causes
+pub mod Ahead
+pub mod Pieces
