@@ -4,10 +4,10 @@ ghost use Rattle.std.specs.Prelude.{◌≤◌, length};
 ghost use Rattle.farm_orders.specs.Limits.{feed_limit, rack_limit};
 
 use crate::cutting::{end_of_positions, end_of_racks, lists_through_close, piece_of};
-use crate::rack_lists::RackLists;
 use crate::fragments::push_fragment_files;
-use farm_orders::limits::MOST_ORDERS;
+use crate::rack_lists::RackLists;
 use farm_lists::{Record, requests_before_close};
+use farm_orders::limits::MOST_ORDERS;
 use std::alloc::{AllocError, Global};
 
 // Once so many files are named, those of further lists are left to their turn.

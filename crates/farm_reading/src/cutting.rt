@@ -6,8 +6,8 @@ ghost use Rattle.farm_reading.specs.Pieces.{IsBatchEnd, list_bytes, listed_bytes
 ghost use Rattle.farm_reading.specs.Pieces.{request_room, survivor_room, through_close};
 
 use crate::rack_lists::RackLists;
-use farm_orders::limits::MOST_ORDERS;
 use farm_lists::{Listed, Record, count_requests};
+use farm_orders::limits::MOST_ORDERS;
 use std::alloc::{AllocError, Global};
 
 // What a survivor takes in memory beside its bytes, and a request beside its survivors: names, paths and rooms. With them a batch is

@@ -3,8 +3,8 @@ ghost use Rattle.std.specs.Prelude.{◌≡◌};
 ghost use Rattle.farm_reading.specs.declared.faults.ServeFault.TheVariants as fault;
 ghost use Rattle.farm_reading.specs.Causes.{of_farm, of_shelf};
 
-use farm_orders::FarmError;
 use farm_lists::ListFault;
+use farm_orders::FarmError;
 use farm_shelves::ShelfFault;
 use std::alloc::{AllocError, AllocFailed};
 use thiserror::Error;

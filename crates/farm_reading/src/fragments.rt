@@ -22,8 +22,8 @@ ghost use Rattle.farm_lists.specs.Parts.{ArePart};
 
 use crate::cutting::lists_through_close;
 use crate::rack_lists::RackLists;
-use farm_orders::{Feeds, Order, RackList};
 use farm_lists::{Listed, ReadRequest, Record, fragment_file, requests_before_close};
+use farm_orders::{Feeds, Order, RackList};
 use farm_shelves::{Shelf, ShelfFault};
 use lrc_code::{Fragment, Place, Request};
 use std::alloc::{AllocError, Global};

@@ -12,8 +12,8 @@ ghost use Rattle.farm_reading.specs.Faults.{CountsFault, Explains, IsListFault, 
 
 use crate::faults::ServeFault;
 use crate::rack_lists::RackLists;
-use farm_orders::limits::{MOST_FEEDS, MOST_RACKS};
 use farm_lists::{ListFault, MOST_LIST_BYTES, Record, list_file, read_list};
+use farm_orders::limits::{MOST_FEEDS, MOST_RACKS};
 use farm_shelves::Shelf;
 use std::alloc::Global;
 

@@ -7,13 +7,13 @@ ghost use Rattle.farm_core.specs.Merge.{AreAllMergedAnswers, AreMergedAnswers, A
 ghost use Rattle.farm_serving.specs.AnsweredRacks.{AreAnswered, IsAnsweredOnce, all_answers, all_requests, rack_requests};
 ghost use Rattle.farm_reading.specs.Reading.{Reads, all_failures, rack_failures};
 
-use farm_reading::ahead::{files_of_batch, files_of_piece};
-use farm_reading::cutting::{end_of_positions, end_of_racks, lists_through_close, piece_of};
-use farm_reading::RackLists;
-use farm_reading::fragments::{read_feeds, read_piece};
-use farm_orders::limits::MOST_ORDERS;
 use farm_core::{FarmError, Feeds, Pause, RackList, Settings, run_feeds};
 use farm_lists::{ReadRequest, Record};
+use farm_orders::limits::MOST_ORDERS;
+use farm_reading::RackLists;
+use farm_reading::ahead::{files_of_batch, files_of_piece};
+use farm_reading::cutting::{end_of_positions, end_of_racks, lists_through_close, piece_of};
+use farm_reading::fragments::{read_feeds, read_piece};
 use farm_shelves::Shelf;
 use lrc_code::Outcome;
 use std::alloc::{AllocError, Global};

@@ -5,9 +5,9 @@ ghost use Rattle.farm_reading.specs.Limits.{all_survivors};
 ghost use Rattle.farm_shelves.specs.Folder.{folder_failed, folder_path};
 ghost use Rattle.farm_shelves.specs.ReadAhead.{read_ahead_failed, read_ahead_path};
 
-use farm_reading::ServeFault;
 use crate::serving::{Served, serve};
 use farm_core::{NoPause, Settings};
+use farm_reading::ServeFault;
 use farm_shelves::{FolderShelf, ReadAheadShelf};
 use std::alloc::{AllocError, Global};
 use std::sync::Wait;

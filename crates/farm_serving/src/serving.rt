@@ -12,11 +12,10 @@ ghost use Rattle.farm_reading.specs.Reading.{Reads, all_failures};
 ghost use Rattle.farm_serving.specs.Serving.{Serves, written_files};
 
 use crate::batches::{Answered, Batching, FeedAnswer, MOST_BATCH_BYTES, answer_lists};
-use farm_reading::ServeFault;
-use farm_reading::read_lists;
 use crate::writing::write_files;
 use farm_core::{Pause, Settings};
 use farm_lists::make_files;
+use farm_reading::{ServeFault, read_lists};
 use farm_shelves::Shelf;
 use std::alloc::Global;
 use std::sync::Wait;

@@ -22,7 +22,6 @@ mod pieces;
 mod refusals;
 mod replies;
 mod scanning;
-pub mod statuses;
 mod words;
 
 pub use line::{line_mode, line_mode_in_threads, line_status};

@@ -12,15 +12,11 @@
 //! What can't be written to standard error is lost; the status says how it ended all the same.
 #![tactic(auto)]
 
-pub mod farm_faults;
-#[cfg(test)]
-mod tests;
-
 use command_line::{Words, WordsFault, read_words};
+use exit_statuses::{DEVICE, DONE, NO_RESOURCES, USAGE};
 use farm_core::{Settings, SettingsFault};
 use farm_faults::{farm_status, fault_line};
 use farm_serving::{Served, serve_folders};
-use line_mode::statuses::{DEVICE, DONE, NO_RESOURCES, USAGE};
 use line_mode::{line_mode_in_threads, line_status};
 use std::io::ErrorKind;
 use std::process::ExitCode;

@@ -1,18 +1,28 @@
 //! The commands `repair` and `scrub` over all stripes of a store.
-use crate::arguments::Options;
+use crate::arguments::{Options, Part};
 use crate::fitting::refuse_other_stores;
 use crate::progress::Progress;
 use crate::reports::{Rows, file_of, line_of, rows_of, write_report};
 use crate::statuses::{DEVICE, DONE, LEFT};
 use crate::stores::OpenStore;
 use crate::summaries::{planned, repaired, scrubbed};
-use crate::totals::totals_of;
-use crate::workers::{Done, Work, work_on};
+use crate::totals::{Results, Totals};
+use crate::workers::{Work, work_on};
+use lrc_code::Code;
+use std::alloc::{AllocError, Global};
 use std::sync::atomic::AtomicU64;
 use std::thread::Threads;
 use std::{fs, io};
-use store_folder::{FolderStore, Pattern, Site, is_leftover_of};
-use store_repair::{Reads, Repair, Stripe};
+use store_folder::{FolderStore, Pattern, is_leftover_of};
+use store_repair::{Reads, Repair};
+
+// The begin of the names of unfinished files, by the part of the store that a run works on.
+fn tag_of(alloc: Global, part: Option<Part>) -> Result<String, AllocError> {
+    match part {
+        Some(part) => format!(in alloc; "{}-{}-", part.index, part.of),
+        None => Ok(String::new(alloc)),
+    }
+}
 
 /// Repairs the stripes, says what was done and what is left, and gives the exit status.
 pub fn repair_all<R: Threads + Sync>(
@@ -23,18 +33,9 @@ pub fn repair_all<R: Threads + Sync>(
     options: &Options,
 ) -> io::Result<u8> {
     let alloc = system.alloc();
-    let tag = match options.part {
-        Some(part) => format!(in alloc; "{}-{}-", part.index, part.of)?,
-        None => String::new(alloc),
-    };
-    let site = Site {
-        folder: store.folder.as_str(),
-        target: options.to.as_ref().unwrap_or(&store.folder).as_str(),
-        pattern: *pattern,
-        code: store.code,
-        sums: store.sums.as_ref(),
-        tag: tag.as_str(),
-    };
+    let tag = tag_of(alloc, options.part)?;
+    let target = options.to.as_ref().unwrap_or(&store.folder).as_str();
+    let site = store.site(pattern, target, tag.as_str());
     let stripes = store.stripes(system, options.part)?;
     let numbers = AtomicU64::new(0);
     let files = FolderStore::new(system, site, &numbers);
@@ -44,20 +45,11 @@ pub fn repair_all<R: Threads + Sync>(
     }
     let are_removed = options.dry_run || remove_leftovers(system, store, tag.as_str())?;
     let progress = Progress::new(system, alloc, store.code, stripes.as_slice())?;
-    let repair = Repair {
-        code: store.code,
-        reads: options.reads,
-        replace_damaged: options.replace_damaged,
-        elsewhere: options.to.is_some(),
-    };
-    let work = if options.dry_run {
-        Work::Plan(repair)
-    } else {
-        Work::Repair(repair, &progress)
-    };
+    let work = repair_work(store.code, options, &progress);
     let all = work_on(rt, system, &site, work, stripes.as_slice(), options.workers)?;
     progress.end();
-    let status = say_repaired(system, &site, stripes.as_slice(), all.as_slice(), options)?;
+    let results = Results::new(&site, stripes.as_slice(), all.as_slice());
+    let status = say_repaired(system, &results, options)?;
     if let Some(path) = &store.part_lock {
         fs::remove_file(system, path.as_str())?;
     }
@@ -65,6 +57,21 @@ pub fn repair_all<R: Threads + Sync>(
         return Ok(DEVICE);
     }
     Ok(status)
+}
+
+// What is done with each stripe: a repair, or its plan.
+fn repair_work<'p, 'r>(code: Code, options: &Options, progress: &'p Progress<'r>) -> Work<'p, 'r> {
+    let repair = Repair {
+        code,
+        reads: options.reads,
+        replace_damaged: options.replace_damaged,
+        elsewhere: options.to.is_some(),
+    };
+    if options.dry_run {
+        Work::Plan(repair)
+    } else {
+        Work::Repair(repair, progress)
+    }
 }
 
 // Removes unfinished files that a run which was killed has left: those of this part, or all. One that can't be removed is said. Says
@@ -86,46 +93,55 @@ fn remove_leftovers(rt: &HostRuntime, store: &OpenStore, tag: &str) -> io::Resul
 }
 
 // Says what became of the stripes, and gives the exit status.
-fn say_repaired(
-    rt: &HostRuntime,
-    site: &Site<'_>,
-    stripes: &[Stripe<'_>],
-    all: &[Done],
-    options: &Options,
-) -> io::Result<u8> {
+fn say_repaired(rt: &HostRuntime, results: &Results<'_>, options: &Options) -> io::Result<u8> {
+    say_stripes(rt, results, options.reads)?;
+    say_rows(rt, results, options)?;
+    let summary = if options.dry_run {
+        planned(rt.alloc(), results)?
+    } else {
+        repaired(rt.alloc(), results)?
+    };
+    say_summary(rt, summary.as_str(), options)?;
+    let totals = &results.totals;
+    if options.dry_run && totals.rebuilt > 0 && !totals.device {
+        return Ok(LEFT);
+    }
+    Ok(status_of(totals))
+}
+
+// The exit status of a command by what it left.
+fn status_of(totals: &Totals) -> u8 {
+    if totals.device {
+        DEVICE
+    } else if totals.left > 0 {
+        LEFT
+    } else {
+        DONE
+    }
+}
+
+// Says what a repair found in the stripes, and, where all survivors were read, what no check covered.
+fn say_stripes(rt: &HostRuntime, results: &Results<'_>, reads: Reads) -> io::Result<()> {
     let alloc = rt.alloc();
-    for done in all {
-        let Some(stripe) = stripes.get(done.index) else {
+    for done in results.all {
+        let Some(stripe) = results.stripes.get(done.index) else {
             continue;
         };
         for finding in &done.outcome.findings {
-            let line = line_of(alloc, site, stripe, finding)?;
+            let line = line_of(alloc, results.site, stripe, finding)?;
             eprintln!(rt; "{line}")?;
         }
-        if !done.outcome.is_checked && options.reads == Reads::All {
-            for place in &done.outcome.rebuilt {
-                let name = file_of(alloc, site, stripe, *place)?;
-                eprintln!(rt;
-                    "{name}: rebuilt without any check: as many fragments survive as it takes, so damage among them can't show"
-                )?;
-            }
+        if done.outcome.is_checked || reads == Reads::Few {
+            continue;
+        }
+        for place in &done.outcome.rebuilt {
+            let name = file_of(alloc, results.site, stripe, *place)?;
+            eprintln!(rt;
+                "{name}: rebuilt without any check: as many fragments survive as it takes, so damage among them can't show"
+            )?;
         }
     }
-    say_rows(rt, stripes, all, options)?;
-    let totals = totals_of(all);
-    let summary = if options.dry_run {
-        planned(alloc, site, stripes, all, &totals)?
-    } else {
-        repaired(alloc, site, stripes, all, &totals)?
-    };
-    say_summary(rt, summary.as_str(), options)?;
-    if totals.device {
-        return Ok(DEVICE);
-    }
-    if totals.left > 0 || (options.dry_run && totals.rebuilt > 0) {
-        return Ok(LEFT);
-    }
-    Ok(DONE)
+    Ok(())
 }
 
 // The summary is on standard output, but where rows are there.
@@ -137,18 +153,13 @@ fn say_summary(rt: &HostRuntime, summary: &str, options: &Options) -> io::Result
 }
 
 // Writes the rows of a report to where they are asked for.
-fn say_rows(
-    rt: &HostRuntime,
-    stripes: &[Stripe<'_>],
-    all: &[Done],
-    options: &Options,
-) -> io::Result<()> {
+fn say_rows(rt: &HostRuntime, results: &Results<'_>, options: &Options) -> io::Result<()> {
     if options.json {
-        let rows = rows_of(rt.alloc(), stripes, all, Rows::Json)?;
+        let rows = rows_of(rt.alloc(), results.stripes, results.all, Rows::Json)?;
         print!(rt; "{rows}")?;
     }
     if let Some(path) = &options.report {
-        let rows = rows_of(rt.alloc(), stripes, all, Rows::Csv)?;
+        let rows = rows_of(rt.alloc(), results.stripes, results.all, Rows::Csv)?;
         write_report(rt, path.as_str(), rows.as_str())?;
     }
     Ok(())
@@ -163,32 +174,19 @@ pub fn scrub<R: Threads + Sync>(
     options: &Options,
 ) -> io::Result<u8> {
     let stripes = store.stripes(system, options.part)?;
-    let folder = store.folder.as_str();
-    let site = Site {
-        folder,
-        target: folder,
-        pattern: *pattern,
-        code: store.code,
-        sums: store.sums.as_ref(),
-        tag: "",
-    };
+    let site = store.site(pattern, store.folder.as_str(), "");
     let work = Work::Scrub(store.code);
     let all = work_on(rt, system, &site, work, stripes.as_slice(), options.workers)?;
-    say_scrubbed(system, &site, stripes.as_slice(), all.as_slice(), options)
+    let results = Results::new(&site, stripes.as_slice(), all.as_slice());
+    say_scrubbed(system, &results, options)
 }
 
 // Says what isn't as it should be, and gives the exit status.
-fn say_scrubbed(
-    rt: &HostRuntime,
-    site: &Site<'_>,
-    stripes: &[Stripe<'_>],
-    all: &[Done],
-    options: &Options,
-) -> io::Result<u8> {
+fn say_scrubbed(rt: &HostRuntime, results: &Results<'_>, options: &Options) -> io::Result<u8> {
     let alloc = rt.alloc();
     let mut unchecked = 0u64;
-    for done in all {
-        let Some(stripe) = stripes.get(done.index) else {
+    for done in results.all {
+        let Some(stripe) = results.stripes.get(done.index) else {
             continue;
         };
         if !done.outcome.is_checked {
@@ -198,19 +196,12 @@ fn say_scrubbed(
             continue;
         }
         for finding in &done.outcome.findings {
-            let line = line_of(alloc, site, stripe, finding)?;
+            let line = line_of(alloc, results.site, stripe, finding)?;
             println!(rt; "{line}")?;
         }
     }
-    say_rows(rt, stripes, all, options)?;
-    let totals = totals_of(all);
-    let summary = scrubbed(alloc, stripes.len(), &totals, unchecked)?;
+    say_rows(rt, results, options)?;
+    let summary = scrubbed(alloc, results, unchecked)?;
     say_summary(rt, summary.as_str(), options)?;
-    if totals.device {
-        return Ok(DEVICE);
-    }
-    if totals.left > 0 {
-        return Ok(LEFT);
-    }
-    Ok(DONE)
+    Ok(status_of(&results.totals))
 }

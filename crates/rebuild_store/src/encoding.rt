@@ -26,40 +26,9 @@ use store_repair::{NewFragment, encode, fragment_length};
 /// Encodes files, says what was done and what wasn't, and gives the exit status.
 pub fn encode_all(rt: &HostRuntime, options: &EncodeOptions) -> Result<u8, FileFault> {
     let alloc = rt.alloc();
-    let folder = options.store.as_str();
-    make_folder(rt, folder)?;
-    let _lock = lock_folder(rt, folder)?;
-    let pattern = pattern_of(rt, &options.naming)?;
-    let read_as = if pattern.has_shards() {
-        options.code
-    } else {
-        Code::Wide
-    };
-    let listing = list(rt, folder, &pattern, read_as).map_err(|error| device(
-        alloc, folder, error,
-    ))?;
-    remove_leftovers(rt, listing.leftovers.as_slice()).map_err(|error| device(
-        alloc, folder, error,
-    ))?;
-    let mut target = Target {
-        folder,
-        pattern,
-        code: options.code,
-        sums: stored_sums(rt, folder)?,
-        is_changed: false,
-        number: 0,
-    };
-    if !pattern.has_shards() && is_of_another_code(&listing, options.code) {
-        let other = match options.code {
-            Code::Narrow => Code::Wide,
-            Code::Wide => Code::Narrow,
-        };
-        let other = other.text();
-        let what = format!(in alloc;
-            "{folder}: has fragments of the code {other}: give --code {other}, or another folder"
-        )?;
-        return Err(FileFault::Refused { what });
-    }
+    make_folder(rt, options.store.as_str())?;
+    let _lock = lock_folder(rt, options.store.as_str())?;
+    let mut target = open_target(rt, options)?;
     let mut status = DONE;
     let mut encoded = 0u64;
     for path in &options.files {
@@ -78,6 +47,43 @@ pub fn encode_all(rt: &HostRuntime, options: &EncodeOptions) -> Result<u8, FileF
         error,
     ))?;
     Ok(status)
+}
+
+// The store that is encoded into, without what a run that was killed has left; refused where it has fragments of the other code.
+fn open_target<'o>(rt: &HostRuntime, options: &'o EncodeOptions) -> Result<Target<'o>, FileFault> {
+    let alloc = rt.alloc();
+    let folder = options.store.as_str();
+    let pattern = pattern_of(rt, &options.naming)?;
+    let read_as = if pattern.has_shards() {
+        options.code
+    } else {
+        Code::Wide
+    };
+    let listing = list(rt, folder, &pattern, read_as).map_err(|error| device(
+        alloc, folder, error,
+    ))?;
+    remove_leftovers(rt, listing.leftovers.as_slice()).map_err(|error| device(
+        alloc, folder, error,
+    ))?;
+    if !pattern.has_shards() && is_of_another_code(&listing, options.code) {
+        let other = match options.code {
+            Code::Narrow => Code::Wide,
+            Code::Wide => Code::Narrow,
+        };
+        let other = other.text();
+        let what = format!(in alloc;
+            "{folder}: has fragments of the code {other}: give --code {other}, or another folder"
+        )?;
+        return Err(FileFault::Refused { what });
+    }
+    Ok(Target {
+        folder,
+        pattern,
+        code: options.code,
+        sums: stored_sums(rt, folder)?,
+        is_changed: false,
+        number: 0,
+    })
 }
 
 /// The pattern of names that the arguments say.

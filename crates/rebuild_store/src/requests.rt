@@ -43,14 +43,7 @@ pub fn write_requests(
             continue;
         }
         unlisted = unlisted.saturating_add(places.len() as u64);
-        for place in places {
-            let name = pattern.name_of(alloc, store.code, stripe.name, place)?;
-            let name = name.unwrap_or(String::new(alloc));
-            let length = stripe.files.length().unwrap_or(0);
-            eprintln!(rt;
-                "rebuild-store: {name}: a list can't ask for it: it has {length} bytes, or another name than lists take"
-            )?;
-        }
+        say_unlisted(rt, pattern, store.code, stripe, places.as_slice())?;
     }
     output.flush()?;
     let stripes = counted(alloc, stripes.len() as u64, "stripe")?;
@@ -60,6 +53,26 @@ pub fn write_requests(
         return Ok(DEVICE);
     }
     if lost > 0 { Ok(LEFT) } else { Ok(DONE) }
+}
+
+// Says of lost fragments that a list can't ask for them.
+fn say_unlisted(
+    rt: &HostRuntime,
+    pattern: &Pattern<'_>,
+    code: Code,
+    stripe: &Stripe<'_>,
+    places: &[Place],
+) -> io::Result<()> {
+    let alloc = rt.alloc();
+    let length = stripe.files.length().unwrap_or(0);
+    for place in places {
+        let name = pattern.name_of(alloc, code, stripe.name, *place)?;
+        let name = name.unwrap_or(String::new(alloc));
+        eprintln!(rt;
+            "rebuild-store: {name}: a list can't ask for it: it has {length} bytes, or another name than lists take"
+        )?;
+    }
+    Ok(())
 }
 
 // Says which of the lost fragments can't be looked at, and whether there are any.
@@ -112,46 +125,76 @@ fn request_lines(
     if form == Rows::Csv && !can_be_asked(stripe.name, length) {
         return Ok(None);
     }
-    let survivors = stripe.files.survivors(code, length);
+    let wanted = Wanted {
+        code,
+        stripe: stripe.name,
+        length,
+        survivors: stripe.files.survivors(code, length),
+    };
     let mut lines = String::new(alloc);
     for place in places {
-        let place = place.name();
         let line = match form {
-            Rows::Csv => line_of(alloc, code, stripe.name, place, length, survivors)?,
-            Rows::Json => object_of(alloc, code, stripe.name, place, length, survivors)?,
+            Rows::Csv => wanted.line(alloc, *place)?,
+            Rows::Json => wanted.object(alloc, *place)?,
         };
         lines.push_str(line.as_str())?;
     }
     Ok(Some(lines))
 }
 
-// The request for a lost fragment, as an object.
-fn object_of(
-    alloc: Global,
+// What the requests for the lost fragments of a stripe have in common.
+#[derive(Clone, Copy)]
+struct Wanted<'a> {
     code: Code,
-    stripe: &str,
-    place: &str,
+    stripe: &'a str,
     length: u64,
     survivors: PlaceSet,
-) -> Result<String, AllocError> {
-    let stripe = quoted(alloc, stripe)?;
-    let mut names = String::new(alloc);
-    for survivor in code.places() {
-        if survivors.has(*survivor) {
-            let name = quoted(alloc, survivor.name())?;
-            if !names.is_empty() {
-                names.push(',')?;
+}
+
+impl<'a> Wanted<'a> {
+    // The names of the survivors, with something between them and something around each.
+    fn survivors(self, alloc: Global, between: char, around: &str) -> Result<String, AllocError> {
+        let mut names = String::new(alloc);
+        for survivor in self.code.places() {
+            if self.survivors.has(*survivor) {
+                if !names.is_empty() {
+                    names.push(between)?;
+                }
+                names.push_str(around)?;
+                names.push_str(survivor.name())?;
+                names.push_str(around)?;
             }
-            names.push_str(name.as_str())?;
         }
+        Ok(names)
     }
-    let code = code.text();
-    let wanted = format!(in alloc;
-        "\"stripe\":{stripe},\"target\":\"{place}\",\"length\":{length}"
-    )?;
-    format!(in alloc;
-        "{{\"order\":\"rebuild\",{wanted},\"survivors\":[{names}],\"code\":\"{code}\"}}\n"
-    )
+
+    // The request for a lost fragment, as an object.
+    fn object(self, alloc: Global, target: Place) -> Result<String, AllocError> {
+        let stripe = quoted(alloc, self.stripe)?;
+        let target = target.name();
+        let length = self.length;
+        let survivors = self.survivors(alloc, ',', "\"")?;
+        let code = self.code.text();
+        let head = format!(in alloc;
+            "\"order\":\"rebuild\",\"stripe\":{stripe},\"target\":\"{target}\""
+        )?;
+        format!(in alloc;
+            "{{{head},\"length\":{length},\"survivors\":[{survivors}],\"code\":\"{code}\"}}\n"
+        )
+    }
+
+    // The request for a lost fragment, as a record of a list.
+    fn line(self, alloc: Global, target: Place) -> Result<String, AllocError> {
+        let stripe = self.stripe;
+        let target = target.name();
+        let length = self.length;
+        let survivors = self.survivors(alloc, ' ', "")?;
+        let code = match self.code {
+            Code::Narrow => "",
+            Code::Wide => ",12-2-2",
+        };
+        format!(in alloc; "rebuild,{stripe},{target},{length},{survivors}{code}\n")
+    }
 }
 
 // Whether a list takes a stripe of this name and length.
@@ -162,31 +205,4 @@ fn can_be_asked(stripe: &str, length: u64) -> bool {
         && stripe.as_bytes().iter().all(|byte| byte.is_ascii_lowercase()
             || byte.is_ascii_digit()
             || *byte == b'-')
-}
-
-// The request for a lost fragment.
-fn line_of(
-    alloc: Global,
-    code: Code,
-    stripe: &str,
-    place: &str,
-    length: u64,
-    survivors: PlaceSet,
-) -> Result<String, AllocError> {
-    let mut line = format!(in alloc; "rebuild,{stripe},{place},{length},")?;
-    let mut is_first = true;
-    for survivor in code.places() {
-        if survivors.has(*survivor) {
-            if !is_first {
-                line.push(' ')?;
-            }
-            is_first = false;
-            line.push_str(survivor.name())?;
-        }
-    }
-    if code == Code::Wide {
-        line.push_str(",12-2-2")?;
-    }
-    line.push('\n')?;
-    Ok(line)
 }

@@ -6,7 +6,8 @@ use std::alloc::{AllocError, AllocFailed, Global};
 use std::fs::{self, File, TryLockError};
 use std::io::{self, BufRead, BufReader, ErrorKind};
 use store_folder::{
-    Found, Listing, Pattern, SUMS_NAME, StripeFiles, Sums, SumsFault, list, path_in, read_sums,
+    Found, Listing, Pattern, SUMS_NAME, Site, StripeFiles, Sums, SumsFault, list, path_in,
+    read_sums,
 };
 use store_repair::Stripe;
 use thiserror::Error;
@@ -69,20 +70,12 @@ pub fn open_store(
 ) -> Result<OpenStore, StoreFault> {
     let alloc = rt.alloc();
     let folder = String::from_str(alloc, options.store.as_str())?;
-    let mut locks = Vec::new(alloc);
-    let mut part_lock = None;
-    if writes {
+    let Locks { files, part_lock } = if writes {
         let target = options.to.as_ref().unwrap_or(&options.store);
-        match options.part {
-            None => locks.push(lock_folder(rt, target.as_str())?)?,
-            Some(part) => {
-                locks.push(share_folder(rt, target.as_str())?)?;
-                let path = part_path(alloc, target.as_str(), part)?;
-                locks.push(lock_part(rt, path.as_str())?)?;
-                part_lock = Some(path);
-            }
-        }
-    }
+        locks_of(rt, target.as_str(), options.part)?
+    } else {
+        Locks::none(alloc)
+    };
     let mut listing = match list(
         rt,
         folder.as_str(),
@@ -113,9 +106,40 @@ pub fn open_store(
         code,
         listing,
         sums,
-        locks,
+        locks: files,
         part_lock,
     })
+}
+
+// The locks of a run that writes: their files, and the path of the lock of a part.
+#[derive(Drop)]
+struct Locks {
+    files: Vec<File>,
+    part_lock: Option<String>,
+}
+
+impl Locks {
+    fn none(alloc: Global) -> Locks {
+        Locks {
+            files: Vec::new(alloc),
+            part_lock: None,
+        }
+    }
+}
+
+// Keeps other runs that write out of a folder, or out of a part of it.
+fn locks_of(rt: &HostRuntime, folder: &str, part: Option<Part>) -> Result<Locks, StoreFault> {
+    let mut locks = Locks::none(rt.alloc());
+    match part {
+        None => locks.files.push(lock_folder(rt, folder)?)?,
+        Some(part) => {
+            locks.files.push(share_folder(rt, folder)?)?;
+            let path = part_path(rt.alloc(), folder, part)?;
+            locks.files.push(lock_part(rt, path.as_str())?)?;
+            locks.part_lock = Some(path);
+        }
+    }
+    Ok(locks)
 }
 
 // The path of the lock of a part of a store.
@@ -246,6 +270,18 @@ fn is_narrow(files: &StripeFiles) -> bool {
 }
 
 impl OpenStore {
+    /// Where the store is, and how its fragments are named; rebuilt ones go to the target.
+    pub fn site<'a>(&'a self, pattern: &Pattern<'a>, target: &'a str, tag: &'a str) -> Site<'a> {
+        Site {
+            folder: self.folder.as_str(),
+            target,
+            pattern: *pattern,
+            code: self.code,
+            sums: self.sums.as_ref(),
+            tag,
+        }
+    }
+
     /// The stripes of a part, or all, in the order of their names.
     pub fn stripes(
         &self,

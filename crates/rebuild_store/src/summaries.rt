@@ -1,7 +1,6 @@
 //! The last line of a command: what was done, or would be, and what is left.
 use crate::reports::file_of;
-use crate::totals::Totals;
-use crate::workers::Done;
+use crate::totals::{Results, Totals};
 use lrc_code::Place;
 use std::alloc::{AllocError, Global};
 use store_folder::Site;
@@ -49,13 +48,13 @@ impl Names {
 }
 
 /// What a repair did.
-pub fn repaired(
-    alloc: Global,
-    site: &Site<'_>,
-    stripes: &[Stripe<'_>],
-    all: &[Done],
-    totals: &Totals,
-) -> Result<String, AllocError> {
+pub fn repaired(alloc: Global, results: &Results<'_>) -> Result<String, AllocError> {
+    let Results {
+        site,
+        stripes,
+        all,
+        totals,
+    } = *results;
     let mut unchecked = Names::new(alloc);
     let mut damaged = Names::new(alloc);
     for done in all {
@@ -89,43 +88,64 @@ pub fn repaired(
     )
 }
 
-/// What a repair would do.
-pub fn planned(
-    alloc: Global,
-    site: &Site<'_>,
-    stripes: &[Stripe<'_>],
-    all: &[Done],
-    totals: &Totals,
-) -> Result<String, AllocError> {
-    let mut lost = 0u64;
-    let mut lossy = 0u64;
-    let mut read = 0u64;
-    let mut least = u64::MAX;
-    let mut most = 0u64;
-    for done in all {
-        let Some(stripe) = stripes.get(done.index) else {
+// The sizes of the stripes that a repair would work on.
+#[derive(Clone, Copy)]
+struct Sizes {
+    // How many fragments are lost, and in how many stripes.
+    lost: u64,
+    lossy: u64,
+    // The bytes of the survivors that would be read.
+    read: u64,
+    // The lengths of the shortest and the longest fragments.
+    least: u64,
+    most: u64,
+}
+
+fn sizes_of(alloc: Global, results: &Results<'_>) -> Result<Sizes, AllocError> {
+    let mut sizes = Sizes {
+        lost: 0,
+        lossy: 0,
+        read: 0,
+        least: u64::MAX,
+        most: 0,
+    };
+    for done in results.all {
+        let Some(stripe) = results.stripes.get(done.index) else {
             continue;
         };
         let length = stripe.files.length().unwrap_or(0);
-        let many = stripe.files.lost(alloc, site.code, length)?.len() as u64;
-        lost = lost.saturating_add(many);
-        lossy = lossy.saturating_add(u64::from(many > 0));
-        least = least.min(length);
-        most = most.max(length);
+        let lost = stripe.files.lost(alloc, results.site.code, length)?;
         let survivors = done.outcome.survivors.len() as u64;
-        read = read.saturating_add(survivors.saturating_mul(length));
+        sizes.lost = sizes.lost.saturating_add(lost.len() as u64);
+        sizes.lossy = sizes.lossy.saturating_add(u64::from(!lost.is_empty()));
+        sizes.read = sizes.read.saturating_add(survivors.saturating_mul(length));
+        sizes.least = sizes.least.min(length);
+        sizes.most = sizes.most.max(length);
     }
-    let count = counted(alloc, stripes.len() as u64, "stripe")?;
-    let code = site.code.text();
-    let lengths = lengths_of(alloc, least, most)?;
+    Ok(sizes)
+}
+
+/// What a repair would do.
+pub fn planned(alloc: Global, results: &Results<'_>) -> Result<String, AllocError> {
+    let Sizes {
+        lost,
+        lossy,
+        read,
+        least,
+        most,
+    } = sizes_of(alloc, results)?;
     let Totals {
         rebuilt,
+        bytes,
         unchecked,
         left,
         ..
-    } = *totals;
+    } = results.totals;
+    let count = counted(alloc, results.stripes.len() as u64, "stripe")?;
+    let code = results.site.code.text();
+    let lengths = lengths_of(alloc, least, most)?;
     let reads = size_of(alloc, read)?;
-    let writes = size_of(alloc, totals.bytes)?;
+    let writes = size_of(alloc, bytes)?;
     let first = format!(in alloc; "{count} of {code}, {lengths}; {lost} lost in {lossy}")?;
     format!(in alloc;
         "{first}; {rebuilt} can be rebuilt ({unchecked} without any check), {left} can't; reads {reads}, writes {writes}"
@@ -135,13 +155,12 @@ pub fn planned(
 /// What a scrub found, and of how many stripes no check covers the fragments.
 pub fn scrubbed(
     alloc: Global,
-    stripes: usize,
-    totals: &Totals,
+    results: &Results<'_>,
     unchecked: u64,
 ) -> Result<String, AllocError> {
-    let count = counted(alloc, stripes as u64, "stripe")?;
+    let count = counted(alloc, results.stripes.len() as u64, "stripe")?;
     let unchecked = counted(alloc, unchecked, "stripe")?;
-    let Totals { damaged, left, .. } = *totals;
+    let Totals { damaged, left, .. } = results.totals;
     format!(in alloc;
         "scrubbed {count}: {damaged} damaged, {left} lost or contradictory, {unchecked} without any check"
     )

@@ -1,6 +1,28 @@
 //! What became of all stripes.
 use crate::workers::Done;
-use store_repair::Reason;
+use store_folder::Site;
+use store_repair::{Reason, Stripe};
+
+/// What a command did with the stripes of a store: of each stripe what became of it, and the counts over all.
+#[derive(Drop)]
+pub struct Results<'a> {
+    pub site: &'a Site<'a>,
+    pub stripes: &'a [Stripe<'a>],
+    pub all: &'a [Done],
+    pub totals: Totals,
+}
+
+impl<'a> Results<'a> {
+    /// The results of a command, counted.
+    pub fn new(site: &'a Site<'a>, stripes: &'a [Stripe<'a>], all: &'a [Done]) -> Results<'a> {
+        Results {
+            site,
+            stripes,
+            all,
+            totals: totals_of(all),
+        }
+    }
+}
 
 /// Counts over all stripes.
 #[derive(Clone, Copy, Default)]
@@ -18,8 +40,8 @@ pub struct Totals {
     pub device: bool,
 }
 
-/// The counts over outcomes.
-pub fn totals_of(all: &[Done]) -> Totals {
+// The counts over outcomes.
+fn totals_of(all: &[Done]) -> Totals {
     let mut totals = Totals::default();
     for done in all {
         let outcome = &done.outcome;

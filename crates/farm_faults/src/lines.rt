@@ -1,9 +1,10 @@
 //! How the command `farm` ends: its exit statuses, and the lines that report its faults.
 ghost use Rattle.std.specs.Prelude.{◌≡◌, ◌++◌, IfOk, OnOk, string_bytes};
-ghost use Rattle.rebuild.specs.FarmFaults.{fault_text, list_fault_text, reason_text, reported, status_of};
+ghost use Rattle.farm_faults.specs.FarmFaults.{fault_text, list_fault_text, reason_text, reported, status_of};
 
-use farm_serving::{ListFault, ServeFault, Served, list_file};
-use line_mode::statuses::{DEVICE, DONE, NO_RESOURCES, REFUSED};
+use exit_statuses::{DEVICE, DONE, NO_RESOURCES, REFUSED};
+use farm_lists::{ListFault, list_file};
+use farm_reading::ServeFault;
 use std::alloc::{AllocError, Global};
 use std::fmt::Write;
 
@@ -22,7 +23,7 @@ fn reported(fault: ServeFault) -> ServeFault
 
 /// The exit status of the command `farm`: 0 where the folder was served, 1 where a list was refused, there was none or
 /// there were too many racks or feeds, 3 for a failed device and 4 where memory or a thread was refused.
-pub fn farm_status(outcome: &Result<Served, ServeFault>) -> u8
+pub fn farm_status<T>(outcome: &Result<T, ServeFault>) -> u8
     ensures { result ≡ status_of outcome.now }
 {
     let Err(fault) = outcome else {

@@ -1,6 +1,7 @@
 //! How the command `farm` ends: statuses and fault lines.
-use crate::farm_faults::{farm_status, fault_line};
-use farm_serving::{ListFault, ServeFault, Served};
+use crate::lines::{farm_status, fault_line};
+use farm_lists::ListFault;
+use farm_reading::ServeFault;
 use lrc_code::RequestFault;
 use std::alloc::AllocError;
 use std::process::Abort;
@@ -14,17 +15,15 @@ fn assert_end(
 ) -> Result<(), AllocError> {
     let shown = fault_line(rt.alloc(), &fault)?;
     assert_eq!(rt; shown.as_str(), line);
-    assert_eq!(rt; farm_status(&Err(fault)), status, "{line}");
+    let ended: Result<(), ServeFault> = Err(fault);
+    assert_eq!(rt; farm_status(&ended), status, "{line}");
     Ok(())
 }
 
 #[test]
 fn served_folders_end_with_status_0(rt: HostRuntime) {
-    let served = Served {
-        racks: 2,
-        answers: 7,
-    };
-    assert_eq!(rt; farm_status(&Ok(served)), 0);
+    let served: Result<(), ServeFault> = Ok(());
+    assert_eq!(rt; farm_status(&served), 0);
 }
 
 const OF_THE_WHOLE: &[(ServeFault, u8, &str)] = &[

@@ -7,7 +7,6 @@ use Rattle.farm_lists.specs.declared.lists.listing.ListFault.TheVariants as list
 use Rattle.farm_reading.specs.declared.faults.ServeFault.{ServeFault}
 use Rattle.farm_reading.specs.declared.faults.ServeFault.TheVariants.{List as OfList, BadFeeds, TooManyRacks, NoRacks, Device, NoThread}
 use Rattle.farm_reading.specs.declared.faults.ServeFault.TheVariants.{OutOfMemory}
-use Rattle.farm_serving.specs.declared.serving.Served.{Served}
 
 -- the fault as it is reported: memory that was refused while a list was read is no fault of that list
 abbrev pub reported : ServeFault → ServeFault
@@ -24,8 +23,8 @@ fault_status Device = 3
 fault_status OutOfMemory = 4
 fault_status NoThread = 4
 
--- the exit status
-abbrev pub status_of : Result Served ServeFault → ℕ
+-- the exit status, whatever is given of what was served
+abbrev pub status_of : {A : Type 0} → Result A ServeFault → ℕ
 status_of (Ok served) = 0
 status_of (Err fault) = fault_status (reported fault)
 

@@ -1,2 +1,0 @@
-//! Tests of how the command `farm` ends.
-mod ends;
