@@ -1,7 +1,9 @@
 //! Whole stripes, and repairs of them.
 use lrc_code::{Code, Place};
 use std::alloc::{AllocError, Global};
-use store_repair::{Found, MemoryStore, Outcome, Reads, Repair, Stripe, StripeFiles, repair_stripe};
+use store_repair::{
+    Found, MemoryStore, Outcome, Reads, Repair, Stripe, StripeFiles, repair_stripe,
+};
 
 /// A whole stripe.
 #[derive(Clone, Copy)]
