@@ -77,7 +77,12 @@ fn few_survivors_leave_what_all_leave(rt: HostRuntime) -> Result<(), AllocError>
     assert_eq!(&rt; outcome.rebuilt.as_slice(), [Place::X0].as_slice());
     assert_eq!(&rt; outcome.survivors.len(), 3);
     assert_eq!(&rt; outcome.findings.len(), 4);
-    assert!(&rt; outcome.findings.iter().all(|finding| matches!(finding.reason, Reason::Several)));
+    assert!(&rt;
+        outcome
+            .findings
+            .iter()
+            .all(|finding| matches!(finding.reason, Reason::Several))
+    );
     Ok(())
 }
 

@@ -1,7 +1,9 @@
 //! Whole stripes, and repairs of them.
 use lrc_code::{Code, Place};
 use std::alloc::{AllocError, Global};
-use store_repair::{Found, MemoryStore, Outcome, Reads, Repair, Stripe, StripeFiles, repair_stripe};
+use store_repair::{
+    Found, MemoryStore, Outcome, Reads, Repair, Stripe, StripeFiles, repair_stripe,
+};
 
 /// A whole stripe.
 #[derive(Clone, Copy)]
@@ -29,7 +31,7 @@ pub(crate) const SHORT: Sample = Sample {
     ],
 };
 
-/// A stripe of the (6,2,2) code, with the parities that `scripts/reference.py` gives.
+/// A stripe of the (6,2,2) code, with the parities that `tools/reference.py` gives.
 pub(crate) const NARROW: Sample = Sample {
     name: "narrow",
     code: Code::Narrow,
@@ -47,7 +49,7 @@ pub(crate) const NARROW: Sample = Sample {
     ],
 };
 
-/// A stripe of the (12,2,2) code, with the parities that `scripts/reference.py` gives.
+/// A stripe of the (12,2,2) code, with the parities that `tools/reference.py` gives.
 pub(crate) const WIDE: Sample = Sample {
     name: "wide",
     code: Code::Wide,
