@@ -33,15 +33,15 @@ TESTS = [
     ("lrc_tests", "value_trees_give_the_same_bytes_at_any_forks", 1),
     ("lrc_tests", "evaluate_both_at_two_forks", 2),
     ("lrc_tests", "evaluate_both_at_most_forks", 4),
-    ("farm_tests", "two_workers_and_a_queue_of_one", 4),
-    ("farm_tests", "six_feeds_with_two_workers", 9),
-    ("farm_tests", "collector_takes_its_room", 0),
-    ("lists_tests", "digests_in_three_threads", 2),
-    ("serving_tests", "nothing_written_before_all_texts_are_made", 3),
-    ("serving_tests", "nothing_written_with_two_workers", 4),
-    ("serving_tests", "batches_of_one_request", 3),
-    ("serving_tests", "failed_write_without_memory", 0),
-    ("store_tests", "each_name_as_it_was_or_rebuilt", 0),
+    ("farm_core_tests", "two_workers_and_a_queue_of_one", 4),
+    ("farm_core_tests", "six_feeds_with_two_workers", 9),
+    ("farm_core_tests", "collector_takes_its_room", 0),
+    ("farm_lists_tests", "digests_in_three_threads", 2),
+    ("farm_serving_tests", "nothing_written_before_all_texts_are_made", 3),
+    ("farm_serving_tests", "nothing_written_with_two_workers", 4),
+    ("farm_serving_tests", "batches_of_one_request", 3),
+    ("farm_serving_tests", "failed_write_without_memory", 0),
+    ("store_repair_tests", "each_name_as_it_was_or_rebuilt", 0),
 ]
 
 # Those of which the other threads do the work where one is refused, so that they pass then.
@@ -485,7 +485,7 @@ def worker_walks(library):
     """A worker that is refused the memory of its plan's arena, and that of its answer, and nothing else, at each job: one that plans
     elsewhere than in its arena is refused each node of a plan, and one with an arena for all jobs is refused it once."""
     for name, jobs in [("a_worker_without_memory", 1), ("two_jobs_without_memory", 2)]:
-        test = Test(library, "farm_tests", name)
+        test = Test(library, "farm_core_tests", name)
         yield Walk(name, "allocation", False, test, {"AllocError", "starved"}, exact={"starved": 2 * jobs})
 
 
