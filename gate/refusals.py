@@ -31,29 +31,29 @@ DEMO_ANSWERED = b"served 4 racks, 14 answers\n"
 TESTS = [
     ("lrc_tests", "worked_requests_are_answered", 0),
     ("lrc_tests", "value_trees_give_the_same_bytes_at_any_forks", 1),
-    ("lrc_tests", "evaluate_both_at_two_forks", 2),
-    ("lrc_tests", "evaluate_both_at_most_forks", 4),
-    ("farm_core_tests", "two_workers_and_a_queue_of_one", 4),
-    ("farm_core_tests", "six_feeds_with_two_workers", 9),
+    ("lrc_tests", "two_forks_give_both_values", 2),
+    ("lrc_tests", "the_most_forks_give_both_values", 4),
+    ("farm_core_tests", "two_workers_answer_two_racks", 4),
+    ("farm_core_tests", "two_workers_answer_six_feeds", 9),
     ("farm_core_tests", "collector_takes_its_room", 0),
-    ("farm_lists_tests", "digests_in_three_threads", 2),
+    ("farm_lists_tests", "three_threads_make_the_known_digest", 2),
     ("farm_serving_tests", "nothing_written_before_all_texts_are_made", 3),
     ("farm_serving_tests", "nothing_written_with_two_workers", 4),
-    ("farm_serving_tests", "batches_of_one_request", 3),
-    ("farm_serving_tests", "failed_write_without_memory", 0),
-    ("store_repair_tests", "each_name_as_it_was_or_rebuilt", 0),
+    ("farm_serving_tests", "racks_are_answered_a_request_at_a_time", 3),
+    ("farm_serving_tests", "a_failed_write_without_memory_changes_nothing", 0),
+    ("store_repair_tests", "each_name_is_as_it_was_or_rebuilt", 0),
 ]
 
 # Those of which the other threads do the work where one is refused, so that they pass then.
 PASSING = {
     "value_trees_give_the_same_bytes_at_any_forks",
-    "evaluate_both_at_two_forks",
-    "evaluate_both_at_most_forks",
-    "digests_in_three_threads",
+    "two_forks_give_both_values",
+    "the_most_forks_give_both_values",
+    "three_threads_make_the_known_digest",
 }
 
 # Those that start just as many threads, and no more.
-EXACT = {"evaluate_both_at_two_forks", "evaluate_both_at_most_forks", "digests_in_three_threads"}
+EXACT = {"two_forks_give_both_values", "the_most_forks_give_both_values", "three_threads_make_the_known_digest"}
 
 # Limits of address space, in KiB: from where the program is hardly loaded to where all of its threads have room.
 ROOMS = [6_000, 8_000, 10_000, 12_000, 16_000, 20_000, 30_000, 40_000, 60_000]
@@ -484,7 +484,7 @@ def test_walks(library):
 def worker_walks(library):
     """A worker that is refused the memory of its plan's arena, and that of its answer, and nothing else, at each job: one that plans
     elsewhere than in its arena is refused each node of a plan, and one with an arena for all jobs is refused it once."""
-    for name, jobs in [("a_worker_without_memory", 1), ("two_jobs_without_memory", 2)]:
+    for name, jobs in [("a_worker_without_memory_says_so", 1), ("each_job_has_an_arena_of_its_own", 2)]:
         test = Test(library, "farm_core_tests", name)
         yield Walk(name, "allocation", False, test, {"AllocError", "starved"}, exact={"starved": 2 * jobs})
 

@@ -123,7 +123,7 @@ fn agree<R: Threads + Sync>(
 }
 
 #[test]
-fn digests_of_several_lengths(rt: HostRuntime) -> Result<(), AllocError> {
+fn digests_of_any_lengths_agree_with_sha2(rt: HostRuntime) -> Result<(), AllocError> {
     assert!(&rt; agree(&rt, rt.alloc(), FRAGMENTS, 0, 1)?);
     assert!(&rt; agree(&rt, rt.alloc(), FRAGMENTS, 0, 16)?);
     Ok(())
@@ -131,7 +131,7 @@ fn digests_of_several_lengths(rt: HostRuntime) -> Result<(), AllocError> {
 
 // Of two grains and one fragment alone.
 #[test]
-fn digests_in_several_threads(rt: HostRuntime) -> Result<(), AllocError> {
+fn digests_in_threads_agree_with_sha2(rt: HostRuntime) -> Result<(), AllocError> {
     assert!(&rt; agree(&rt, rt.alloc(), &[33], LONGER, 16)?);
     Ok(())
 }
@@ -151,7 +151,7 @@ fn are_of_million(digests: &[Option<[u8; 32]>]) -> bool {
 
 // Two grains and one alone, for as many threads as can be made.
 #[test]
-fn digests_in_three_threads(rt: HostRuntime) -> Result<(), AllocError> {
+fn three_threads_make_the_known_digest(rt: HostRuntime) -> Result<(), AllocError> {
     let mut rack = Vec::new(rt.alloc());
     for _ in 0..33 {
         let bytes = Bytes::new(vec![in rt.alloc(); b'a'; 1_000_000]?);

@@ -110,7 +110,7 @@ fn is_refused(
 }
 
 #[test]
-fn faults_of_records(rt: HostRuntime) -> Result<(), AllocError> {
+fn each_wrong_record_has_its_fault(rt: HostRuntime) -> Result<(), AllocError> {
     for (records, fault) in FAULTS {
         assert!(&rt;
             is_refused(rt.alloc(), HEADER, records, *fault)?,
@@ -140,7 +140,7 @@ const BAD_HEADERS: &[&[u8]] = &[
 ];
 
 #[test]
-fn faults_of_headers(rt: HostRuntime) -> Result<(), AllocError> {
+fn other_headers_are_refused(rt: HostRuntime) -> Result<(), AllocError> {
     for header in BAD_HEADERS {
         assert!(&rt;
             is_refused(rt.alloc(), header, b"", ListFault::BadHeader)?,
@@ -152,7 +152,7 @@ fn faults_of_headers(rt: HostRuntime) -> Result<(), AllocError> {
 
 // Each record has its own code; a list without codes is of the (6,2,2) code.
 #[test]
-fn codes_of_records(rt: HostRuntime) -> Result<(), AllocError> {
+fn each_record_has_its_own_code(rt: HostRuntime) -> Result<(), AllocError> {
     let bytes = list_with(
         rt.alloc(),
         CODED_HEADER,
@@ -207,7 +207,7 @@ const WRITTEN_OTHERWISE: &[&[u8]] = &[
 ];
 
 #[test]
-fn records_as_they_may_be_written(rt: HostRuntime) {
+fn line_ends_and_quotes_change_no_record(rt: HostRuntime) {
     for bytes in WRITTEN_OTHERWISE {
         match read_list(rt.alloc(), bytes) {
             Ok(list) => assert!(&rt; is_one_request(list.as_slice()), "{bytes:?}"),
@@ -230,7 +230,7 @@ fn is_one_request(list: &[Record]) -> bool {
 }
 
 #[test]
-fn survivors_in_their_order(rt: HostRuntime) {
+fn survivors_keep_their_order(rt: HostRuntime) {
     let bytes = b"order,stripe,target,length,survivors\nrebuild,a-1,p1,65536,py x0 p0\nclose,,,,\n";
     match read_list(rt.alloc(), bytes) {
         Ok(list) => assert!(&rt; has_survivors_in_order(list.as_slice())),
@@ -253,7 +253,7 @@ fn count_of(alloc: Global, bytes: &[u8]) -> Result<usize, ListFault> {
 }
 
 #[test]
-fn limit_of_bytes(rt: HostRuntime) -> Result<(), AllocError> {
+fn a_byte_past_the_limit_is_refused(rt: HostRuntime) -> Result<(), AllocError> {
     let mut bytes = Vec::from_slice(rt.alloc(), HEADER)?;
     for _ in HEADER.len()..1_048_576 {
         bytes.push(b'\n')?;
@@ -276,7 +276,7 @@ fn count_behind_closes(alloc: Global, last: &[u8]) -> Result<Result<usize, ListF
 
 // The record after the greatest number of them is one too many, whatever it is.
 #[test]
-fn limit_of_records(rt: HostRuntime) -> Result<(), AllocError> {
+fn a_record_past_the_limit_is_refused(rt: HostRuntime) -> Result<(), AllocError> {
     let alloc = rt.alloc();
     let too_many = Err(ListFault::TooManyOrders);
     assert!(&rt; count_behind_closes(alloc, b"")? == Ok(4096));
@@ -340,7 +340,7 @@ fn is_of_first_bytes(read: &Result<Vec<Record>, ListFault>, length: usize) -> bo
 
 // A list that is cut after each of its bytes.
 #[test]
-fn lists_cut_short(rt: HostRuntime) {
+fn a_list_cut_short_is_refused_or_has_fewer_records(rt: HostRuntime) {
     assert!(&rt; LIST.len() == 109);
     for length in 0..=LIST.len() {
         let read = read_list(rt.alloc(), &LIST[..length]);
@@ -376,7 +376,7 @@ const REFUSED: &[(Place, &[Place], RequestFault)] = &[
 ];
 
 #[test]
-fn refused_listed_requests(rt: HostRuntime) -> Result<(), AllocError> {
+fn listed_requests_are_refused_for_their_places(rt: HostRuntime) -> Result<(), AllocError> {
     for (target, places, fault) in REFUSED {
         let stripe = String::from_str(rt.alloc(), "abc")?;
         let survivors = Vec::from_slice(rt.alloc(), places)?;

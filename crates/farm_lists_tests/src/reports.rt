@@ -61,7 +61,7 @@ fn is_reported(
 }
 
 #[test]
-fn reports_on_one_request(rt: HostRuntime) -> Result<(), AllocError> {
+fn a_request_has_its_row(rt: HostRuntime) -> Result<(), AllocError> {
     let alloc = rt.alloc();
     assert!(&rt; is_reported(alloc, LIST, rebuilt(alloc)?, &[], REPORT)?);
     assert!(&rt;
@@ -78,7 +78,7 @@ fn reports_on_one_request(rt: HostRuntime) -> Result<(), AllocError> {
 }
 
 #[test]
-fn report_on_two_feeds(rt: HostRuntime) -> Result<(), AllocError> {
+fn a_rack_of_two_feeds_has_their_column(rt: HostRuntime) -> Result<(), AllocError> {
     let alloc = rt.alloc();
     let Ok(list) = read_list(alloc, LIST) else {
         panic!(&rt; "the list is refused");
@@ -115,7 +115,7 @@ fn request(
 }
 
 #[test]
-fn report_with_feeds_and_codes(rt: HostRuntime) -> Result<(), AllocError> {
+fn rows_name_their_feeds_and_codes(rt: HostRuntime) -> Result<(), AllocError> {
     let alloc = rt.alloc();
     let Some(first) = request(alloc, Code::Wide, "def", Place::Y4, 65_536)? else {
         panic!(&rt; "the first request is refused");
@@ -177,7 +177,7 @@ const WITHOUT_ROWS: &[(bool, bool, &[u8])] = &[
 ];
 
 #[test]
-fn reports_without_rows(rt: HostRuntime) -> Result<(), AllocError> {
+fn reports_without_rows_have_their_header(rt: HostRuntime) -> Result<(), AllocError> {
     for (feeds, codes, expected) in WITHOUT_ROWS {
         let shape = ReportShape {
             feeds: *feeds,

@@ -23,7 +23,7 @@ const REQUEST_FAULTS: &[(RequestFault, &str)] = &[
 ];
 
 #[test]
-fn texts_of_request_faults(rt: HostRuntime) -> Result<(), AllocError> {
+fn request_faults_say_their_limits(rt: HostRuntime) -> Result<(), AllocError> {
     for (fault, text) in REQUEST_FAULTS {
         let said = format!(in rt.alloc(); "{fault}")?;
         assert!(&rt; said.as_str() == *text, "{said}");
@@ -57,7 +57,7 @@ const LIST_FAULTS: &[(ListFault, &str)] = &[
 ];
 
 #[test]
-fn texts_of_list_faults(rt: HostRuntime) -> Result<(), AllocError> {
+fn list_faults_say_their_limits(rt: HostRuntime) -> Result<(), AllocError> {
     for (fault, text) in LIST_FAULTS {
         let said = format!(in rt.alloc(); "{fault}")?;
         assert!(&rt; said.as_str() == *text, "{said}");

@@ -74,7 +74,7 @@ fn gives_each<S: Shelf>(
 const COUNTS: &[usize] = &[0, 1, 5, 300];
 
 #[test]
-fn files_read_ahead(rt: HostRuntime) -> Result<(), AllocError> {
+fn files_read_ahead_are_given_as_they_are(rt: HostRuntime) -> Result<(), AllocError> {
     let alloc = rt.alloc();
     assert!(&rt; make_files(&rt, alloc, "ahead/many")?);
     for threads in 0..17usize {
@@ -92,7 +92,7 @@ fn files_read_ahead(rt: HostRuntime) -> Result<(), AllocError> {
 
 // What was read ahead is given once, of the next file alone, and not after a write.
 #[test]
-fn another_read_or_a_write(rt: HostRuntime) -> Result<(), AllocError> {
+fn other_reads_and_writes_drop_what_was_read_ahead(rt: HostRuntime) -> Result<(), AllocError> {
     let alloc = rt.alloc();
     assert!(&rt; make_files(&rt, alloc, "ahead/other")?);
     let all = names(alloc, 0, 300)?;
@@ -114,7 +114,7 @@ const THREADS: &[usize] = &[1, 4, 16];
 
 // A folder in a file's place can't be read: each read of it fails, and counts.
 #[test]
-fn failures_of_reads_ahead(rt: HostRuntime) -> Result<(), AllocError> {
+fn reads_that_fail_ahead_are_counted_once(rt: HostRuntime) -> Result<(), AllocError> {
     let alloc = rt.alloc();
     assert!(&rt; make_files(&rt, alloc, "ahead/failing")?);
     assert!(&rt; fs::create_dir_all(&rt, "ahead/failing/300").is_ok());

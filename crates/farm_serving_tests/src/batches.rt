@@ -101,7 +101,7 @@ fn are_of_racks(answered: &Answered) -> bool {
 
 // In a run that refuses an allocation or a thread this ends with the refusal.
 #[test]
-fn batches_of_one_request(rt: HostRuntime) -> Result<(), AllocError> {
+fn racks_are_answered_a_request_at_a_time(rt: HostRuntime) -> Result<(), AllocError> {
     assert!(&rt; are_racks_answered(&rt, rt.alloc(), 2, 1, &NoPause)?);
     Ok(())
 }
@@ -123,7 +123,7 @@ const MOST: &[u64] = &[
 
 // A batch is a request, two, three, a list, two racks or all; a rack with two feeds is cut as one with a list.
 #[test]
-fn batches_of_any_size(rt: HostRuntime) -> Result<(), AllocError> {
+fn racks_are_answered_in_batches_of_any_size(rt: HostRuntime) -> Result<(), AllocError> {
     for workers in WORKERS {
         for most in MOST {
             assert!(&rt; are_racks_answered(&rt, rt.alloc(), *workers, *most, &NoPause)?);
@@ -167,7 +167,7 @@ fn add_requests(list: &mut Vec<u8>, small: &[u8]) -> Result<(), AllocError> {
 
 // Two hundred requests whose survivors are absent list more than a batch. The requests between and after them are answered.
 #[test]
-fn a_list_of_several_batches(rt: HostRuntime) -> Result<(), AllocError> {
+fn a_list_longer_than_a_batch_is_answered(rt: HostRuntime) -> Result<(), AllocError> {
     let mut input = shelf_of(rt.alloc(), &FRAGMENTS)?;
     input.place(rt.alloc(), "rack0.csv", long_list(rt.alloc())?.as_slice())?;
     input.place(rt.alloc(), "rack1.csv", LIST_OF_FOUR)?;

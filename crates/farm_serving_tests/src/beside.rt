@@ -33,7 +33,7 @@ fn gives(number: u64) -> Result<u64, AllocError> {
 
 // What was read beside the work is what the reads after it give, also where it is asked for once more: the file has changed since.
 #[test]
-fn files_read_beside_work(rt: HostRuntime) -> Result<(), AllocError> {
+fn files_read_beside_work_are_given_once(rt: HostRuntime) -> Result<(), AllocError> {
     let alloc = rt.alloc();
     assert!(&rt; make_files(&rt, "beside/work", "beside/work/a", "beside/work/b"));
     let names = limited(alloc, &["a", "b"])?;
@@ -52,7 +52,9 @@ fn files_read_beside_work(rt: HostRuntime) -> Result<(), AllocError> {
 
 // Of other files nothing is kept, nor after a write.
 #[test]
-fn other_files_after_work(rt: HostRuntime) -> Result<(), AllocError> {
+fn other_reads_and_writes_drop_what_was_read_beside_work(
+    rt: HostRuntime,
+) -> Result<(), AllocError> {
     let alloc = rt.alloc();
     assert!(&rt; make_files(&rt, "beside/other", "beside/other/a", "beside/other/b"));
     let names = limited(alloc, &["a", "b"])?;
@@ -81,7 +83,7 @@ fn fails_once(calls: &AtomicU64) -> Result<u64, AllocError> {
 // Work that fails while files are read is done once more, alone: what was read ahead is dropped by then. Where nothing is read beside it
 // it is done once.
 #[test]
-fn work_that_fails_beside_reading(rt: HostRuntime) -> Result<(), AllocError> {
+fn work_that_fails_beside_reading_is_done_again(rt: HostRuntime) -> Result<(), AllocError> {
     let alloc = rt.alloc();
     assert!(&rt; make_files(&rt, "beside/again", "beside/again/a", "beside/again/b"));
     let names = limited(alloc, &["a", "b"])?;
@@ -100,7 +102,7 @@ fn work_that_fails_beside_reading(rt: HostRuntime) -> Result<(), AllocError> {
 
 // A shelf that reads nothing ahead does the work once.
 #[test]
-fn work_alone(rt: HostRuntime) -> Result<(), AllocError> {
+fn work_that_fails_alone_is_done_once(rt: HostRuntime) -> Result<(), AllocError> {
     let alloc = rt.alloc();
     assert!(&rt; make_files(&rt, "beside/alone", "beside/alone/a", "beside/alone/b"));
     let names = limited(alloc, &["a", "b"])?;
@@ -133,7 +135,7 @@ fn named_and_read<R: Threads + Wait + Sync>(
 // Of all batches but the first the files are named beside the batch before: of 36 files those of all requests but one, of two racks,
 // of one, and none. A rack lists five requests.
 #[test]
-fn the_files_of_the_next_batch(rt: HostRuntime) -> Result<(), AllocError> {
+fn the_files_of_the_next_batch_are_read_beside_work(rt: HostRuntime) -> Result<(), AllocError> {
     assert_eq!(&rt; named_and_read(&rt, rt.alloc(), 1)?, 33);
     assert_eq!(&rt; named_and_read(&rt, rt.alloc(), 5 * OF_REQUEST)?, 24);
     assert_eq!(&rt; named_and_read(&rt, rt.alloc(), 10 * OF_REQUEST)?, 12);

@@ -172,7 +172,9 @@ const MOST: &[u64] = &[
 ];
 
 #[test]
-fn racks_of_several_feeds_in_batches_of_any_size(rt: HostRuntime) -> Result<(), AllocError> {
+fn feeds_in_batches_of_any_size_are_merged_up_to_a_close(
+    rt: HostRuntime,
+) -> Result<(), AllocError> {
     for workers in WORKERS {
         for most in MOST {
             for feeds in RACKS {

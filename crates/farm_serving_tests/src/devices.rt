@@ -14,7 +14,7 @@ const REPORT_FILE: &str = "rack0.report.csv";
 const FRAGMENT_FILE: &str = "rack0-0.abc.x0";
 
 #[test]
-fn calls_of_a_shelf(rt: HostRuntime) -> Result<(), AllocError> {
+fn a_shelf_in_memory_fails_at_the_call_that_is_set(rt: HostRuntime) -> Result<(), AllocError> {
     let alloc = rt.alloc();
     let mut shelf = MemoryShelf::new(alloc);
     assert!(&rt; shelf.failures() == 0);
@@ -40,7 +40,7 @@ const REPORTS: &[(u64, &[u8])] = &[
 // A failed read of a list, or of a feed's list after it, ends serving; one of a fragment leaves the survivor out. The run makes six
 // reads: of the list, of a second feed and of a second rack, which are absent, and of three fragments.
 #[test]
-fn failed_reads(rt: HostRuntime) -> Result<(), AllocError> {
+fn a_failed_read_ends_serving_for_a_list_alone(rt: HostRuntime) -> Result<(), AllocError> {
     for call in 0..3 {
         let run = serve_failing(&rt, rt.alloc(), &[], call)?;
         let ended = run.ended_with(ServeFault::Device, &[REPORT_FILE, FRAGMENT_FILE]);
@@ -95,7 +95,7 @@ fn has_front(run: &Run, report: &[u8], count: usize) -> bool {
 
 // A failed write leaves the first half of its bytes, the files before it whole and those after it untouched. The run makes two writes.
 #[test]
-fn failed_writes(rt: HostRuntime) -> Result<(), AllocError> {
+fn a_failed_write_leaves_half_of_its_bytes(rt: HostRuntime) -> Result<(), AllocError> {
     let alloc = rt.alloc();
     assert!(&rt; REPORT.len() == 135);
     let run = serve_onto_failing(&rt, alloc, input_of(alloc, LIST)?, 0);
@@ -115,7 +115,9 @@ fn failed_writes(rt: HostRuntime) -> Result<(), AllocError> {
 // The lists are read in order, each tested ahead of the next read: of a failed read and a refused list the first in that order is reported.
 // The list of rack 1 is refused; the reads ahead of it are of the list of rack 0 and of its second feed, which is absent.
 #[test]
-fn failed_read_and_refused_list(rt: HostRuntime) -> Result<(), AllocError> {
+fn the_first_of_a_failed_read_and_a_refused_list_is_reported(
+    rt: HostRuntime,
+) -> Result<(), AllocError> {
     let refused = ServeFault::List {
         rack: 1,
         feed: 0,
@@ -136,7 +138,7 @@ fn failed_read_and_refused_list(rt: HostRuntime) -> Result<(), AllocError> {
 
 // A read of a fragment and then a write fail: each device is counted once, and half of the report is left.
 #[test]
-fn failed_read_and_write(rt: HostRuntime) -> Result<(), AllocError> {
+fn failures_are_counted_at_their_own_devices(rt: HostRuntime) -> Result<(), AllocError> {
     let mut input = input_of(rt.alloc(), LIST)?;
     input.fail_at(3);
     let run = serve_onto_failing(&rt, rt.alloc(), input, 0);

@@ -62,7 +62,7 @@ const WITHOUT_REQUESTS: &[(&[(&str, &[u8])], &[u8])] = &[
 ];
 
 #[test]
-fn feeds_without_requests(rt: HostRuntime) -> Result<(), AllocError> {
+fn feeds_without_requests_add_no_answers(rt: HostRuntime) -> Result<(), AllocError> {
     for (lists, report) in WITHOUT_REQUESTS {
         let run = serve_failing(&rt, rt.alloc(), lists, NO_CALL)?;
         let files = [("rack0.report.csv", *report), ("rack0-0.abc.x0", b"abc")];
@@ -83,7 +83,7 @@ const REPORT_OF_TWO: &[u8] = b"number,feed,stripe,target,length,outcome,digest,u
 ";
 
 #[test]
-fn requests_of_a_second_feed(rt: HostRuntime) -> Result<(), AllocError> {
+fn requests_of_a_second_feed_are_answered(rt: HostRuntime) -> Result<(), AllocError> {
     let mut input = input_of(rt.alloc(), HEADER)?;
     input.place(rt.alloc(), "rack0.feed1.csv", TWO_REQUESTS)?;
     let run = serve_shelf(&rt, rt.alloc(), &mut input);
@@ -123,7 +123,7 @@ fn answered_both(run: &Run) -> bool {
 
 // Each feed has a close after one request. Either feed is whole, and of the other none or one is answered, in any order.
 #[test]
-fn two_feeds_with_closes(rt: HostRuntime) -> Result<(), AllocError> {
+fn of_two_feeds_with_closes_one_is_answered_whole(rt: HostRuntime) -> Result<(), AllocError> {
     let mut input = input_with(rt.alloc(), &[("rack0.feed1.csv", LIST)])?;
     for _ in 0..20 {
         let run = serve_shelf(&rt, rt.alloc(), &mut input);
@@ -254,7 +254,7 @@ const REFUSED: &[(&[(&str, &[u8])], u64, ServeFault)] = &[
 ];
 
 #[test]
-fn refused_feeds(rt: HostRuntime) -> Result<(), AllocError> {
+fn the_first_refused_feed_is_reported(rt: HostRuntime) -> Result<(), AllocError> {
     for (lists, call, fault) in REFUSED {
         let run = serve_failing(&rt, rt.alloc(), lists, *call)?;
         assert!(&rt; run.ended_with(*fault, &["rack0.report.csv"]), "{fault}");
@@ -281,7 +281,7 @@ const REPORTS: &[(u64, &[u8])] = &[
 
 // The reads of a rack of two feeds are of its two lists, of a third feed and of a second rack, which are absent, and of three fragments.
 #[test]
-fn failed_reads_with_two_feeds(rt: HostRuntime) -> Result<(), AllocError> {
+fn a_failed_read_ends_serving_for_the_list_of_a_feed(rt: HostRuntime) -> Result<(), AllocError> {
     for (call, report) in REPORTS {
         let run = serve_failing(&rt, rt.alloc(), &[("rack0.feed1.csv", HEADER)], *call)?;
         let gave = run.gave(1, 1, &[("rack0.report.csv", report)], &[]);
@@ -311,7 +311,7 @@ fn most_lists(alloc: Global) -> Result<MemoryShelf, AllocError> {
 
 // Each rack's reads are five, and there is one after them all.
 #[test]
-fn most_feeds(rt: HostRuntime) -> Result<(), AllocError> {
+fn sixteen_racks_of_four_feeds_are_served(rt: HostRuntime) -> Result<(), AllocError> {
     let mut input = most_lists(rt.alloc())?;
     input.fail_at(81);
     let run = serve_shelf(&rt, rt.alloc(), &mut input);
@@ -377,7 +377,7 @@ const FILES_OF_CODES: &[(&str, &[u8])] = &[
 ];
 
 #[test]
-fn codes_of_feeds(rt: HostRuntime) -> Result<(), AllocError> {
+fn racks_of_either_code_are_answered(rt: HostRuntime) -> Result<(), AllocError> {
     let mut input = input_of_both_codes(rt.alloc(), LISTS_OF_CODES)?;
     let run = serve_shelf(&rt, rt.alloc(), &mut input);
     assert!(&rt; run.gave(4, 4, FILES_OF_CODES, &[]));
@@ -416,7 +416,7 @@ const WIDE_FIRST_WITHOUT_X4: &[u8] = b"number,feed,stripe,target,length,outcome,
 
 // Both requests of the feeds are answered, in either order, each in the row of its own code.
 #[test]
-fn feeds_of_both_codes(rt: HostRuntime) -> Result<(), AllocError> {
+fn feeds_of_both_codes_are_answered_in_either_order(rt: HostRuntime) -> Result<(), AllocError> {
     let mut input = input_of_both_codes(rt.alloc(), EITHER_CODE)?;
     let run = serve_shelf(&rt, rt.alloc(), &mut input);
     assert!(&rt;

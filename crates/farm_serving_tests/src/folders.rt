@@ -31,7 +31,7 @@ fn make_folders<R: Files>(
 }
 
 #[test]
-fn one_run_over_folders(rt: HostRuntime) -> Result<(), AllocError> {
+fn a_run_over_folders_writes_its_files(rt: HostRuntime) -> Result<(), AllocError> {
     let alloc = rt.alloc();
     assert!(&rt; make_folders(&rt, alloc, "served/in", "served/out")?);
     let mut input = FolderShelf::open(&rt, alloc, "served/in")?;
@@ -46,7 +46,7 @@ fn one_run_over_folders(rt: HostRuntime) -> Result<(), AllocError> {
 
 // The first folder is read and the second written, whatever is in them.
 #[test]
-fn folders_in_their_order(rt: HostRuntime) -> Result<(), AllocError> {
+fn the_first_folder_is_read_and_the_second_written(rt: HostRuntime) -> Result<(), AllocError> {
     let alloc = rt.alloc();
     assert!(&rt; make_folders(&rt, alloc, "ordered/in", "ordered/out")?);
     assert!(&rt; fs::write(&rt, "ordered/out/rack0.csv", b"x").is_ok());
@@ -95,7 +95,7 @@ fn a_long_file_is_written_whole(rt: HostRuntime) -> Result<(), AllocError> {
 
 // A list that is a folder can't be read: that is a failure of the input's device, and nothing is written.
 #[test]
-fn a_list_that_is_a_folder(rt: HostRuntime) -> Result<(), AllocError> {
+fn a_list_that_is_a_folder_fails_the_input(rt: HostRuntime) -> Result<(), AllocError> {
     let alloc = rt.alloc();
     assert!(&rt; fs::create_dir_all(&rt, "unread/in/rack0.csv").is_ok());
     assert!(&rt; fs::create_dir_all(&rt, "unread/out").is_ok());
@@ -110,7 +110,7 @@ fn a_list_that_is_a_folder(rt: HostRuntime) -> Result<(), AllocError> {
 
 // A folder that isn't there has no files, and can't be written.
 #[test]
-fn a_folder_that_is_absent(rt: HostRuntime) -> Result<(), AllocError> {
+fn an_absent_folder_has_no_files_and_takes_none(rt: HostRuntime) -> Result<(), AllocError> {
     let alloc = rt.alloc();
     let mut shelf = FolderShelf::open(&rt, alloc, "no such folder")?;
     assert!(&rt; shelf.failures() == 0);
@@ -169,7 +169,7 @@ const DRIPS: &[(usize, usize, usize, usize, u64)] = &[
 
 // A fragment takes two reads, and one that is longer than listed takes one. A list that outgrows the first room is read on.
 #[test]
-fn two_reads_of_a_fragment(rt: HostRuntime) {
+fn a_fragment_takes_two_reads(rt: HostRuntime) {
     for (left, step, limit, count, calls) in DRIPS {
         let read = read_drip(rt.alloc(), *left, *step, *limit);
         assert!(&rt;
@@ -181,7 +181,7 @@ fn two_reads_of_a_fragment(rt: HostRuntime) {
 
 // A file that gives one byte at a time is read 16,777,216 times and no more. It is a failure only if more are needed.
 #[test]
-fn a_file_that_drips(rt: HostRuntime) {
+fn reads_of_single_bytes_end_at_a_limit(rt: HostRuntime) {
     let read = read_drip(rt.alloc(), 16_777_215, 1, usize::MAX);
     assert!(&rt; read == (Ok(16_777_215), 16_777_216));
     let read = read_drip(rt.alloc(), 16_777_217, 1, 16_777_216);
@@ -236,7 +236,7 @@ const FAULTS: &[(ErrorKind, ShelfFault)] = &[
 
 // A read that is interrupted is made again; any other failed read is a fault.
 #[test]
-fn a_read_that_fails(rt: HostRuntime) {
+fn interrupted_reads_alone_are_made_again(rt: HostRuntime) {
     for fails_at in 0..4u64 {
         match read_failing(rt.alloc(), fails_at, ErrorKind::Interrupted) {
             Ok(bytes) => assert!(&rt;

@@ -67,7 +67,7 @@ fn is_as_named<S: Shelf>(shelf: &mut S, alloc: Global, name: &str) -> bool {
 
 // A file is absent only where nothing is found under its name. Links are followed, and what is no regular file isn't read.
 #[test]
-fn names_that_are_links(rt: HostRuntime) -> Result<(), AllocError> {
+fn links_are_followed_to_regular_files_alone(rt: HostRuntime) -> Result<(), AllocError> {
     let alloc = rt.alloc();
     assert!(&rt; make_links(&rt, alloc, "links/read")?);
     let names = all_names(alloc)?;
@@ -80,7 +80,7 @@ fn names_that_are_links(rt: HostRuntime) -> Result<(), AllocError> {
 
 // Each name is read as it must be, too, where all of them are read ahead first.
 #[test]
-fn links_read_ahead(rt: HostRuntime) -> Result<(), AllocError> {
+fn links_are_read_ahead_as_they_are_read(rt: HostRuntime) -> Result<(), AllocError> {
     let alloc = rt.alloc();
     assert!(&rt; make_links(&rt, alloc, "links/ahead")?);
     let names = all_names(alloc)?;
@@ -96,7 +96,7 @@ fn links_read_ahead(rt: HostRuntime) -> Result<(), AllocError> {
 
 // A write goes to a regular file, also by a link, or makes one where a link leads to nothing. Anything else is left alone.
 #[test]
-fn writes_by_links(rt: HostRuntime) -> Result<(), AllocError> {
+fn writes_by_links_reach_regular_files_alone(rt: HostRuntime) -> Result<(), AllocError> {
     let alloc = rt.alloc();
     assert!(&rt; make_links(&rt, alloc, "links/written")?);
     let mut shelf = FolderShelf::open(&rt, alloc, "links/written")?;
@@ -118,7 +118,7 @@ fn writes_by_links(rt: HostRuntime) -> Result<(), AllocError> {
 
 // Lists that can't be read end the work, wherever they are. Racks that follow an absent list are not served.
 #[test]
-fn lists_that_are_links(rt: HostRuntime) -> Result<(), AllocError> {
+fn lists_that_are_links_are_read_or_end_serving(rt: HostRuntime) -> Result<(), AllocError> {
     let alloc = rt.alloc();
     for (first, second, served) in LISTS {
         let folder = format!(in alloc; "links/{first}-{second}")?;

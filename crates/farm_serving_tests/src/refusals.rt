@@ -82,7 +82,7 @@ fn nothing_written_with_two_workers(rt: HostRuntime) -> Result<(), AllocError> {
 
 // A write that the device fails leaves the first half of its bytes; where memory is refused for these it changes nothing.
 #[test]
-fn failed_write_without_memory(rt: HostRuntime) -> Result<(), AllocError> {
+fn a_failed_write_without_memory_changes_nothing(rt: HostRuntime) -> Result<(), AllocError> {
     let alloc = rt.alloc();
     let mut shelf = MemoryShelf::new(alloc);
     shelf.place(alloc, "a", b"kept")?;

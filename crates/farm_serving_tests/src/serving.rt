@@ -19,7 +19,7 @@ const SETTINGS: &[(usize, usize)] = &[(2, 1), (1, 1), (16, 1024)];
 
 // Two requests and two closes in turn: one answer, with any settings. A report that is there is replaced.
 #[test]
-fn one_fragment_and_its_report(rt: HostRuntime) -> Result<(), AllocError> {
+fn a_fragment_and_its_report_are_written(rt: HostRuntime) -> Result<(), AllocError> {
     let standing: &[(&str, &[u8])] = &[("rack0.csv", b"kept"), ("rack0.report.csv", b"replaced")];
     let files: &[(&str, &[u8])] = &[
         ("rack0-0.abc.x0", b"abc"),
@@ -50,7 +50,7 @@ fn marked_list(alloc: Global) -> Result<Vec<u8>, AllocError> {
 
 // A byte order mark and carriage returns change nothing.
 #[test]
-fn carriage_returns_and_a_mark(rt: HostRuntime) -> Result<(), AllocError> {
+fn carriage_returns_and_a_mark_change_nothing(rt: HostRuntime) -> Result<(), AllocError> {
     let mut input = input_of(rt.alloc(), marked_list(rt.alloc())?.as_slice())?;
     let run = serve_shelf(&rt, rt.alloc(), &mut input);
     assert!(&rt; run.gave(1, 1, &[("rack0.report.csv", REPORT)], &[]));
@@ -78,7 +78,7 @@ fn leaves_px_out<R: Threads + Wait + Sync>(
 
 // A listed survivor that is absent or hasn't the listed length is left out and named.
 #[test]
-fn survivors_left_out(rt: HostRuntime) -> Result<(), AllocError> {
+fn survivors_of_another_length_are_left_out(rt: HostRuntime) -> Result<(), AllocError> {
     let alloc = rt.alloc();
     assert!(&rt; leaves_px_out(&rt, alloc, &[])?);
     assert!(&rt; leaves_px_out(&rt, alloc, &[("abc.px", b"")])?);
@@ -120,7 +120,7 @@ const FILES_OF_RACKS: &[(&str, &[u8])] = &[
 ];
 
 #[test]
-fn racks_in_order(rt: HostRuntime) -> Result<(), AllocError> {
+fn each_rack_has_its_own_report(rt: HostRuntime) -> Result<(), AllocError> {
     let run = serve_files(&rt, rt.alloc(), RACKS)?;
     assert!(&rt; run.gave(2, 3, FILES_OF_RACKS, &[]));
     Ok(())
@@ -192,7 +192,7 @@ const WORKERS: &[usize] = &[1, 2, 3, 5, 16];
 
 // However many workers there are, each digest is in the row of its own fragment.
 #[test]
-fn digests_with_any_number_of_workers(rt: HostRuntime) -> Result<(), AllocError> {
+fn digests_are_the_same_with_any_number_of_workers(rt: HostRuntime) -> Result<(), AllocError> {
     let mut input = five_stripes(rt.alloc())?;
     for workers in WORKERS {
         let output = MemoryShelf::new(rt.alloc());
@@ -236,7 +236,7 @@ fn the_pause_is_handed_on(rt: HostRuntime) -> Result<(), AllocError> {
 }
 
 #[test]
-fn a_list_without_requests(rt: HostRuntime) -> Result<(), AllocError> {
+fn a_list_without_requests_has_an_empty_report(rt: HostRuntime) -> Result<(), AllocError> {
     let mut input = input_of(rt.alloc(), HEADER)?;
     let run = serve_shelf(&rt, rt.alloc(), &mut input);
     assert!(&rt; run.gave(1, 0, &[("rack0.report.csv", EMPTY_REPORT)], &[]));
@@ -244,7 +244,7 @@ fn a_list_without_requests(rt: HostRuntime) -> Result<(), AllocError> {
 }
 
 #[test]
-fn no_list_at_all(rt: HostRuntime) -> Result<(), AllocError> {
+fn without_a_first_list_there_are_no_racks(rt: HostRuntime) -> Result<(), AllocError> {
     let files: &[(&str, &[u8])] = &[("rack1.csv", HEADER), ("rack00.csv", HEADER)];
     let run = serve_files(&rt, rt.alloc(), files)?;
     assert!(&rt; run.ended_with(ServeFault::NoRacks, &["rack1.report.csv"]));
@@ -262,7 +262,7 @@ fn empty_lists(alloc: Global, racks: usize) -> Result<MemoryShelf, AllocError> {
 }
 
 #[test]
-fn sixteen_racks(rt: HostRuntime) -> Result<(), AllocError> {
+fn sixteen_racks_are_served(rt: HostRuntime) -> Result<(), AllocError> {
     let mut input = empty_lists(rt.alloc(), 16)?;
     let run = serve_shelf(&rt, rt.alloc(), &mut input);
     assert!(&rt; run.gave(16, 0, &[], &["rack16.report.csv"]));
@@ -275,7 +275,7 @@ fn sixteen_racks(rt: HostRuntime) -> Result<(), AllocError> {
 
 // A seventeenth list is refused, but only once the lists before it are read.
 #[test]
-fn seventeen_racks(rt: HostRuntime) -> Result<(), AllocError> {
+fn seventeen_racks_are_refused_after_their_lists(rt: HostRuntime) -> Result<(), AllocError> {
     let mut input = empty_lists(rt.alloc(), 17)?;
     let run = serve_shelf(&rt, rt.alloc(), &mut input);
     assert!(&rt; run.ended_with(ServeFault::TooManyRacks, &["rack0.report.csv"]));
@@ -309,7 +309,7 @@ const REFUSED: &[(&[u8], ListFault)] = &[
 
 // The first refused list is reported, and nothing is written.
 #[test]
-fn a_refused_list(rt: HostRuntime) -> Result<(), AllocError> {
+fn a_refused_list_is_reported_and_nothing_written(rt: HostRuntime) -> Result<(), AllocError> {
     let absent: &[&str] = &["rack0-0.abc.x0", "rack0.report.csv", "rack1.report.csv"];
     for (bytes, fault) in REFUSED {
         let mut input = input_with(rt.alloc(), &[("rack1.csv", bytes)])?;

@@ -37,7 +37,7 @@ fn assert_digits(
 }
 
 #[test]
-fn digits_of_many_lengths(rt: HostRuntime) -> Result<(), AllocError> {
+fn digits_are_read_and_written_at_many_lengths(rt: HostRuntime) -> Result<(), AllocError> {
     for length in LENGTHS {
         assert_digits(&rt, length)?;
     }
@@ -46,7 +46,7 @@ fn digits_of_many_lengths(rt: HostRuntime) -> Result<(), AllocError> {
 
 // A character that is no digit is found at each index.
 #[test]
-fn bad_digit_at_each_place(rt: HostRuntime) -> Result<(), AllocError> {
+fn a_bad_digit_is_refused_at_each_place(rt: HostRuntime) -> Result<(), AllocError> {
     let digits = cycled(rt.alloc(), GIVEN, 80)?;
     for place in 0..80usize {
         let mut line = Vec::from_slice(rt.alloc(), b"a x0 40 px=")?;
@@ -81,7 +81,7 @@ fn assert_digit(
 
 // Of all bytes the 22 digits are digits, and no other.
 #[test]
-fn each_byte_as_digit(rt: HostRuntime) -> Result<(), AllocError> {
+fn digits_alone_are_read_as_digits(rt: HostRuntime) -> Result<(), AllocError> {
     for byte in 0..=255u8 {
         assert_digit(&rt, byte)?;
     }

@@ -91,7 +91,7 @@ const OPTIONS: &[&[&str]] = &[
 ];
 
 #[test]
-fn options_stand_anywhere(rt: HostRuntime) {
+fn options_may_be_anywhere(rt: HostRuntime) {
     for arguments in OPTIONS {
         assert_farm(&rt, arguments, (7, 9));
     }

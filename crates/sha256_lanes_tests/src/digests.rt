@@ -69,7 +69,7 @@ fn check_in_each_lane(rt: &impl Abort, message: &'static [u8], wanted: &[u8; 32]
 // The standard's examples of SHA-256, of 24 and 448 bits, its message of 896 bits, and the empty
 // message. The last two digests are those of OpenSSL.
 #[test]
-fn published(rt: HostRuntime) {
+fn published_messages_have_their_digests(rt: HostRuntime) {
     check_in_each_lane(
         &rt,
         b"",
@@ -95,7 +95,7 @@ fn published(rt: HostRuntime) {
 // The digest of eight digests in a row, at lengths around a block's end and the length field's
 // place. The values are those of OpenSSL.
 #[test]
-fn around_a_block(rt: HostRuntime) {
+fn lengths_around_a_block_have_their_digests(rt: HostRuntime) {
     let cases: [usize; 15] = [
         0, 1, 55, 56, 63, 64, 65, 119, 120, 127, 128, 183, 184, 192, 1000,
     ];
@@ -130,7 +130,7 @@ fn around_a_block(rt: HostRuntime) {
 
 // Each lane at each length up to 300 against the crate's own hasher.
 #[test]
-fn every_length(rt: HostRuntime) {
+fn every_length_agrees_with_sha2(rt: HostRuntime) {
     for len in 0..301usize {
         let rows = rows_of(len);
         let found = digests_of_rows(&rt, &rows, len);
@@ -148,7 +148,7 @@ const MIXED: &[usize] = &[
 ];
 
 #[test]
-fn mixed_lengths(rt: HostRuntime) {
+fn messages_of_mixed_lengths_agree_with_sha2(rt: HostRuntime) {
     let row = rows_of(200)[3];
     let mut messages = [row.as_slice(); 40];
     assert!(rt; MIXED.len() == messages.len());
@@ -170,7 +170,7 @@ fn mixed_lengths(rt: HostRuntime) {
 
 // Messages that are owned: nine arrays, so eight in the lanes and one after them.
 #[test]
-fn owned_messages(rt: HostRuntime) {
+fn owned_messages_agree_with_sha2(rt: HostRuntime) {
     let mut messages = [[7u8; 65]; 9];
     for (i, message) in messages.iter_mut().enumerate() {
         message[64] = i as u8;
@@ -184,7 +184,7 @@ fn owned_messages(rt: HostRuntime) {
 }
 
 #[test]
-fn lengths_differ(rt: HostRuntime) {
+fn another_length_in_any_lane_is_seen(rt: HostRuntime) {
     let row = rows_of(9)[0];
     for lane in 0..8usize {
         let mut eight = [&row[..9]; 8];

@@ -55,7 +55,9 @@ fn few_survivors_are_read(rt: HostRuntime) -> Result<(), AllocError> {
 
 // A fragment of another length isn't among the few; where two of a group are lost, a global is read for the second.
 #[test]
-fn few_survivors_of_a_stripe_that_lost_two(rt: HostRuntime) -> Result<(), AllocError> {
+fn a_stripe_that_lost_two_is_repaired_from_few_survivors(
+    rt: HostRuntime,
+) -> Result<(), AllocError> {
     let mut store = MemoryStore::new(rt.alloc());
     put_without(&mut store, &NARROW, &[Place::X0])?;
     store.put(NARROW.name, Place::X1, b"")?;
@@ -201,7 +203,7 @@ fn long_fragments_come_back(rt: HostRuntime) -> Result<(), AllocError> {
 
 // In a run that refuses an allocation this ends with the refusal, and then each name is as it was or rebuilt.
 #[test]
-fn each_name_as_it_was_or_rebuilt(rt: HostRuntime) -> Result<(), AllocError> {
+fn each_name_is_as_it_was_or_rebuilt(rt: HostRuntime) -> Result<(), AllocError> {
     let mut store = damaged_store(rt.alloc())?;
     let repaired = repair(rt.alloc(), &mut store, &SHORT, true);
     assert!(&rt; are_there(&store, &SHORT, &[Place::X0, Place::Px]));

@@ -89,7 +89,7 @@ const SIX_ORDERS: &[&[usize]] = &[
 ];
 
 #[test]
-fn three_replies_in_all_six_orders(rt: HostRuntime) -> Result<(), AllocError> {
+fn answers_are_in_order_however_replies_come(rt: HostRuntime) -> Result<(), AllocError> {
     let alloc = rt.alloc();
     let racks = racks_of(&rt, alloc, ONE)?;
     for order in SIX_ORDERS {
@@ -109,7 +109,7 @@ const MISSING: &[(&[usize], &[usize], u64)] = &[
 ];
 
 #[test]
-fn a_starved_reply_and_a_missing_one(rt: HostRuntime) -> Result<(), AllocError> {
+fn a_starved_or_missing_reply_leaves_no_answers(rt: HostRuntime) -> Result<(), AllocError> {
     let alloc = rt.alloc();
     let racks = racks_of(&rt, alloc, ONE)?;
     let starved = gathered(alloc, &racks, &[2, 0, 1], &[1])?;
@@ -150,7 +150,7 @@ fn is_second<'a>(collector: &mut Collector<'a>, reply: Reply<'a>, byte: u8) -> b
 }
 
 #[test]
-fn strangers_and_second_replies(rt: HostRuntime) -> Result<(), AllocError> {
+fn strangers_and_second_replies_are_handed_back(rt: HostRuntime) -> Result<(), AllocError> {
     let alloc = rt.alloc();
     let racks = racks_of(&rt, alloc, &[&[LOCAL]])?;
     let mut collector = Collector::new(alloc, &racks)?;
@@ -177,7 +177,7 @@ fn strangers_and_second_replies(rt: HostRuntime) -> Result<(), AllocError> {
 
 // Refused replies leave a collector as it was: it still names the reply that is missing.
 #[test]
-fn refused_replies_and_a_missing_one(rt: HostRuntime) -> Result<(), AllocError> {
+fn refused_replies_leave_the_collector_as_it_was(rt: HostRuntime) -> Result<(), AllocError> {
     let alloc = rt.alloc();
     let racks = racks_of(&rt, alloc, &[&[LOCAL, GLOBAL]])?;
     let mut collector = Collector::new(alloc, &racks)?;

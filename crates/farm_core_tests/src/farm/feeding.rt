@@ -145,7 +145,7 @@ fn are_of_both(answers: &[(usize, Outcome)]) -> bool {
 
 // Each row a hundred times, with 3 workers and queue 1.
 #[test]
-fn two_feeds(rt: HostRuntime) -> Result<(), AllocError> {
+fn feeds_are_answered_up_to_a_close(rt: HostRuntime) -> Result<(), AllocError> {
     let alloc = rt.alloc();
     let settings = settings_of(&rt, 3, 1);
     let feeds = feeds_of(&rt, alloc, TWO_FEEDS)?;

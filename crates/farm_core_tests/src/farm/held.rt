@@ -179,7 +179,7 @@ fn all_sixteen_workers_meet(rt: HostRuntime) -> Result<(), AllocError> {
 
 // The collector waits for the worker that ends last: in a queue of one its reply and its mark have no room together.
 #[test]
-fn one_worker_ends_late(rt: HostRuntime) -> Result<(), AllocError> {
+fn the_worker_that_ends_last_is_waited_for(rt: HostRuntime) -> Result<(), AllocError> {
     let alloc = rt.alloc();
     let racks = racks_of(&rt, alloc, ONE)?;
     let answers = answers_of(&rt, alloc, &racks, settings_of(&rt, 2, 1), &Late)?;

@@ -110,7 +110,7 @@ fn is_end<'a>(rt: &impl Wait, replies: &mut TakeEnd<Reply<'a>>) -> bool {
 
 // The gate is closed at 2, the first worker replies to both requests and the second to none.
 #[test]
-fn a_feeder_and_two_workers(rt: HostRuntime) -> Result<(), Fail> {
+fn a_feeder_and_two_workers_answer_up_to_the_close(rt: HostRuntime) -> Result<(), Fail> {
     let alloc = rt.alloc();
     let list = list_of(&rt, alloc, &[SEVERAL, LOCAL, Entry::Close, GLOBAL])?;
     let jobs = two_to_two(alloc)?;
@@ -159,12 +159,12 @@ fn answers_each<R: Abort + Wait>(rt: &R, alloc: Global, entries: &[Entry]) -> Re
 
 // Where a script refuses the memory of the plan's arena or that of the answer, the reply says so.
 #[test]
-fn a_worker_without_memory(rt: HostRuntime) -> Result<(), Fail> {
+fn a_worker_without_memory_says_so(rt: HostRuntime) -> Result<(), Fail> {
     answers_each(&rt, rt.alloc(), &[LOCAL])
 }
 
 // Each job has an arena of its own, so twice as many refusals starve one of two jobs.
 #[test]
-fn two_jobs_without_memory(rt: HostRuntime) -> Result<(), Fail> {
+fn each_job_has_an_arena_of_its_own(rt: HostRuntime) -> Result<(), Fail> {
     answers_each(&rt, rt.alloc(), &[LOCAL, LOCAL])
 }

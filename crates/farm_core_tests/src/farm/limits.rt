@@ -23,7 +23,7 @@ fn empty_lists(rt: &impl Abort, alloc: Global, count: usize) -> Result<Vec<RackL
 }
 
 #[test]
-fn orders_of_a_list(rt: HostRuntime) -> Result<(), AllocError> {
+fn a_list_has_at_most_4096_orders(rt: HostRuntime) -> Result<(), AllocError> {
     let alloc = rt.alloc();
     let Ok(list) = RackList::new(closes(alloc, 4096)?) else {
         panic!(rt; "4096 orders were refused");
@@ -37,7 +37,7 @@ fn orders_of_a_list(rt: HostRuntime) -> Result<(), AllocError> {
 }
 
 #[test]
-fn number_of_racks(rt: HostRuntime) -> Result<(), AllocError> {
+fn a_run_has_at_most_16_racks(rt: HostRuntime) -> Result<(), AllocError> {
     let alloc = rt.alloc();
     let Ok(racks) = Racks::new(empty_lists(&rt, alloc, 16)?) else {
         panic!(rt; "16 racks were refused");
@@ -87,7 +87,7 @@ const ACCEPTED: &[(usize, usize, usize)] = &[
 const REFUSED: &[(usize, usize)] = &[(1, 0), (2, 0), (16, 0), (1, 5), (2, 5), (16, 5)];
 
 #[test]
-fn racks_of_one_to_four_feeds(rt: HostRuntime) -> Result<(), AllocError> {
+fn racks_have_one_to_four_feeds(rt: HostRuntime) -> Result<(), AllocError> {
     let alloc = rt.alloc();
     for (racks, each, last) in ACCEPTED {
         match Feeds::new(feeds(&rt, alloc, *racks, *each, *last)?) {
@@ -108,7 +108,7 @@ fn racks_of_one_to_four_feeds(rt: HostRuntime) -> Result<(), AllocError> {
 
 // The number of racks is tested before that of their feeds.
 #[test]
-fn seventeen_racks_of_feeds(rt: HostRuntime) -> Result<(), AllocError> {
+fn racks_are_counted_before_their_feeds(rt: HostRuntime) -> Result<(), AllocError> {
     let alloc = rt.alloc();
     for last in [0, 1, 4, 5] {
         match Feeds::new(feeds(&rt, alloc, 17, 4, last)?) {
@@ -122,7 +122,7 @@ fn seventeen_racks_of_feeds(rt: HostRuntime) -> Result<(), AllocError> {
 }
 
 #[test]
-fn workers_and_queue(rt: HostRuntime) {
+fn settings_are_refused_beyond_their_limits(rt: HostRuntime) {
     let Ok(settings) = Settings::new(16, 1024) else {
         panic!(rt; "the greatest settings were refused");
     };

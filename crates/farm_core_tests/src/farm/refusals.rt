@@ -34,12 +34,12 @@ fn runs_two_racks<R: Abort + Threads + Wait + Sync>(
 }
 
 #[test]
-fn sixteen_workers_and_a_queue_of_1024(rt: HostRuntime) -> Result<(), AllocError> {
+fn sixteen_workers_answer_two_racks(rt: HostRuntime) -> Result<(), AllocError> {
     runs_two_racks(&rt, rt.alloc(), 16, 1024)
 }
 
 #[test]
-fn two_workers_and_a_queue_of_one(rt: HostRuntime) -> Result<(), AllocError> {
+fn two_workers_answer_two_racks(rt: HostRuntime) -> Result<(), AllocError> {
     runs_two_racks(&rt, rt.alloc(), 2, 1)
 }
 
@@ -75,12 +75,12 @@ fn runs_six_feeds<R: Abort + Threads + Wait + Sync>(
 }
 
 #[test]
-fn six_feeds_with_two_workers(rt: HostRuntime) -> Result<(), AllocError> {
+fn two_workers_answer_six_feeds(rt: HostRuntime) -> Result<(), AllocError> {
     runs_six_feeds(&rt, rt.alloc(), 2, 1)
 }
 
 #[test]
-fn six_feeds_with_sixteen_workers(rt: HostRuntime) -> Result<(), AllocError> {
+fn sixteen_workers_answer_six_feeds(rt: HostRuntime) -> Result<(), AllocError> {
     runs_six_feeds(&rt, rt.alloc(), 16, 1024)
 }
 

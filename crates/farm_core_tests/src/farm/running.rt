@@ -36,7 +36,7 @@ const ANSWERS_OF_CLOSED: &[&[Option<u8>]] = &[&[Some(0x01), None], &[], &[Some(0
 const SETTINGS: &[(usize, usize)] = &[(1, 1), (4, 16), (16, 1024)];
 
 #[test]
-fn requests_in_front_of_the_close(rt: HostRuntime) -> Result<(), AllocError> {
+fn requests_before_the_close_are_answered(rt: HostRuntime) -> Result<(), AllocError> {
     let alloc = rt.alloc();
     let racks = racks_of(&rt, alloc, CLOSED)?;
     for (workers, queue) in SETTINGS {
@@ -49,7 +49,7 @@ fn requests_in_front_of_the_close(rt: HostRuntime) -> Result<(), AllocError> {
 
 // Nothing after the close is served.
 #[test]
-fn requests_of_a_list_that_are_served(rt: HostRuntime) -> Result<(), AllocError> {
+fn a_list_serves_the_requests_before_its_close(rt: HostRuntime) -> Result<(), AllocError> {
     let list = list_of(&rt, rt.alloc(), &[LOCAL, SEVERAL, Entry::Close, GLOBAL])?;
     assert!(rt; list.orders().len() == 4 && list.served() == 2);
     Ok(())
@@ -60,7 +60,7 @@ const NO_RACKS: &[&[Entry]] = &[];
 const NO_REQUESTS: &[&[Entry]] = &[&[]];
 
 #[test]
-fn no_racks_and_racks_without_requests(rt: HostRuntime) -> Result<(), AllocError> {
+fn racks_without_requests_have_no_answers(rt: HostRuntime) -> Result<(), AllocError> {
     let alloc = rt.alloc();
     let settings = settings_of(&rt, 1, 1);
     let none = racks_of(&rt, alloc, NO_RACKS)?;
