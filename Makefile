@@ -22,7 +22,7 @@ BUILT = out$(if $(LEVEL),/$(LEVEL))
 NOTICES := out/NOTICES
 
 # The C library's version, which its header says; the first number of the shared object's name changes with its calls.
-LIBRARY_VERSION := $(shell sed -n 's/^.define LRC_VERSION "\(.*\)"$$/\1/p' include/lrc.h)
+LIBRARY_VERSION := $(shell sed -n 's/^.define LRC_VERSION "\(.*\)"$$/\1/p' library/lrc.h)
 SONAME := liblrc.so.0
 # TARGET=aarch64-unknown-linux-gnu has the library built, and installed, for another kind of processor. The shared object is linked by
 # the compiler for it, which Debian's package gcc-aarch64-linux-gnu has.
@@ -40,7 +40,7 @@ COMMANDS := $(PROGRAMS) rebuild-lists
 # Proves the programs and the crates that they use, and builds crates/rebuild/out/rebuild and crates/rebuild_store/out/rebuild_store.
 # JOBS=N has it use N processors.
 build:
-	@scripts/build.py $(subst -,_,$(PROGRAMS)) $(CPU) $(JOBS)
+	@tools/build.py $(subst -,_,$(PROGRAMS)) $(CPU) $(JOBS)
 	@$(MAKE) --no-print-directory notices
 
 # The notices of the crates of the toolchain that the programs and the library use.
@@ -51,16 +51,16 @@ notices:
 
 # The program that repairs stores alone.
 store:
-	@scripts/build.py rebuild_store $(CPU) $(JOBS)
+	@tools/build.py rebuild_store $(CPU) $(JOBS)
 
 # Builds the program of the sample alone.
 demo:
-	@scripts/build.py rebuild $(CPU) $(JOBS)
-	@scripts/demo.sh
+	@tools/build.py rebuild $(CPU) $(JOBS)
+	@tools/demo.sh
 
 # Runs line mode on a few requests by the toolchain's interpreter, which takes one to two minutes and proves nothing.
 try:
-	@scripts/try.sh
+	@tools/try.sh
 
 # Builds nothing, so that it can be run by an administrator who has no toolchain.
 install:
@@ -95,7 +95,7 @@ uninstall:
 
 # Proves the C library and the crates that it uses, and builds it: crates/lrc_c/out/liblrc_c.a and the shared object. JOBS=N as above.
 library:
-	@scripts/build.py lrc_c $(or $(TARGET),$(CPU)) $(JOBS)
+	@tools/build.py lrc_c $(or $(TARGET),$(CPU)) $(JOBS)
 	@$(MAKE) --no-print-directory link-library notices
 
 # The shared object is linked each time, which takes no second, so that it never is of other flags or another archive.
@@ -108,7 +108,7 @@ install-library:
 	@for file in $(LIBRARY)/$(SONAME) "$(NOTICES)"; do \
 	  test -f "$$file" || { echo "The library isn't built: run 'make library' first." >&2; exit 1; }; \
 	done
-	install -D -m 644 include/lrc.h "$(PLACE)/include/lrc.h"
+	install -D -m 644 library/lrc.h "$(PLACE)/include/lrc.h"
 	install -D -m 644 $(LIBRARY)/liblrc_c.a "$(PLACE)/$(LIBDIR)/liblrc.a"
 	install -D -m 755 $(LIBRARY)/$(SONAME) "$(PLACE)/$(LIBDIR)/liblrc.so.$(LIBRARY_VERSION)"
 	ln -sf liblrc.so.$(LIBRARY_VERSION) "$(PLACE)/$(LIBDIR)/$(SONAME)"
@@ -149,57 +149,57 @@ uninstall-ceph:
 try-ceph:
 	@$(MAKE) --no-print-directory ceph CPU=x86-64-v2
 	@$(MAKE) --no-print-directory ceph
-	scripts/try-ceph.sh
+	ceph/try.sh
 
 # What the gate runs after the proofs, over the programs and tests that they leave in each crate's out/. No two of these share a file
 # that one of them writes, so several run at once.
-AFTER := refusals.py try.sh no-compile.sh reference-lines.sh ends.sh demo.sh examples.py manual.sh completions.sh install.sh \
-  version.sh numbers.py tables.py growth.py memory.py companion-test.py ceph.sh repair-store.py \
-  encode-store.py store-options.py store-disks.py store-faults.py file-faults.py packages-test.sh
+AFTER := $(addprefix gate/,refusals.py no-compile.sh reference-lines.sh ends.sh examples.py manual.sh completions.sh install.sh \
+  version.sh numbers.py tables.py growth.py memory.py companion.py repair-store.py encode-store.py store-options.py store-disks.py \
+  store-faults.py file-faults.py packages.sh) tools/try.sh tools/demo.sh ceph/test.sh
 
-# library.sh builds in a copy of its own, so it runs beside the proofs.
+# gate/library.sh builds in a copy of its own, so it runs beside the proofs.
 test:
-	scripts/wrong-bodies.sh
-	scripts/architecture.py
-	scripts/sweep.py
-	scripts/documented.py
-	scripts/pages.py
-	scripts/format-page.py
-	@$(MAKE) --no-print-directory -j2 proofs library.sh
+	gate/wrong-bodies.sh
+	gate/architecture.py
+	gate/sweep.py
+	gate/documented.py
+	gate/pages.py
+	tools/format-page.py
+	@$(MAKE) --no-print-directory -j2 proofs gate/library.sh
 	@$(MAKE) --no-print-directory --output-sync=target -j$(shell nproc) $(AFTER)
 
 # A proof was seen to take 3 GB at most, less than rt allows for, so RT_JOBS has it run one on each processor.
 proofs:
-	scripts/build.py settle
-	RT_JOBS=$(shell nproc) scripts/timed.sh rt ci
+	tools/build.py settle
+	RT_JOBS=$(shell nproc) tools/timed.sh rt ci
 
-.PHONY: proofs library.sh $(AFTER)
-library.sh $(AFTER):
-	scripts/$@
+.PHONY: proofs gate/library.sh $(AFTER)
+gate/library.sh $(AFTER):
+	$@
 
 wrong-bodies:
-	scripts/try-wrong-bodies.sh
-	scripts/tested-wrong-bodies.py
+	tools/try-wrong-bodies.sh
+	tools/tested-wrong-bodies.py
 
 # Builds the program for each level that the processor has, and runs the gate's scripts over each. It is no part of the gate.
 levels:
-	scripts/levels.sh $(JOBS)
+	tools/levels.sh $(JOBS)
 
 # GNU parallel and Slurm over the built program, where they are installed. It is no part of the gate.
 scale: build
-	scripts/scale.sh
+	tools/scale.sh
 
 # What users install who have no toolchain: out/packages gets a tarball, Debian packages, what they are made of, what was proved, and sums.
 packages:
-	@scripts/packages.sh $(JOBS)
+	@tools/packages.sh $(JOBS)
 
 # Installs the packages in clean roots of Debian that debootstrap makes. It is no part of the gate.
 try-packages: packages
-	scripts/try-packages.sh
+	tools/try-packages.sh
 
 bench: build library
-	scripts/bench.sh $(CPU)
-	scripts/bench-lines.sh $(CPU)
-	scripts/bench-farm.py $(CPU)
-	scripts/bench-library.sh $(CPU)
-	scripts/bench-store.py $(CPU)
+	bench/kernels.sh $(CPU)
+	bench/lines.sh $(CPU)
+	bench/farm.py $(CPU)
+	bench/library.sh $(CPU)
+	bench/store.py $(CPU)

@@ -1,5 +1,5 @@
-/* Tests the inline calls of include/lrc.h over a library that says what it is given and answers what it is told to. The rows, and what
- * each must answer and hand on, are in inline-rows.h, which scripts/inline-calls.py writes. Exits with 0 if all is as it must be. */
+/* Tests the inline calls of library/lrc.h over a library that says what it is given and answers what it is told to. The rows, and what
+ * each must answer and hand on, are in inline-rows.h, which gate/inline-calls.py writes. Exits with 0 if all is as it must be. */
 #include <lrc.h>
 #include <stdarg.h>
 #include <stdio.h>

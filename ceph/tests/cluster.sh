@@ -1,6 +1,6 @@
 # shellcheck shell=bash
 # Functions for a Ceph cluster of one machine on the loopback, to be sourced: a monitor, a manager, and OSDs over files below $RUN.
-#   RUN       an empty folder of its own, which scripts/try-ceph.sh makes and removes
+#   RUN       an empty folder of its own, which ceph/try.sh makes and removes
 #   PLUGINS   the folder of plugins, ours and the shipped ones
 #   ADDRESS   the monitor's address (127.0.0.1), in NETWORK (127.0.0.0/8)
 #   AUTH      none or cephx (none): how daemons and clients show who they are

@@ -1,5 +1,5 @@
 """What incomplete.sh asks: which groups Ceph must call incomplete, and which of their fragments the equations determine. These are answered
-by scripts/reference.py, which shares nothing with the plugin. The first word names a job.
+by tools/reference.py, which shares nothing with the plugin. The first word names a job.
 
     remember POOL FILE                   writes for each placement group its OSDs by shard, and for each object its group
     choose FILE OSDS                     five of so many OSDs to be dead, and of these three to be gone and one whose disk is to be damaged,
@@ -24,7 +24,7 @@ import subprocess
 import sys
 
 sys.dont_write_bytecode = True
-sys.path.insert(0, str(pathlib.Path(__file__).resolve().parents[2] / "scripts"))
+sys.path.insert(0, str(pathlib.Path(__file__).resolve().parents[2] / "tools"))
 import reference  # noqa: E402
 
 CODE = "6-2-2"

@@ -1,6 +1,6 @@
 #!/usr/bin/env python3
 """Tries rebuild-ceph over folders that stand for stopped OSDs, by a program in the place of ceph-objectstore-tool: names of objects, both
-layouts, what is there already, shards that were changed, and those that no OSD has. scripts/ceph.sh runs it; ceph/tests/store.sh tries the
+layouts, what is there already, shards that were changed, and those that no OSD has. ceph/test.sh runs it; ceph/tests/store.sh tries the
 command on OSDs."""
 
 import hashlib

@@ -1,5 +1,5 @@
 """Generated folders: several racks and feeds, stripes of both codes, survivors that are absent, changed, or a byte longer or shorter. What
-each command says and makes is compared with what scripts/reference.py, an independent computation, says of the requests."""
+each command says and makes is compared with what tools/reference.py, an independent computation, says of the requests."""
 
 import collections
 import hashlib
@@ -10,7 +10,7 @@ import sys
 
 from .base import FIVE, ROOT, SIX, Folder, folders_to_try
 
-sys.path.insert(0, str(ROOT / "scripts"))
+sys.path.insert(0, str(ROOT / "tools"))
 import reference  # noqa: E402
 
 Request = collections.namedtuple("Request", "code stripe target length survivors")

@@ -1,5 +1,5 @@
 //! The codes for C: exports over the caller's own buffers. Each tests its arguments, none takes memory, and none ends
-//! the process. C declares them in `include/lrc.h`:
+//! the process. C declares them in `library/lrc.h`:
 //!
 //! ```c
 //! const uint8_t *left[LRC_PLACES] = {0}; /* the survivors by place */

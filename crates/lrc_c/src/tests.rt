@@ -26,38 +26,46 @@ fn bytes_of(row: [Gf; 16]) -> [u8; 16] {
     row.map(|c| c.byte())
 }
 
+// The stripe: its parities are the coefficients of x0.
+const STRIPE: [u8; 10] = [0x01, 0x00, 0x00, 0x00, 0x00, 0x00, 0x01, 0x00, 0x04, 0x10];
+
 #[test]
-fn a_stripe(rt: HostRuntime) {
-    let x0 = [1u8];
-    let zero = [0u8];
+fn a_stripe_has_the_known_parities(rt: HostRuntime) {
+    let at = fragments(&STRIPE);
     let mut px = [9u8];
     let mut py = [9u8];
     let mut p0 = [9u8];
     let mut p1 = [9u8];
-    let sources = [
-        one(&x0),
-        one(&zero),
-        one(&zero),
-        one(&zero),
-        one(&zero),
-        one(&zero),
-    ];
     assert_eq!(&rt;
-        lrc_encode_into(0, &sources, &mut px, &mut py, &mut p0, &mut p1),
+        lrc_encode_into(0, &at[..6], &mut px, &mut py, &mut p0, &mut p1),
         0
     );
     assert_eq!(&rt; [px[0], py[0], p0[0], p1[0]], [0x01, 0x00, 0x04, 0x10]);
-    let stripe = [1, 0, 0, 0, 0, 0, px[0], py[0], p0[0], p1[0]];
-    let at = fragments(&stripe);
-    let mut out = [9u8];
     assert_eq!(&rt; lrc_verify_at(0, 0x3ff, &at, 1), 0);
+}
+
+#[test]
+fn a_lost_fragment_is_rebuilt_where_it_is_determined(rt: HostRuntime) {
+    let at = fragments(&STRIPE);
+    let mut out = [9u8];
     assert_eq!(&rt; lrc_rebuild_into(0, 0x3fe, &at, 0, &mut out), 0);
     assert_eq!(&rt; out[0], 1);
     assert_eq!(&rt; lrc_rebuild_into(0, 0x102, &at, 0, &mut out), 2);
+}
+
+#[test]
+fn the_row_of_a_group_gives_its_lost_fragment(rt: HostRuntime) {
+    let at = fragments(&STRIPE);
+    let mut out = [9u8];
     let group = elements([0, 1, 1, 0, 0, 0, 1, 0, 0, 0, 0, 0, 0, 0, 0, 0]);
-    out[0] = 9;
     assert_eq!(&rt; lrc_apply(&group, &at, &mut out), 0);
     assert_eq!(&rt; out[0], 1);
+}
+
+#[test]
+fn two_lost_fragments_are_rebuilt_at_once(rt: HostRuntime) {
+    let at = fragments(&STRIPE);
+    let mut out = [9u8];
     let mut other = [9u8];
     let mut statuses = [9u32; 4];
     let status = lrc_rebuild_many_into(
@@ -78,7 +86,7 @@ fn a_stripe(rt: HostRuntime) {
 }
 
 #[test]
-fn a_plan(rt: HostRuntime) {
+fn a_plan_is_written_where_there_is_one(rt: HostRuntime) {
     let mut plan = Plan {
         value: [Gf::new(9); 16],
         checks: [[Gf::new(9); 16]; 4],
@@ -97,7 +105,7 @@ fn a_plan(rt: HostRuntime) {
 }
 
 #[test]
-fn sums(rt: HostRuntime) {
+fn kernels_give_the_known_sums(rt: HostRuntime) {
     let mut dst = [0x80u8, 1];
     assert_eq!(&rt; lrc_scale_add(&mut dst, 2, &[0x80, 0]), 0);
     assert_eq!(&rt; dst, [0x9d, 1]);
@@ -117,7 +125,7 @@ fn sums(rt: HostRuntime) {
 }
 
 #[test]
-fn what_to_read(rt: HostRuntime) {
+fn the_cheapest_reads_are_found(rt: HostRuntime) {
     let mut reads = 7u32;
     assert_eq!(&rt; lrc_reads_into(0, 0x001, 0x3fe, &mut reads), 0);
     assert_eq!(&rt; reads, 0x046);
@@ -135,7 +143,7 @@ fn what_to_read(rt: HostRuntime) {
 }
 
 #[test]
-fn a_fragment_changed(rt: HostRuntime) {
+fn parities_follow_a_changed_fragment(rt: HostRuntime) {
     let mut px = [9u8];
     let mut py = [9u8];
     let mut p0 = [9u8];

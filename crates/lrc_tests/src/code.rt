@@ -37,7 +37,7 @@ fn is_named(index: usize, name: &str) -> bool {
 const NO_NAMES: &[&str] = &["", "x", "x6", "X0", "x0 ", "px0", "z9"];
 
 #[test]
-fn places_by_name_and_index(rt: HostRuntime) {
+fn places_are_found_by_name_and_index(rt: HostRuntime) {
     for index in 0..16usize {
         assert!(&rt; is_named(index, NAMES[index]), "place {index}");
     }
@@ -49,7 +49,7 @@ fn places_by_name_and_index(rt: HostRuntime) {
 }
 
 #[test]
-fn sets_of_places(rt: HostRuntime) {
+fn sets_have_the_places_that_were_added(rt: HostRuntime) {
     let set = PlaceSet::empty()
         .with(Place::X1)
         .with(Place::P1)
@@ -75,7 +75,7 @@ const NUMBERS: &[(&str, u32)] = &[
 const NO_NUMBERS: &[&str] = &["", "00000003", "+3", "-3", "3 ", "3a", "٣"];
 
 #[test]
-fn numbers_of_one_to_seven_digits(rt: HostRuntime) {
+fn numbers_have_one_to_seven_digits(rt: HostRuntime) {
     for (text, number) in NUMBERS {
         assert!(&rt; parse_number(text.as_bytes()) == Some(*number), "{text}");
     }
@@ -96,7 +96,7 @@ const NO_STRIPE_NAMES: &[&str] = &[
 ];
 
 #[test]
-fn names_of_stripes(rt: HostRuntime) {
+fn stripe_names_are_small_letters_digits_and_hyphens(rt: HostRuntime) {
     for name in STRIPE_NAMES {
         assert!(&rt; is_stripe_name(name), "{name}");
     }
@@ -174,7 +174,7 @@ const REFUSALS: &[(&str, Place, u32, &[(Place, &[u8])], Option<u8>)] = &[
 ];
 
 #[test]
-fn refusals_in_order(rt: HostRuntime) -> Result<(), AllocError> {
+fn refusals_come_in_their_order(rt: HostRuntime) -> Result<(), AllocError> {
     for (stripe, target, length, survivors, expected) in REFUSALS {
         let refusal = refusal_of(rt.alloc(), stripe, *target, *length, survivors)?;
         assert!(&rt; refusal == *expected, "{stripe} {length}");
@@ -201,7 +201,7 @@ fn refusal_of_lengths(repeated: bool, among: bool) -> Option<u8> {
 
 // The refusals before E5 ask for no bytes.
 #[test]
-fn refusals_without_bytes(rt: HostRuntime) {
+fn earlier_refusals_ask_for_no_bytes(rt: HostRuntime) {
     let places = AskedPlaces {
         are_of_the_code: true,
         has_repeated: false,
@@ -234,7 +234,7 @@ fn has_two_sources(request: &Request) -> bool {
 }
 
 #[test]
-fn readers_of_a_request(rt: HostRuntime) -> Result<(), AllocError> {
+fn a_request_gives_what_it_was_made_of(rt: HostRuntime) -> Result<(), AllocError> {
     match asked(rt.alloc(), "a-1", Place::P0, 1, &[Y2, X1])? {
         Ok(request) => assert!(&rt; is_read(&request) && has_two_sources(&request)),
         Err(_) => assert!(&rt; false, "it is refused"),
@@ -243,7 +243,7 @@ fn readers_of_a_request(rt: HostRuntime) -> Result<(), AllocError> {
 }
 
 #[test]
-fn readers_of_bytes(rt: HostRuntime) -> Result<(), AllocError> {
+fn bytes_give_what_they_were_made_of(rt: HostRuntime) -> Result<(), AllocError> {
     let three: &[u8] = b"\x01\x02\x03";
     let bytes = Bytes::new(three.to_vec(rt.alloc())?);
     assert!(&rt; bytes.as_slice() == three);
@@ -288,14 +288,14 @@ fn is_encoded(alloc: Global) -> Result<bool, AllocError> {
 
 // The parities of 61 62 63 and five data of zeros.
 #[test]
-fn one_stripe_encoded(rt: HostRuntime) -> Result<(), AllocError> {
+fn a_stripe_has_the_known_parities(rt: HostRuntime) -> Result<(), AllocError> {
     assert!(&rt; is_encoded(rt.alloc())?);
     Ok(())
 }
 
 // With x0 lost alone the first local equation determines it, and three rows are without a pivot.
 #[test]
-fn one_reduction(rt: HostRuntime) {
+fn a_place_lost_alone_is_the_one_pivot(rt: HostRuntime) {
     let reduced = reduce(PlaceSet::empty().with(Place::X0));
     let mut pivots = 0u32;
     for row in 0..4usize {
@@ -310,7 +310,7 @@ fn one_reduction(rt: HostRuntime) {
 }
 
 #[test]
-fn places_of_the_codes(rt: HostRuntime) {
+fn each_code_has_its_own_places(rt: HostRuntime) {
     assert!(&rt; Code::Narrow.places().len() == 10 && Code::Wide.places().len() == 16);
     assert!(&rt; Code::Narrow.data_count() == 6 && Code::Wide.data_count() == 12);
     assert!(&rt;
@@ -359,7 +359,7 @@ fn has_parities(code: Code, rows: &[[u8; 12]; 4]) -> bool {
 }
 
 #[test]
-fn parities_of_the_codes(rt: HostRuntime) {
+fn each_code_has_its_coefficients(rt: HostRuntime) {
     assert!(&rt; has_parities(Code::Narrow, &NARROW_ROWS));
     assert!(&rt; has_parities(Code::Wide, &WIDE_ROWS));
 }
@@ -399,14 +399,14 @@ fn is_encoded_wide(alloc: Global) -> Result<bool, AllocError> {
 
 // The stripe with x0 = x5 = 01, y0 = 02 and no other data.
 #[test]
-fn one_wide_stripe_encoded(rt: HostRuntime) -> Result<(), AllocError> {
+fn a_wide_stripe_has_the_known_parities(rt: HostRuntime) -> Result<(), AllocError> {
     assert!(&rt; is_encoded_wide(rt.alloc())?);
     Ok(())
 }
 
 // With x5 lost alone in the (12,2,2) code one row has a pivot. A lost place outside the code plays no part.
 #[test]
-fn one_reduction_of_each_code(rt: HostRuntime) {
+fn a_place_outside_the_code_is_no_pivot(rt: HostRuntime) {
     let wide = reduce_in(Code::Wide, PlaceSet::empty().with(Place::X5));
     let narrow = reduce_in(Code::Narrow, PlaceSet::empty().with(Place::X5));
     let mut pivots = 0u32;

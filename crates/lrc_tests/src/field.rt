@@ -82,7 +82,7 @@ fn elements(bytes: [u8; 5]) -> [Gf; 5] {
 }
 
 #[test]
-fn terms_of_sources(rt: HostRuntime) {
+fn terms_leave_out_zeros_and_empty_sources(rt: HostRuntime) {
     let mut room = no_terms();
     let terms = terms_in(&mut room, &elements(FIRSTS), SOURCES);
     assert_eq!(&rt; terms.len(), 2);
@@ -104,7 +104,7 @@ fn rooms_have_nothing_at_first(rt: HostRuntime) {
 }
 
 #[test]
-fn pairs_of_sources(rt: HostRuntime) {
+fn pairs_leave_out_zeros_and_empty_sources(rt: HostRuntime) {
     let mut room = no_pairs();
     let pairs = pairs_in(&mut room, &elements(FIRSTS), &elements(SECONDS), SOURCES);
     assert_eq!(&rt; pairs.len(), 3);
@@ -134,7 +134,7 @@ const PRODUCTS: &[(u8, u8, u8)] = &[
 ];
 
 #[test]
-fn known_products(rt: HostRuntime) {
+fn products_are_the_known_ones(rt: HostRuntime) {
     for (a, b, product) in PRODUCTS {
         let found = Gf::new(*a).mul(Gf::new(*b)).byte();
         assert!(&rt; found == *product, "{a} * {b} is {found}");
@@ -145,7 +145,7 @@ fn known_products(rt: HostRuntime) {
 const INVERSES: &[(u8, u8)] = &[(0x01, 0x01), (0x02, 0x8e), (0x04, 0x47), (0x8e, 0x02)];
 
 #[test]
-fn known_inverses(rt: HostRuntime) {
+fn inverses_are_the_known_ones(rt: HostRuntime) {
     assert!(&rt; Gf::new(0).inverse().is_none());
     for (a, expected) in INVERSES {
         match Gf::new(*a).inverse() {
@@ -156,7 +156,7 @@ fn known_inverses(rt: HostRuntime) {
 }
 
 #[test]
-fn all_products(rt: HostRuntime) {
+fn each_product_is_that_by_shifts(rt: HostRuntime) {
     for a in 0..=255u8 {
         for b in 0..=255u8 {
             let found = Gf::new(a).mul(Gf::new(b)).byte();
@@ -222,7 +222,7 @@ fn slices_are_summed(alloc: Global, len: usize) -> Result<bool, AllocError> {
 }
 
 #[test]
-fn sums_of_slices(rt: HostRuntime) -> Result<(), AllocError> {
+fn sums_of_slices_are_those_by_shifts(rt: HostRuntime) -> Result<(), AllocError> {
     for len in LENGTHS {
         assert!(&rt; slices_are_summed(rt.alloc(), *len)?, "{len} bytes");
     }
@@ -260,7 +260,7 @@ fn terms_are_combined(alloc: Global, len: usize) -> Result<bool, AllocError> {
 }
 
 #[test]
-fn sums_of_terms(rt: HostRuntime) -> Result<(), AllocError> {
+fn sums_of_terms_are_those_by_shifts(rt: HostRuntime) -> Result<(), AllocError> {
     for len in LENGTHS {
         assert!(&rt; terms_are_combined(rt.alloc(), *len)?, "{len} bytes");
     }
@@ -332,7 +332,7 @@ fn windows_are_combined(alloc: Global, b: u8, c: u8) -> Result<bool, AllocError>
 }
 
 #[test]
-fn sums_of_terms_in_windows(rt: HostRuntime) -> Result<(), AllocError> {
+fn sums_of_terms_in_windows_are_those_by_shifts(rt: HostRuntime) -> Result<(), AllocError> {
     assert!(&rt; windows_are_combined(rt.alloc(), 0x01, 0x01)?);
     assert!(&rt; windows_are_combined(rt.alloc(), 0x53, 0x00)?);
     Ok(())
@@ -370,7 +370,7 @@ fn are_combined_in_pairs(
 }
 
 #[test]
-fn sums_of_pairs_in_windows(rt: HostRuntime) -> Result<(), AllocError> {
+fn sums_of_pairs_in_windows_are_those_by_shifts(rt: HostRuntime) -> Result<(), AllocError> {
     let first = some_bytes(rt.alloc(), SOURCE, 5)?;
     let second = some_bytes(rt.alloc(), SOURCE, 11)?;
     let third = some_bytes(rt.alloc(), SOURCE, 17)?;
@@ -430,7 +430,7 @@ fn windows_are_zero(alloc: Global, changed: usize) -> Result<bool, AllocError> {
 }
 
 #[test]
-fn zero_sums_in_windows(rt: HostRuntime) -> Result<(), AllocError> {
+fn windows_without_a_difference_have_zero_sums(rt: HostRuntime) -> Result<(), AllocError> {
     for changed in [
         0,
         31,

@@ -36,7 +36,7 @@ pub(crate) fn fragments(bytes: &[u8; 10]) -> [Lent<'_>; 16] {
 }
 
 #[test]
-fn changed_fragments(rt: HostRuntime) {
+fn a_changed_fragment_is_noticed(rt: HostRuntime) {
     assert_eq!(&rt; lrc_verify_at(0, 0x3ff, &fragments(&STRIPE), 1), 0);
     for place in 0..10usize {
         let mut bytes = STRIPE;
@@ -57,7 +57,7 @@ fn changed_fragments(rt: HostRuntime) {
 }
 
 #[test]
-fn undetermined_targets(rt: HostRuntime) {
+fn undetermined_targets_are_said_to_be_so(rt: HostRuntime) {
     let mut plan = Plan {
         value: [Gf::new(9); 16],
         checks: [[Gf::new(9); 16]; 4],
@@ -83,7 +83,7 @@ fn undetermined_targets(rt: HostRuntime) {
 }
 
 #[test]
-fn refused_targets_and_rooms(rt: HostRuntime) {
+fn refused_calls_write_nothing(rt: HostRuntime) {
     let at = fragments(&STRIPE);
     let mut out = [9u8, 9];
     assert_eq!(&rt; lrc_rebuild_into(0, 0x3ff, &at, 0, &mut out[..1]), 3);
@@ -106,7 +106,7 @@ fn refused_targets_and_rooms(rt: HostRuntime) {
 }
 
 #[test]
-fn refused_parities(rt: HostRuntime) {
+fn parities_of_another_length_are_refused(rt: HostRuntime) {
     let at = fragments(&STRIPE);
     let mut px = [9u8];
     let mut py = [9u8];
@@ -118,7 +118,7 @@ fn refused_parities(rt: HostRuntime) {
 }
 
 #[test]
-fn sixteen_sources(rt: HostRuntime) {
+fn sixteen_sources_are_combined(rt: HostRuntime) {
     let row = elements([0, 0, 0, 0, 0, 2, 0, 0, 0, 0, 0, 0, 0, 0, 0, 0]);
     let mut out = [9u8];
     assert_eq!(&rt; lrc_combine(&row, &fragments(&STRIPE), &mut out), 0);
@@ -129,7 +129,7 @@ fn sixteen_sources(rt: HostRuntime) {
 const LONG: usize = 3 * WINDOW + 8;
 
 #[test]
-fn parities_of_several_windows(rt: HostRuntime) {
+fn long_fragments_have_parities_in_each_window(rt: HostRuntime) {
     let x5 = [0x80u8; LONG];
     let zero = [0u8; LONG];
     let sources = [

@@ -75,7 +75,7 @@ fn grafts_nothing<A: Allocator + Clone>(alloc: &A) -> Result<bool, AllocError> {
 }
 
 #[test]
-fn local_plans_and_grafts(rt: HostRuntime) -> Result<(), AllocError> {
+fn plans_are_local_and_grafts_replace_each_leaf(rt: HostRuntime) -> Result<(), AllocError> {
     let alloc = rt.alloc();
     assert!(&rt; local_plans(&alloc)?);
     assert!(&rt; grafts(&alloc)?);
@@ -108,7 +108,7 @@ fn counts<A: Allocator + Clone>(
 }
 
 #[test]
-fn numbers_of_checks(rt: HostRuntime) -> Result<(), AllocError> {
+fn plans_have_the_known_numbers_of_checks(rt: HostRuntime) -> Result<(), AllocError> {
     let alloc = rt.alloc();
     let bump = Bump::new(alloc);
     let local = set_of(&[Place::X1, Place::X2, Place::Px]);
@@ -183,7 +183,7 @@ fn recovered<A: Allocator + Clone>(
 }
 
 #[test]
-fn sets_of_three_and_four_lost_places(rt: HostRuntime) -> Result<(), AllocError> {
+fn each_three_and_most_four_lost_places_have_plans(rt: HostRuntime) -> Result<(), AllocError> {
     let alloc = rt.alloc();
     let bump = Bump::new(alloc);
     assert!(&rt; recovered(alloc, &alloc, Code::Narrow, 3)? == (120, 120));
@@ -227,7 +227,7 @@ fn is_plan_of_six(alloc: Global, survivors: PlaceSet, checks: usize) -> Result<b
 
 // There is no check where only the six survive, and there are three where all others do.
 #[test]
-fn local_plan_of_six(rt: HostRuntime) -> Result<(), AllocError> {
+fn the_local_plan_of_the_wide_code_reads_six(rt: HostRuntime) -> Result<(), AllocError> {
     let alloc = rt.alloc();
     assert!(&rt; is_plan_of_six(alloc, set_of(&SIX), 0)?);
     let others = Code::Wide.others(PlaceSet::empty().with(Place::X0));

@@ -181,7 +181,7 @@ fn value_trees_give_the_same_bytes_at_any_forks(rt: HostRuntime) -> Result<(), A
 
 // The value of twelve data, a sum within a sum eleven times. Forks above 4 count as 4, so four threads are started; a script counts them.
 #[test]
-fn evaluate_both_at_most_forks(rt: HostRuntime) -> Result<(), AllocError> {
+fn the_most_forks_give_both_values(rt: HostRuntime) -> Result<(), AllocError> {
     let alloc = rt.alloc();
     let Some(request) = request_of(alloc, &WIDE_CASES[1])? else {
         assert!(&rt; false, "the request is refused");
@@ -199,7 +199,7 @@ fn evaluate_both_at_most_forks(rt: HostRuntime) -> Result<(), AllocError> {
 // Of few allocations, so that a script can refuse each of them in turn: the answer is then out of memory or these
 // bytes.
 #[test]
-fn evaluate_both_at_two_forks(rt: HostRuntime) -> Result<(), AllocError> {
+fn two_forks_give_both_values(rt: HostRuntime) -> Result<(), AllocError> {
     let alloc = rt.alloc();
     let Some(request) = request_of(alloc, &CASES[0])? else {
         assert!(&rt; false, "the request is refused");

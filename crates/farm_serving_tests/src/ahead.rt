@@ -1,0 +1,157 @@
+//! Files that a shelf over a folder reads ahead, in one thread to sixteen, and what a shelf is asked for.
+use crate::shared::{fails, has_none, input_of, reads, serve_with, shelf_of, written};
+use crate::watched::WatchedShelf;
+use farm_core::NoPause;
+use farm_lists_tests::samples::LIST;
+use farm_serving::{MemoryShelf, ReadAheadShelf, Shelf};
+use std::alloc::{AllocError, Global};
+use std::fs;
+use std::rt::Files;
+
+// A folder with 300 files of 0 to 6 bytes; number 7 of each ten is absent.
+fn make_files<R: Files>(rt: &R, alloc: Global, folder: &str) -> Result<bool, AllocError> {
+    if fs::create_dir_all(rt, folder).is_err() {
+        return Ok(false);
+    }
+    for number in 0..300usize {
+        if number % 10 != 7 {
+            let path = format!(in alloc; "{folder}/{number}")?;
+            if fs::write(rt, path.as_str(), bytes_of(number)).is_err() {
+                return Ok(false);
+            }
+        }
+    }
+    Ok(true)
+}
+
+// The bytes of the file of that number.
+fn bytes_of(number: usize) -> &'static [u8] {
+    match number % 7 {
+        0 => b"",
+        1 => b"a",
+        2 => b"ab",
+        3 => b"abc",
+        4 => b"abcd",
+        5 => b"abcde",
+        _ => b"abcdef",
+    }
+}
+
+// The names of the files of these numbers, each with a limit of 4 bytes.
+fn names(alloc: Global, first: usize, end: usize) -> Result<Vec<(String, usize)>, AllocError> {
+    let mut names = Vec::new(alloc);
+    for number in first..end {
+        names.push((format!(in alloc; "{number}")?, 4))?;
+    }
+    Ok(names)
+}
+
+// Whether the shelf gives the first bytes of the file of a number, four at most, or says that there is no such file.
+fn gives<S: Shelf>(shelf: &mut S, alloc: Global, number: usize) -> Result<bool, AllocError> {
+    let name = format!(in alloc; "{number}")?;
+    if number % 10 == 7 {
+        return Ok(has_none(shelf, alloc, name.as_str(), 4));
+    }
+    let front = bytes_of((number % 7).min(4));
+    Ok(reads(shelf, alloc, name.as_str(), 4, front))
+}
+
+// Whether the shelf gives the files of these numbers so, read in turn.
+fn gives_each<S: Shelf>(
+    shelf: &mut S,
+    alloc: Global,
+    numbers: &[usize],
+) -> Result<bool, AllocError> {
+    for number in numbers {
+        if !gives(shelf, alloc, *number)? {
+            return Ok(false);
+        }
+    }
+    Ok(true)
+}
+
+// How many files are read ahead.
+const COUNTS: &[usize] = &[0, 1, 5, 300];
+
+#[test]
+fn files_read_ahead_are_given_as_they_are(rt: HostRuntime) -> Result<(), AllocError> {
+    let alloc = rt.alloc();
+    assert!(&rt; make_files(&rt, alloc, "ahead/many")?);
+    for threads in 0..17usize {
+        let mut shelf = ReadAheadShelf::open(&rt, alloc, "ahead/many")?;
+        for count in COUNTS {
+            shelf.read_ahead(&rt, alloc, names(alloc, 0, *count)?.as_slice(), threads);
+            for number in 0..*count {
+                assert!(&rt; gives(&mut shelf, alloc, number)?);
+            }
+        }
+        assert!(&rt; shelf.failures() == 0);
+    }
+    Ok(())
+}
+
+// What was read ahead is given once, of the next file alone, and not after a write.
+#[test]
+fn other_reads_and_writes_drop_what_was_read_ahead(rt: HostRuntime) -> Result<(), AllocError> {
+    let alloc = rt.alloc();
+    assert!(&rt; make_files(&rt, alloc, "ahead/other")?);
+    let all = names(alloc, 0, 300)?;
+    let second = names(alloc, 1, 2)?;
+    let mut shelf = ReadAheadShelf::open(&rt, alloc, "ahead/other")?;
+    shelf.read_ahead(&rt, alloc, all.as_slice(), 4);
+    assert!(&rt; gives_each(&mut shelf, alloc, &[0, 2, 1, 1])?);
+    shelf.read_ahead(&rt, alloc, all.as_slice(), 4);
+    assert!(&rt; written(&mut shelf, alloc, "0", b"new") == Ok(()));
+    assert!(&rt; reads(&mut shelf, alloc, "0", 4, b"new"));
+    shelf.read_ahead(&rt, alloc, second.as_slice(), 4);
+    assert!(&rt; reads(&mut shelf, alloc, "1", 0, b""));
+    assert!(&rt; shelf.failures() == 0);
+    Ok(())
+}
+
+// Numbers of threads that meet a failure.
+const THREADS: &[usize] = &[1, 4, 16];
+
+// A folder in a file's place can't be read: each read of it fails, and counts.
+#[test]
+fn reads_that_fail_ahead_are_counted_once(rt: HostRuntime) -> Result<(), AllocError> {
+    let alloc = rt.alloc();
+    assert!(&rt; make_files(&rt, alloc, "ahead/failing")?);
+    assert!(&rt; fs::create_dir_all(&rt, "ahead/failing/300").is_ok());
+    assert!(&rt; fs::create_dir_all(&rt, "ahead/failing/301").is_ok());
+    let names = names(alloc, 290, 302)?;
+    for threads in THREADS {
+        let mut shelf = ReadAheadShelf::open(&rt, alloc, "ahead/failing")?;
+        shelf.read_ahead(&rt, alloc, names.as_slice(), *threads);
+        for number in 290..300usize {
+            assert!(&rt; gives(&mut shelf, alloc, number)?);
+        }
+        assert!(&rt; shelf.failures() == 0);
+        assert!(&rt; fails(&mut shelf, alloc, "300", 4) && shelf.failures() == 1);
+        assert!(&rt; fails(&mut shelf, alloc, "301", 4) && shelf.failures() == 2);
+    }
+    Ok(())
+}
+
+// A shelf in memory reads nothing ahead, so its call that fails is the read that it was asked for.
+#[test]
+fn memory_reads_nothing_ahead(rt: HostRuntime) -> Result<(), AllocError> {
+    let alloc = rt.alloc();
+    let mut shelf = shelf_of(alloc, &[("0", b""), ("1", b"a")])?;
+    shelf.fail_at(1);
+    shelf.read_ahead(&rt, alloc, names(alloc, 0, 300)?.as_slice(), 4);
+    assert!(&rt; gives(&mut shelf, alloc, 0)? && shelf.failures() == 0);
+    assert!(&rt; fails(&mut shelf, alloc, "1", 4));
+    assert!(&rt; gives(&mut shelf, alloc, 1)? && shelf.failures() == 1);
+    Ok(())
+}
+
+// Before a feed's survivors are read, the shelf is asked to read ahead just these.
+#[test]
+fn what_is_read_is_named_ahead(rt: HostRuntime) -> Result<(), AllocError> {
+    let mut input = WatchedShelf::new(rt.alloc(), input_of(rt.alloc(), LIST)?);
+    let mut output = MemoryShelf::new(rt.alloc());
+    let served = serve_with(&rt, rt.alloc(), (2, 1), &mut input, &mut output, &NoPause);
+    assert!(&rt; served.is_ok() && input.ahead.files.len() == 3 && input.ahead.next == 3);
+    Ok(())
+}

@@ -1,0 +1,224 @@
+//! The arguments of the program.
+use command_line::{Words, WordsFault, read_words};
+use std::alloc::{AllocError, Global};
+use std::process::Abort;
+
+// What arguments ask for.
+fn read(alloc: Global, arguments: &[&str]) -> Result<Words, WordsFault> {
+    read_words(alloc, strings(alloc, arguments)?.as_slice())
+}
+
+fn strings(alloc: Global, arguments: &[&str]) -> Result<Vec<String>, AllocError> {
+    let mut strings = Vec::new(alloc);
+    for argument in arguments {
+        strings.push(String::from_str(alloc, argument)?)?;
+    }
+    Ok(strings)
+}
+
+// Asserts that arguments ask to serve the folder `a` into the folder `b`, with so many workers and a queue of that capacity.
+fn assert_farm(rt: &(impl Abort + AllocGlobal), arguments: &[&str], wanted: (usize, usize)) {
+    match read(rt.alloc(), arguments) {
+        Ok(
+            Words::Farm {
+                input,
+                output,
+                workers,
+                queue,
+            },
+        ) => {
+            assert_eq!(rt;
+                (input.as_str(), output.as_str()),
+                ("a", "b"),
+                "{arguments:?}"
+            );
+            assert_eq!(rt; (workers, queue), wanted, "{arguments:?}");
+        }
+        other => panic!(rt; "{arguments:?}: {other:?}"),
+    }
+}
+
+// Asserts that arguments are a mistake that is reported by this text.
+fn assert_mistaken(rt: &(impl Abort + AllocGlobal), arguments: &[&str], text: &str) {
+    match read(rt.alloc(), arguments) {
+        Err(WordsFault::Usage(shown)) => assert_eq!(rt; shown.as_str(), text, "{arguments:?}"),
+        other => panic!(rt; "{arguments:?}: {other:?}"),
+    }
+}
+
+// Asserts that arguments ask for this text.
+fn assert_text(rt: &(impl Abort + AllocGlobal), arguments: &[&str], text: &str) {
+    match read(rt.alloc(), arguments) {
+        Ok(Words::Help(shown)) => assert_eq!(rt; shown.as_str(), text, "{arguments:?}"),
+        other => panic!(rt; "{arguments:?}: {other:?}"),
+    }
+}
+
+#[test]
+fn no_arguments_are_line_mode(rt: HostRuntime) {
+    let arguments = Vec::new(rt.alloc());
+    let read = read_words(rt.alloc(), arguments.as_slice());
+    assert!(rt; matches!(read, Ok(Words::Lines)), "{read:?}");
+}
+
+// Arguments with other numbers of workers, or capacities of the queue. Numbers out of a farm's limits are read; the settings refuse
+// them.
+const FARMS: &[(&[&str], (usize, usize))] = &[
+    (&["farm", "a", "b"], (4, 16)),
+    (&["farm", "a", "b", "--workers", "2"], (2, 16)),
+    (&["farm", "a", "b", "--queue", "3"], (4, 3)),
+    (
+        &["farm", "a", "b", "--workers", "0", "--queue", "1"],
+        (0, 1),
+    ),
+    (&["farm", "a", "b", "--queue", "65535"], (4, 65535)),
+];
+
+#[test]
+fn farm_has_defaults(rt: HostRuntime) {
+    for (arguments, wanted) in FARMS {
+        assert_farm(&rt, arguments, *wanted);
+    }
+}
+
+// Arguments with 7 workers and a queue of 9.
+const OPTIONS: &[&[&str]] = &[
+    &["farm", "a", "b", "--workers", "7", "--queue", "9"],
+    &["farm", "--queue", "9", "--workers", "7", "a", "b"],
+    &["farm", "--workers=7", "a", "--queue=9", "b"],
+    &["farm", "a", "--workers", "+7", "b", "--queue=009"],
+    &["farm", "--workers=7", "--queue=9", "--", "a", "b"],
+];
+
+#[test]
+fn options_may_be_anywhere(rt: HostRuntime) {
+    for arguments in OPTIONS {
+        assert_farm(&rt, arguments, (7, 9));
+    }
+}
+
+const MISTAKES: &[(&[&str], &str)] = &[
+    (
+        &["farm", "a"],
+        "error: the following required arguments were not provided:\n  <OUT>\n\n\
+Usage: rebuild farm [OPTIONS] <IN> <OUT>\n\nFor more information, try '--help'.\n",
+    ),
+    (
+        &["farm", "a", "b", "--queue", "65536"],
+        "error: invalid value '65536' for '--queue <Q>': 65536 is not in 0..=65535\n\nFor more information, try '--help'.\n",
+    ),
+    (
+        &["shelf"],
+        "error: unrecognized subcommand 'shelf'\n\n  tip: a similar subcommand exists: 'help'\n\n\
+Usage: rebuild [COMMAND]\n\nFor more information, try '--help'.\n",
+    ),
+    (
+        &["--"],
+        "error: rebuild takes the command farm, or no arguments at all\n\nFor more information, try '--help'.\n",
+    ),
+];
+
+#[test]
+fn mistakes_are_reported_with_a_hint(rt: HostRuntime) {
+    for (arguments, text) in MISTAKES {
+        assert_mistaken(&rt, arguments, text);
+    }
+}
+
+const REFUSED: &[&[&str]] = &[
+    &[""],
+    &["farm"],
+    &["farm", "a", "b", "c"],
+    &["farm", "a", "b", "--workers"],
+    &["farm", "a", "b", "--workers", "-1"],
+    &["farm", "a", "b", "--workers", "two"],
+    &["farm", "a", "b", "--workers", "1", "--workers", "1"],
+    &["farm", "a", "b", "--threads", "1"],
+    &["Farm", "a", "b"],
+];
+
+#[test]
+fn other_mistakes_are_refused(rt: HostRuntime) {
+    for arguments in REFUSED {
+        let read = read(rt.alloc(), arguments);
+        assert!(&rt;
+            matches!(read, Err(WordsFault::Usage(_))),
+            "{arguments:?}: {read:?}"
+        );
+    }
+}
+
+const SHOWN: &[(&[&str], &str)] = &[
+    (&["--version"], "rebuild 0.1.0\n"),
+    (&["--help"], HELP),
+    (&["-h"], HELP),
+    (&["help"], HELP),
+    (&["farm", "--help"], FARM_HELP),
+    (&["farm", "-h"], FARM_HELP),
+    (&["help", "farm"], FARM_HELP),
+    (&["farm", "a", "--help", "b"], FARM_HELP),
+];
+
+#[test]
+fn help_and_version_are_shown(rt: HostRuntime) {
+    for (arguments, text) in SHOWN {
+        assert_text(&rt, arguments, text);
+    }
+}
+
+const HELP: &str = "\
+Rebuilds lost fragments of stripes coded by a (6,2,2) or (12,2,2) Local Reconstruction Code.
+
+Usage: rebuild [COMMAND]
+
+Commands:
+  farm  Rebuilds the fragments that the request lists of a folder ask for
+  help  Print this message or the help of the given subcommand(s)
+
+Options:
+  -h, --help     Print help
+  -V, --version  Print version
+
+Without a command, rebuild replies to each line of its standard input, as
+  [code=<code>] <stripe> <target> <length> <place>=<hexadecimal bytes> ..
+The code is 6-2-2, which needs no word, or 12-2-2.
+Places: x0 x1 x2 y0 y1 y2 px py p0 p1; 12-2-2 has x3 x4 x5 y3 y4 y5 too.
+Example: echo 'a x0 1 x1=02 x2=03 px=00' | rebuild
+Exit status: 0 all lines answered, 1 a line refused, 2 usage, 3 device, 4 memory.
+Folders of request lists are served by rebuild farm: see rebuild farm --help.
+The manual: man rebuild for the program, man 5 rebuild for its files and lines.
+";
+
+const FARM_HELP: &str = "\
+Rebuilds the fragments that the request lists of a folder ask for
+
+Usage: rebuild farm [OPTIONS] <IN> <OUT>
+
+Arguments:
+  <IN>   Folder of request lists and surviving fragments
+  <OUT>  Folder for rebuilt fragments and reports, which must exist
+
+Options:
+      --workers <N>  Threads that rebuild, 1 to 16 [default: 4]
+      --queue <Q>    Room of each queue, 1 to 1024 [default: 16]
+  -h, --help         Print help
+
+Files of IN:
+  rack<k>.csv                    the request list of rack k, from rack0.csv on
+  rack<k>.feed<f>.csv            its further feeds, from feed1 to feed3
+  <stripe>.<place>               a surviving fragment, as abc.x1
+Files written to OUT, those of these names replaced:
+  rack<k>-<n>.<stripe>.<place>   the fragment rebuilt for request n of rack k
+  rack<k>.report.csv             the answers of rack k, each with its request
+Exit status: 0 served, 1 lists refused, 2 usage, 3 device, 4 memory or threads.
+A fault is reported in one line, as 'rack0.csv: record 2: E20':
+  E11 the workers are not 1 to 16         E21 a record's request is refused: E1 its
+  E12 the queue is not 1 to 1024              stripe's name, E2 its length, E3 a
+  E16 out of memory                           survivor listed twice, E4 the target
+  E17 a thread was refused                    is among the survivors
+  E18 there are more than 16 racks        E23 there is no rack0.csv
+  E19 the header is not one of a list     E24 a device failed
+  E20 a record does not have its form     E25 a list is over 1048576 bytes
+  E28 a rack has more than 4 feeds        E26 a list has over 4096 records
+The manual: man rebuild for the program, man 5 rebuild for its files and lines.
+";

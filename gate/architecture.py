@@ -1,0 +1,110 @@
+#!/usr/bin/env python3
+"""Tests that each file that docs/ARCHITECTURE.md and CONTRIBUTING.md name is there, that they name each source, and that each source and
+script says at its head what it is for.
+
+    architecture.py            tests
+    architecture.py files      prints each file of crates/*/src with the first sentence of its comment
+    architecture.py scripts    prints each script with the first sentence of its comment"""
+
+import pathlib
+import re
+import sys
+
+ROOT = pathlib.Path(__file__).resolve().parent.parent
+MAPS = [ROOT / "docs/ARCHITECTURE.md", ROOT / "CONTRIBUTING.md"]
+# The folders of scripts.
+SCRIPTS = ["gate", "tools", "bench", "ceph", "ceph/tests"]
+
+
+def first_sentence(lines):
+    return re.split(r"(?<=[a-z`)0-9])\. (?=[A-Z`])", " ".join(lines))[0].rstrip(".")
+
+
+def comment_of_source(file):
+    lines = []
+    for line in file.read_text().splitlines():
+        if not line.startswith("//! "):
+            break
+        lines.append(line[4:])
+    return first_sentence(lines)
+
+
+def comment_of_script(file):
+    text = file.read_text()
+    found = re.search(r'^"""(.*?)(?:\n\n|""")', text, re.S | re.M)
+    if file.suffix == ".py" and found:
+        return first_sentence(found[1].splitlines())
+    if file.suffix == ".c":
+        found = re.match(r"/\*(.*?)\*/", text, re.S)
+        return first_sentence(found[1].split()) if found else ""
+    lines = []
+    for line in text.splitlines()[1:]:
+        if not line.startswith("# "):
+            break
+        lines.append(line[2:])
+    return first_sentence(lines)
+
+
+def sources():
+    for file in sorted((ROOT / "crates").glob("*/src/**/*.rt")):
+        below = file.relative_to(ROOT / "crates")
+        if not below.parts[0].endswith("_tests") and below.stem != "tests" and "tests" not in below.parts:
+            yield str(below), comment_of_source(file)
+
+
+def scripts():
+    for folder in SCRIPTS:
+        for file in sorted((ROOT / folder).iterdir()):
+            if file.suffix in (".py", ".sh", ".c"):
+                yield str(file.relative_to(ROOT)), comment_of_script(file)
+
+
+def lists_modules_alone(source):
+    lines = (ROOT / "crates" / source).read_text().splitlines()
+    return all(re.match(r"//|#!|#\[cfg|(pub(\(crate\))? )?mod \w+;|pub use |    |\};|$", line) for line in lines)
+
+
+def is_named(source, crate, name):
+    """Whether a name in the maps, of a file or a folder, is that of a source; `crate` is the one that was named last."""
+    if not name.startswith(crate + "/"):
+        name = f"{crate}/src/{name}" if name.endswith("/") else name
+    if name.endswith("/"):
+        return source.startswith(name)
+    return source == name or source.startswith(f"{crate}/src/") and source.endswith("/" + name)
+
+
+def unnamed():
+    """The sources that no line of the maps names: a path after `crates/`, or what is in the crate that was named last."""
+    left = {name for name, _ in sources() if not lists_modules_alone(name)}
+    crates = {name.split("/")[0] for name in left}
+    for page in MAPS:
+        crate = ""
+        for name in re.findall(r"`([\w/.-]+)`", page.read_text()):
+            if name.split("/")[0] in crates:
+                crate = name.split("/")[0]
+            if crate and name.endswith((".rt", "/")):
+                left = {source for source in left if not is_named(source, crate, name)}
+    return sorted(left)
+
+
+def main():
+    lists = {"files": sources, "scripts": scripts}
+    if sys.argv[1:] and sys.argv[1] in lists:
+        for name, said in lists[sys.argv[1]]():
+            print(f"{name}: {said}")
+        return
+    silent = [name for name, said in [*sources(), *scripts()] if not said]
+    if silent:
+        sys.exit(f"architecture: these don't say at their head what they are for: {', '.join(silent)}")
+    files = ["/" + str(it.relative_to(ROOT)) for it in ROOT.rglob("*.*") if ".git" not in it.parts and "out" not in it.parts]
+    named = {name for page in MAPS for name in re.findall(r"`([\w/.-]+\.(?:rt|antt|py|sh|h|txt|5))`", page.read_text())}
+    absent = [name for name in sorted(named) if not any(file.endswith("/" + name) for file in files)]
+    if absent:
+        sys.exit(f"architecture: the maps name files that aren't there: {', '.join(absent)}")
+    if unnamed():
+        sys.exit(f"architecture: the maps don't name {', '.join(unnamed())}")
+    counts = len(list(sources())), len(list(scripts()))
+    print(f"architecture: {counts[0]} sources and {counts[1]} scripts say what they are for, and {len(named)} named files are there")
+
+
+main()

@@ -1,0 +1,35 @@
+#!/usr/bin/env bash
+# Runs the built program on lines whose replies an independent program works out (tools/reference.py), and compares: the
+# stored ones (crates/rebuild/cases), and random lines of both codes. The stored ones are files, since literals of a test would take the
+# checker more memory than a machine has. The replies to the two of the first 400 that begin with `code=12-2-2` were worked out anew when
+# the second code came.
+set -euo pipefail
+cd "$(dirname "$0")/.."
+program=crates/rebuild/out/rebuild
+scratch=$(mktemp -d)
+trap 'rm -rf "$scratch"' EXIT
+
+# Compares the program's replies to a file of lines with those in another. Some of the lines are refused.
+compare() {
+  local lines=$1 wanted=$2 status=0
+  "$program" < "$lines" > "$scratch/replies" || status=$?
+  cmp "$scratch/replies" "$wanted"
+  [ "$status" = 1 ]
+}
+
+compared=0
+for lines in crates/rebuild/cases/*; do
+  case $lines in *.stdout) continue ;; esac
+  compare "$lines" "$lines.stdout"
+  tools/reference.py < "$lines" | cmp - "$lines.stdout"
+  echo "reference-lines $lines: $(wc -l < "$scratch/replies") replies as they must be"
+  compared=$((compared + 1))
+done
+[ "$compared" != 0 ]
+
+for seed in 2 3 4 5 6; do
+  tools/reference.py lines 1000 "$seed" > "$scratch/lines"
+  tools/reference.py < "$scratch/lines" > "$scratch/wanted"
+  compare "$scratch/lines" "$scratch/wanted"
+done
+echo 'reference-lines: 5000 random lines of both codes, each replied to as it must be'

@@ -1,0 +1,336 @@
+#!/usr/bin/env python3
+"""Tries rebuild-store on stores that an independent encoder makes: fragments are lost, damaged, cut short or put out of reach, and what
+the program leaves is compared byte by byte with what was there.
+
+    repair-store.py [PROGRAM]
+
+Each expected line, status and file is worked out here; nothing is taken from the program's own output."""
+
+import fcntl
+import hashlib
+import itertools
+import os
+import pathlib
+import random
+import re
+import shutil
+import subprocess
+import sys
+import tempfile
+import time
+
+# No compiled copy of the modules is left beside them.
+sys.dont_write_bytecode = True
+ROOT = pathlib.Path(__file__).resolve().parent.parent
+sys.path.append(str(ROOT / "tools"))
+from reference import code_of, eliminated
+from store import stripe
+
+PROGRAM = pathlib.Path(sys.argv[1] if sys.argv[1:] else ROOT / "crates/rebuild_store/out/rebuild_store").resolve()
+CODES = ("6-2-2", "12-2-2")
+# The windows in which the program reads fragments have so many bytes; lengths around them are tried.
+WINDOW = 65_536
+# How often a run is killed in each code's store, and after how many seconds at most.
+KILLS = 20
+LONGEST_BEFORE_KILL = 0.06
+passed = 0
+
+
+def check(holds, what):
+    """Counts what holds, and ends with what doesn't."""
+    global passed
+    if not holds:
+        sys.exit(f"repair-store: {what}")
+    passed += 1
+
+
+def run(*arguments, status):
+    """Runs the program, holds its status to this one, and gives what it says on standard output and on standard error."""
+    done = subprocess.run([PROGRAM, *map(str, arguments)], capture_output=True, text=True, timeout=300)
+    asked = " ".join(map(str, arguments))
+    check(done.returncode == status, f"{asked}: status {done.returncode}, not {status}:\n{done.stdout}{done.stderr}")
+    return done.stdout, done.stderr
+
+
+def make(folder, code, lengths, choose):
+    """Makes a store of stripes with these lengths, and gives each one's fragments by their places."""
+    folder.mkdir()
+    stripes = {f"s{k:03}": stripe(code, length, choose) for k, length in enumerate(lengths)}
+    for name, fragments in stripes.items():
+        for place, data in fragments.items():
+            (folder / f"{name}.{place}").write_bytes(data)
+    return stripes
+
+
+def is_whole(folder, stripes):
+    """Whether the folder holds each fragment with its bytes, and nothing else."""
+    there = {path.name: path.read_bytes() for path in folder.iterdir()}
+    return there == {f"{name}.{place}": data for name, fragments in stripes.items() for place, data in fragments.items()}
+
+
+def test_losses(folder, code, choose):
+    """Up to three fragments of each stripe are lost, of lengths around a window's; all come back."""
+    lengths = [1, 2, 1000, WINDOW - 1, WINDOW, WINDOW + 1, 3 * WINDOW + 7, *(choose.randrange(1, 5000) for _ in range(20))]
+    stripes = make(folder, code, lengths, choose)
+    lost = 0
+    for name, fragments in stripes.items():
+        for place in choose.sample(list(fragments), choose.randrange(4)):
+            (folder / f"{name}.{place}").unlink()
+            lost += 1
+    before = sorted(path.name for path in folder.iterdir())
+    output, _ = run("repair", folder, "--dry-run", "--code", code, status=1)
+    held = re.fullmatch(rf"27 stripes of {code}, 1 byte to 192 KiB; {lost} lost in \d+; {lost} can be rebuilt \(0 without any check\), "
+                        r"0 can't; reads [\d.]+ MiB, writes [\d.]+ [MK]iB\n", output)
+    check(held, output)
+    check(sorted(path.name for path in folder.iterdir()) == before, "a dry run changed the store")
+    output, errors = run("repair", folder, "--code", code, "--workers", choose.choice([1, 4, 16]), status=0)
+    check(output.startswith(f"repaired {lost} fragments, ") and output.endswith("(0 unchecked); damaged: 0; not possible: 0\n"),
+          output + errors)
+    check(is_whole(folder, stripes), "the store isn't what it was")
+    run("scrub", folder, "--code", code, status=0)
+    output, _ = run("repair", folder, "--code", code, status=0)
+    check(output == "repaired 0 fragments, 0 bytes (0 unchecked); damaged: 0; not possible: 0\n", output)
+
+
+def fewest(code, lost):
+    """How many survivors at least determine what is lost: found by trying all sets of them, the smallest first."""
+    places, equations = code_of(code)
+    wanted = [places.index(place) for place in lost]
+    others = [k for k in range(len(places)) if k not in wanted]
+    for size in range(len(others) + 1):
+        for read in itertools.combinations(others, size):
+            unread = [k for k in range(len(places)) if k not in read]
+            rows, pivots = eliminated(equations, unread)
+            known = {pivot for row, pivot in zip(rows, pivots) if pivot is not None and not any(row[k] for k in unread if k != pivot)}
+            if known.issuperset(wanted):
+                return size
+    return None
+
+
+def test_fewest(folder, code, choose):
+    """With --reads few as few survivors are read as determine what is lost, damage elsewhere isn't looked for, and what can't be read is
+    made up for by all the others."""
+    places, _ = code_of(code)
+    if code == "6-2-2":
+        losses = [choose.sample(places, k) for k in (1, 1, 2, 2, 2, 3, 3, 3, 3)] + [["x0", "x1", "y0", "y1"], ["x0", "px", "y0", "y1"]]
+        least = [fewest(code, lost) for lost in losses]
+    else:
+        # A group's fragment takes six others (Huang et al., section 2), and two of two groups twelve.
+        losses = [[place] for place in places if place[0] in "xy"] + [["x0", "y3"], ["px", "py"]]
+        least = [6] * 12 + [12, 12]
+        losses += [["px"], ["py"]]
+        least += [6, 6]
+    stripes = make(folder, code, [1024] * len(losses), choose)
+    for name, lost in zip(stripes, losses):
+        for place in lost:
+            (folder / f"{name}.{place}").unlink()
+    (folder / "whole.x0").write_bytes(b"")
+    for place in places:
+        (folder / f"whole.{place}").write_bytes(bytes(1024))
+    stripes["whole"] = dict.fromkeys(places, bytes(1024))
+    many = sum(map(len, losses))
+    output, _ = run("repair", folder, "--code", code, "--reads", "few", "--dry-run", status=1)
+    check(f"; {many} lost in {len(losses)}; {many} can be rebuilt ({many} without any check), 0 can't; reads {sum(least)} KiB, "
+          f"writes {many} KiB\n" in output, f"{output}, and {sum(least)} KiB are the least")
+    wrong = folder / "whole.y1"
+    wrong.write_bytes(b"damaged!" * 128)
+    output, errors = run("repair", folder, "--code", code, "--reads", "few", status=0)
+    check(output.startswith(f"repaired {many} fragments, {many} KiB ({many} unchecked: ") and errors == "", output + errors)
+    _, errors = run("scrub", folder, "--code", code, status=1)
+    wrong.write_bytes(bytes(1024))
+    check(is_whole(folder, stripes), "the store isn't what it was")
+    # Of few, one differs from the digests: all others are read, and the one that differs is named.
+    (folder / "s000.x0").unlink()
+    (folder / "s000.x1").write_bytes(bytes(1024))
+    sums = folder.with_name(folder.name + "-sums")
+    sums.write_text(f"{hashlib.sha256(stripes['s000']['x1']).hexdigest()}  s000.x1\n")
+    output, errors = run("repair", folder, "--code", code, "--reads", "few", "--sums", sums, status=1)
+    check("s000.x1: differs from the checksums\n" in errors, errors)
+    check(output.startswith("repaired 1 fragment, 1 KiB (0 unchecked)"), output)
+    (folder / "s000.x1").write_bytes(stripes["s000"]["x1"])
+    check(is_whole(folder, stripes), "the store isn't what it was")
+
+
+def test_damage(folder, code, choose):
+    """One survivor of a stripe is changed at one byte: it is named, stays, and the lost ones come back; with --replace-damaged it is
+    replaced, and kept."""
+    stripes = make(folder, code, [3 * WINDOW] * 3, choose)
+    name, fragments = "s001", stripes["s001"]
+    damaged, lost = choose.sample([place for place in fragments if place[0] in "xy"], 2)
+    path = folder / f"{name}.{damaged}"
+    wrong = bytearray(fragments[damaged])
+    wrong[choose.randrange(len(wrong))] ^= 1 << choose.randrange(8)
+    path.write_bytes(wrong)
+    output, _ = run("scrub", folder, "--code", code, status=1)
+    check(f"{name}.{damaged}: is damaged" in output, output)
+    (folder / f"{name}.{lost}").unlink()
+    output, errors = run("repair", folder, "--code", code, status=1)
+    check(f"{name}.{damaged}: is damaged" in errors and "damaged: 1" in output, output + errors)
+    check(path.read_bytes() == wrong, "a damaged fragment was replaced unasked")
+    check((folder / f"{name}.{lost}").read_bytes() == fragments[lost], "a lost fragment didn't come back beside a damaged one")
+    output, errors = run("repair", folder, "--code", code, "--replace-damaged", status=0)
+    kept = folder / f"{name}.{damaged}.damaged"
+    check(kept.read_bytes() == wrong, "the damaged fragment wasn't kept")
+    kept.unlink()
+    check(is_whole(folder, stripes), "the damaged fragment wasn't replaced")
+
+
+def test_too_many(folder, code, choose):
+    """More is lost than can be rebuilt: what is determined comes back, the rest is named, and other stripes are repaired."""
+    stripes = make(folder, code, [100, 200, 300], choose)
+    for place in ("y0", "y1", "y2", "py", "x0"):
+        (folder / f"s001.{place}").unlink()
+    (folder / "s002.x1").unlink()
+    _, errors = run("repair", folder, "--code", code, status=1)
+    whole = ["x0"]
+    for place in ("y0", "y1", "y2", "py"):
+        check(f"s001.{place}: can't be rebuilt" in errors and not (folder / f"s001.{place}").exists(), errors)
+    for place in whole:
+        check((folder / f"s001.{place}").read_bytes() == stripes["s001"][place], f"{place} didn't come back")
+    check((folder / "s002.x1").read_bytes() == stripes["s002"]["x1"], "another stripe wasn't repaired")
+
+
+def test_odd_files(folder, code, choose):
+    """Fragments of another length, folders and FIFOs are lost and named, and stay; a FIFO holds nothing up. A link to nothing is lost too:
+    the fragment is made where the link leads."""
+    stripes = make(folder, code, [500] * 5, choose)
+    (folder / "s000.x0").write_bytes(b"short")
+    (folder / "s001.x1").unlink()
+    (folder / "s001.x1").mkdir()
+    (folder / "s002.px").unlink()
+    os.mkfifo(folder / "s002.px")
+    (folder / "s003.p0").unlink()
+    (folder / "s003.p0").symlink_to("nowhere")
+    (folder / "s004.y2").unlink()
+    _, errors = run("repair", folder, "--code", code, status=1)
+    for name in ("s000.x0", "s001.x1", "s002.px"):
+        check(f"{name}: " in errors, errors)
+    check((folder / "s003.p0").is_symlink(), "a link to nothing didn't stay a link")
+    check((folder / "nowhere").read_bytes() == stripes["s003"]["p0"], "a fragment wasn't made where its link leads")
+    check((folder / "s004.y2").read_bytes() == stripes["s004"]["y2"], "a lost fragment didn't come back beside odd files")
+    check((folder / "s000.x0").read_bytes() == b"short", "a file of another length was replaced unasked")
+    _, errors = run("repair", folder, "--code", code, "--replace-damaged", status=1)
+    check((folder / "s000.x0").read_bytes() == stripes["s000"]["x0"], "a file of another length wasn't replaced")
+    check((folder / "s000.x0.damaged").read_bytes() == b"short", "a file of another length wasn't kept")
+
+
+def test_owner_and_mode(folder, code, choose):
+    """A rebuilt fragment has the mode of a neighbour, and no other run's leftovers stay."""
+    stripes = make(folder, code, [64], choose)
+    for path in folder.iterdir():
+        path.chmod(0o640)
+    (folder / "s000.x0").unlink()
+    (folder / ".rebuild-store-7").write_bytes(b"half")
+    run("repair", folder, "--code", code, status=0)
+    check((folder / "s000.x0").stat().st_mode & 0o777 == 0o640, "the mode isn't the neighbour's")
+    check(is_whole(folder, stripes), "something is left")
+
+
+def test_requests(folder, code, choose):
+    """The list of what is lost asks for each lost fragment, with all that survive."""
+    stripes = make(folder, code, [10, 20], choose)
+    places = list(stripes["s000"])
+    (folder / "s001.x2").unlink()
+    output, _ = run("lost", folder, "--code", code, status=1)
+    others = " ".join(place for place in places if place != "x2")
+    wide = code == "12-2-2"
+    header = "order,stripe,target,length,survivors" + ",code" * wide
+    check(output == f"{header}\nrebuild,s001,x2,20,{others}{',12-2-2' * wide}\n", output)
+
+
+def test_odd_names(folder, code, choose):
+    """Stripes with names that files can have come back, and a name that is no UTF-8 is left alone."""
+    folder.mkdir()
+    names = ["with space", "with,comma", 'with"quote', "with\nline", "with.dots..", "\u00e9t\u00e9", "n" * 250, "-", "a.x0"]
+    stripes = {name: stripe(code, 33, choose) for name in names}
+    for name, fragments in stripes.items():
+        for place, data in fragments.items():
+            (folder / f"{name}.{place}").write_bytes(data)
+        (folder / f"{name}.y0").unlink()
+    odd = os.fsencode(folder) + b"/\xff.x0"
+    with open(odd, "wb") as file:
+        file.write(b"odd")
+    output, errors = run("repair", folder, "--code", code, status=0)
+    check(output.startswith(f"repaired {len(names)} fragments, "), output + errors)
+    with open(odd, "rb") as file:
+        check(file.read() == b"odd", "a name that is no UTF-8 was not left alone")
+    os.unlink(odd)
+    check(is_whole(folder, stripes), "a stripe with an odd name isn't what it was")
+
+
+def test_two_at_once(folder, code, choose):
+    """While one run works in a store another is refused."""
+    make(folder, code, [5], choose)
+    held = os.open(folder, os.O_RDONLY)
+    fcntl.flock(held, fcntl.LOCK_EX)
+    _, errors = run("repair", folder, "--code", code, status=1)
+    check("another run works in this store" in errors, errors)
+    os.close(held)
+    run("repair", folder, "--code", code, status=0)
+
+
+def test_kills(folder, code, choose):
+    """A run that is killed leaves each name absent or whole, and the next one ends the work and removes what it left."""
+    stripes = make(folder, code, [2 * WINDOW] * 12, choose)
+    wanted = {f"{name}.{place}": data for name, fragments in stripes.items() for place, data in fragments.items()}
+    for _turn in range(KILLS):
+        for name, fragments in stripes.items():
+            for place in choose.sample(list(fragments), 3):
+                (folder / f"{name}.{place}").unlink()
+        run_that_dies = subprocess.Popen([PROGRAM, "repair", folder, "--code", code], stdout=subprocess.DEVNULL, stderr=subprocess.DEVNULL)
+        time.sleep(choose.random() * LONGEST_BEFORE_KILL)
+        run_that_dies.kill()
+        run_that_dies.wait()
+        for path in folder.iterdir():
+            if not path.name.startswith(".rebuild-store-"):
+                check(path.read_bytes() == wanted.get(path.name), f"{path.name} isn't whole after a kill")
+        run("repair", folder, "--code", code, status=0)
+        check(is_whole(folder, stripes), "the run after a kill didn't end the work")
+
+
+def test_other_stores(folder, code, choose):
+    """A folder none of whose stripes fits the code is refused, and nothing in it changes."""
+    stripes = make(folder, code, [50, 60], choose)
+    for name, fragments in stripes.items():
+        for place in fragments:
+            (folder / f"{name}.{place}").write_bytes(choose.randbytes(50))
+    (folder / "s000.x0").unlink()
+    before = {path.name: path.read_bytes() for path in folder.iterdir()}
+    _, errors = run("repair", folder, "--code", code, status=1)
+    check("is this the store?" in errors, errors)
+    check({path.name: path.read_bytes() for path in folder.iterdir()} == before, "a folder that is no store was changed")
+
+
+def test_refusals(folder):
+    """Mistakes of arguments, a folder that is no store, and one that isn't there."""
+    run(status=2)
+    run("repair", status=2)
+    run("repair", folder, "--workers", "0", status=2)
+    run("repair", folder, "--workers", "17", status=2)
+    run("repair", folder, "--code", "8-2-2", status=2)
+    run("mend", folder, status=2)
+    run("repair", folder / "absent", status=3)
+    folder.mkdir()
+    (folder / "a.txt").write_text("no fragment")
+    _, errors = run("repair", folder, status=1)
+    check("is this the store?" in errors, errors)
+    output, _ = run("--version", status=0)
+    check(output == "rebuild-store 0.1.0\n", output)
+
+
+def main():
+    choose = random.Random(2026)
+    tests = (test_losses, test_fewest, test_damage, test_too_many, test_odd_files, test_owner_and_mode, test_requests, test_odd_names,
+             test_two_at_once, test_kills, test_other_stores)
+    with tempfile.TemporaryDirectory() as scratch:
+        place = pathlib.Path(scratch)
+        for code in CODES:
+            for test in tests:
+                folder = place / f"{test.__name__}-{code}"
+                test(folder, code, choose)
+                shutil.rmtree(folder)
+        test_refusals(place / "refusals")
+    print(f"repair-store: {passed} passed, 0 failed")
+
+
+main()

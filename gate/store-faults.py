@@ -1,0 +1,341 @@
+#!/usr/bin/env python3
+"""Tries rebuild-store where the system fails: each call that opens, reads, writes, syncs, names or removes a file fails in a run of its
+own, by fail-call.c, which is preloaded, or the run is killed just before it; and each allocation and each thread is refused.
+
+    store-faults.py [PROGRAM]
+
+It runs what was built last. After each fault every name has all of its bytes or isn't there, the stripes that the fault didn't meet are
+repaired, a line names the file and the fault, and the same command again makes the store whole and leaves nothing behind."""
+
+import concurrent.futures
+import dataclasses
+import errno
+import itertools
+import os
+import pathlib
+import random
+import re
+import shutil
+import signal
+import subprocess
+import sys
+import tempfile
+import threading
+
+# No compiled copy of the modules is left beside them.
+sys.dont_write_bytecode = True
+sys.path.append(str(pathlib.Path(__file__).resolve().parent.parent / "tools"))
+import refusals  # noqa: E402
+from faults import LATER, READ_KINDS, ROOT, Calls, Ended, Fault, all_ways, errors_of, finished, hold, only, walk  # noqa: E402
+from store import stripe  # noqa: E402
+
+PROGRAM = ROOT / "crates/rebuild_store/out/rebuild_store"
+# The program reads a fragment in windows of so many bytes.
+WINDOW = 65_536
+UNFINISHED = ".rebuild-store-"
+MODE = 0o640
+DEVICE, LEFT, NO_MEMORY = 3, 1, 4
+# Who may not give a file away keeps it, so this is no fault.
+ALLOWED = {("chown", errno.EACCES), ("chown", errno.EPERM)}
+# The kinds of calls of each command; with one that the program stops to make, the preloaded library no longer sees what it should.
+LISTING = {"open", "list", "look", "output"}
+READING = LISTING | {"read"}
+REPAIRING = READING | {"lock", "create", "write", "sync", "chown", "chmod", "link", "unlink"}
+REPLACING = REPAIRING | {"rename"}
+
+
+@dataclasses.dataclass(frozen=True)
+class Store:
+    """A store before and after a repair: the bytes of its files by their names."""
+
+    before: dict
+    after: dict
+
+    def lay(self, folder):
+        """Makes the store's folder."""
+        folder.mkdir()
+        for name, data in self.before.items():
+            (folder / name).write_bytes(data)
+            (folder / name).chmod(MODE)
+
+    def is_whole(self, folder, but=()):
+        return {path.name: path.read_bytes() for path in folder.iterdir() if path.name not in but} == self.after
+
+    def unfinished(self, folder):
+        """The fragments that haven't yet the bytes that they should have, each of a stripe that was not repaired."""
+        there = {path.name: path.read_bytes() for path in folder.iterdir()}
+        return {name for name, data in self.after.items() if there.get(name) != data}
+
+    def hold_names(self, folder, seen):
+        """Each name has all of its bytes, old or new, and what was there is there."""
+        there = {path.name: path.read_bytes() for path in folder.iterdir() if not path.name.startswith(UNFINISHED)}
+        for name, data in there.items():
+            whole = {self.before.get(name), self.after.get(name)}
+            if name.endswith(".damaged"):
+                whole.add(self.before.get(name.removesuffix(".damaged")))
+            hold(data in whole, f"a name has bytes that are no fragment's: {name}: {seen.text()}")
+            hold((folder / name).stat().st_mode & 0o777 == MODE, f"a name has another mode: {name}: {seen.text()}")
+        for name in self.before:
+            hold(name in there or name.startswith(UNFINISHED), f"a name is gone: {name}: {seen.text()}")
+
+
+def store_of(code, choose, has_damage):
+    """Four stripes: one of two windows and two lost fragments, one with a lost parity, one that lost one and may have one damaged, and a
+    whole one; and a file that a run that was killed has left."""
+    stripes = {f"s{k}": stripe(code, length, choose) for k, length in enumerate((WINDOW + 100, 700, 900, 30))}
+    after = {f"{name}.{place}": data for name, fragments in stripes.items() for place, data in fragments.items()}
+    before = {name: data for name, data in after.items() if name not in ("s0.x0", "s0.y1", "s1.p0", "s2.y0")}
+    before[UNFINISHED + "9"] = b"half"
+    if has_damage:
+        before["s2.x1"] = bytes([before["s2.x1"][0] ^ 8]) + before["s2.x1"][1:]
+        after["s2.x1.damaged"] = before["s2.x1"]
+    return Store(before, after)
+
+
+class Trial:
+    """A command over a store, one of whose calls fails. Each turn has a folder of its own."""
+
+    def __init__(self, calls, store, *words, status=0):
+        self.calls, self.store, self.words, self.status = calls, store, words, status
+        self.turns = itertools.count()
+
+    @property
+    def is_repair(self):
+        return self.words[0] == "repair"
+
+    def command(self, folder):
+        return [PROGRAM, self.words[0], folder, *self.words[1:]]
+
+    def in_folder(self, do):
+        """Does something with a folder that has the store anew, and takes it away."""
+        place = self.calls.folder / f"turn-{'-'.join(self.words)}-{threading.get_ident()}-{next(self.turns)}"
+        self.store.lay(place)
+        try:
+            return do(place)
+        finally:
+            shutil.rmtree(place)
+
+    def kinds(self):
+        """The kinds of all calls of a run without a fault, in their order."""
+        ran = self.in_folder(lambda folder: self.calls.run(self.command(folder)))
+        hold(ran.status == self.status, f"{self.words} without a fault: {ran.text()}")
+        return ran.kinds
+
+    def turn(self, number, how, rest=""):
+        """One call fails."""
+        self.in_folder(lambda folder: self.judged(folder, number, how, rest))
+
+    def judged(self, folder, number, how, rest):
+        ran = self.calls.run(self.command(folder), number, how, rest)
+        hold(ran.failed == 1, f"call {number} of {self.words} wasn't made: {ran.text()}")
+        try:
+            self.judge(folder, ran, how, rest)
+        except Fault as fault:
+            shown = how if isinstance(how, str) else errno.errorcode[how]
+            what = f"{ran.kind} of {' and '.join(map(self.below(folder), ran.paths))} {shown}{LATER[rest]}"
+            why, _, details = str(fault).partition(": ")
+            raise Fault(f"{ran.kind}, {why}: call {number}, {what}: {details}") from None
+
+    @staticmethod
+    def below(folder):
+        return lambda path: path.replace(str(folder), "STORE")
+
+    def judge(self, folder, ran, how, rest):
+        if not self.is_repair:
+            there = {path.name: path.read_bytes() for path in folder.iterdir()}
+            hold(there == self.store.before, f"changed the store: {ran.text()}")
+        if how != "meanwhile":
+            self.store.hold_names(folder, ran)
+        if how == "kill":
+            hold(ran.status == -signal.SIGKILL, f"it wasn't killed: {ran.text()}")
+        elif how == "meanwhile":
+            self.judge_meanwhile(folder, ran)
+        elif how == "short" or (how == errno.EINTR and ran.status == self.status):
+            hold(ran.status == self.status, f"another status than without: {ran.text()}")
+            hold(not self.is_repair or self.store.is_whole(folder), f"isn't whole: {ran.text()}")
+        elif (ran.kind, how) not in ALLOWED:
+            self.judge_fault(folder, ran, how, rest)
+        if self.is_repair:
+            self.again(folder, ran)
+
+    def judge_meanwhile(self, folder, ran):
+        """What another program put under the name that a link was about to give stays as it is, and is named."""
+        came = folder / pathlib.Path(ran.paths[1]).name
+        hold(ran.status == LEFT, f"another status than {LEFT}: {ran.text()}")
+        hold(came.read_bytes() == b"m", f"what came meanwhile was replaced: {came.name}: {ran.text()}")
+        named = any(came.name.removesuffix(".damaged") in line for line in ran.err.splitlines())
+        hold(named, f"no line names what came meanwhile: {came.name}: {ran.text()}")
+        came.unlink()
+
+    def judge_fault(self, folder, ran, how, rest):
+        """A fault's status, its line, and what was done all the same. One in reading may be of the first of two attempts, of which the
+        second has all."""
+        if self.is_repair and ran.kind in READ_KINDS and ran.status == self.status and self.store.is_whole(folder):
+            return
+        hold(ran.status == DEVICE, f"another status than {DEVICE}: {ran.text()}")
+        if ran.kind == "output":
+            return
+        names = {pathlib.Path(path).name for path in ran.paths} - {""}
+        unfinished = self.store.unfinished(folder) if self.is_repair else set()
+        said = [line for line in (ran.out + ran.err).splitlines() if os.strerror(how) in line]
+        named = [line for line in said if any(name in line for name in names | unfinished)]
+        # A store whose checksums can't be read isn't repaired.
+        if any("SHA256SUMS: " in line for line in said):
+            return
+        hold(named, f"no line names the file and the error: {sorted(names | unfinished)}, {os.strerror(how)!r}: {ran.text()}")
+        is_of_folder = str(folder) in ran.paths or f"{folder}/" in ran.paths
+        if not self.is_repair or (is_of_folder and ran.kind != "sync") or rest == "kind":
+            return
+        left = sorted(path.name for path in folder.iterdir() if path.name.startswith(UNFINISHED))
+        hold(not left or ran.kind == "unlink", f"a temporary file is left: {left}: {ran.text()}")
+        # The other survivors of its stripe do, but for one of which it can't be told then which is damaged.
+        holds_damage = any(name.endswith(".damaged") for name in self.store.after)
+        hold(ran.kind not in READ_KINDS or holds_damage or not unfinished, f"left what the other survivors determine: {ran.text()}")
+        stripes = {name.split(".")[0] for name in unfinished}
+        hold(len(stripes) <= 1, f"left other stripes: {sorted(unfinished)}: {ran.text()}")
+        done = len([name for name in self.store.after if name not in self.store.before and not name.endswith(".damaged")])
+        done += len([name for name in self.store.after if name.endswith(".damaged")])
+        done -= len([name for name in unfinished if not name.endswith(".damaged")])
+        more = len([path for path in folder.iterdir() if path.name.endswith(".damaged") and path.name not in self.store.after])
+        found = re.search(r"^repaired (\d+) ", ran.out, re.M)
+        hold(found and int(found[1]) in (done, done + more), f"didn't say how many fragments were repaired: {done}: {ran.text()}")
+
+    def again(self, folder, ran):
+        """The same command makes the store whole. What could not be read may have been replaced, and kept."""
+        second = finished(self.command(folder))
+        kept = {f"{pathlib.Path(path).name}.damaged" for path in ran.paths} - set(self.store.after) if ran.kind in READ_KINDS else ()
+        hold(second.status == 0, f"the same command again ends otherwise than with 0: {second.text()}")
+        hold(self.store.is_whole(folder, kept), f"isn't whole after the same command again: {second.text()}")
+
+
+class Refused:
+    """A command whose memory or threads are refused: it says that it is out of memory, or does all that it does without a refusal."""
+
+    def __init__(self, library, store, *words, status=0):
+        self.library, self.store, self.words, self.status = library, store, words, status
+        self.turns = itertools.count()
+        self.wanted = None if store else library.run([PROGRAM, *words])
+
+    def __call__(self, refusal):
+        if self.store is None:
+            ran = self.library.run([PROGRAM, *self.words], refusal=refusal)
+            return ran, self.kind(ran, refusal, (ran.status, ran.out, ran.err) == (self.wanted.status, self.wanted.out, self.wanted.err))
+        folder = self.library.folder / f"refused-{threading.get_ident()}-{next(self.turns)}"
+        self.store.lay(folder)
+        try:
+            return self.in_folder(folder, refusal)
+        finally:
+            shutil.rmtree(folder)
+
+    def in_folder(self, folder, refusal):
+        command = [str(it) for it in (PROGRAM, self.words[0], folder, *self.words[1:])]
+        ran = self.library.run(command, refusal=refusal)
+        seen = Ended(ran.status, ran.out.decode(), ran.err.decode())
+        self.store.hold_names(folder, seen)
+        is_repair = self.words[0] == "repair"
+        if not is_repair:
+            hold({path.name: path.read_bytes() for path in folder.iterdir()} == self.store.before, f"changed the store: {seen.text()}")
+        kind = self.kind(ran, refusal, ran.status == self.status and (not is_repair or self.store.is_whole(folder)))
+        if is_repair:
+            second = finished(command)
+            hold(second.status == 0 and self.store.is_whole(folder), f"{refusal}: the same command again: {second.text()}")
+        return ran, kind
+
+    @staticmethod
+    def kind(ran, refusal, is_done):
+        if is_done:
+            return "answered"
+        lines = ran.err.decode().splitlines()
+        if ran.status == NO_MEMORY and "rebuild-store: out of memory" in lines:
+            return "out of memory"
+        if ran.status == NO_MEMORY and refusal.rest:
+            return "silent"
+        raise refusals.Fault(f"{refusal}: {ran.text()}")
+
+
+def refuse_all(pool, folder, lost, damaged):
+    """Each allocation is refused, and each with all after it; and so is each thread."""
+    library = refusals.Library(folder)
+    commands = [
+        Refused(library, lost, "repair", "--workers", "1"),
+        Refused(library, damaged, "repair", "--workers", "1", "--replace-damaged"),
+        Refused(library, lost, "lost", status=1),
+        Refused(library, damaged, "scrub", "--workers", "1", status=1),
+        Refused(library, None, "--help"),
+        Refused(library, None, "repair"),
+        Refused(library, None, "repair", "absent"),
+    ]
+    for command in commands:
+        for rest in (False, True):
+            name = f"rebuild-store {' '.join(command.words)}"
+            refusals.make(refusals.Walk(name, "allocation", rest, command, {"out of memory"}), pool)
+    several = Refused(library, lost, "repair", "--workers", "4")
+    for rest in (False, True):
+        refusals.make(refusals.Walk("rebuild-store repair --workers 4", "thread", rest, several, set(), {"answered"}), pool)
+
+
+def hold_memory(folder):
+    """The memory of a run is bounded by its workers, and by a KiB for each stripe."""
+    stripes = 5_000
+    folder.mkdir()
+    for k in range(stripes):
+        for place in ("x0", "x1", "x2", "y0", "y1", "y2", "px", "py", "p0", "p1"):
+            if place != "x0" or k % 5:
+                (folder / f"s{k}.{place}").write_bytes(bytes(1))
+    long = folder / "long"
+    long.mkdir()
+    for place, data in stripe("6-2-2", 4 << 20, random.Random(1)).items():
+        for k in range(16):
+            if place != "x0":
+                os.link(folder / "long" / f"0.{place}", long / f"{k}.{place}") if k else (long / f"0.{place}").write_bytes(data)
+    measure, times = folder.parent / "measure", folder.parent / "times"
+    subprocess.run([os.environ.get("CC", "gcc"), "-O2", "-o", measure, ROOT / "bench/measure.c"], check=True)
+    rows = [(folder, "lost", 1, 15), (folder, "scrub", 1, 40), (folder, "repair", 0, 40), (long, "repair", 0, 40)]
+    for store, command, status, most in rows:
+        times.unlink(missing_ok=True)
+        ran = finished([measure, times, "run", PROGRAM, command, store, *(["--workers", "16"] if command != "lost" else [])])
+        taken = int(times.read_text().split()[2]) * 1024 / 1e6
+        what = f"{command} of {'long fragments' if store == long else f'{stripes} stripes'}"
+        hold(ran.status == status, f"{what}: {ran.text()}")
+        hold(taken <= most, f"{what} took {taken:.0f} MB, and not {most}")
+        print(f"store-faults memory: {what}: {taken:.0f} MB, at most {most}", flush=True)
+
+
+def main():
+    if sys.argv[1:]:
+        globals()["PROGRAM"] = pathlib.Path(sys.argv[1]).resolve()
+    choose = random.Random(2026)
+    shared = pathlib.Path("/dev/shm")
+    place = shared if shared.is_dir() and os.access(shared, os.W_OK) else None
+    faults = []
+    with tempfile.TemporaryDirectory(dir=place) as scratch, concurrent.futures.ThreadPoolExecutor(os.cpu_count()) as pool:
+        folder = pathlib.Path(scratch)
+        for part in parts(pool, folder, store_of("6-2-2", choose, False), store_of("6-2-2", choose, True)):
+            try:
+                part()
+            except (Fault, refusals.Fault) as fault:
+                faults.append(f"store-faults: {fault}")
+    if faults:
+        sys.exit("\n".join(faults))
+
+
+def parts(pool, folder, lost, damaged):
+    """What is tried, one after the other."""
+    calls = Calls(folder)
+    repair = Trial(calls, lost, "repair", "--workers", "1")
+    replace = Trial(calls, damaged, "repair", "--workers", "1", "--replace-damaged")
+    for trial, needed in ((repair, REPAIRING), (replace, REPLACING)):
+        yield lambda: walk(pool, trial, all_ways, needed=needed)
+        yield lambda: walk(pool, trial, only("short", "read", "write", "output"))
+        yield lambda: walk(pool, trial, only("meanwhile", "link"))
+        yield lambda: walk(pool, trial, only(errno.EIO, "read", "open", "look"), rest="path")
+        yield lambda: walk(pool, trial, only(errno.EIO, "read", "open", "look"), rest="kind")
+        yield lambda: walk(pool, trial, only(errno.ENOSPC, "create", "write", "sync", "link"), rest="kind")
+    yield lambda: walk(pool, Trial(calls, lost, "lost", status=1), errors_of, needed=LISTING)
+    yield lambda: walk(pool, Trial(calls, damaged, "scrub", "--workers", "1", status=1), errors_of, needed=READING)
+    yield lambda: refuse_all(pool, folder, lost, damaged)
+    yield lambda: hold_memory(folder / "memory")
+
+
+if __name__ == "__main__":
+    main()

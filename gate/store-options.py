@@ -1,0 +1,294 @@
+#!/usr/bin/env python3
+"""Tries rebuild-store's options on stores that an independent encoder makes: names by disks and shards, stripes that should be there,
+parts, another folder, checksums, reports.
+
+    store-options.py [PROGRAM]
+
+Each expected line, status and file is worked out here; nothing is taken from the program's own output."""
+
+import csv
+import fcntl
+import hashlib
+import io
+import json
+import os
+import pathlib
+import random
+import re
+import subprocess
+import sys
+import tempfile
+
+# No compiled copy of the modules is left beside them.
+sys.dont_write_bytecode = True
+ROOT = pathlib.Path(__file__).resolve().parent.parent
+sys.path.append(str(ROOT / "tools"))
+from store import stripe
+
+PROGRAM = pathlib.Path(sys.argv[1] if sys.argv[1:] else ROOT / "crates/rebuild_store/out/rebuild_store").resolve()
+# The places of each code in the order of their shards, in the two layouts.
+DATA = {"6-2-2": 3, "12-2-2": 6}
+PARITIES = ["px", "py", "p0", "p1"]
+passed = 0
+
+
+def check(holds, what):
+    """Counts what holds, and ends with what doesn't."""
+    global passed
+    if not holds:
+        sys.exit(f"store-options: {what}")
+    passed += 1
+
+
+def run(*arguments, status):
+    """Runs the program, holds its status to this one, and gives what it says on standard output and on standard error."""
+    done = subprocess.run([PROGRAM, *map(str, arguments)], capture_output=True, text=True, timeout=300)
+    asked = " ".join(map(str, arguments))
+    check(done.returncode == status, f"{asked}: status {done.returncode}, not {status}:\n{done.stdout}{done.stderr}")
+    return done.stdout, done.stderr
+
+
+def shards(code, layout):
+    """The places in the order of the shards' numbers."""
+    xs, ys = ([f"{group}{k}" for k in range(DATA[code])] for group in "xy")
+    return xs + ys + PARITIES if layout == "plain" else [*xs, "px", *ys, "py", "p0", "p1"]
+
+
+def stripes_of(code, choose, names, length=300):
+    return {name: stripe(code, length, choose) for name in names}
+
+
+def lay(folder, stripes, name_of):
+    """Writes the fragments of stripes under these names."""
+    for name, fragments in stripes.items():
+        for place, data in fragments.items():
+            path = folder / name_of(name, place)
+            path.parent.mkdir(parents=True, exist_ok=True)
+            path.write_bytes(data)
+
+
+def plain(name, place):
+    return f"{name}.{place}"
+
+
+def hold_whole(folder, stripes, name_of):
+    """Each fragment has its bytes, and nothing else is there."""
+    wanted = {folder / name_of(name, place): data for name, fragments in stripes.items() for place, data in fragments.items()}
+    for path, data in wanted.items():
+        check(path.is_file() and path.read_bytes() == data, f"{path} isn't what it was")
+    others = {path for path in folder.rglob("*") if path.is_file()} - set(wanted)
+    check(not others, f"{sorted(others)} are left")
+
+
+def test_disks(folder, code, choose):
+    """A folder for each disk, of which two were emptied."""
+    for layout in ("plain", "groups"):
+        places = shards(code, layout)
+        store = folder / layout
+        stripes = stripes_of(code, choose, ["a", "b.x0", "c d"])
+
+        def name_of(name, place):
+            return f"disk{places.index(place)}/{name}"
+
+        lay(store, stripes, name_of)
+        options = [store, "--code", code, "--names", "disk{shard}/{stripe}", "--layout", layout]
+        output, _ = run("scrub", *options, status=0)
+        check(output == "scrubbed 3 stripes: 0 damaged, 0 lost or contradictory, 0 stripes without any check\n", output)
+        for number in choose.sample(range(len(places)), 2):
+            for path in (store / f"disk{number}").iterdir():
+                path.unlink()
+        output, errors = run("repair", *options, status=0)
+        check(output == "repaired 6 fragments, 1.7 KiB (0 unchecked); damaged: 0; not possible: 0\n", output + errors)
+        hold_whole(store, stripes, name_of)
+        (store / "disk0/a").unlink()
+        (store / "disk0").rename(store / "gone")
+        _, errors = run("repair", *options, status=3)
+        check("disk0/a: can't be put in its place: No such file or directory" in errors, errors)
+    _, errors = run("repair", store, "--names", "disk{shard}/{stripe}", status=2)
+    check(errors == "error: names with {shard} need --code\n", errors)
+    for wrong in ("{stripe}", "{place}", "{stripe}.{place}.{place}", "/{stripe}.{place}", "../{stripe}.{place}"):
+        run("repair", store, "--names", wrong, status=2)
+
+
+def test_place_first(folder, code, choose):
+    """A pattern with the place first, a folder for each stripe, and an ending."""
+    for pattern in ("{place}-{stripe}.bin", "{stripe}/{place}", "in/{place}/{stripe}"):
+        store = folder / hashlib.sha256(pattern.encode()).hexdigest()[:8]
+        stripes = stripes_of(code, choose, ["a", "x0-b"])
+
+        def name_of(name, place):
+            return pattern.replace("{stripe}", name).replace("{place}", place)
+
+        lay(store, stripes, name_of)
+        (store / name_of("a", "y1")).unlink()
+        run("repair", store, "--code", code, "--names", pattern, status=0)
+        hold_whole(store, stripes, name_of)
+
+
+def test_stripes(folder, code, choose):
+    """A stripe without any file is named where it is expected."""
+    stripes = stripes_of(code, choose, ["a", "b"])
+    lay(folder, stripes, plain)
+    names = folder.parent / "names"
+    names.write_text("a\nb\nnone at all\r\n\n")
+    _, errors = run("repair", folder, "--code", code, "--stripes", names, status=1)
+    check(errors == "none at all: no fragment can be read\n", errors)
+    output, errors = run("lost", folder, "--code", code, "--stripes", names, status=1)
+    count = len(shards(code, "plain"))
+    check(errors.endswith(f"3 stripes; {count} fragments lost, {count} of them not in the list\n"), errors)
+    _, errors = run("repair", folder, "--code", code, "--stripes", names.with_name("absent"), status=3)
+    check("absent: No such file or directory" in errors, errors)
+
+
+def part_of(name, parts):
+    """Which part a stripe is of."""
+    return int.from_bytes(hashlib.sha256(name.encode()).digest()[:8], "big") % parts + 1
+
+
+def test_parts(folder, code, choose):
+    """Each part is repaired by a run of its own, which leaves the others alone; two runs of one part aren't at work at once."""
+    stripes = stripes_of(code, choose, [f"s{k}" for k in range(40)])
+    lay(folder, stripes, plain)
+    for name in stripes:
+        (folder / f"{name}.x1").unlink()
+    (folder / ".rebuild-store-2-3-0").write_bytes(b"half")
+    (folder / ".rebuild-store-12-3-0").write_bytes(b"half")
+    left = dict.fromkeys(stripes)
+    for part in (1, 2, 3):
+        mine = [name for name in stripes if part_of(name, 3) == part]
+        output, errors = run("repair", folder, "--code", code, "--part", f"{part}/3", status=0)
+        check(re.match(rf"repaired {len(mine)} fragments?, ", output), output + errors)
+        for name in mine:
+            del left[name]
+        for name in stripes:
+            check((folder / f"{name}.x1").exists() == (name not in left), f"part {part}: {name}")
+        check((folder / ".rebuild-store-2-3-0").exists() == (part < 2), "a leftover of another part was removed, or the own one wasn't")
+    check((folder / ".rebuild-store-12-3-0").exists(), "a leftover of another part was removed")
+    (folder / ".rebuild-store-12-3-0").unlink()
+    hold_whole(folder, stripes, plain)
+    held = os.open(folder, os.O_RDONLY)
+    fcntl.flock(held, fcntl.LOCK_EX)
+    _, errors = run("repair", folder, "--code", code, "--part", "1/3", status=1)
+    check("another run works in this store" in errors, errors)
+    fcntl.flock(held, fcntl.LOCK_SH)
+    run("repair", folder, "--code", code, "--part", "1/3", status=0)
+    _, errors = run("repair", folder, "--code", code, status=1)
+    check("another run works in this store" in errors, errors)
+    os.close(held)
+    for wrong in ("0/3", "4/3", "1", "a/b", "1/0"):
+        _, errors = run("repair", folder, "--part", wrong, status=2)
+        check(errors == "error: --part takes I/N, with I from 1 to N\n", errors)
+
+
+def test_another_folder(folder, code, choose):
+    """Rebuilt fragments go to another folder, and the store stays as it is."""
+    stripes = stripes_of(code, choose, ["a", "b"])
+    store, other = folder / "store", folder / "other"
+    lay(store, stripes, plain)
+    other.mkdir(mode=0o755)
+    (store / "a.x0").unlink()
+    wrong = bytes(300)
+    (store / "b.p1").write_bytes(wrong)
+    before = {path.name: path.read_bytes() for path in store.iterdir()}
+    output, errors = run("repair", store, "--code", code, "--to", other, status=0)
+    check({path.name: path.read_bytes() for path in store.iterdir()} == before, "the store was changed")
+    check({path.name: path.read_bytes() for path in other.iterdir()} == {"a.x0": stripes["a"]["x0"], "b.p1": stripes["b"]["p1"]}, errors)
+
+
+def sums_of(folder):
+    return "".join(f"{hashlib.sha256(path.read_bytes()).hexdigest()}  {path.name}\n" for path in sorted(folder.iterdir()))
+
+
+def test_sums(folder, code, choose):
+    """Survivors and what is rebuilt are held to checksums: those in the store, or those that are named."""
+    stripes = stripes_of(code, choose, ["a", "b"])
+    lay(folder, stripes, plain)
+    listed = folder.parent / "listed"
+    listed.write_text(sums_of(folder))
+    # With the bare minimum nothing but the checksums shows a damaged survivor.
+    lost = ["x0", "x1", "y0"]
+    for place in lost:
+        (folder / f"a.{place}").unlink()
+    wrong = bytearray(stripes["a"]["y1"])
+    wrong[7] ^= 1
+    (folder / "a.y1").write_bytes(wrong)
+    output, errors = run("scrub", folder, "--code", code, "--sums", listed, status=1)
+    check("a.y1: differs from the checksums" in output, output)
+    output, errors = run("repair", folder, "--code", code, "--sums", listed, status=1)
+    check("a.y1: differs from the checksums" in errors, errors)
+    check((folder / "a.y1").read_bytes() == wrong, "a damaged fragment was replaced unasked")
+    for place in lost:
+        check((folder / f"a.{place}").read_bytes() == stripes["a"][place], f"{place} isn't what it was")
+    (folder / "SHA256SUMS").write_text(listed.read_text())
+    output, errors = run("repair", folder, "--code", code, "--replace-damaged", status=0)
+    check((folder / "a.y1.damaged").read_bytes() == wrong, "the damaged fragment isn't kept")
+    (folder / "a.y1.damaged").unlink()
+    (folder / "SHA256SUMS").unlink()
+    hold_whole(folder, stripes, plain)
+    # What is rebuilt has to have its digest too.
+    (folder / "b.x2").unlink()
+    listed.write_text(f"{'0' * 64}  b.x2\n")
+    _, errors = run("repair", folder, "--code", code, "--sums", listed, status=1)
+    check("b.x2: was rebuilt, and what was rebuilt differs from the checksums" in errors, errors)
+    check(not (folder / "b.x2").exists() and not list(folder.glob(".rebuild*")), "something is left of what was refused")
+    listed.write_text("no digest\n")
+    _, errors = run("repair", folder, "--code", code, "--sums", listed, status=1)
+    check("line 1 isn't as sha256sum writes it" in errors, errors)
+
+
+def test_requests(folder, code, choose):
+    """The requests as JSON: one for each lost fragment, of any name and length, with the survivors."""
+    stripes = stripes_of(code, choose, ["a", 'quoted "b", c'], 70_000)
+    lay(folder, stripes, plain)
+    places = shards(code, "plain")
+    wanted = []
+    for name, lost in zip(stripes, (["x0", "py"], ["y1"])):
+        for place in lost:
+            (folder / plain(name, place)).unlink()
+            left = {other for other in places if other not in lost}
+            wanted.append({"order": "rebuild", "stripe": name, "target": place, "length": 70_000, "survivors": left, "code": code})
+    output, errors = run("lost", folder, "--code", code, "--json", status=1)
+    said = [json.loads(line) for line in output.splitlines()]
+    for row in said:
+        check(len(row["survivors"]) == len(set(row["survivors"])), f"{row}")
+        row["survivors"] = set(row["survivors"])
+    check(len(said) == len(wanted) and all(row in said for row in wanted), f"{said}")
+    check(errors == "2 stripes; 3 fragments lost, 0 of them not in the list\n", errors)
+
+
+def test_reports(folder, code, choose):
+    """The report and the JSON lines say what became of each fragment."""
+    names = ["a", 'quoted "b", c', "line\nbreak"]
+    stripes = stripes_of(code, choose, names)
+    lay(folder, stripes, plain)
+    for name in names:
+        (folder / f"{name}.x0").unlink()
+    (folder / "a.y0").write_bytes(b"short")
+    rows = [(name, "x0", "rebuilt", "") for name in names]
+    rows.append(("a", "y0", "left", "has another length than the other fragments of the stripe"))
+    report = folder.parent / "report.csv"
+    output, _ = run("repair", folder, "--code", code, "--report", report, "--json", status=1)
+    said = [tuple(json.loads(line)[key] for key in ("stripe", "place", "outcome", "detail")) for line in output.splitlines()]
+    check(sorted(said) == sorted(rows), f"{said}")
+    with open(report, newline="") as file:
+        written = list(csv.reader(io.StringIO(file.read())))
+    check(written[0] == ["stripe", "place", "outcome", "detail"] and sorted(map(tuple, written[1:])) == sorted(rows), f"{written}")
+    output, _ = run("repair", folder, "--code", code, "--replace-damaged", "--report", report, status=0)
+    with open(report, newline="") as file:
+        written = list(csv.reader(io.StringIO(file.read())))
+    check(written[1:] == [["a", "y0", "rebuilt", ""]], f"{written}")
+    check(not [path for path in report.parent.iterdir() if path.name.startswith(".rebuild")], "the report left something")
+
+
+def main():
+    choose = random.Random(26)
+    for code in DATA:
+        for test in (test_disks, test_place_first, test_stripes, test_parts, test_another_folder, test_sums, test_requests, test_reports):
+            with tempfile.TemporaryDirectory() as scratch:
+                folder = pathlib.Path(scratch) / "store"
+                folder.mkdir()
+                test(folder, code, choose)
+    print(f"store-options: {passed} passed, 0 failed")
+
+
+main()

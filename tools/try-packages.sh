@@ -1,0 +1,109 @@
+#!/usr/bin/env bash
+# Installs the packages of out/packages in clean roots of Debian 12 and 13, which debootstrap makes, as root and with the network: an older
+# version first, then the packages; README's commands, the manual pages, the completions, a program in C, and the library that the loader
+# takes; then it purges them, and compares the files that are left with those before. It is no part of the gate.
+#   try-packages.sh [SUITE..]
+set -euo pipefail
+cd "$(dirname "$0")/.."
+suites=("$@")
+[ $# -gt 0 ] || suites=(bookworm trixie)
+if [ "$(id -u)" != 0 ] || ! command -v debootstrap > /dev/null; then
+  echo "try-packages: left out: clean roots need debootstrap and root's rights"
+  exit 0
+fi
+if ! compgen -G 'out/packages/*.deb' > /dev/null; then
+  echo "try-packages: there are no Debian packages in out/packages: make packages makes them, where debhelper is installed" >&2
+  exit 1
+fi
+scratch=$(mktemp -d)
+root=$scratch/root
+leave() {
+  umount -q "$root/proc" || true
+  rm -rf --one-file-system "$scratch"
+}
+trap leave EXIT
+
+# older: the package of the programs under an older version.
+older() {
+  dpkg-deb -R out/packages/bucketuntil_*.deb "$scratch/older"
+  sed -i 's/^Version: .*/Version: 0.0.1-1/' "$scratch/older/DEBIAN/control"
+  echo 'of the older version' > "$scratch/older/usr/share/doc/bucketuntil/OLDER"
+  dpkg-deb --root-owner-group -b "$scratch/older" "$root/try/older.deb" > /dev/null
+}
+
+# prepare SUITE: a clean root with what the commands below need, and with the packages in /try.
+prepare() {
+  rm -rf --one-file-system "$root" "$scratch/older"
+  echo "try-packages: $1: making a clean root"
+  debootstrap --variant=minbase "$1" "$root" > "$scratch/said" 2>&1 || { tail "$scratch/said"; exit 1; }
+  mkdir -p "$root"/try/tree/{gate,companion,crates/rebuild/out,crates/rebuild_store/out}
+  cp out/packages/*.deb out/packages/PROVED library/examples/fragments.c "$root/try/"
+  # README's commands are run by the gate's script, which takes the programs from these places.
+  cp README.md "$root/try/tree/"
+  cp gate/examples.py "$root/try/tree/gate/"
+  ln -s /usr/bin/rebuild "$root/try/tree/crates/rebuild/out/rebuild"
+  ln -s /usr/bin/rebuild-store "$root/try/tree/crates/rebuild_store/out/rebuild_store"
+  ln -s /usr/bin/rebuild-lists "$root/try/tree/companion/rebuild-lists"
+  older
+  # The root has no terminals.
+  echo 'Dpkg::Use-Pty "false";' > "$root/etc/apt/apt.conf.d/90no-terminal"
+  mount -t proc proc "$root/proc"
+}
+
+# The commands in the root. Each is shown before it is run.
+within() {
+  cat << 'END'
+set -euo pipefail
+export DEBIAN_FRONTEND=noninteractive LC_ALL=C
+cd /try
+quietly() { "$@" > said 2>&1 || { cat said; exit 1; }; }
+files() { find / -xdev \( -path /proc -o -path /tmp -o -path /try -o -path /var/cache -o -path /var/log -o -path /var/lib/apt \
+  -o -path /var/lib/dpkg -o -path /run \) -prune -o -print | sort; }
+quietly apt-get update
+quietly apt-get install -y --no-install-recommends man-db bash-completion zsh fish gcc libc6-dev pkg-config
+files > before
+set -x
+apt-get install -y --no-install-recommends ./older.deb > said
+test -e /usr/share/doc/bucketuntil/OLDER
+apt-get install -y --no-install-recommends ./bucketuntil_*.deb ./liblrc0_*.deb ./liblrc-dev_*.deb > said
+test ! -e /usr/share/doc/bucketuntil/OLDER
+dpkg-query -W bucketuntil liblrc0 liblrc-dev
+printf 'a x0 1 x1=02 x2=03 px=00\n' | rebuild
+rebuild-store --version
+grep "$(sha256sum < /usr/bin/rebuild | cut -d ' ' -f 1)" PROVED
+grep "$(sha256sum < /usr/bin/rebuild-store | cut -d ' ' -f 1)" PROVED
+python3 tree/gate/examples.py README.md
+man -P cat rebuild-store | head -n 4
+man -P cat 5 rebuild | head -n 4
+bash -c '. /usr/share/bash-completion/bash_completion; _completion_loader rebuild-store; complete -p rebuild-store'
+zsh -c 'autoload -Uz compinit; compinit -D -u; print $_comps[rebuild-store] $_comps[rebuild]'
+HOME=/try fish -c 'complete -C "rebuild-store scr"'
+gcc -o fragments fragments.c $(pkg-config --cflags --libs lrc)
+ldd fragments | grep liblrc
+head -c 100000 /dev/urandom > file
+mkdir fragments.d
+./fragments encode file fragments.d
+rm fragments.d/x0 fragments.d/y1
+./fragments rebuild fragments.d
+./fragments decode fragments.d decoded
+cmp file decoded
+apt-get purge -y bucketuntil liblrc0 liblrc-dev > said
+apt-get autoremove -y --purge > said
+set +x
+files > after
+diff before after
+END
+}
+
+for suite in "${suites[@]}"; do
+  prepare "$suite"
+  within > "$root/try/within.sh"
+  chroot "$root" /bin/bash /try/within.sh 2>&1 || { echo "try-packages: $suite: the last command failed"; exit 1; }
+  if compgen -G 'out/packages/ceph-plugin-azure-lrc_*.deb' > /dev/null; then
+    echo "try-packages: $suite: what apt says of the plugin for Ceph, whose version of Ceph is in Debian 12:"
+    chroot "$root" bash -c 'apt-get install -s --no-install-recommends /try/ceph-plugin-azure-lrc_*.deb' > "$scratch/said" 2>&1 || true
+    tail -n 3 "$scratch/said"
+  fi
+  umount "$root/proc"
+  echo "try-packages: $suite: installed, upgraded, used and purged; nothing is left"
+done
