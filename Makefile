@@ -159,6 +159,7 @@ AFTER := $(addprefix gate/,refusals.py no-compile.sh reference-lines.sh ends.sh 
 
 # gate/library.sh builds in a copy of its own, so it runs beside the proofs.
 test:
+	gate/formatted.sh
 	gate/wrong-bodies.sh
 	gate/architecture.py
 	gate/sweep.py
