@@ -4,8 +4,8 @@ ghost use Rattle.std.specs.Io.KnownBytes.{Consumes, IsAtEnd, Keeps};
 ghost use Rattle.farm_shelves.specs.Folder.{found, kind_fault};
 
 use crate::shelf::ShelfFault;
-use std::fs;
-use std::io::{self, ErrorKind, Read};
+use std::fs::{self, OpenOptions};
+use std::io::{self, ErrorKind, Read, Write};
 use std::rt::Files;
 
 /// The room that is taken for the first read, if the limit isn't less. A fragment of the greatest length fits it.
@@ -38,18 +38,64 @@ fn if_there<T: Drop>(answer: io::Result<T>) -> Result<Option<T>, ShelfFault>
     }
 }
 
-/// The regular file at a path, open; none where there is no file.
-pub(crate) fn open_regular<R: Files>(rt: &R, path: &str) -> Result<Option<R::File>, ShelfFault> {
-    match if_there(fs::metadata(rt, path))? {
-        Some(metadata) if metadata.is_file() => if_there(fs::open(rt, path)),
-        Some(_) => Err(ShelfFault::Device),
-        None => Ok(None),
+/// A regular file that is open, of a length that the system says. Once so many bytes were read, a read finds its end without asking the
+/// system. A file that is said to be empty is asked, since one that the system makes up as it is read is said to be so too.
+#[derive(Drop)]
+pub(crate) struct RegularFile<F: Drop> {
+    file: F,
+    length: u64,
+    got: u64,
+}
+
+impl<F: Read + Drop> Read for RegularFile<F> {
+    fn read(&mut self, buf: &mut [u8]) -> io::Result<usize> {
+        if self.got == self.length && self.length > 0 {
+            return Ok(0);
+        }
+        let count = self.file.read(buf)?;
+        self.got = self.got.saturating_add(count as u64);
+        Ok(count)
     }
 }
 
-/// Replaces the bytes of the regular file at a path, which is made where there is none. Anything else there is left alone, since opening a
-/// FIFO waits for a reader.
+/// The regular file at a path, open; none where there is no file.
+pub(crate) fn open_regular<R: Files>(
+    rt: &R,
+    path: &str,
+) -> Result<Option<RegularFile<R::File>>, ShelfFault> {
+    let length = match if_there(fs::metadata(rt, path))? {
+        Some(metadata) if metadata.is_file() => metadata.len(),
+        Some(_) => return Err(ShelfFault::Device),
+        None => return Ok(None),
+    };
+    let opened = if_there(fs::open(rt, path))?;
+    Ok(opened.map(|file| RegularFile {
+        file,
+        length,
+        got: 0,
+    }))
+}
+
+/// Replaces the bytes of the regular file at a path, which is made where there is none. It is first taken to be new, which saves a call for
+/// each file of a new folder.
 pub(crate) fn write_regular<R: Files>(rt: &R, path: &str, bytes: &[u8]) -> Result<(), ShelfFault> {
+    let made = OpenOptions::new()
+        .write(true)
+        .create_new(true)
+        .open(rt, path);
+    let written = match made {
+        Ok(mut file) => file.write_all(bytes),
+        Err(e) if e.kind() == ErrorKind::AlreadyExists => return replace_regular(rt, path, bytes),
+        Err(e) => Err(e),
+    };
+    match written {
+        Ok(()) => Ok(()),
+        Err(_) => Err(ShelfFault::Device),
+    }
+}
+
+// Replaces the bytes of the regular file at a path. Anything else there is left alone, since opening a FIFO waits for a reader.
+fn replace_regular<R: Files>(rt: &R, path: &str, bytes: &[u8]) -> Result<(), ShelfFault> {
     match if_there(fs::metadata(rt, path))? {
         Some(metadata) if !metadata.is_file() => return Err(ShelfFault::Device),
         _ => {}
