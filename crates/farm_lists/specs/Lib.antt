@@ -2,6 +2,7 @@ pub mod Listed
 pub mod Listing
 pub mod Views
 pub mod Report
+pub mod Writing
 pub mod Grains
 pub mod Rows
 pub mod Names

@@ -1,16 +1,17 @@
 //! Reports, by csv's own writing.
-ghost use Rattle.std.specs.Prelude.{◌≡◌, ◌++◌, ◌∷◌, [], IfOk, OnOk, decimal, length, map, string_bytes};
+ghost use Rattle.std.specs.Prelude.{◌≡◌, ◌++◌, ◌∷◌, [], ℕ, List, IfOk, OnOk, decimal, length, map, string_bytes};
 ghost use Rattle.std.specs.List.{join_with_byte, list_any};
 ghost use Rattle.csv.specs.Writing.{default_writer, row_text};
 ghost use Rattle.lrc_code.specs.Places.{name_of};
 ghost use Rattle.farm_lists.specs.Report.{listed_before_close, digest_text, field_if, fragment_digest, is_wide, merged_report};
 ghost use Rattle.farm_lists.specs.Report.{outcome_name, report, report_fields, report_header, report_line, row_of, rows_of_list};
+ghost use Rattle.farm_lists.specs.Writing.{HasWritten};
 
 use crate::lists::listed::Listed;
 use crate::lists::listing::Record;
 use crate::lists::requests::requests_before_close;
 use crate::reports::digests::digest_of;
-use csv::{Error, WriterBuilder};
+use csv::{Writer, WriterBuilder};
 use lrc_code::{Code, Outcome, Place};
 use sha256_lanes::Digest;
 use std::alloc::{AllocError, Global};
@@ -80,18 +81,21 @@ pub(crate) fn merged_report_on(
     requires { digests.now ≡ map (λ r. fragment_digest r.outcome.now) rows.now }
     ensures { IfOk result (λ v. v.items ≡ merged_report shape (map row_of rows.now)) }
 {
-    let mut text = Vec::from_slice(alloc, header(shape))?;
+    let mut writer = WriterBuilder::new().from_writer(Vec::from_slice(alloc, header(shape))?);
     for number in 0..rows.len() {
-        push_row(
+        write_row(
             alloc,
-            &mut text,
+            &mut writer,
             shape,
             number,
             &rows[number],
             digests[number],
         )?;
     }
-    Ok(text)
+    match writer.into_inner() {
+        Ok(text) => Ok(text),
+        Err(_) => Err(AllocError),
+    }
 }
 
 /// Whether a request is of the (12,2,2) code.
@@ -149,17 +153,18 @@ fn header(shape: ReportShape) -> &'static [u8]
     }
 }
 
-// Adds the line of a row.
-fn push_row(
+// Writes the line of a row.
+fn write_row(
     alloc: Global,
-    text: &mut Vec<u8>,
+    writer: &mut Writer<Vec<u8>>,
     shape: ReportShape,
     number: usize,
     row: &ReportRow,
     digest: Option<Digest>,
 ) -> Result<(), AllocError>
     requires { digest ≡ fragment_digest row.now.outcome.now }
-    ensures { OnOk result (text.new.items ≡ text.old.items ++ report_line (report_fields shape number (row_of row.now))) }
+    ensures { OnOk result ((text : List ℕ) → HasWritten text writer.old
+        → HasWritten (text ++ report_line (report_fields shape number (row_of row.now))) writer.new) }
 {
     let number = decimal_text(alloc, number as u64)?;
     let feed = decimal_text(alloc, row.feed as u64)?;
@@ -177,9 +182,7 @@ fn push_row(
         unread: unread.as_slice(),
         code: row.listed.code().text().as_bytes(),
     };
-    let line = row_line(alloc, shape, &texts)?;
-    text.extend_from_slice(line.as_slice())?;
-    Ok(())
+    write_texts(writer, shape, &texts)
 }
 
 // A number in decimal.
@@ -203,41 +206,62 @@ struct RowTexts<'a> {
     code: &'a [u8],
 }
 
-// The line of a row: the fields of the feed and of the code are in it if they are asked for.
-fn row_line(alloc: Global, shape: ReportShape, row: &RowTexts<'_>) -> Result<Vec<u8>, AllocError>
-    ensures { IfOk result (λ v. v.items ≡ row_text default_writer
+// Writes the fields of a row: those of the feed and of the code are among them if they are asked for.
+fn write_texts(
+    writer: &mut Writer<Vec<u8>>,
+    shape: ReportShape,
+    row: &RowTexts<'_>,
+) -> Result<(), AllocError>
+    ensures { OnOk result ((text : List ℕ) → HasWritten text writer.old → HasWritten (text ++ row_text default_writer
         (row.now.number.now ∷ (field_if shape.feeds row.now.feed.now ++ row.now.stripe.now ∷ row.now.target.now ∷ row.now.length.now
-        ∷ row.now.outcome.now ∷ row.now.digest.now ∷ row.now.unread.now ∷ field_if shape.codes row.now.code.now))) }
+        ∷ row.now.outcome.now ∷ row.now.digest.now ∷ row.now.unread.now ∷ field_if shape.codes row.now.code.now))) writer.new) }
 {
-    let mut fields = vec![in alloc; row.number]?;
-    push_if(&mut fields, shape.feeds, row.feed)?;
-    fields.extend_from_slice(&[
-        row.stripe,
-        row.target,
-        row.length,
-        row.outcome,
-        row.digest,
-        row.unread,
-    ])?;
-    push_if(&mut fields, shape.codes, row.code)?;
-    match row_bytes(alloc, fields.as_slice()) {
-        Ok(line) => Ok(line),
-        Err(_) => Err(AllocError),
+    let RowTexts {
+        number,
+        feed,
+        stripe,
+        target,
+        length,
+        outcome,
+        digest,
+        unread,
+        code,
+    } = *row;
+    match (shape.feeds, shape.codes) {
+        (false, false) => write_record(
+            writer,
+            &[number, stripe, target, length, outcome, digest, unread],
+        ),
+        (false, true) => write_record(
+            writer,
+            &[
+                number, stripe, target, length, outcome, digest, unread, code,
+            ],
+        ),
+        (true, false) => write_record(
+            writer,
+            &[
+                number, feed, stripe, target, length, outcome, digest, unread,
+            ],
+        ),
+        (true, true) => write_record(
+            writer,
+            &[
+                number, feed, stripe, target, length, outcome, digest, unread, code,
+            ],
+        ),
     }
 }
 
-// Adds a field if it is asked for.
-fn push_if<'a>(
-    fields: &mut Vec<&'a [u8]>,
-    is_given: bool,
-    field: &'a [u8],
-) -> Result<(), AllocError>
-    ensures { OnOk result (map (λ f. f.now) fields.new.items ≡ map (λ f. f.now) fields.old.items ++ field_if is_given field.now) }
+// Writes a record.
+fn write_record(writer: &mut Writer<Vec<u8>>, fields: &[&[u8]]) -> Result<(), AllocError>
+    ensures { OnOk result ((text : List ℕ) → HasWritten text writer.old
+        → HasWritten (text ++ row_text default_writer (map (λ f. f.now) fields.now)) writer.new) }
 {
-    if is_given {
-        fields.push(field)?;
+    match writer.write_fields(fields) {
+        Ok(()) => Ok(()),
+        Err(_) => Err(AllocError),
     }
-    Ok(())
 }
 
 fn outcome_word(outcome: &Outcome) -> &'static [u8]
@@ -272,18 +296,6 @@ fn spaced_names(alloc: Global, places: &[Place]) -> Result<Vec<u8>, AllocError>
         text.extend_from_slice(places[index].name().as_bytes())?;
     }
     Ok(text)
-}
-
-// The text of one record of the default writer.
-fn row_bytes(alloc: Global, fields: &[&[u8]]) -> Result<Vec<u8>, Error>
-    ensures { IfOk result (λ v. v.items ≡ row_text default_writer (map (λ f. f.now) fields.now)) }
-{
-    let mut wtr = WriterBuilder::new().from_writer(Vec::new(alloc));
-    wtr.write_fields(fields)?;
-    match wtr.into_inner() {
-        Ok(text) => Ok(text),
-        Err(e) => Err(e.into_error()),
-    }
 }
 
 // The digests of the outcomes of rows, made one after the other.

@@ -1,8 +1,13 @@
+use Rattle.std.proofs.Common.{refl, subst, take, map}
+use Rattle.farm_lists.specs.Report.{merged_report, row_of}
+use Rattle.farm_lists.specs.Writing.{HasWritten}
 use Rattle.farm_lists.proofs.ReportLines.{report_step}
 use Rattle.farm_lists.proofs.reports.report.merged_report_on.Goals as goal
 
 pub loop-number-preserved : goal.loop-number-preserved
 loop-number-preserved c =
-    report_step c.args.shape c.args.rows.now c.loop-number.number c.index-rows-number.result c.loop-number.text.items
-    c.push_row.new.text.items c.loop-number-test.true
-    c.index-rows-number.is c.loop-number.invariant c.in_ok-push_row.ensures
+    let text = merged_report c.args.shape (map row_of (take c.loop-number.number c.args.rows.now)) in
+    subst (λ t. HasWritten t c.write_row.new.writer)
+    (report_step c.args.shape c.args.rows.now c.loop-number.number c.index-rows-number.result text _ c.loop-number-test.true
+    c.index-rows-number.is refl refl)
+    (c.in_ok-write_row.ensures text c.loop-number.invariant)

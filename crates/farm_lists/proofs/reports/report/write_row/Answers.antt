@@ -1,9 +1,11 @@
-use Rattle.std.proofs.Common.{◌≡◌, ◌++◌, ◌∙◌, ap, arith, rules, decimal}
+use Rattle.std.proofs.Common.{◌≡◌, ◌++◌, ◌∙◌, ℕ, List, ap, arith, rules, decimal, subst}
+use Rattle.std.specs.Prelude.{OnOk}
 use Rattle.lrc_code.specs.Codes.{code_text}
 use Rattle.lrc_code.specs.Places.{name_of}
 use Rattle.farm_lists.specs.Report.{digest_text, row_of}
+use Rattle.farm_lists.specs.Writing.{HasWritten}
 use Rattle.farm_lists.proofs.Plain.{row_fields}
-use Rattle.farm_lists.proofs.reports.report.push_row.Goals as goal
+use Rattle.farm_lists.proofs.reports.report.write_row.Goals as goal
 
 pub returns : goal.returns
 returns c =
@@ -17,6 +19,8 @@ returns c =
     let digest = c.as_bytes-6.ensures.value ∙ c.in_ok-digest.ensures ∙ ap digest_text c.requires in
     let unread = c.as_slice.ensures.value ∙ c.in_ok-unread.ensures in
     let code = c.as_bytes-7.ensures.value ∙ c.text.ensures ∙ ap code_text c.code.ensures in
-    c.in_ok-extend_from_slice.ensures.items ∙ ap (λ t. c.args.text.now.items ++ t) (c.as_slice-2.ensures.value ∙ c.in_ok-line.ensures
-    ∙ row_fields c.args.shape c.args.number row _ _ _ _ _ _ _ _ _ (omega arith)
+    subst (λ line. OnOk c.write_texts.result ((text : List ℕ) → HasWritten text c.args.writer.now
+    → HasWritten (text ++ line) c.write_texts.new.writer))
+    (row_fields c.args.shape c.args.number row _ _ _ _ _ _ _ _ _ (omega arith)
     (omega (arith, c.type_inv.row)) c.length.ensures.accepted number feed stripe target length c.outcome_word.ensures digest unread code)
+    c.write_texts.ensures
