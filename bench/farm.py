@@ -7,7 +7,8 @@ that writes as it goes.
 
 All runs of a shape are made in turn, and the shortest time of each is shown (BENCH_PASSES of them, 9). What the C programs leave is
 compared with what ours leaves. The folders are in memory where there is room. C programs know no feeds, so a
-shape with several is ours alone. Called by `chrt -f 5`, all but the shapes beside busy processes have that realtime priority."""
+shape with several is ours alone. OpenSSL takes the processor's instructions for SHA-256, which ours doesn't: where there are such,
+two shapes are timed once more with these withheld from the C programs. Called by `chrt -f 5`, all but the shapes beside busy processes have that realtime priority."""
 
 import dataclasses
 import filecmp
@@ -26,6 +27,8 @@ COMPILER = os.environ.get("CC", "gcc")
 ROOM = 4_000_000_000
 PEERS = ("careful", "eight", "careless")
 PRIORITY = os.sched_getscheduler(0), os.sched_getparam(0)
+# Takes from OpenSSL the bit of the processor's instructions for SHA-256.
+WITHHELD = {"OPENSSL_ia32cap": ":~0x20000000"}
 
 
 @dataclasses.dataclass(frozen=True)
@@ -36,12 +39,14 @@ class Shape:
     threads: int
     feeds: int = 1
     busy: int = 0
+    withheld: bool = False
 
     def name(self):
         size = f"{self.length // 1024} KiB" if self.length >= 1024 else f"{self.length} B"
         feeds = f"{self.feeds} feeds of " if self.feeds > 1 else ""
         beside = f", beside {self.busy} busy processes" if self.busy else ""
-        return f"{self.racks} x {feeds}{self.requests}, {size}{beside}"
+        withheld = ", no SHA instructions" if self.withheld else ""
+        return f"{self.racks} x {feeds}{self.requests}, {size}{beside}{withheld}"
 
     def answers(self):
         return self.racks * self.requests * self.feeds
@@ -55,7 +60,9 @@ SHAPES = [
     Shape(16, 100, 65536, 6),
     Shape(1, 400, 65536, 4, feeds=4),
     Shape(16, 400, 4096, 4),
+    Shape(16, 1000, 64, 4),
     Shape(16, 4096, 1, 4),
+    *(Shape(8, 200, 65536, threads, withheld=True) for threads in (1, 4)),
 ]
 
 
@@ -84,7 +91,8 @@ def serve(farm, shape, scratch):
     shutil.rmtree(out, ignore_errors=True)
     out.mkdir()
     times.unlink(missing_ok=True)
-    said = subprocess.run([scratch / "measure", times, farm, *command(farm, shape, scratch)], check=True, capture_output=True, text=True)
+    said = subprocess.run([scratch / "measure", times, farm, *command(farm, shape, scratch)], check=True, capture_output=True, text=True,
+                          env=os.environ | (WITHHELD if shape.withheld else {}))
     if said.stdout != f"served {shape.racks} racks, {shape.answers()} answers\n":
         sys.exit(f"bench-farm: {farm} said {said.stdout!r}")
     _, microseconds, kilobytes = times.read_text().split()
@@ -120,6 +128,10 @@ def time_shape(shape, peers, scratch):
     return {farm: min(run[farm][0] for run in runs) for farm in farms}, max(run["ours"][1] for run in runs)
 
 
+def has_sha():
+    return "sha_ni" in pathlib.Path("/proc/cpuinfo").read_text().split()
+
+
 def row(number, shape, least, peak):
     cells = [str(number), shape.name(), str(shape.threads), f"{least['ours']:.0f}"]
     for peer in PEERS:
@@ -140,9 +152,12 @@ def main(level, numbers):
         print(f"ms from the program's start to its end, the least of {PASSES} runs in turn. A ratio is the C program's time over ours.\n")
         print("| | Folder | Workers | ours | careful C | ratio | by eight | ratio | careless C | ratio | our peak MB | load |")
         print("|---|---|---|---|---|---|---|---|---|---|---|---|")
+        with_sha = has_sha()
         for number, shape in enumerate(SHAPES, 1):
-            if not numbers or number in numbers:
+            if (not numbers or number in numbers) and (with_sha or not shape.withheld):
                 print(row(number, shape, *time_shape(shape, peers, scratch)), flush=True)
+        if not with_sha:
+            print("\nThis processor has no instructions for SHA-256: nothing could be withheld from the C programs.")
 
 
 if __name__ == "__main__":

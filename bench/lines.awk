@@ -1,17 +1,24 @@
-# The table of line mode: lines of a program, the fragments' bytes, the number of lines, its microseconds and its KiB.
+# The table of line mode: lines of a program, the fragments' bytes, the number of lines, on how many processors, its microseconds and its
+# KiB.
 {
-  if (!($2 in lines)) sizes[++count] = $2
-  lines[$2] = $3
-  key = $1 SUBSEP $2
-  if (!(key in shortest) || $4 < shortest[key]) shortest[key] = $4
+  row = $2 SUBSEP $4
+  if (!(row in lines)) {
+    rows[++count] = row
+    sizes[row] = $2
+    processors[row] = $4
+  }
+  lines[row] = $3
+  key = $1 SUBSEP row
+  if (!(key in shortest) || $5 < shortest[key]) shortest[key] = $5
 }
 
 END {
-  print "| Lines | fragment bytes | ms | C program | ratio |"
-  print "|---|---|---|---|---|"
+  print "| Lines | fragment bytes | processors | ms | C program | ratio |"
+  print "|---|---|---|---|---|---|"
   for (i = 1; i <= count; i++) {
-    ours = shortest["ours", sizes[i]]
-    peer = shortest["peer", sizes[i]]
-    printf "| %d | %d | %.1f | %.1f | %.2f |\n", lines[sizes[i]], sizes[i], ours / 1000, peer / 1000, peer / ours
+    row = rows[i]
+    ours = shortest["ours", row]
+    peer = shortest["peer", row]
+    printf "| %d | %d | %s | %.1f | %.1f | %.2f |\n", lines[row], sizes[row], processors[row], ours / 1000, peer / 1000, peer / ours
   }
 }

@@ -10,10 +10,7 @@ use farm_lists::{Record, requests_before_close};
 use farm_orders::limits::MOST_ORDERS;
 use std::alloc::{AllocError, Global};
 
-// Once so many files are named, those of further lists are left to their turn.
-const MANY_FILES: usize = 4096;
-
-/// The files of the survivors that are read first of the batch that begins at a rack; none after the last rack.
+/// The files of the survivors that are read of the batch that begins at a rack; none after the last rack. A batch's bytes bound them.
 pub fn files_of_batch(
     alloc: Global,
     racks: &[RackLists],
@@ -38,7 +35,7 @@ pub fn files_of_batch(
     Ok(files)
 }
 
-/// The files of the survivors that are read first of the piece of a rack that begins at a position; none after the last position.
+/// The files of the survivors that are read of the piece of a rack that begins at a position; none after the last position.
 pub fn files_of_piece(
     alloc: Global,
     lists: &[&[Record]],
@@ -56,16 +53,13 @@ pub fn files_of_piece(
     Ok(files)
 }
 
-// Adds the files of lists, one list after the other, until they are many.
+// Adds the files of lists, one list after the other.
 fn push_files(
     alloc: Global,
     files: &mut Vec<(String, usize)>,
     lists: &[&[Record]],
 ) -> Result<(), AllocError> {
     for list in lists {
-        if files.len() >= MANY_FILES {
-            return Ok(());
-        }
         for listed in requests_before_close(alloc, list)? {
             push_fragment_files(alloc, files, listed)?;
         }

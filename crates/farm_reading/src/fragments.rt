@@ -144,7 +144,25 @@ pub fn push_fragment_files(
     Ok(())
 }
 
-// Lets the shelf read the requests' listed survivors ahead, unless memory is refused for their names.
+// Whether the shelf has read the requests' listed survivors ahead: none are to be read, where memory is refused to ask.
+fn has_ahead<I: Shelf>(alloc: Global, input: &I, requests: &[&Listed]) -> bool {
+    let mut count = 0usize;
+    for listed in requests {
+        count = count.saturating_add(listed.survivors().len());
+    }
+    for listed in requests {
+        if let Some(place) = listed.survivors().first() {
+            let limit = listed.length() as usize + 1;
+            return match fragment_file(alloc, listed.stripe(), *place) {
+                Ok(name) => input.has_ahead(name.as_str(), limit, count),
+                Err(_) => true,
+            };
+        }
+    }
+    true
+}
+
+// Lets the shelf read the requests' listed survivors ahead, unless it did or memory is refused for their names.
 fn read_ahead<R: Threads + Sync, I: Shelf>(
     rt: &R,
     alloc: Global,
@@ -155,6 +173,9 @@ fn read_ahead<R: Threads + Sync, I: Shelf>(
     ensures same { I.files input.new ≡ I.files input.old }
     ensures calm { I.failed input.new ≡ I.failed input.old }
 {
+    if has_ahead(alloc, input, requests) {
+        return;
+    }
     if let Ok(files) = fragment_files(alloc, requests) {
         input.read_ahead(rt, alloc, files.as_slice(), threads);
     }

@@ -173,13 +173,16 @@ fn state_of<F: Read + Drop>(
     }
 }
 
-/// Whether these files of a folder were read ahead as the next ones: the first of them was, and at least as many as they are.
-pub(crate) fn has_ahead(ahead: &[ReadAhead], folder: &str, files: &[(String, usize)]) -> bool {
-    let Some((name, limit)) = files.first() else {
-        return true;
-    };
+/// Whether so many files of a folder were read ahead, the next of them under this name and up to this limit.
+pub(crate) fn has_ahead(
+    ahead: &[ReadAhead],
+    folder: &str,
+    name: &str,
+    limit: usize,
+    count: usize,
+) -> bool {
     match ahead.last() {
-        Some(next) => files.len() <= ahead.len() && next.is_of(folder, name.as_str(), *limit),
+        Some(next) => count <= ahead.len() && next.is_of(folder, name, limit),
         None => false,
     }
 }

@@ -51,9 +51,12 @@ impl ReadAheadShelf {
         })
     }
 
-    // Whether these are the next files that were read ahead.
-    fn has_ahead(&self, files: &[(String, usize)]) -> bool {
-        has_ahead(self.ahead.as_slice(), self.folder.path(), files)
+    // Whether these files were read ahead, by the first of them and their number.
+    fn has_each_ahead(&self, files: &[(String, usize)]) -> bool {
+        match files.first() {
+            Some((name, limit)) => self.has_ahead(name.as_str(), *limit, files.len()),
+            None => true,
+        }
     }
 
     // The files that are to be read ahead, the last one first. What was read ahead before is dropped.
@@ -88,7 +91,7 @@ impl ReadAheadShelf {
         ensures worked { F.post work.now result }
         ensures failure { read_ahead_failed self.new ≡ read_ahead_failed self.old }
     {
-        if self.has_ahead(files) {
+        if self.has_each_ahead(files) {
             return work();
         }
         let Ok(listed) = self.list_ahead(alloc, files) else {
@@ -128,6 +131,16 @@ impl Shelf for ReadAheadShelf {
         self.folder.read(alloc, name, limit)
     }
 
+    fn has_ahead(&self, name: &str, limit: usize, count: usize) -> bool {
+        has_ahead(
+            self.ahead.as_slice(),
+            self.folder.path(),
+            name,
+            limit,
+            count,
+        )
+    }
+
     fn read_ahead<H: Threads + Sync>(
         &mut self,
         rt: &H,
@@ -135,7 +148,7 @@ impl Shelf for ReadAheadShelf {
         files: &[(String, usize)],
         threads: usize,
     ) {
-        if self.has_ahead(files) {
+        if self.has_each_ahead(files) {
             return;
         }
         if let Ok(listed) = self.list_ahead(alloc, files) {

@@ -44,6 +44,12 @@ pub trait Shelf {
         ensures same { files self.new ≡ files self.old }
         ensures failure { CountsFailure result (failed self.old) (failed self.new) };
 
+    /// Whether the shelf has read so many files ahead, of which this one is read next, up to this limit. A shelf that doesn't say
+    /// otherwise has not.
+    fn has_ahead(&self, _name: &str, _limit: usize, _count: usize) -> bool {
+        false
+    }
+
     /// Gives the shelf the names and limits of the files that are read next, in this order, so that it may read them ahead in at most
     /// so many threads. It answers no read, counts no failure and has no refusal: where it is refused memory or a thread, less is read
     /// ahead. A shelf that doesn't say otherwise reads nothing ahead.
