@@ -8,7 +8,8 @@ that writes as it goes.
 All runs of a shape are made in turn, and the shortest time of each is shown (BENCH_PASSES of them, 9). What the C programs leave is
 compared with what ours leaves. The folders are in memory where there is room. C programs know no feeds, so a
 shape with several is ours alone. OpenSSL takes the processor's instructions for SHA-256, which ours doesn't: where there are such,
-two shapes are timed once more with these withheld from the C programs. Called by `chrt -f 5`, all but the shapes beside busy processes have that realtime priority."""
+two shapes are timed once more with these withheld from the C programs. Called by `chrt -f 5`, all but the shapes beside busy
+processes have that realtime priority."""
 
 import dataclasses
 import filecmp

@@ -43,8 +43,8 @@ processor=$(sed -n 's/^model name[[:space:]]*: //p' /proc/cpuinfo | head -n 1)
 cat <<END
 
 Line mode on as many lines as its input may have (8,388,608 bytes), half of them repairs inside one group and half over both, from
-the program's start to its end; ours has up to four threads, the C program one. The shortest of $passes times; ours built for what crates/rebuild/out was last built for, the C program
-for $level; $processor, load $(cut -d ' ' -f 1 /proc/loadavg).
+the program's start to its end; ours has up to four threads, the C program one. The shortest of $passes times; ours built for what
+crates/rebuild/out was last built for, the C program for $level; $processor, load $(cut -d ' ' -f 1 /proc/loadavg).
 
 END
 awk -f bench/lines.awk "$scratch/times"

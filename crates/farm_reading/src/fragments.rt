@@ -152,9 +152,8 @@ fn has_ahead<I: Shelf>(alloc: Global, input: &I, requests: &[&Listed]) -> bool {
     }
     for listed in requests {
         if let Some(place) = listed.survivors().first() {
-            let limit = listed.length() as usize + 1;
             return match fragment_file(alloc, listed.stripe(), *place) {
-                Ok(name) => input.has_ahead(name.as_str(), limit, count),
+                Ok(name) => input.has_ahead(name.as_str(), listed.length() as usize + 1, count),
                 Err(_) => true,
             };
         }

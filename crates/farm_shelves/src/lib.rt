@@ -16,6 +16,7 @@ mod memory;
 mod read_ahead;
 mod regular_files;
 mod shelf;
+mod sized_file;
 
 pub use folder::FolderShelf;
 pub use memory::MemoryShelf;

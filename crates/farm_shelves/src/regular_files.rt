@@ -4,6 +4,7 @@ ghost use Rattle.std.specs.Io.KnownBytes.{Consumes, IsAtEnd, Keeps};
 ghost use Rattle.farm_shelves.specs.Folder.{found, kind_fault};
 
 use crate::shelf::ShelfFault;
+use crate::sized_file::SizedFile;
 use std::fs::{self, OpenOptions};
 use std::io::{self, ErrorKind, Read, Write};
 use std::rt::Files;
@@ -38,42 +39,18 @@ fn if_there<T: Drop>(answer: io::Result<T>) -> Result<Option<T>, ShelfFault>
     }
 }
 
-/// A regular file that is open, of a length that the system says. Once so many bytes were read, a read finds its end without asking the
-/// system. A file that is said to be empty is asked, since one that the system makes up as it is read is said to be so too.
-#[derive(Drop)]
-pub(crate) struct RegularFile<F: Drop> {
-    file: F,
-    length: u64,
-    got: u64,
-}
-
-impl<F: Read + Drop> Read for RegularFile<F> {
-    fn read(&mut self, buf: &mut [u8]) -> io::Result<usize> {
-        if self.got == self.length && self.length > 0 {
-            return Ok(0);
-        }
-        let count = self.file.read(buf)?;
-        self.got = self.got.saturating_add(count as u64);
-        Ok(count)
-    }
-}
-
 /// The regular file at a path, open; none where there is no file.
 pub(crate) fn open_regular<R: Files>(
     rt: &R,
     path: &str,
-) -> Result<Option<RegularFile<R::File>>, ShelfFault> {
+) -> Result<Option<SizedFile<R::File>>, ShelfFault> {
     let length = match if_there(fs::metadata(rt, path))? {
         Some(metadata) if metadata.is_file() => metadata.len(),
         Some(_) => return Err(ShelfFault::Device),
         None => return Ok(None),
     };
     let opened = if_there(fs::open(rt, path))?;
-    Ok(opened.map(|file| RegularFile {
-        file,
-        length,
-        got: 0,
-    }))
+    Ok(opened.map(|file| SizedFile::new(file, length)))
 }
 
 /// Replaces the bytes of the regular file at a path, which is made where there is none. It is first taken to be new, which saves a call for
