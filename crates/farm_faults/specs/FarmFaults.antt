@@ -2,8 +2,8 @@
 use Rattle.std.specs.Prelude.{ℕ, List, ◌++◌, Result, Ok, Err, codes, decimal}
 use Rattle.lrc_code.specs.Requests.{code_of}
 use Rattle.farm_lists.specs.Names.{list_name}
-use Rattle.farm_lists.specs.declared.lists.listing.ListFault.{ListFault}
-use Rattle.farm_lists.specs.declared.lists.listing.ListFault.TheVariants as list_fault
+use Rattle.farm_lists.specs.declared.listing.ListFault.{ListFault}
+use Rattle.farm_lists.specs.declared.listing.ListFault.TheVariants as list_fault
 use Rattle.farm_reading.specs.declared.faults.ServeFault.{ServeFault}
 use Rattle.farm_reading.specs.declared.faults.ServeFault.TheVariants.{List as OfList, BadFeeds, TooManyRacks, NoRacks, Device, NoThread}
 use Rattle.farm_reading.specs.declared.faults.ServeFault.TheVariants.{OutOfMemory}

@@ -3,12 +3,3 @@ pub mod Five
 pub mod Fuel
 pub mod RecordFields
 pub mod Orders
-pub mod Plain
-pub mod ReportLines
-pub mod RackRows
-pub mod RackDigests
-pub mod FragmentDigests
-pub mod Making
-pub mod MakingAll
-pub mod OneFeed
-pub mod FeedRows

@@ -5,11 +5,11 @@ use Rattle.std.proofs.lemmas.Bool.{le-ltb, lt-ltb, ltb-false}
 use Rattle.std.specs.Prelude.{nat_lt, not}
 use Rattle.std.specs.Cmp.Lexicographic.{pointwise}
 use Rattle.std.specs.Str.{bytes_eq}
-use Rattle.farm_lists.specs.declared.lists.listing.ListFault.{ListFault}
-use Rattle.farm_lists.specs.declared.lists.listing.ListFault.TheVariants as fault
+use Rattle.farm_lists.specs.declared.listing.ListFault.{ListFault}
+use Rattle.farm_lists.specs.declared.listing.ListFault.TheVariants as fault
 use Rattle.farm_lists.specs.Listing.{IsFaultOf, IsRecordFault, SoFar, Stops, and_then, coded_header, header, list_limit, list_of}
 use Rattle.farm_lists.specs.Listing.{list_of_rows, order_at, record_limit, orders}
-use Rattle.farm_lists.specs.declared.lists.listing.Record.{Record}
+use Rattle.farm_lists.specs.declared.listing.Record.{Record}
 use Rattle.csv.specs.Reading.{AreRecords, Reached, default_config, records, strip_bom}
 use Rattle.csv.specs.declared.parser.State.{State}
 use Rattle.csv.specs.declared.parser.State.TheVariants as st

@@ -15,7 +15,7 @@ use Rattle.lrc_code.specs.declared.places.Place.{Place}
 use Rattle.lrc_code.specs.declared.requests.RequestFault.TheVariants as refused
 use Rattle.lrc_code.specs.Requests.{is_name, is_name_byte}
 use Rattle.lrc_code.specs.Text.{number}
-use Rattle.farm_lists.specs.declared.lists.listing.ListFault.TheVariants as fault
+use Rattle.farm_lists.specs.declared.listing.ListFault.TheVariants as fault
 use Rattle.farm_lists.specs.Listing.{listed, places, rebuild_at}
 
 pub and_left : (a b : Bool) → (a && b) ≡ true → a ≡ true

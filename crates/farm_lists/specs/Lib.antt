@@ -1,12 +1,6 @@
 pub mod Listed
 pub mod Listing
 pub mod Views
-pub mod Report
-pub mod Writing
-pub mod Grains
-pub mod Rows
+pub mod Requests
 pub mod Names
-pub mod Named
-pub mod Written
-pub mod ReportLaws
 pub mod Parts

@@ -13,10 +13,10 @@ use Rattle.lrc_code.specs.declared.codes.Code.{Code as CodeName}
 use Rattle.lrc_code.specs.declared.codes.Code.TheVariants.{Narrow}
 use Rattle.lrc_code.specs.Codes.{code_named, tables_of}
 use Rattle.farm_lists.specs.Listed.{ListedRequest, listed_refusal}
-use Rattle.farm_lists.specs.declared.lists.listing.Record.{Record}
-use Rattle.farm_lists.specs.declared.lists.listing.Record.TheVariants as rec
-use Rattle.farm_lists.specs.declared.lists.listing.ListFault.{ListFault}
-use Rattle.farm_lists.specs.declared.lists.listing.ListFault.TheVariants as fault
+use Rattle.farm_lists.specs.declared.listing.Record.{Record}
+use Rattle.farm_lists.specs.declared.listing.Record.TheVariants as rec
+use Rattle.farm_lists.specs.declared.listing.ListFault.{ListFault}
+use Rattle.farm_lists.specs.declared.listing.ListFault.TheVariants as fault
 
 -- how many bytes a list may have, and how many records after its header
 abbrev pub list_limit : ℕ

@@ -1,9 +1,9 @@
 -- The fields of a record, and why one that is to list a request is refused.
 use Rattle.std.specs.Prelude.{◌≡◌, ℕ, List, [], ◌∷◌, Bool, Option, Some, None, Result, Err, if◌then◌else◌, is_some, option_map}
-use Rattle.farm_lists.specs.declared.lists.listing.Fields.{Fields}
-use Rattle.farm_lists.specs.declared.lists.listing.Record.{Record}
-use Rattle.farm_lists.specs.declared.lists.listing.ListFault.{ListFault}
-use Rattle.farm_lists.specs.declared.lists.listing.ListFault.TheVariants as fault
+use Rattle.farm_lists.specs.declared.listing.Fields.{Fields}
+use Rattle.farm_lists.specs.declared.listing.Record.{Record}
+use Rattle.farm_lists.specs.declared.listing.ListFault.{ListFault}
+use Rattle.farm_lists.specs.declared.listing.ListFault.TheVariants as fault
 use Rattle.farm_lists.specs.Listed.{ListedRequest}
 use Rattle.farm_lists.specs.Listing.{rebuild_at}
 

@@ -1,26 +1,19 @@
-//! Lists of lost fragments, and the files that answer them: the rebuilt fragments, each under its name, and the reports.
+//! Lists of lost fragments: how they are read, what their requests are, and how the files are named that answer them.
 //!
 //! ```
-//! use farm_lists::{read_list, report_text};
-//! use lrc_code::Outcome;
+//! use farm_lists::{count_requests, read_list};
 //!
 //! let list = read_list(alloc, b"order,stripe,target,length,survivors\nrebuild,abc,x0,3,x1 x2\n")?;
-//! let report = report_text(alloc, &list, &[Outcome::Several], &[Vec::new(alloc)])?;
-//! let text = b"number,stripe,target,length,outcome,digest,unread\n0,abc,x0,3,several,,\n".as_slice();
-//! assert_eq!(rt; report.as_slice(), text);
+//! assert_eq!(rt; count_requests(&list), 1);
 //! ```
 #![tactic(auto)]
 
-mod lists;
-mod names;
-mod rack_files;
-pub mod report_laws;
-mod reports;
+mod listed;
+mod listing;
+pub mod names;
+mod requests;
 
-pub use lists::listed::Listed;
-pub use lists::listing::{ListFault, MOST_LIST_BYTES, MOST_RECORDS, Record, read_list};
-pub use lists::requests::{ReadRequest, count_requests, requests_before_close};
+pub use listed::Listed;
+pub use listing::{ListFault, MOST_LIST_BYTES, MOST_RECORDS, Record, read_list};
 pub use names::{fragment_file, list_file};
-pub use rack_files::{NamedFile, make_files};
-pub use reports::digests::digests_of_racks;
-pub use reports::report::{ReportRow, ReportShape, merged_report_text, report_text};
+pub use requests::{ReadRequest, count_requests, requests_before_close};

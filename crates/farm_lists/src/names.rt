@@ -17,7 +17,7 @@ pub fn list_file(alloc: Global, rack: usize, feed: usize) -> Result<String, Allo
 }
 
 /// The name of the report on a rack.
-pub(crate) fn report_file(alloc: Global, rack: usize) -> Result<String, AllocError>
+pub fn report_file(alloc: Global, rack: usize) -> Result<String, AllocError>
     ensures { IfOk result (λ s. string_bytes s ≡ report_name rack) }
 {
     format!(in alloc; "rack{rack}.report.csv")
@@ -38,7 +38,7 @@ pub fn fragment_file(alloc: Global, stripe: &str, place: Place) -> Result<String
 }
 
 /// The name of the fragment that a request of a rack rebuilds.
-pub(crate) fn rebuilt_file(
+pub fn rebuilt_file(
     alloc: Global,
     rack: usize,
     number: usize,

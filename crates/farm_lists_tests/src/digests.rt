@@ -1,7 +1,7 @@
 //! The digests of the rebuilt fragments of several racks, in lanes and threads, each against the crate `sha2`.
 ghost use Rattle.std.specs.Prelude.{◌<◌};
 
-use farm_lists::digests_of_racks;
+use farm_reports::digests_of_racks;
 use lrc_code::{Bytes, Outcome};
 use sha2::{Digest, Sha256};
 use std::alloc::{AllocError, Global};

@@ -1,9 +1,7 @@
 //! Reports, by the calls that make them alone.
 use crate::samples::{EMPTY_REPORT, LIST, REPORT, REPORT_WITHOUT_PX};
-use farm_lists::{
-    Listed, Record, ReportRow, ReportShape, merged_report_text, read_list, report_text,
-    requests_before_close,
-};
+use farm_lists::{Listed, Record, read_list, requests_before_close};
+use farm_reports::{ReportRow, ReportShape, merged_report_text, report_text};
 use lrc_code::{Bytes, Code, Outcome, Place};
 use std::alloc::{AllocError, Global};
 

@@ -10,8 +10,8 @@ use Rattle.farm_orders.specs.FedLists.{AreFeeds, IsFewFeeds}
 use Rattle.farm_orders.specs.Orders.{before_close}
 use Rattle.farm_orders.specs.declared.orders.Order.{Order}
 use Rattle.farm_orders.specs.declared.orders.RackList.{RackList}
-use Rattle.farm_lists.specs.Report.{listed_before_close}
-use Rattle.farm_lists.specs.declared.lists.listing.Record.{Record}
+use Rattle.farm_lists.specs.Requests.{listed_before_close}
+use Rattle.farm_lists.specs.declared.listing.Record.{Record}
 
 abbrev pub Rack : Type 0
 Rack = Vec RackList Global

@@ -4,7 +4,7 @@ use Rattle.std.proofs.Common.{arith}
 use Rattle.std.specs.List.{slice_range}
 use Rattle.std.proofs.lemmas.List.Sums.{sum_by-append, sum_by-cons}
 use Rattle.std.specs.Prelude.{sum_by}
-use Rattle.farm_lists.specs.declared.lists.listing.Record.{Record}
+use Rattle.farm_lists.specs.declared.listing.Record.{Record}
 use Rattle.farm_reading.specs.Pieces.{list_bytes, listed_bytes, piece, record_bytes}
 use Rattle.farm_reading.proofs.Pairs.{sum_push}
 

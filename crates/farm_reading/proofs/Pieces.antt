@@ -13,9 +13,9 @@ use Rattle.farm_orders.specs.declared.orders.Order.{Order}
 use Rattle.farm_orders.specs.declared.orders.Order.TheVariants.{Rebuild, Close}
 use Rattle.farm_shelves.specs.Files.{Files}
 use Rattle.farm_lists.specs.Listed.{ListedRequest}
-use Rattle.farm_lists.specs.Report.{RequestRead, listed_before_close}
-use Rattle.farm_lists.specs.declared.lists.listing.Record.{Record}
-use Rattle.farm_lists.specs.declared.lists.listing.Record.TheVariants as rec
+use Rattle.farm_lists.specs.Requests.{RequestRead, listed_before_close}
+use Rattle.farm_lists.specs.declared.listing.Record.{Record}
+use Rattle.farm_lists.specs.declared.listing.Record.TheVariants as rec
 use Rattle.farm_reading.specs.Pieces.{AreOrdersOf, record_count, through_close}
 use Rattle.farm_reading.specs.Reading.{AreRackReads, AreReads, Reads, close_of, feed_read, orders_feed, orders_rack, rack_read}
 use Rattle.farm_reading.proofs.ReadRequests.{all_served, close_is}

@@ -7,11 +7,11 @@ use Rattle.std.proofs.lemmas.Bool.Decides.{eqb_tells}
 use Rattle.lrc_code.specs.declared.places.Place.{Place}
 use Rattle.farm_lists.specs.Listed.{ListedRequest}
 use Rattle.farm_lists.specs.Listing.{list_of}
-use Rattle.farm_lists.specs.declared.lists.listing.Record.{Record}
-use Rattle.farm_lists.specs.declared.lists.listing.ListFault.{ListFault}
+use Rattle.farm_lists.specs.declared.listing.Record.{Record}
+use Rattle.farm_lists.specs.declared.listing.ListFault.{ListFault}
 use Rattle.farm_lists.proofs.Orders.{too_long}
 use Rattle.farm_shelves.specs.Files.{Files, Shown}
-use Rattle.farm_lists.specs.declared.lists.listing.ListFault.TheVariants as list_fault
+use Rattle.farm_lists.specs.declared.listing.ListFault.TheVariants as list_fault
 use Rattle.farm_lists.specs.Listing.{IsFaultOf}
 use Rattle.farm_reading.specs.Faults.{IsListFault, serve_fault}
 use Rattle.farm_lists.specs.Names.{fragment_name, list_name}

@@ -7,7 +7,7 @@ use Rattle.std.specs.List.{AllByRecursion}
 use Rattle.std.proofs.lemmas.List.{length-map, map-append}
 use Rattle.std.proofs.lemmas.List.Elements.{All-from_recursion, recursion_from_All}
 use Rattle.farm_lists.specs.Listing.{list_of}
-use Rattle.farm_lists.specs.declared.lists.listing.Record.{Record}
+use Rattle.farm_lists.specs.declared.listing.Record.{Record}
 use Rattle.farm_shelves.specs.Files.{Files, Shown}
 use Rattle.farm_lists.specs.Names.{list_name}
 use Rattle.farm_reading.specs.Reading.{AreFeeds, AreLists, HaveFeeds, HaveLists}

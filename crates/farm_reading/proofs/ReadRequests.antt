@@ -8,9 +8,9 @@ use Rattle.farm_orders.specs.Orders.{before_close}
 use Rattle.farm_orders.specs.declared.orders.Order.{Order}
 use Rattle.farm_orders.specs.declared.orders.Order.TheVariants.{Rebuild, Close}
 use Rattle.farm_lists.specs.Listed.{ListedRequest}
-use Rattle.farm_lists.specs.Report.{listed_before_close}
-use Rattle.farm_lists.specs.declared.lists.listing.Record.{Record}
-use Rattle.farm_lists.specs.declared.lists.listing.Record.TheVariants as rec
+use Rattle.farm_lists.specs.Requests.{listed_before_close}
+use Rattle.farm_lists.specs.declared.listing.Record.{Record}
+use Rattle.farm_lists.specs.declared.listing.Record.TheVariants as rec
 use Rattle.farm_shelves.specs.Files.{Files}
 use Rattle.farm_reading.specs.Reading.{AreReads, Reads, asked, asked_feed, close_of}
 use Rattle.farm_reading.proofs.Pairs.{values_more}

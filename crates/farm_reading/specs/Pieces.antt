@@ -5,9 +5,9 @@ use Rattle.std.specs.declared.alloc.Global.{Global}
 use Rattle.lrc_code.specs.Requests.{Asked}
 use Rattle.farm_orders.specs.declared.orders.Order.{Order}
 use Rattle.farm_orders.specs.declared.orders.Order.TheVariants.{Rebuild}
-use Rattle.farm_lists.specs.Report.{listed_before_close}
-use Rattle.farm_lists.specs.declared.lists.listing.Record.{Record}
-use Rattle.farm_lists.specs.declared.lists.listing.Record.TheVariants as rec
+use Rattle.farm_lists.specs.Requests.{listed_before_close}
+use Rattle.farm_lists.specs.declared.listing.Record.{Record}
+use Rattle.farm_lists.specs.declared.listing.Record.TheVariants as rec
 use Rattle.farm_reading.specs.Reading.{close_of}
 
 -- a list up to its first close, with that close

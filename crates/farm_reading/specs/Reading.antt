@@ -11,9 +11,9 @@ use Rattle.farm_orders.specs.Limits.{feed_limit, rack_limit}
 use Rattle.farm_reading.specs.Pairs.{zip_with}
 use Rattle.farm_lists.specs.Listed.{ListedRequest}
 use Rattle.farm_lists.specs.Listing.{list_of}
-use Rattle.farm_lists.specs.Report.{RequestRead, listed_before_close}
-use Rattle.farm_lists.specs.declared.lists.listing.Record.{Record}
-use Rattle.farm_lists.specs.declared.lists.listing.Record.TheVariants as rec
+use Rattle.farm_lists.specs.Requests.{RequestRead, listed_before_close}
+use Rattle.farm_lists.specs.declared.listing.Record.{Record}
+use Rattle.farm_lists.specs.declared.listing.Record.TheVariants as rec
 use Rattle.farm_shelves.specs.Files.{Files}
 use Rattle.farm_lists.specs.Names.{fragment_name, list_name}
 

@@ -4,7 +4,7 @@ ghost use Rattle.std.specs.Prelude.{is_some, length, map, option_map};
 ghost use Rattle.std.specs.List.{All};
 ghost use Rattle.farm_orders.specs.Limits.{feed_limit, order_limit, rack_limit};
 ghost use Rattle.farm_lists.specs.Listing.{list_of};
-ghost use Rattle.farm_lists.specs.declared.lists.listing.Record.{Record};
+ghost use Rattle.farm_lists.specs.declared.listing.Record.{Record};
 ghost use Rattle.farm_shelves.specs.Files.{Files};
 ghost use Rattle.farm_lists.specs.Names.{list_name};
 ghost use Rattle.farm_reading.specs.Reading.{AreLists, HaveFeeds};

@@ -16,7 +16,7 @@ impl Model for RackLists {
     ghost use Rattle.std.specs.Prelude.{List, map, length, ◌<◌, ◌≤◌};
     ghost use Rattle.std.specs.List.{All};
     ghost use Rattle.farm_orders.specs.Limits.{feed_limit, order_limit};
-    ghost use Rattle.farm_lists.specs.declared.lists.listing.Record.{Record};
+    ghost use Rattle.farm_lists.specs.declared.listing.Record.{Record};
 
     ghost Value = { List (List Record) };
 

@@ -11,10 +11,10 @@ use Rattle.farm_core.proofs.Works.{zip_append}
 use Rattle.farm_serving.specs.AnsweredRacks.{AreAnswered, all_requests}
 use Rattle.farm_shelves.specs.Files.{Shown}
 use Rattle.farm_reading.specs.Pairs.{zip_with}
-use Rattle.farm_lists.specs.Report.{RequestRead, listed_before_close, read_of}
+use Rattle.farm_lists.specs.Requests.{RequestRead, listed_before_close, read_of}
 use Rattle.farm_reading.specs.Reading.{AreRackReads, Reads, orders_rack, rack_read}
-use Rattle.farm_lists.specs.declared.lists.listing.Record.{Record}
-use Rattle.farm_lists.specs.declared.lists.requests.ReadRequest.{ReadRequest}
+use Rattle.farm_lists.specs.declared.listing.Record.{Record}
+use Rattle.farm_lists.specs.declared.requests.ReadRequest.{ReadRequest}
 
 -- the front of a list, and a range after it
 pub take_range : {A : Type 0} (xs : List A) (a b : ℕ) → a ≤ b → take b xs ≡ take a xs ++ slice_range xs a b

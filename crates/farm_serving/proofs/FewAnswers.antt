@@ -10,9 +10,9 @@ use Rattle.std.proofs.lemmas.List.Elements.{All-from_recursion, recursion_from_A
 use Rattle.std.proofs.lemmas.List.Sums.{sum_by-cons}
 use Rattle.lrc_code.specs.declared.outcomes.Outcome.{Outcome}
 use Rattle.farm_orders.specs.declared.orders.Order.{Order}
-use Rattle.farm_lists.specs.Report.{listed_before_close}
-use Rattle.farm_lists.specs.Rows.{FitsFeeds}
-use Rattle.farm_lists.specs.declared.lists.listing.Record.{Record}
+use Rattle.farm_lists.specs.Requests.{listed_before_close}
+use Rattle.farm_reports.specs.Rows.{FitsFeeds}
+use Rattle.farm_lists.specs.declared.listing.Record.{Record}
 use Rattle.farm_serving.proofs.Fits.{request_counts}
 use Rattle.farm_reading.proofs.ReadRequests.{served_few}
 

@@ -12,7 +12,7 @@ use Rattle.lrc_code.specs.Requests.{Asked}
 use Rattle.farm_orders.specs.declared.orders.Order.{Order}
 use Rattle.farm_orders.specs.Orders.{before_close}
 use Rattle.farm_core.specs.Merge.{AreAllMergedAnswers, AreMergedAnswers, IsFedAnswer, IsLawfulMerge, of_feed}
-use Rattle.farm_lists.specs.Rows.{FitsFeeds}
+use Rattle.farm_reports.specs.Rows.{FitsFeeds}
 
 -- how many requests are before each feed's close
 abbrev pub request_counts : List (List Order) → List ℕ

@@ -12,14 +12,14 @@ use Rattle.farm_orders.specs.declared.orders.Order.TheVariants.{Rebuild}
 use Rattle.farm_core.proofs.Merges.{answers_of_one}
 use Rattle.farm_shelves.specs.Files.{Files}
 use Rattle.farm_reading.specs.Pairs.{zip_with}
-use Rattle.farm_lists.specs.Report.{RequestRead, listed_before_close}
+use Rattle.farm_lists.specs.Requests.{RequestRead, listed_before_close}
 use Rattle.farm_reading.specs.Reading.{AreAllReads, AreReads, Reads, all_read, asked, asked_feed, feed_read, orders_all, orders_feed}
 use Rattle.farm_reading.specs.Reading.{rack_read, request_read}
 use Rattle.farm_serving.specs.ServingLaws.{RacksOfOneFeedAreServedAsLists, asked_lists}
-use Rattle.farm_lists.specs.Written.{files_from}
-use Rattle.farm_lists.specs.declared.lists.listing.Record.{Record}
-use Rattle.farm_lists.proofs.MakingAll.{all_zip-length}
-use Rattle.farm_lists.proofs.OneFeed.{files_of_one_feed}
+use Rattle.farm_reports.specs.Written.{files_from}
+use Rattle.farm_lists.specs.declared.listing.Record.{Record}
+use Rattle.farm_reports.proofs.MakingAll.{all_zip-length}
+use Rattle.farm_reports.proofs.OneFeed.{files_of_one_feed}
 use Rattle.farm_reading.proofs.ReadRequests.{all_served, close_is}
 
 -- as answers of the first feed

@@ -4,8 +4,8 @@ use Rattle.std.proofs.Common.{string_bytes, arith}
 use Rattle.std.proofs.lemmas.List.{take_more, get_or-map, length-map}
 use Rattle.farm_shelves.specs.Files.{Files, Shown, put, put_all}
 use Rattle.std.specs.Cow.{cow_slice_items}
-use Rattle.farm_lists.specs.Named.{named}
-use Rattle.farm_lists.specs.declared.rack_files.NamedFile.{NamedFile}
+use Rattle.farm_reports.specs.Named.{named}
+use Rattle.farm_reports.specs.declared.rack_files.NamedFile.{NamedFile}
 
 put_all-append : (old : Files) (fs gs : List (List ℕ × List ℕ)) → put_all old (fs ++ gs) ≡ put_all (put_all old fs) gs
 put_all-append old [] gs = refl

@@ -17,11 +17,11 @@ use Rattle.farm_core.proofs.Pieces.{are_open, close_ends_all, have_comes, have_s
 use Rattle.farm_core.proofs.Works.{zip_append}
 use Rattle.farm_serving.specs.AnsweredRacks.{AreAnswered, IsAnsweredOnce, rack_requests}
 use Rattle.farm_shelves.specs.Files.{Files, Shown}
-use Rattle.farm_lists.specs.Report.{RequestRead, listed_before_close, read_of}
+use Rattle.farm_lists.specs.Requests.{RequestRead, listed_before_close, read_of}
 use Rattle.farm_lists.specs.Listed.{ListedRequest}
-use Rattle.farm_lists.specs.declared.lists.listing.Record.{Record}
-use Rattle.farm_lists.specs.declared.lists.requests.ReadRequest.{ReadRequest}
-use Rattle.farm_lists.specs.declared.lists.listing.Record.TheVariants as rec
+use Rattle.farm_lists.specs.declared.listing.Record.{Record}
+use Rattle.farm_lists.specs.declared.requests.ReadRequest.{ReadRequest}
+use Rattle.farm_lists.specs.declared.listing.Record.TheVariants as rec
 use Rattle.farm_reading.specs.Pairs.{zip_with}
 use Rattle.farm_reading.specs.Pieces.{AreOrdersOf, piece, record_count, through_close}
 use Rattle.farm_reading.specs.Reading.{AreRackReads, AreReads, Reads, asked, close_of, failures, feed_failures, feed_read, orders_feed}

@@ -6,15 +6,15 @@ use Rattle.lrc_code.specs.declared.outcomes.Outcome.{Outcome}
 use Rattle.farm_orders.specs.declared.error.FarmError.{FarmError}
 use Rattle.farm_orders.specs.declared.error.FarmError.TheVariants as farm
 use Rattle.farm_shelves.specs.Files.{CountsFailure, Files, Shown}
-use Rattle.farm_lists.specs.Report.{RequestRead, read_of}
+use Rattle.farm_lists.specs.Requests.{RequestRead, read_of}
 use Rattle.farm_reading.specs.Reading.{AreLists, Reads, all_read}
 use Rattle.farm_serving.specs.Serving.{written_files}
-use Rattle.farm_lists.specs.Written.{files_from}
+use Rattle.farm_reports.specs.Written.{files_from}
 use Rattle.farm_reading.specs.Faults.{Explains}
 use Rattle.farm_serving.specs.Faults.{LeavesOutput, StopsServing}
 use Rattle.farm_reading.specs.Causes.{of_farm, of_shelf}
-use Rattle.farm_lists.specs.declared.lists.listing.Record.{Record}
-use Rattle.farm_lists.specs.declared.lists.requests.ReadRequest.{ReadRequest}
+use Rattle.farm_lists.specs.declared.listing.Record.{Record}
+use Rattle.farm_lists.specs.declared.requests.ReadRequest.{ReadRequest}
 use Rattle.farm_shelves.specs.declared.shelf.ShelfFault.{ShelfFault}
 use Rattle.farm_shelves.specs.declared.shelf.ShelfFault.TheVariants as shelf
 

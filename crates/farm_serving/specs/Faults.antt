@@ -2,9 +2,9 @@
 use Rattle.std.specs.Prelude.{◌≡◌, ◌+◌, ◌<◌, ◌⊎◌, ℕ, List, length, Some, None, IfSome, Err, option_map}
 use Rattle.lrc_code.specs.declared.outcomes.Outcome.{Outcome}
 use Rattle.farm_lists.specs.Listing.{list_of}
-use Rattle.farm_lists.specs.declared.lists.listing.Record.{Record}
-use Rattle.farm_lists.specs.declared.lists.listing.ListFault.{ListFault}
-use Rattle.farm_lists.specs.declared.lists.listing.ListFault.TheVariants as list_fault
+use Rattle.farm_lists.specs.declared.listing.Record.{Record}
+use Rattle.farm_lists.specs.declared.listing.ListFault.{ListFault}
+use Rattle.farm_lists.specs.declared.listing.ListFault.TheVariants as list_fault
 use Rattle.farm_shelves.specs.Files.{Files, StopsWriting, Shown}
 use Rattle.farm_shelves.specs.declared.shelf.ShelfFault.{ShelfFault}
 use Rattle.farm_shelves.specs.declared.shelf.ShelfFault.TheVariants as shelf_fault

@@ -2,8 +2,8 @@
 use Rattle.std.specs.Prelude.{ℕ, List}
 use Rattle.lrc_code.specs.declared.outcomes.Outcome.{Outcome}
 use Rattle.farm_core.specs.Merge.{AreAllMergedAnswers}
-use Rattle.farm_lists.specs.Written.{files_from}
-use Rattle.farm_lists.specs.declared.lists.listing.Record.{Record}
+use Rattle.farm_reports.specs.Written.{files_from}
+use Rattle.farm_lists.specs.declared.listing.Record.{Record}
 use Rattle.farm_shelves.specs.Files.{Files}
 use Rattle.farm_reading.specs.Reading.{AreAllReads, AreLists, Reads, all_read, orders_all}
 

@@ -5,11 +5,11 @@ use Rattle.lrc_code.specs.Requests.{Asked}
 use Rattle.farm_core.specs.Expected.{AreAllAnswers}
 use Rattle.farm_shelves.specs.Files.{Files}
 use Rattle.farm_reading.specs.Pairs.{zip_with}
-use Rattle.farm_lists.specs.Report.{listed_before_close}
-use Rattle.farm_lists.specs.ReportLaws.{lists_files}
+use Rattle.farm_lists.specs.Requests.{listed_before_close}
+use Rattle.farm_reports.specs.ReportLaws.{lists_files}
 use Rattle.farm_reading.specs.Reading.{Reads, asked_feed, rack_read}
 use Rattle.farm_serving.specs.Serving.{Serves, written_files}
-use Rattle.farm_lists.specs.declared.lists.listing.Record.{Record}
+use Rattle.farm_lists.specs.declared.listing.Record.{Record}
 
 -- of each list the requests before its close, with the survivors that were read
 abbrev pub asked_lists : Files → List (List Record) → List (List Reads) → List (List Asked)

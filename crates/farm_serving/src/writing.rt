@@ -1,9 +1,9 @@
 //! Writing the files.
 ghost use Rattle.std.specs.Prelude.{◌≡◌, ◌<◌, ◌^◌, IfErr, OnOk, map, option_map};
 ghost use Rattle.farm_shelves.specs.Files.{CountsFailure, StopsWriting, put_all};
-ghost use Rattle.farm_lists.specs.Named.{named};
+ghost use Rattle.farm_reports.specs.Named.{named};
 
-use farm_lists::NamedFile;
+use farm_reports::NamedFile;
 use farm_shelves::{Shelf, ShelfFault};
 use std::alloc::Global;
 

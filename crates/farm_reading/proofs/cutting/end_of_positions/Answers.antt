@@ -1,5 +1,5 @@
 use Rattle.std.proofs.Common.{Bor, List, arith, map, sym}
-use Rattle.farm_lists.specs.declared.lists.listing.Record.{Record}
+use Rattle.farm_lists.specs.declared.listing.Record.{Record}
 use Rattle.farm_reading.proofs.PieceBytes.{bytes_more, bytes_none}
 use Rattle.farm_reading.proofs.cutting.end_of_positions.Goals as goal
 use Rattle.farm_reading.proofs.cutting.end_of_positions.Goals.{else-position-first-via-then-position-first+else-bytes-most}

@@ -2,7 +2,7 @@ use Rattle.std.proofs.Common.{◌∙◌, Bor, List, map, ap, sym}
 use Rattle.std.specs.List.{slice_range}
 use Rattle.std.proofs.lemmas.List.{take_all}
 use Rattle.std.proofs.lemmas.Simd.{map-map}
-use Rattle.farm_lists.specs.declared.lists.listing.Record.{Record}
+use Rattle.farm_lists.specs.declared.listing.Record.{Record}
 use Rattle.farm_reading.proofs.cutting.piece_of.Goals as goal
 
 pub returns : goal.returns

@@ -6,7 +6,7 @@ use Rattle.std.specs.List.{AllZip}
 use Rattle.std.proofs.lemmas.List.{length-map}
 use Rattle.std.proofs.lemmas.Result.{IfOk-weaker}
 use Rattle.farm_lists.specs.Listed.{ListedRequest}
-use Rattle.farm_lists.specs.Report.{listed_before_close}
+use Rattle.farm_lists.specs.Requests.{listed_before_close}
 use Rattle.farm_reading.specs.Reading.{AreReads, asked_feed, feed_read}
 use Rattle.farm_reading.proofs.ReadRequests.{close_counted, close_where, counted_few, served_few}
 use Rattle.farm_reading.proofs.fragments.read_feed.Goals as goal

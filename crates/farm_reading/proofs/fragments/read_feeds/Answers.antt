@@ -8,9 +8,9 @@ use Rattle.farm_orders.specs.Orders.{before_close}
 use Rattle.farm_orders.specs.declared.orders.Order.{Order}
 use Rattle.farm_orders.specs.declared.orders.RackList.{RackList}
 use Rattle.farm_orders.proofs.Members.{all_zip_push}
-use Rattle.farm_lists.specs.Report.{RequestRead, listed_before_close, read_of}
-use Rattle.farm_lists.specs.declared.lists.listing.Record.{Record}
-use Rattle.farm_lists.specs.declared.lists.requests.ReadRequest.{ReadRequest}
+use Rattle.farm_lists.specs.Requests.{RequestRead, listed_before_close, read_of}
+use Rattle.farm_lists.specs.declared.listing.Record.{Record}
+use Rattle.farm_lists.specs.declared.requests.ReadRequest.{ReadRequest}
 use Rattle.farm_reading.specs.Reading.{AreRackReads, orders_rack, rack_failures, rack_read}
 use Rattle.farm_reading.proofs.FewFeeds.{few_feeds, same_few}
 use Rattle.farm_reading.proofs.Pairs.{front_images, images_more, sum_push}

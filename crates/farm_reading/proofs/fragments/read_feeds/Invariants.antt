@@ -3,7 +3,7 @@ use Rattle.farm_orders.specs.FedLists.{IsFewFeeds}
 use Rattle.farm_orders.specs.Orders.{before_close}
 use Rattle.farm_orders.specs.declared.orders.RackList.{RackList}
 use Rattle.farm_shelves.specs.Files.{Files}
-use Rattle.farm_lists.specs.Report.{read_of}
+use Rattle.farm_lists.specs.Requests.{read_of}
 use Rattle.farm_reading.specs.Reading.{listed_counts}
 use Rattle.farm_reading.specs.Reading.{AreAllReads, Reads, all_failures, all_read, orders_all}
 use Rattle.farm_reading.proofs.fragments.read_feeds.Given as goal

@@ -3,10 +3,10 @@ use Rattle.std.specs.List.{AllZip}
 use Rattle.farm_reading.specs.Pieces.{AreOrdersOf}
 use Rattle.farm_orders.specs.declared.orders.Order.{Order}
 use Rattle.farm_orders.proofs.Members.{all_zip_push}
-use Rattle.farm_lists.specs.Report.{RequestRead, listed_before_close, read_of}
+use Rattle.farm_lists.specs.Requests.{RequestRead, listed_before_close, read_of}
 use Rattle.farm_reading.specs.Reading.{AreReads, Reads, feed_failures, feed_read, orders_feed}
-use Rattle.farm_lists.specs.declared.lists.listing.Record.{Record}
-use Rattle.farm_lists.specs.declared.lists.requests.ReadRequest.{ReadRequest}
+use Rattle.farm_lists.specs.declared.listing.Record.{Record}
+use Rattle.farm_lists.specs.declared.requests.ReadRequest.{ReadRequest}
 use Rattle.farm_reading.proofs.Pieces.{count_within}
 use Rattle.farm_reading.proofs.Pairs.{front_images, front_more, images_more, sum_push, values_more}
 use Rattle.farm_reading.proofs.fragments.read_piece.Goals as goal

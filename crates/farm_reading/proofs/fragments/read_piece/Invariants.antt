@@ -2,7 +2,7 @@ use Rattle.std.proofs.Common.{◌≡◌, ◌≤◌, ◌+◌, ◌*◌, List, Some
 use Rattle.std.specs.List.{AllZip}
 use Rattle.farm_reading.specs.Pieces.{AreOrdersOf, record_count}
 use Rattle.farm_shelves.specs.Files.{Files}
-use Rattle.farm_lists.specs.Report.{listed_before_close, read_of}
+use Rattle.farm_lists.specs.Requests.{listed_before_close, read_of}
 use Rattle.farm_reading.specs.Reading.{AreRackReads, Reads, orders_rack, rack_failures, rack_read}
 use Rattle.farm_reading.proofs.fragments.read_piece.Given as goal
 

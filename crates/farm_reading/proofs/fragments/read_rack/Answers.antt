@@ -1,7 +1,7 @@
 use Rattle.std.proofs.Common.{◌≡◌, ◌∙◌, ◌≤◌, Bor, Vec, Global, List, ap, arith, length, map, subst, sym}
 use Rattle.std.proofs.lemmas.Simd.{map-map}
-use Rattle.farm_lists.specs.Report.{listed_before_close}
-use Rattle.farm_lists.specs.declared.lists.listing.Record.{Record}
+use Rattle.farm_lists.specs.Requests.{listed_before_close}
+use Rattle.farm_lists.specs.declared.listing.Record.{Record}
 use Rattle.farm_reading.specs.Pieces.{record_count, through_close}
 use Rattle.farm_reading.specs.Reading.{AreRackReads, orders_rack, rack_read}
 use Rattle.farm_reading.proofs.Pieces.{count_few, counts_through, each_few, orders_counted, orders_same, reads_same, requests_same}

@@ -4,7 +4,7 @@ use Rattle.farm_lists.specs.Listed.{ListedRequest}
 use Rattle.farm_reading.specs.Reading.{AreReads, failures, request_read}
 use Rattle.farm_reading.proofs.Pairs.{images_more, sum_push}
 use Rattle.farm_reading.proofs.ReadRequests.{close_where, orders_few, orders_more, orders_push, reads_push, taken}
-use Rattle.farm_lists.specs.Report.{read_of}
+use Rattle.farm_lists.specs.Requests.{read_of}
 use Rattle.farm_reading.proofs.fragments.read_requests.Goals as goal
 
 pub read_request-requires : goal.read_request-requires

@@ -4,7 +4,7 @@ use Rattle.lrc_code.specs.Requests.{Asked}
 use Rattle.farm_orders.specs.declared.orders.Order.TheVariants.{Rebuild}
 use Rattle.farm_shelves.specs.Files.{Files}
 use Rattle.farm_reading.specs.Reading.{AreReads, Reads, asked_feed, feed_failures, feed_read}
-use Rattle.farm_lists.specs.Report.{read_of}
+use Rattle.farm_lists.specs.Requests.{read_of}
 use Rattle.farm_reading.proofs.fragments.read_requests.Given as goal
 
 abbrev pub invariant-loop-index : goal.invariant-loop-index

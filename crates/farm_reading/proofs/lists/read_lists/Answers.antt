@@ -4,7 +4,7 @@ use Rattle.std.proofs.lemmas.Bool.Decides.{nat_tests}
 use Rattle.std.proofs.lemmas.List.{length-append, length-map}
 use Rattle.std.proofs.lemmas.List.Elements.{All-push}
 use Rattle.std.proofs.lemmas.Result.{err_from_is_err_and}
-use Rattle.farm_lists.specs.declared.lists.listing.Record.{Record}
+use Rattle.farm_lists.specs.declared.listing.Record.{Record}
 use Rattle.farm_lists.specs.Names.{list_name}
 use Rattle.farm_reading.specs.Reading.{AreFeeds}
 use Rattle.farm_reading.proofs.ReadRacks.{feeds_all, have_rack_more, lists_few, many_explain, none_at, not_some, rack_explains}

@@ -1,5 +1,5 @@
 use Rattle.std.proofs.Common.{◌≡◌, ◌<◌, ◌≤◌, All, List, Some, length}
-use Rattle.farm_lists.specs.declared.lists.listing.Record.{Record}
+use Rattle.farm_lists.specs.declared.listing.Record.{Record}
 use Rattle.farm_shelves.specs.Files.{Files}
 use Rattle.farm_reading.specs.Reading.{HaveLists}
 use Rattle.farm_reading.proofs.lists.read_lists.Given as goal

@@ -2,7 +2,7 @@ use Rattle.std.proofs.Common.{◌≡◌, ◌≤◌, ◌∙◌, ◌∷◌, [], Li
 use Rattle.std.proofs.lemmas.List.{length-append}
 use Rattle.std.proofs.lemmas.List.Elements.{All-push}
 use Rattle.std.proofs.lemmas.Result.{err_from_is_err_and}
-use Rattle.farm_lists.specs.declared.lists.listing.Record.{Record}
+use Rattle.farm_lists.specs.declared.listing.Record.{Record}
 use Rattle.farm_lists.specs.Names.{list_name}
 use Rattle.farm_reading.proofs.ReadRacks.{absent, feed_explains, feeds_push, fifth_explains, not_some}
 use Rattle.farm_reading.proofs.lists.read_rack_lists.Goals as goal

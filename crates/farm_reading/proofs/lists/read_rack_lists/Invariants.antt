@@ -1,5 +1,5 @@
 use Rattle.std.proofs.Common.{◌≡◌, ◌≤◌, Vec, Global, All, Some, map, length}
-use Rattle.farm_lists.specs.declared.lists.listing.Record.{Record}
+use Rattle.farm_lists.specs.declared.listing.Record.{Record}
 use Rattle.farm_shelves.specs.Files.{Files}
 use Rattle.farm_reading.specs.Reading.{HaveFeeds}
 use Rattle.farm_reading.proofs.lists.read_rack_lists.Given as goal

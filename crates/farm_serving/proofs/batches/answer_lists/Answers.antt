@@ -5,10 +5,10 @@ use Rattle.std.specs.List.{slice_range}
 use Rattle.lrc_code.specs.declared.outcomes.Outcome.{Outcome}
 use Rattle.farm_serving.specs.AnsweredRacks.{AreAnswered, all_answers, all_requests}
 use Rattle.farm_reading.specs.Reading.{rack_failures}
-use Rattle.farm_lists.specs.declared.lists.listing.Record.{Record}
-use Rattle.farm_lists.specs.declared.lists.requests.ReadRequest.{ReadRequest}
+use Rattle.farm_lists.specs.declared.listing.Record.{Record}
+use Rattle.farm_lists.specs.declared.requests.ReadRequest.{ReadRequest}
 use Rattle.farm_serving.proofs.AnsweredRacks.{answered_append, answered_none, range_length, take_range}
-use Rattle.farm_lists.specs.Report.{RequestRead, read_of}
+use Rattle.farm_lists.specs.Requests.{RequestRead, read_of}
 use Rattle.farm_serving.proofs.batches.answer_lists.Goals as goal
 
 abbrev outcomes : Vec (ℕ × Outcome) Global → List (ℕ × Outcome)

@@ -6,8 +6,8 @@ use Rattle.farm_core.specs.Merge.{joined}
 use Rattle.farm_serving.specs.AnsweredRacks.{rack_requests}
 use Rattle.farm_reading.specs.Pieces.{AreOrdersOf, record_count}
 use Rattle.farm_reading.specs.Reading.{AreRackReads, orders_rack, rack_read}
-use Rattle.farm_lists.specs.Report.{RequestRead, listed_before_close}
-use Rattle.farm_lists.specs.declared.lists.listing.Record.{Record}
+use Rattle.farm_lists.specs.Requests.{RequestRead, listed_before_close}
+use Rattle.farm_lists.specs.declared.listing.Record.{Record}
 use Rattle.farm_serving.proofs.AnsweredRacks.{lengths_same}
 use Rattle.farm_serving.proofs.RackBatches.{AreSoFar, cut_is, failures_more, fails_few, fronts, fronts_few, fronts_further, none_fail}
 use Rattle.farm_serving.proofs.RackBatches.{none_same, orders_size, pieces, pieces_few, pieces_split, requests_size, served, so_far_all}

@@ -5,20 +5,20 @@ use Rattle.std.proofs.lemmas.Result.{err_from_is_err_and}
 use Rattle.lrc_code.specs.declared.outcomes.Outcome.{Outcome}
 use Rattle.farm_core.specs.Merge.{AreAllMergedAnswers}
 use Rattle.farm_orders.specs.declared.orders.Order.{Order}
-use Rattle.farm_lists.specs.declared.lists.listing.Record.{Record}
-use Rattle.farm_lists.specs.declared.lists.requests.ReadRequest.{ReadRequest}
+use Rattle.farm_lists.specs.declared.listing.Record.{Record}
+use Rattle.farm_lists.specs.declared.requests.ReadRequest.{ReadRequest}
 use Rattle.farm_reading.specs.Causes.{of_farm}
 use Rattle.farm_reading.specs.Faults.{Explains}
 use Rattle.farm_shelves.specs.Files.{Files, StopsWriting, put_all}
-use Rattle.farm_lists.specs.Named.{named}
-use Rattle.farm_lists.specs.Rows.{FitsFeeds}
+use Rattle.farm_reports.specs.Named.{named}
+use Rattle.farm_reports.specs.Rows.{FitsFeeds}
 use Rattle.farm_reading.specs.Reading.{AreAllReads, Reads, all_read, orders_all}
 use Rattle.farm_serving.specs.Serving.{Serves, written_files}
 use Rattle.farm_serving.proofs.AnsweredRacks.{requests_counted}
 use Rattle.farm_serving.proofs.ServeEnds.{Answers, Requests, farm_explains, total_is, where_shown, write_leaves, written_is}
 use Rattle.farm_serving.proofs.FewAnswers.{FitLists, all_few, fit_counts, listed_counts}
 use Rattle.farm_serving.proofs.Fits.{all_answers_fit}
-use Rattle.farm_lists.proofs.MakingAll.{all_zip-length}
+use Rattle.farm_reports.proofs.MakingAll.{all_zip-length}
 use Rattle.farm_serving.proofs.serving.serve.Goals as goal
 use Rattle.farm_serving.proofs.serving.serve.Goals.{After-as_slice-3, After-as_slice-4, After-as_slice-5}
 use Rattle.farm_serving.proofs.serving.serve.Given.{Over}

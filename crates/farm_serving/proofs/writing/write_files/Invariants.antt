@@ -1,6 +1,6 @@
 use Rattle.std.proofs.Common.{◌≡◌, take, map, option_map}
 use Rattle.farm_shelves.specs.Files.{put_all}
-use Rattle.farm_lists.specs.Named.{named}
+use Rattle.farm_reports.specs.Named.{named}
 use Rattle.farm_serving.proofs.writing.write_files.Given as goal
 
 abbrev pub invariant-loop-file : goal.invariant-loop-file

@@ -1,5 +1,0 @@
-use Rattle.std.proofs.Common.{length}
-use Rattle.farm_lists.proofs.lists.listed.+has_repeated.Given as goal
-
-abbrev pub decreases-has_repeated : goal.decreases-has_repeated
-decreases-has_repeated l = length l.places.now

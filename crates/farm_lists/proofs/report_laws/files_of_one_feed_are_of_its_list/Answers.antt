@@ -1,5 +1,0 @@
-use Rattle.farm_lists.proofs.OneFeed.{files_of_one_feed}
-use Rattle.farm_lists.proofs.report_laws.files_of_one_feed_are_of_its_list.Goals as goal
-
-pub returns : goal.returns
-returns c = files_of_one_feed

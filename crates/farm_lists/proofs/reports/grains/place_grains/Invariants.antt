@@ -1,7 +1,0 @@
-use Rattle.std.proofs.Common.{ℕ, List}
-use Rattle.farm_lists.specs.Grains.{AreGrains, AreRight, at_each}
-use Rattle.farm_lists.proofs.reports.grains.place_grains.Given as goal
-
-abbrev pub invariant-loop-index : goal.invariant-loop-index
-invariant-loop-index l =
-    (right : List (List ℕ)) → AreGrains (at_each l.places right) l.slots → AreRight right l.fn.digests → AreRight right l.digests

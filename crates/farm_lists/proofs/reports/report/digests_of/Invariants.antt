@@ -1,6 +1,0 @@
-use Rattle.std.proofs.Common.{◌≡◌, take, map}
-use Rattle.farm_lists.specs.Report.{fragment_digest}
-use Rattle.farm_lists.proofs.reports.report.digests_of.Given as goal
-
-abbrev pub invariant-loop-index : goal.invariant-loop-index
-invariant-loop-index l = l.digests.items ≡ map (λ r. fragment_digest r.outcome.now) (take l.index l.rows)

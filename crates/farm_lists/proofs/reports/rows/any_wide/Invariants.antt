@@ -1,7 +1,0 @@
-use Rattle.std.proofs.Common.{◌≡◌, take, map, false}
-use Rattle.std.specs.List.{list_any}
-use Rattle.farm_lists.specs.Report.{is_wide_read, read_of}
-use Rattle.farm_lists.proofs.reports.rows.any_wide.Given as goal
-
-abbrev pub invariant-loop-index : goal.invariant-loop-index
-invariant-loop-index l = list_any (λ rs. list_any is_wide_read rs) (take l.index (map (λ rs. map read_of rs.items) l.requests)) ≡ false

@@ -1,5 +1,0 @@
-//! Lists of requests.
-
-pub(crate) mod listed;
-pub(crate) mod listing;
-pub(crate) mod requests;

@@ -1,0 +1,9 @@
+pub mod Plain
+pub mod ReportLines
+pub mod RackRows
+pub mod RackDigests
+pub mod FragmentDigests
+pub mod Making
+pub mod MakingAll
+pub mod OneFeed
+pub mod FeedRows
