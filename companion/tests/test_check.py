@@ -6,11 +6,11 @@ from .base import FIVE, SIX, Folder
 
 
 class Check(Folder):
-    def test_good(self):
+    def test_a_good_folder_is_said_to_be_good(self):
         self.list(FIVE + "rebuild,abc,x0,3,x1 x2 px\n")
         self.done(self.call("check", "in"), "in: good: 1 rack, 1 list, 1 request; 0 notes")
 
-    def test_each_mistake_of_a_list(self):
+    def test_each_mistake_of_a_list_is_named(self):
         self.list(FIVE + "rebuild,A,x9,0,x1 x1 z\n\n" + 'Rebuild,"a\nb",x0,3,x0\nrebuild,abc,x0\nclose,a,,,\n')
         self.done(self.call("check", "in"), """\
 mistake: rack0.csv: line 2, record 1: E20: the target 'x9' isn't a place of the code 6-2-2
@@ -25,7 +25,7 @@ mistake: rack0.csv: line 6, record 3: E20: the record 'rebuild,abc,x0' has 3 fie
 mistake: rack0.csv: line 7, record 4: E20: the order is close, and the stripe 'a' isn't empty
 in: 10 mistakes: 1 rack, 1 list, 0 requests; 0 notes""", 1)
 
-    def test_what_is_left_out(self):
+    def test_what_is_left_out_is_noted(self):
         self.list(FIVE + "rebuild,abc,x0,4,x1 x2\nrebuild,no,x0,4,px py p0 p1\nclose,,,,\nrebuild,abc,x0,3,\n")
         for name in "rack2.csv", "rack0.feed2.csv", "rack00.csv", "My.Name.x1", "3f2504e0-4f89-11d3-9a0c-0305e82c3301.x1":
             self.list(FIVE, name)
@@ -52,7 +52,7 @@ note: 'rack1.csv': is a link to nothing, which is read as if it weren't there
 note: 'rack2.csv': isn't read, since rack1.csv isn't there
 in: good: 1 rack, 1 list, 2 requests; 13 notes""")
 
-    def test_a_store_without_lists(self):
+    def test_a_store_without_lists_has_one_mistake(self):
         for name in "My.Name.x1", "3f2504e0-4f89-11d3-9a0c-0305e82c3301.x1", "notes.txt":
             self.list("", name)
         self.done(self.call("check", "in"), """\
@@ -60,7 +60,7 @@ mistake: rack0.csv: E23: isn't there
 note: 11 fragments and no list: `rebuild-store lost` makes one, and `rebuild-store scrub` needs none
 in: 1 mistake: 0 racks, 0 lists, 0 requests; 1 note""", 1)
 
-    def test_limits(self):
+    def test_each_limit_is_a_mistake_beyond_it(self):
         self.list(FIVE + "close,,,,\n" * 4097 + "rebuild,A,x0,1,\n")
         for feed in 1, 2, 3, 4:
             self.list(FIVE, f"rack0.feed{feed}.csv")
@@ -80,16 +80,16 @@ in: 1 mistake: 0 racks, 0 lists, 0 requests; 1 note""", 1)
             "mistake: rack2.csv: E24: is a folder and not a regular file",
             "mistake: rack16.csv: E18: a folder has at most 16 racks, the last of them rack15.csv"])
 
-    def test_feeds_with_a_close(self):
+    def test_a_close_of_a_feed_is_noted(self):
         self.list(FIVE + "rebuild,abc,x0,3,\n")
         self.list(FIVE + "close,,,,\n", "rack0.feed1.csv")
         self.done(self.call("check", "in"), """\
 note: rack0.csv: the rack ends with the close of rack0.feed1.csv, so requests of its other feeds may have no answer
 in: good: 1 rack, 2 lists, 1 request; 1 note""")
 
-    def test_no_folder(self):
+    def test_what_is_no_folder_is_refused(self):
         self.refused(self.call("check", "none"), "none: not a folder")
 
-    def test_both_codes(self):
+    def test_a_list_of_both_codes_is_good(self):
         self.list(SIX + "rebuild,wide,x0,2,x1 x2 x3 x4 x5 px,12-2-2\nrebuild,abc,x0,3,x1 x2 px,6-2-2\nclose,,,,,\n")
         self.done(self.call("check", "in"), "in: good: 1 rack, 1 list, 2 requests; 0 notes")

@@ -18,7 +18,7 @@ class Merge(SplitStore):
         self.split(text, *options)
         self.serve()
 
-    def test_both_codes_in_the_order_of_the_list(self):
+    def test_answers_of_both_codes_are_in_the_order_of_the_list(self):
         self.served()
         self.done(self.call("merge", "work", "result"),
                   "merged 4 answers: 3 rebuilt, 0 contradiction, 1 several; 1 with unread survivors")
@@ -30,14 +30,14 @@ class Merge(SplitStore):
         self.assertEqual(self.names("result"), ["SHA256SUMS", "abc.x0", "report.csv", "wide.x0"])
         self.assertEqual((self.text("result/abc.x0"), self.text("result/wide.x0")), ("abc", "\3\7"))
 
-    def test_as_one_run(self):
+    def test_the_report_is_that_of_one_run(self):
         self.served()
         (self.at / "work").rename(self.at / "four")
         self.served(options=())
         self.call("merge", "four", "result")
         self.assertEqual(self.text("result/report.csv"), self.text("work/out/0/rack0.report.csv"))
 
-    def test_missing_reports(self):
+    def test_folders_without_a_report_are_named(self):
         self.served()
         (self.at / "work/out/1/rack0.report.csv").unlink()
         for path in (self.at / "work/out/3").iterdir():
@@ -46,14 +46,14 @@ class Merge(SplitStore):
         self.refused(self.call("merge", "work", "result"), "work/out: a report is missing of these folders: 1,3")
         self.assertEqual(self.names("."), ["list.csv", "store", "work"])
 
-    def test_one_place_with_different_bytes(self):
+    def test_different_bytes_for_one_place_are_refused(self):
         # By px the fragment is abc, and by the global parities, which are damaged, it is another.
         self.fragments(y0=b"\0\0\0", y1=b"\0\0\0", y2=b"\0\0\0", p0=b"\1\2\3")
         self.served(FIVE + "rebuild,abc,x1,3,\nrebuild,abc,x0,3,x1 x2 px\nrebuild,abc,x0,3,x1 x2 y0 y1 y2 p0\n")
         self.refused(self.call("merge", "work", "result"), "abc.x0: the requests 1 and 2 rebuild it with different bytes")
         self.assertEqual(self.names("."), ["list.csv", "store", "work"])
 
-    def test_damaged_outputs(self):
+    def test_damaged_outputs_are_refused(self):
         self.served()
         fragment = self.at / "work/out/2/rack0-0.wide.x0"
         fragment.write_bytes(b"\3\6")
@@ -72,7 +72,7 @@ class Merge(SplitStore):
             self.refused(self.call("merge", "work", "result"), f"work/out/2/rack0.report.csv: {said}")
         self.assertEqual(self.names("."), ["list.csv", "store", "work"])
 
-    def test_each_column(self):
+    def test_an_answer_of_another_request_is_refused(self):
         """An answer of another request isn't taken, nor one with another number."""
         self.served(self.LIST, ["--racks", "1", "--requests", "2"])
         report = self.at / "work/out/0/rack0.report.csv"
@@ -98,14 +98,14 @@ class Merge(SplitStore):
         (self.at / "work/out/0/rack0-1.abc.x0").unlink()
         self.refused(self.call("merge", "work", "result"), "work/out/0/rack0-1.abc.x0: missing, and its report says rebuilt")
 
-    def test_a_survivor_that_was_left_out(self):
+    def test_survivors_that_were_left_out_are_counted(self):
         self.fragments(p0=b"longer")
         self.served(FIVE + "rebuild,abc,x0,3,x1 x2 px p0\nrebuild,abc,x1,3,p0\n")
         self.done(self.call("merge", "work", "result"), "merged 2 answers: 1 rebuilt, 0 contradiction, 1 several; 2 with unread survivors")
         self.assertEqual(self.names("result"), ["SHA256SUMS", "abc.x0", "report.csv"])
         self.assertEqual([row.split(",")[-1] for row in self.text("result/report.csv").splitlines()[1:]], ["p0", "p0"])
 
-    def test_workers(self):
+    def test_the_program_gets_the_number_of_workers(self):
         self.split(self.LIST)
         program = self.at / "program"
         program.write_text("#!/bin/sh\necho \"$@\"\n")
@@ -121,7 +121,7 @@ class Merge(SplitStore):
         (self.at / "result").mkdir()
         self.refused(self.call("merge", "work", "result"), "result: already exists; not overwritten")
 
-    def test_served_again(self):
+    def test_a_folder_is_served_once(self):
         self.served()
         self.done(self.call("serve", "work", 2), "folder 2: already served")
         (self.at / "work/in/2/rack0.csv").write_text("order\n")
@@ -132,7 +132,7 @@ class Merge(SplitStore):
                      "./none: can't be run (No such file or directory); --program names the program")
         self.assertEqual(self.names("work/out"), ["0", "1", "3"])
 
-    def test_status_of_the_program(self):
+    def test_the_status_of_the_program_is_handed_on(self):
         self.served()
         (self.at / "work/out/2").rename(self.at / "aside")
         for ending, status in ("exit 4", 4), ("kill -KILL $$", 137):
@@ -167,13 +167,13 @@ class Merge(SplitStore):
                   "merged 4 answers: 3 rebuilt, 0 contradiction, 1 several; 1 with unread survivors")
         return left
 
-    def test_killed_job(self):
+    def test_a_killed_job_leaves_its_folder_aside(self):
         self.assertEqual(len(self.ended_job(signal.SIGKILL)), 1)
 
-    def test_job_that_is_asked_to_end(self):
+    def test_a_job_that_is_asked_to_end_leaves_nothing(self):
         self.assertEqual(self.ended_job(signal.SIGTERM), [])
 
-    def test_two_jobs_of_one_folder(self):
+    def test_of_two_jobs_of_one_folder_one_serves_it(self):
         self.split(self.LIST)
         ready = self.at / "ready"
         program = slow(self.at, before=f"until [ -e {ready} ]; do sleep 0.01; done")

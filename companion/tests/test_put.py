@@ -55,21 +55,21 @@ class Put(Folder):
         self.refused(self.call("put", "in", "out"), "out/rack0-1.abc.y0: not the bytes that its report says")
         self.assertEqual(self.names("in"), before)
 
-    def test_a_fragment_that_is_cut_short(self):
+    def test_a_fragment_that_is_cut_short_is_refused(self):
         self.served()
         (self.at / "out/rack0-1.abc.y0").write_bytes(b"xy")
         self.refused(self.call("put", "in", "out"), "out/rack0-1.abc.y0: not the bytes that its report says")
         (self.at / "out/rack0-1.abc.y0").unlink()
         self.refused(self.call("put", "in", "out"), "out/rack0-1.abc.y0: missing, and its report says rebuilt")
 
-    def test_all_racks(self):
+    def test_fragments_of_all_racks_are_put(self):
         self.list(FIVE + "rebuild,abc,x0,3,x1 x2 px\n")
         self.list(FIVE + "rebuild,abc,y0,3,y1 y2 py\n", "rack1.csv")
         self.farm()
         self.wrote("2 fragments", self.call("put", "in", "out"))
         self.assertEqual((self.text("in/abc.x0"), self.text("in/abc.y0")), ("abc", "xyz"))
 
-    def test_a_survivor_that_was_left_out(self):
+    def test_fragments_without_a_survivor_are_put(self):
         self.fragments(p0=b"longer")
         self.served("rebuild,abc,x0,3,x1 x2 px p0\nrebuild,abc,x0,3,x1 x2 px\nrebuild,abc,p1,3,\nrebuild,abc,y0,3,y1 y2 py p0\n")
         ended = self.call("put", "in", "out")
@@ -100,7 +100,7 @@ class Put(Folder):
                      "folder again into an empty one")
         self.assertFalse((self.store / "abc.x0").exists())
 
-    def test_reports_of_other_racks(self):
+    def test_reports_of_other_racks_are_refused(self):
         self.served()
         shutil.copy(self.at / "out/rack0.report.csv", self.at / "out/rack1.report.csv")
         self.refused(self.call("put", "in", "out"), "out/rack1.report.csv: in has lists of 1 rack: the report is of an earlier run, or of "
@@ -110,7 +110,7 @@ class Put(Folder):
         (self.at / "out/rack1.report.csv").write_text("number,stripe,target,length,outcome,digest,unread\n")
         self.refused(self.call("put", "in", "out"), f"out/rack2.report.csv: missing, and in/rack2.csv is there: {UNENDED}")
 
-    def test_feeds_and_closes(self):
+    def test_feeds_up_to_a_close_are_put(self):
         self.list(FIVE + "rebuild,abc,x0,3,x1 x2 px\n" * 3)
         self.list(FIVE + "rebuild,abc,y0,3,y1 y2 py\nclose,,,,\nrebuild,abc,p0,3,\n", "rack0.feed1.csv")
         (self.at / "out").mkdir()
@@ -129,7 +129,7 @@ class Put(Folder):
         (self.at / "out/rack0.report.csv").write_text(header + answers[0] + "1,2,abc,p0,3,several,,\n")
         self.refused(self.call("put", "in", "out"), "out/rack0.report.csv: line 3: an answer to no request of in/rack0.feed2.csv")
 
-    def test_where_the_lists_are(self):
+    def test_lists_are_found_or_named(self):
         self.served()
         (self.at / "store").mkdir()
         for name, data in ABC.items():
@@ -147,7 +147,7 @@ class Put(Folder):
         self.done(self.call("put", "store", "work/out/0"),
                   "wrote 0 fragments to store (0 replaced, 2 already present); 0 requests not rebuilt")
 
-    def test_merged_results(self):
+    def test_merged_results_are_held_to_their_digests(self):
         (self.at / "list.csv").write_text(FIVE + TWO)
         self.call("split", "list.csv", "in", "work")
         self.call("serve", "work", 0)
@@ -188,7 +188,7 @@ class Put(Folder):
         self.wrote("1 fragment", self.call("put", "in", "out", "--overwrite"), replaced=1, same=1)
         self.assertEqual(self.text("in/abc.x0"), "abc")
 
-    def test_what_is_no_file(self):
+    def test_what_is_no_file_is_left(self):
         self.served()
         os.mkfifo(self.store / "abc.x0")
         (self.store / "abc.y0").mkdir()
@@ -199,7 +199,7 @@ class Put(Folder):
                          ("", "in/abc.y0: Is a directory; wrote 1 of 2 fragments\n", 3))
         self.assertEqual(self.text("in/abc.x0"), "abc")
 
-    def test_rights(self):
+    def test_new_fragments_have_the_rights_of_the_others(self):
         self.served()
         for number, place in enumerate(ABC):
             os.chmod(self.store / f"abc.{place}", 0o640 if place != "x1" else 0o4604)
@@ -214,7 +214,7 @@ class Put(Folder):
         if os.geteuid() == 0:
             self.assertEqual([(it.st_uid, it.st_gid) for it in found], [(1000, 2000), (0, 0)])
 
-    def test_rights_of_new_folders(self):
+    def test_new_folders_have_the_rights_of_the_umask(self):
         (self.at / "list.csv").write_text(FIVE + TWO)
         for umask, folder, file in (0o022, 0o755, 0o644), (0o027, 0o750, 0o640):
             self.call("split", "list.csv", "in", "work", umask=umask)
@@ -235,7 +235,7 @@ class Put(Folder):
         self.wrote("2 fragments", self.call("put", "in", "out"))
         self.assertEqual([name for name in self.names("in") if name.startswith(".")], [])
 
-    def test_killed_run(self):
+    def test_a_killed_run_leaves_no_name(self):
         self.served()
         hold = self.at / "hold"
         hold.write_text("import os, signal, sys\nfrom rebuild_lists import files\n"
@@ -249,7 +249,7 @@ class Put(Folder):
         self.wrote("2 fragments", self.call("put", "in", "out"))
         self.assertEqual([name for name in self.names("in") if name.startswith(".")], [])
 
-    def test_two_at_once(self):
+    def test_of_two_runs_at_once_one_is_refused(self):
         self.served()
         handle = os.open(self.store, os.O_RDONLY)
         fcntl.flock(handle, fcntl.LOCK_EX)
@@ -259,7 +259,7 @@ class Put(Folder):
         os.close(handle)
         self.wrote("2 fragments", self.call("put", "in", "out"))
 
-    def test_a_file_system_without_locks(self):
+    def test_a_file_system_without_locks_is_written(self):
         self.served()
         (self.store / f"{UNNAMED}abcd1234").write_bytes(b"ab")
         with mock.patch.object(files.fcntl, "flock", side_effect=OSError(95, "Operation not supported")):
@@ -268,7 +268,7 @@ class Put(Folder):
                          (0, f"wrote 2 fragments to {self.store} (0 replaced, 0 already present); 0 requests not rebuilt\n"))
         self.assertTrue((self.store / f"{UNNAMED}abcd1234").exists())
 
-    def test_a_name_that_comes_meanwhile(self):
+    def test_a_name_that_comes_meanwhile_is_left(self):
         self.served()
         link = os.link
 
@@ -296,7 +296,7 @@ class Put(Folder):
         self.assertEqual(path.read_bytes(), b"new")
         self.assertEqual([name for name in self.names("in") if name.startswith(".")], [])
 
-    def test_a_full_disk(self):
+    def test_a_full_disk_leaves_whole_fragments(self):
         self.fragments("long", x1=bytes(9000), x2=bytes(9000), px=b"long" * 2250)
         self.served(TWO + "rebuild,long,x0,9000,x1 x2 px\n")
         ended = self.call("put", "in", "out", preexec_fn=lambda: resource.setrlimit(resource.RLIMIT_FSIZE, (8192, 8192)))
@@ -304,7 +304,7 @@ class Put(Folder):
         self.assertEqual(self.text("in/abc.y0"), "xyz")
         self.assertEqual([name for name in self.names("in") if name.startswith(".") or name == "long.x0"], [])
 
-    def test_the_order_of_calls(self):
+    def test_files_have_their_names_once_they_are_on_their_disk(self):
         """A file is given its rights, and is on its disk, before it has its name, and the folder is after all names."""
         self.served()
         calls = []
@@ -372,7 +372,7 @@ class Durable(Folder):
             self.assertEqual(run(parser().parse_args([str(word) for word in words])), 0)
         return calls
 
-    def test_split_serve_and_merge(self):
+    def test_folders_have_their_names_once_they_are_on_their_disk(self):
         (self.at / "list.csv").write_text(FIVE + "rebuild,abc,x0,3,x1 x2 px\n")
         here = self.at.name
         program = pathlib.Path(__file__).resolve().parents[2] / "crates/rebuild/out/rebuild"
@@ -383,7 +383,7 @@ class Durable(Folder):
         self.assertEqual(self.calls_of("merge", self.at / "work", self.at / "result"),
                          ["chmod result", "sync result", "rename result", f"fsync {here}"])
 
-    def test_a_disk_that_fails(self):
+    def test_a_disk_that_fails_leaves_no_folder(self):
         (self.at / "list.csv").write_text(FIVE + "rebuild,abc,x0,3,x1 x2 px\n")
         false = self.at / "bin"
         false.mkdir()
@@ -393,7 +393,7 @@ class Durable(Folder):
         self.assertRegex(ended.stderr, r"^work: not made: work\.\w+: can't be brought to its disk\n$")
         self.assertEqual(self.names("."), ["bin", "in", "list.csv"])
 
-    def test_a_full_disk(self):
+    def test_a_full_disk_leaves_no_folder(self):
         (self.at / "list.csv").write_text(FIVE + "rebuild,abc,x0,3,x1 x2 px\n" * 1000)
         ended = self.call("split", "list.csv", "in", "work", preexec_fn=lambda: resource.setrlimit(resource.RLIMIT_FSIZE, (4096, 4096)))
         self.assertEqual((ended.stdout, ended.stderr, ended.returncode), ("", "work: not made: File too large\n", 3))
@@ -418,7 +418,7 @@ class Durable(Folder):
             if name == "work":
                 self.call("serve", "work", 0)
 
-    def test_two_runs_that_make_one_folder(self):
+    def test_a_folder_that_comes_meanwhile_is_left(self):
         (self.at / "list.csv").write_text(FIVE + "rebuild,abc,x0,3,x1 x2 px\n")
         real = subprocess.run
 
@@ -436,7 +436,7 @@ class Durable(Folder):
 
 
 class Wide(Folder):
-    def test_a_wide_stripe(self):
+    def test_a_wide_stripe_is_put(self):
         self.list(SIX + "rebuild,wide,x0,2,x1 x2 x3 x4 x5 px,12-2-2\n")
         self.farm()
         self.done(self.call("put", "in", "out"), "wrote 1 fragment to in (0 replaced, 0 already present); 0 requests not rebuilt")

@@ -6,7 +6,7 @@ from .base import FIVE, SIX, Folder
 
 
 class Tell(Folder):
-    def test_counts_and_what_was_not_rebuilt(self):
+    def test_what_was_not_rebuilt_is_named_and_counted(self):
         self.list(FIVE + "rebuild,abc,x0,3,x1 x2 px\nrebuild,abc,y0,3,y1 px\nclose,,,,\nrebuild,abc,py,3,\n")
         self.farm()
         (self.at / "out/rack0-1.abc.y0").touch()
@@ -22,14 +22,14 @@ out/rack0.report.csv: request 1: abc.y0: several; left out: y1
 out/rack0-1.abc.y0: of an earlier run: no report says that it is rebuilt
 4 answers: 2 rebuilt, 0 contradiction, 2 several; 2 with unread survivors""", 1)
 
-    def test_feeds(self):
+    def test_feeds_of_both_codes_are_counted(self):
         self.list(FIVE + "rebuild,abc,x0,3,x1 x2 px\n")
         self.list(SIX + "rebuild,wide,x0,2,x1 x2 x3 x4 x5 px,12-2-2\n", "rack0.feed1.csv")
         self.farm()
         self.done(self.call("tell", "out", "--lists", "in"),
                   "2 answers: 2 rebuilt, 0 contradiction, 0 several; 0 with unread survivors; 0 requests without an answer")
 
-    def test_racks_feeds_and_closes(self):
+    def test_requests_before_a_close_without_an_answer_are_named(self):
         self.list(FIVE + "rebuild,abc,x0,3,x1 x2 px\n")
         self.list(FIVE + "rebuild,abc,x0,3,x1 x2 px\n" * 2 + "close,,,,\nrebuild,abc,p1,3,\n", "rack1.csv")
         self.list(FIVE + "rebuild,abc,x0,3,x1 x2 px\n" * 3, "rack1.feed1.csv")
@@ -56,7 +56,7 @@ in/rack1.feed1.csv: line 4: abc.x0: no answer
         self.refused(self.call("tell", "out", "out", "--lists", "in"),
                      "--lists takes a single OUT, the one that the folder was served into")
 
-    def test_a_run_that_was_ended(self):
+    def test_fragments_of_a_run_that_has_not_ended_are_named(self):
         (self.at / "out").mkdir()
         (self.at / "out/rack0-0.abc.x0").write_bytes(b"a")
         self.refused(self.call("tell", "out"), "out: 1 fragment and no report: the run that wrote them has not ended, so serve the folder "
@@ -70,7 +70,7 @@ out: 2 fragments of rack 1 and no report of it: the run that wrote them has not 
 out: 1 fragment of rack 12 and no report of it: the run that wrote them has not ended
 0 answers: 0 rebuilt, 0 contradiction, 0 several; 0 with unread survivors""", 1)
 
-    def test_refused_reports(self):
+    def test_reports_that_are_none_are_refused(self):
         (self.at / "out").mkdir()
         self.refused(self.call("tell", "out"), "out: has no report")
         header = "number,stripe,target,length,outcome,digest,unread\n"
@@ -92,7 +92,7 @@ class Put(Folder):
         self.assertEqual((ended.stdout, ended.stderr, ended.returncode),
                          (said + "\n", "in/abc.x0: exists with different contents; not overwritten (--overwrite replaces it)\n", 1))
 
-    def test_put_twice_and_over_other_bytes(self):
+    def test_other_bytes_are_replaced_where_it_is_asked_for(self):
         self.served()
         self.done(self.call("put", "in", "out"),
                   "wrote 1 fragment to in (0 replaced, 0 already present); 1 request not rebuilt", 1)
@@ -107,13 +107,13 @@ class Put(Folder):
         self.assertEqual((self.store / "abc.x0").read_bytes(), b"abc")
         self.assertEqual([name for name in self.names("in") if name.startswith(".")], [])
 
-    def test_other_bytes_than_the_report_says(self):
+    def test_other_bytes_than_the_report_says_are_refused(self):
         self.served()
         (self.at / "out/rack0-0.abc.x0").write_bytes(b"abd")
         self.refused(self.call("put", "in", "out"), "out/rack0-0.abc.x0: not the bytes that its report says")
         self.assertFalse((self.store / "abc.x0").exists())
 
-    def test_fragments_that_differ(self):
+    def test_fragments_that_differ_are_refused(self):
         self.served()
         (self.at / "again").mkdir()
         for path in (self.at / "out").iterdir():
@@ -125,7 +125,7 @@ class Put(Folder):
                      "abc.x0: out/rack0-0.abc.x0 and again/rack0-0.abc.x0 have different bytes")
         self.assertFalse((self.store / "abc.x0").exists())
 
-    def test_over_what_is_no_file(self):
+    def test_links_are_replaced_where_it_is_asked_for(self):
         self.served()
         (self.store / "abc.x0").symlink_to("nothing")
         self.left("wrote 0 fragments to in (0 replaced, 0 already present, 1 with different contents); 1 request not rebuilt")
@@ -136,7 +136,7 @@ class Put(Folder):
 
 
 class Damaged(Folder):
-    def test_one_damaged_survivor(self):
+    def test_one_damaged_survivor_is_named(self):
         # A stripe of zeros, of which one survivor is damaged.
         self.fragments("z", **{place: b"\0" for place in "x1 x2 y0 y1 y2 px py p1".split()}, p0=b"\7")
         self.list(FIVE + "close,,,,\nrebuild,z,x0,1,x1 x2 y0 y1 y2 px py p0 p1\nrebuild,abc,x0,3,x1 x2 px\n")
@@ -148,7 +148,7 @@ class Damaged(Folder):
         self.refused(self.call("damaged", "in", "0", "0", "--program", "./none"),
                      "./none: can't be run (No such file or directory); --program names the program")
 
-    def test_a_wide_stripe_of_a_further_feed(self):
+    def test_a_survivor_of_a_further_feed_or_a_split_list_is_named(self):
         places = "x0 x1 x2 x3 x4 x5 y0 y1 y2 y3 y4 y5 px py p0 p1".split()
         self.fragments("w", **{place: b"\0" for place in places[1:]})
         self.fragments("w", y3=b"\5")
@@ -172,28 +172,28 @@ class Damaged(Folder):
             ended = self.call("damaged", *words)
             self.assertEqual((ended.returncode, ended.stderr.splitlines()[-1]), (2, f"rebuild-lists damaged: error: {wrong}"))
 
-    def test_several_without_the_damaged_one(self):
+    def test_an_undetermined_target_tells_no_survivors_apart(self):
         # The target isn't determined with any of them: the only check is that of the other group.
         self.fragments("z", x1=b"\0", x2=b"\0", px=b"\7", x0=b"\0")
         self.list(FIVE + "rebuild,z,y0,1,x0 x1 x2 px\n")
         self.refused(self.call("damaged", "in", "0", "0"),
                      "z.y0: these can't be told apart, since the answer isn't a contradiction without any one of them: z.x0 z.x1 z.x2 z.px")
 
-    def test_survivors_that_cannot_be_told_apart(self):
+    def test_survivors_that_cannot_be_told_apart_are_all_named(self):
         self.fragments("z", x1=b"\0", x2=b"\0", px=b"\0", y0=b"\0", y1=b"\0", y2=b"\0", p0=b"\7")
         self.list(FIVE + "rebuild,z,x0,1,x1 x2 y0 y1 y2 px p0\n")
         self.refused(self.call("damaged", "in", "0", "0"),
                      "z.x0: these can't be told apart, since the answer isn't a contradiction without any one of them: "
                      "z.x1 z.x2 z.y0 z.y1 z.y2 z.px z.p0")
 
-    def test_several_damaged(self):
+    def test_several_damaged_survivors_are_said_to_be_several(self):
         self.fragments("z", **{place: b"\0" for place in "x1 x2 y1 y2 px py".split()}, y0=b"\7", p0=b"\7", p1=b"\1")
         self.list(FIVE + "rebuild,z,x0,1,x1 x2 y0 y1 y2 px py p0 p1\n")
         self.refused(self.call("damaged", "in", "0", "0"),
                      "z.x0: a contradiction without each single survivor too: several are damaged, "
                      "or the stripe, the length or the code is wrong")
 
-    def test_a_list_with_mistakes(self):
+    def test_a_list_with_mistakes_is_refused(self):
         self.list(FIVE + "rebuild,z,x9,1,\n")
         self.refused(self.call("damaged", "in", "0", "0"), "in/rack0.csv: has mistakes, which `rebuild-lists check in` names")
         self.refused(self.call("damaged", "in", "1", "0"), "in/rack1.csv: not a regular file that can be read")

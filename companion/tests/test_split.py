@@ -11,14 +11,14 @@ class Split(SplitStore):
         self.refused(self.split(text), "list.csv: " + said)
         self.assertEqual(self.names("."), ["list.csv", "store"])
 
-    def test_empty_list(self):
+    def test_an_empty_list_makes_no_folders(self):
         self.cut(self.split(FIVE), "split 0 requests into 0 folders; fragments that they name: 0 found, 0 missing", 0)
         self.assertEqual((self.names("work/in"), self.names("work/out")), ([], []))
         self.done(self.call("merge", "work", "result"),
                   "merged 0 answers: 0 rebuilt, 0 contradiction, 0 several; 0 with unread survivors")
         self.assertEqual(self.text("result/report.csv"), "number,stripe,target,length,outcome,digest,unread\n")
 
-    def test_exactly_one_folder(self):
+    def test_as_many_requests_as_a_folder_has_make_one(self):
         rows = [f"rebuild,s{k},x0,3,\n" for k in range(6)]
         self.cut(self.split(FIVE + "".join(rows), "--racks", "2", "--requests", "3"),
                  "split 6 requests into 1 folder; fragments that they name: 0 found, 0 missing", 1)
@@ -27,14 +27,14 @@ class Split(SplitStore):
         self.assertEqual(self.text("work/in/0/rack0.csv"), FIVE + "".join(rows[:3]))
         self.assertEqual(self.text("work/in/0/rack1.csv"), FIVE + "".join(rows[3:]))
 
-    def test_one_request_more_than_a_folder(self):
+    def test_one_request_more_than_a_folder_makes_a_second(self):
         rows = [f"rebuild,s{k},x0,3,\n" for k in range(7)]
         self.split(FIVE + "".join(rows), "--racks", "2", "--requests", "3")
         self.assertEqual(self.names("work/in"), ["0", "1"])
         self.assertEqual(self.names("work/in/1"), ["rack0.csv"])
         self.assertEqual(self.text("work/in/1/rack0.csv"), FIVE + rows[6])
 
-    def test_the_greatest_folder_and_one_request_more(self):
+    def test_the_greatest_folder_is_served_and_merged(self):
         self.split(FIVE + "".join(f"rebuild,s{k},x0,1,\n" for k in range(16 * 4096 + 1)))
         self.assertEqual(self.names("work/in"), ["0", "1"])
         self.assertEqual(len(self.names("work/in/0")), 16)
@@ -44,19 +44,19 @@ class Split(SplitStore):
         self.done(self.call("merge", "work", "result"),
                   "merged 65537 answers: 0 rebuilt, 0 contradiction, 65537 several; 0 with unread survivors")
 
-    def test_both_codes(self):
+    def test_a_list_of_both_codes_keeps_its_codes(self):
         self.cut(self.split(SIX + "rebuild,abc,x0,3,x1 x2 px,6-2-2\nrebuild,wide,x0,2,x1 x2 x3 x4 x5 px,12-2-2\n", "--requests", "1"),
                  "split 2 requests into 1 folder; fragments that they name: 9 found, 0 missing", 1)
         self.assertEqual(self.text("work/in/0/rack1.csv"), SIX + "rebuild,wide,x0,2,x1 x2 x3 x4 x5 px,12-2-2\n")
 
-    def test_links_and_copies(self):
+    def test_fragments_are_linked_or_copied(self):
         for options, linked in ([], True), (["--copy"], False):
             self.split(FIVE + "rebuild,abc,x0,3,x1\n", *options)
             fragment = self.at / "work/in/0/abc.x1"
             self.assertEqual((fragment.is_symlink(), fragment.read_bytes()), (linked, b"\0\0\0"))
             (self.at / "work").rename(self.at / f"work-{linked}")
 
-    def test_survivors_of_another_length(self):
+    def test_survivors_of_another_length_are_brought_as_they_are(self):
         # They are brought as they are: the program leaves them out, and its report names them.
         self.fragments(x1=b"\0\0\0\0", px=b"ab")
         for options in [], ["--copy"]:
@@ -67,13 +67,13 @@ class Split(SplitStore):
             self.assertEqual(self.text("work/out/0/rack0.report.csv").splitlines()[1], "0,abc,x0,3,several,,x1 px")
             (self.at / "work").rename(self.at / f"work-{len(options)}")
 
-    def test_missing_fragments(self):
+    def test_missing_fragments_are_counted(self):
         self.cut(self.split(FIVE + "rebuild,abc,x0,65536,x1 x2 p0\nrebuild,abc,px,65536," + "x0 x1 x2 y0 y1 y2 py p0 p1\n"),
                  "split 2 requests into 1 folder; fragments that they name: 2 found, 7 missing", 1)
 
         self.assertEqual(self.names("work/in/0"), ["abc.x1", "abc.x2", "rack0.csv"])
 
-    def test_memory_of_the_greatest_folder(self):
+    def test_the_memory_of_the_greatest_folder_is_said(self):
         nine = "x0 x1 x2 y0 y1 y2 py p0 p1"
         ended = self.split(FIVE + "rebuild,abc,x0,1,\n" + f"rebuild,abc,px,65536,{nine}\n" * 2 + "rebuild,abc,x0,1,\n",
                            "--racks", "1", "--requests", "2")
@@ -82,13 +82,13 @@ class Split(SplitStore):
         ended = self.split(FIVE + f"rebuild,abc,px,65536,{nine}\n" * 2)
         self.assertEqual(ended.stdout.splitlines()[1], "the run of a folder holds at most 2 MiB of fragments in memory")
 
-    def test_memory_of_a_run_in_batches(self):
+    def test_the_memory_of_a_run_in_batches_is_said(self):
         # 64 requests of 64 KiB rebuild 4 MiB; of the 36 MiB that they list no more than 32 are held at once.
         nine = "x0 x1 x2 y0 y1 y2 py p0 p1"
         ended = self.split(FIVE + f"rebuild,abc,px,65536,{nine}\n" * 64)
         self.assertEqual(ended.stdout.splitlines()[1], "the run of a folder holds at most 36 MiB of fragments in memory")
 
-    def test_quotes_crlf_and_byte_order_mark(self):
+    def test_quotes_line_ends_and_a_mark_change_nothing(self):
         self.split('\ufefforder,stripe,target,length,survivors\r\n\r\n"rebuild","abc",x0,"3","x1 x2"\r\nrebuild,"a",x0,1,'.encode())
         self.assertEqual(self.text("work/in/0/rack0.csv"), FIVE + "rebuild,abc,x0,3,x1 x2\nrebuild,a,x0,1,\n")
 
@@ -97,7 +97,7 @@ class Split(SplitStore):
         self.refused(self.split(FIVE), "work: already exists; not overwritten")
         self.assertEqual(self.names("work"), [])
 
-    def test_refused_lists(self):
+    def test_wrong_lists_are_refused_by_line(self):
         good = "rebuild,abc,x0,3,x1 x2 px\n"
         for text, said in [
             ("", "no header, which is order,stripe,target,length,survivors, with or without ,code"),
@@ -121,7 +121,7 @@ class Split(SplitStore):
             with self.subTest(said):
                 self.refused_list(text, said)
 
-    def test_words(self):
+    def test_wrong_arguments_are_refused(self):
         for words in ["--racks", "17"], ["--racks", "0"], ["--requests", "4097"], ["--requests", "x"]:
             ended = self.split(FIVE, *words)
             self.assertEqual(ended.returncode, 2)

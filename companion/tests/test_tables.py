@@ -234,7 +234,7 @@ class Tables(Folder):
                 f"{names}", 1
         return f"{names}: {name_of(request)} is rebuilt without it, and is a contradiction without any other", 0
 
-    def test_folders(self):
+    def test_each_command_agrees_with_the_reference(self):
         self.written = self.told = 0
         outcomes = collections.Counter()
         for seed in range(max(folders_to_try() // 25, 3)):

@@ -26,7 +26,7 @@ class Terminal(SplitStore):
         os.close(terminal)
         return ended.stdout, shown
 
-    def test_progress(self):
+    def test_progress_is_shown_and_cleared(self):
         (self.at / "list.csv").write_text(FIVE + "rebuild,abc,x0,3,x1 x2 px\n" * 3)
         (self.at / "store/rack0.csv").write_text(FIVE + "rebuild,abc,x0,3,x1 x2 px\n" * 3)
         cases = [(["check", "store"], "requests checked: 3"),
@@ -42,11 +42,11 @@ class Terminal(SplitStore):
             if words[0] == "split":
                 self.serve()
 
-    def test_no_progress_without_a_terminal(self):
+    def test_no_progress_is_shown_without_a_terminal(self):
         ended = self.call("check", "store")
         self.assertEqual(ended.stderr, "")
 
-    def test_words(self):
+    def test_wrong_arguments_are_refused(self):
         for words, said in [([], "the following arguments are required: COMMAND"), (["other"], "invalid choice: 'other'"),
                             (["check"], "the following arguments are required: IN"),
                             (["serve", "work", "-1"], "'-1' isn't a number from 0 to"),
@@ -61,7 +61,7 @@ class Terminal(SplitStore):
                 self.assertEqual((ended.returncode, ended.stdout), (2, ""))
                 self.assertIn(said, ended.stderr)
 
-    def test_output_that_cannot_be_written(self):
+    def test_output_that_cannot_be_written_is_said(self):
         (self.at / "store/rack0.csv").write_text(FIVE)
         with open("/dev/full", "w", encoding="ascii") as full:
             ended = subprocess.run([COMPANION, "check", "store"], cwd=self.at, stdout=full, stderr=subprocess.PIPE, text=True, check=False)
@@ -71,7 +71,7 @@ class Terminal(SplitStore):
         self.assertEqual(ended.stderr, "")
         self.assertIn(ended.returncode, (0, 3))
 
-    def test_program_that_fails(self):
+    def test_a_program_that_fails_is_said(self):
         (self.at / "store/rack0.csv").write_text(FIVE + "rebuild,abc,x0,3,x1 x2 px\n")
         program = slow(self.at, before="echo E16 >&2; exit 4")
         self.refused(self.call("damaged", "store", "0", "0", program=program), f"{program}: ended with status 4: E16")

@@ -70,7 +70,7 @@ class WrongFolders(Folder):
         self.assertEqual([line[9:] for line in ended.stdout.splitlines() if line.startswith("mistake: ")], [mistake])
         self.assertEqual(self.farm(f"out{self.tried}").stderr, program + "\n")
 
-    def test_each(self):
+    def test_each_wrong_list_is_refused_by_both(self):
         for header, records in (FIVE + GOOD, RECORDS), (SIX + GOOD[:-1] + ",6-2-2\n", CODED_RECORDS):
             for record, number, text in records:
                 with self.subTest(record):
@@ -82,35 +82,35 @@ class WrongFolders(Folder):
                 self.wrong(f"{mistake} {HEADER_WANTED}", "rack0.csv: E19")
         self.assertEqual(self.tried, len(RECORDS) + len(CODED_RECORDS) + len(HEADERS))
 
-    def test_no_list(self):
+    def test_a_folder_without_a_list_is_refused_by_both(self):
         self.wrong("rack0.csv: E23: isn't there", "E23")
 
-    def test_a_list_that_is_too_long(self):
+    def test_a_list_that_is_too_long_is_refused_by_both(self):
         self.list(FIVE + "\n" * (1048577 - len(FIVE)))
         self.wrong("rack0.csv: E25: has 1048577 bytes, and a list at most 1048576" + LONG, "rack0.csv: E25")
 
-    def test_a_list_of_too_many_records(self):
+    def test_a_list_of_too_many_records_is_refused_by_both(self):
         self.list(FIVE + GOOD * 4097)
         self.wrong("rack0.csv: line 4098, record 4097: E26: a list has at most 4096 records, and this one has 4097" + LONG,
                    "rack0.csv: E26")
 
-    def test_too_many_feeds(self):
+    def test_too_many_feeds_are_refused_by_both(self):
         for name in "rack0.csv", "rack0.feed1.csv", "rack0.feed2.csv", "rack0.feed3.csv", "rack0.feed4.csv":
             self.list(FIVE, name)
         self.wrong("rack0.feed4.csv: E28: a rack has at most 4 feeds, the last of them rack0.feed3.csv", "E28")
 
-    def test_too_many_racks(self):
+    def test_too_many_racks_are_refused_by_both(self):
         for rack in range(17):
             self.list(FIVE, f"rack{rack}.csv")
         self.wrong("rack16.csv: E18: a folder has at most 16 racks, the last of them rack15.csv", "E18")
 
-    def test_a_mistake_of_a_further_feed(self):
+    def test_a_mistake_of_a_further_feed_is_refused_by_both(self):
         self.list(FIVE + GOOD)
         self.list(FIVE + "rebuild,abc,x9,3,\n", "rack0.feed1.csv")
         self.wrong("rack0.feed1.csv: line 2, record 1: E20: the target 'x9' isn't a place of the code 6-2-2",
                    "rack0.feed1.csv: record 1: E20")
 
-    def test_what_is_no_regular_file(self):
+    def test_what_is_no_regular_file_is_refused_by_both(self):
         name = self.store / "rack0.csv"
         for make, kind in [(name.mkdir, "is a folder and not a regular file"),
                            (lambda: os.mkfifo(name), "is a FIFO and not a regular file"),

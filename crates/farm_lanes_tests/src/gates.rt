@@ -37,12 +37,12 @@ fn counts_the_refused_draw(rt: HostRuntime) -> Result<(), Fail> {
         mut seat,
         right,
     } = open_alone(rt.alloc())?;
-    assert!(rt; seat.budget() == 4294967296 && seat.last().is_none());
-    assert!(rt; gate.draw(&mut seat) == Ok(0));
-    assert!(rt; gate.draw(&mut seat) == Ok(1));
-    assert!(rt; gate.close(&mut seat, right) == Ok(2));
-    assert!(rt; gate.draw(&mut seat) == Err(GateRefusal::Closed));
-    assert!(rt; seat.budget() == 4294967293 && seat.last() == Some(1));
+    assert_eq!(rt; (seat.budget(), seat.last()), (4294967296, None));
+    assert_eq!(rt; gate.draw(&mut seat), Ok(0));
+    assert_eq!(rt; gate.draw(&mut seat), Ok(1));
+    assert_eq!(rt; gate.close(&mut seat, right), Ok(2));
+    assert_eq!(rt; gate.draw(&mut seat), Err(GateRefusal::Closed));
+    assert_eq!(rt; (seat.budget(), seat.last()), (4294967293, Some(1)));
     Ok(())
 }
 
@@ -55,11 +55,11 @@ fn refuses_a_seat_without_budget(rt: HostRuntime) -> Result<(), Fail> {
         right: _,
     } = open_alone(rt.alloc())?;
     let (first, mut second) = gate.split(seat, 0);
-    assert!(rt; gate.draw(&mut second) == Err(GateRefusal::SeatSpent));
-    assert!(rt; second.budget() == 0 && second.last().is_none());
+    assert_eq!(rt; gate.draw(&mut second), Err(GateRefusal::SeatSpent));
+    assert_eq!(rt; (second.budget(), second.last()), (0, None));
     let mut all = gate.join(first, second);
-    assert!(rt; all.budget() == 4294967296);
-    assert!(rt; gate.draw(&mut all) == Ok(0));
+    assert_eq!(rt; all.budget(), 4294967296);
+    assert_eq!(rt; gate.draw(&mut all), Ok(0));
     Ok(())
 }
 
@@ -72,9 +72,9 @@ fn splits_the_budget(rt: HostRuntime) -> Result<(), Fail> {
         right: _,
     } = open_alone(rt.alloc())?;
     let (first, second) = gate.split(seat, 10);
-    assert!(rt; first.budget() == 4294967286);
-    assert!(rt; second.budget() == 10);
-    assert!(rt; gate.join(first, second).budget() == 4294967296);
+    assert_eq!(rt; first.budget(), 4294967286);
+    assert_eq!(rt; second.budget(), 10);
+    assert_eq!(rt; gate.join(first, second).budget(), 4294967296);
     Ok(())
 }
 
@@ -91,10 +91,10 @@ fn closes_once(rt: HostRuntime) -> Result<(), Fail> {
     let Some(second) = rights.pop() else {
         panic!(rt; "no second right");
     };
-    assert!(rt; gate.draw(&mut seat) == Ok(0));
-    assert!(rt; gate.close(&mut seat, first) == Ok(1));
-    assert!(rt; gate.close(&mut seat, second) == Err(AlreadyClosed));
-    assert!(rt; gate.draw(&mut seat) == Err(GateRefusal::Closed));
+    assert_eq!(rt; gate.draw(&mut seat), Ok(0));
+    assert_eq!(rt; gate.close(&mut seat, first), Ok(1));
+    assert_eq!(rt; gate.close(&mut seat, second), Err(AlreadyClosed));
+    assert_eq!(rt; gate.draw(&mut seat), Err(GateRefusal::Closed));
     Ok(())
 }
 
@@ -107,9 +107,9 @@ fn opens_within_the_limits(rt: HostRuntime) -> Result<(), Fail> {
     let alloc: Global = rt.alloc();
     let (_gate, seats, rights) = Gate::open(alloc, 3, 16)?;
     for seat in &seats {
-        assert!(rt; seat.budget() == 1_431_655_765);
+        assert_eq!(rt; seat.budget(), 1_431_655_765);
     }
-    assert!(rt; seats.len() == 3 && rights.len() == 16);
+    assert_eq!(rt; (seats.len(), rights.len()), (3, 16));
     for (seats, rights) in BEYOND {
         let opened = Gate::open(alloc, *seats, *rights);
         assert!(rt;
@@ -291,10 +291,14 @@ fn draw_by_four<R: Threads + Sync>(
 fn draws_each_number_once(rt: HostRuntime) -> Result<(), Fail> {
     let alloc: Global = rt.alloc();
     let drawn = draw_by_four(&rt, alloc, open_four(alloc)?)?;
-    assert!(rt; drawn.numbers.len() == 4000 && count_up(&drawn.numbers));
-    assert!(rt; drawn.budget == 4_294_963_296 && drawn.last == Some(3999));
-    assert!(rt; drawn.closed == Ok(4000));
-    assert!(rt; drawn.late == Err(GateRefusal::Closed));
+    assert_eq!(rt; drawn.numbers.len(), 4000);
+    assert!(rt;
+        count_up(&drawn.numbers),
+        "a number is given twice or not at all"
+    );
+    assert_eq!(rt; (drawn.budget, drawn.last), (4_294_963_296, Some(3999)));
+    assert_eq!(rt; drawn.closed, Ok(4000));
+    assert_eq!(rt; drawn.late, Err(GateRefusal::Closed));
     Ok(())
 }
 
@@ -376,9 +380,9 @@ fn draw_ten_and_close(
 fn gives_the_numbers_below_the_closes_answer(rt: HostRuntime) -> Result<(), Fail> {
     let alloc: Global = rt.alloc();
     let (numbers, closed) = draw_until_closed(&rt, alloc, open_four(alloc)?)?;
-    assert!(rt; closed == Ok(numbers.len() as u64));
-    assert!(rt; count_up(&numbers));
-    assert!(rt; numbers.len() >= 10);
+    assert_eq!(rt; closed, Ok(numbers.len() as u64));
+    assert!(rt; count_up(&numbers), "a number is given twice or not at all");
+    assert!(rt; numbers.len() >= 10, "{} numbers", numbers.len());
     Ok(())
 }
 
@@ -394,12 +398,11 @@ fn refused_memory_is_said(rt: HostRuntime) -> Result<(), Fail> {
         };
         let opened = Gate::open_in(&heap, 4, 2);
         let Err(error) = opened else {
-            assert!(rt; refused);
+            assert!(rt; refused, "no memory is refused");
             return Ok(());
         };
-        assert!(rt; error == GateError::OutOfMemory);
+        assert_eq!(rt; error, GateError::OutOfMemory);
         refused = true;
     }
-    assert!(rt; false, "the gate is never opened");
-    Ok(())
+    panic!(rt; "the gate is never opened")
 }

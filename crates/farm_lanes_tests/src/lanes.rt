@@ -98,10 +98,6 @@ fn is_set_in_time(done: &AtomicBool) -> bool {
     done.load(Ordering::SeqCst)
 }
 
-fn are_seven_and_nine(items: &[Shown; 3]) -> bool {
-    *items == [(0, 0, Some(7)), (0, 1, Some(9)), (0, 2, None)]
-}
-
 // What was put is taken in another thread, within a bounded number of turns.
 #[test]
 fn takes_in_another_thread_what_was_put(rt: HostRuntime) -> Result<(), Fail> {
@@ -125,8 +121,8 @@ fn takes_in_another_thread_what_was_put(rt: HostRuntime) -> Result<(), Fail> {
         "the items that were put are not taken"
     );
     let ThreeTaken { end, items } = taker.join(&rt);
-    assert!(rt; are_seven_and_nine(&items));
-    assert!(rt; settle_pair(alloc, ended, end)? == (3, 3));
+    assert_eq!(rt; items, [(0, 0, Some(7)), (0, 1, Some(9)), (0, 2, None)]);
+    assert_eq!(rt; settle_pair(alloc, ended, end)?, (3, 3));
     Ok(())
 }
 
@@ -151,8 +147,9 @@ fn refuses_what_is_beyond_the_limits(rt: HostRuntime) {
     let alloc: Global = rt.alloc();
     for (capacity, putters, takers, refusal) in LIMITS {
         let opened = Lane::open::<u64>(alloc, *capacity, *putters, *takers);
-        assert!(rt;
-            opened.err() == *refusal,
+        assert_eq!(rt;
+            opened.err(),
+            *refusal,
             "capacity {capacity}, ends {putters} and {takers}"
         );
     }
@@ -179,14 +176,14 @@ fn drops_what_was_not_taken(rt: HostRuntime) -> Result<(), Fail> {
     put.put(&rt, CountsDrops { drops: &drops });
     put.put(&rt, CountsDrops { drops: &drops });
     put.put(&rt, CountsDrops { drops: &drops });
-    assert!(rt; put.puts() == 3);
+    assert_eq!(rt; put.puts(), 3);
     let ended = put.end(&rt);
-    assert!(rt; ended.count() == 4);
+    assert_eq!(rt; ended.count(), 4);
     drop(take.take(&rt));
     drop(take.take(&rt));
-    assert!(rt; take.count() == 2 && drops.load(Ordering::SeqCst) == 2);
-    assert!(rt; settle_pair(alloc, ended, take)? == (4, 2));
-    assert!(rt; drops.load(Ordering::SeqCst) == 3);
+    assert_eq!(rt; (take.count(), drops.load(Ordering::SeqCst)), (2, 2));
+    assert_eq!(rt; settle_pair(alloc, ended, take)?, (4, 2));
+    assert_eq!(rt; drops.load(Ordering::SeqCst), 3);
     Ok(())
 }
 
@@ -431,8 +428,8 @@ fn rise_and_are_all(
 fn takes_each_item_once(rt: HostRuntime) -> Result<(), Fail> {
     let alloc: Global = rt.alloc();
     let run = run_lane(&rt, alloc, four_to_two(alloc, 1)?)?;
-    assert!(rt; run.put == 1004 && run.taken == 1004);
-    assert!(rt; run.first.len() == 502 && run.second.len() == 502);
+    assert_eq!(rt; (run.put, run.taken), (1004, 1004));
+    assert_eq!(rt; (run.first.len(), run.second.len()), (502, 502));
     for sender in 0..4u32 {
         assert!(rt;
             rise_and_are_all(alloc, &run.first, &run.second, sender)?,
@@ -454,12 +451,11 @@ fn refused_memory_is_said(rt: HostRuntime) -> Result<(), Fail> {
         };
         let opened = Lane::open_in::<u64, &LocalHeap>(&heap, 4, 2, 2);
         let Err(error) = opened else {
-            assert!(rt; refused);
+            assert!(rt; refused, "no memory is refused");
             return Ok(());
         };
-        assert!(rt; error == LaneError::OutOfMemory);
+        assert_eq!(rt; error, LaneError::OutOfMemory);
         refused = true;
     }
-    assert!(rt; false, "the lane is never opened");
-    Ok(())
+    panic!(rt; "the lane is never opened")
 }

@@ -5,6 +5,7 @@ use farm_reports::digests_of_racks;
 use lrc_code::{Bytes, Outcome};
 use sha2::{Digest, Sha256};
 use std::alloc::{AllocError, Global};
+use std::process::Abort;
 use std::thread::Threads;
 
 // The digest of a million times `a` in FIPS 180-2.
@@ -12,7 +13,7 @@ const MILLION: [u8; 32] =
     *b"\xcd\xc7\x6e\x5c\x99\x14\xfb\x92\x81\xa1\xc7\xe2\x84\xd7\x3e\x67\xf1\x80\x9a\x48\xa4\x97\x20\x0e\x04\x6d\x39\xcc\xc7\x11\x2c\xd0";
 
 // How long the fragments are.
-#[derive(Clone, Copy)]
+#[derive(Clone, Copy, Debug)]
 enum Lengths {
     // All of one length.
     Equal,
@@ -100,40 +101,40 @@ const FRAGMENTS: &[u8] = &[0, 1, 7, 8, 9, 16, 17, 33, 64];
 
 const LENGTHS: &[Lengths] = &[Lengths::Equal, Lengths::Broken, Lengths::Mixed];
 
-// Whether the digests are the plain ones, for each of these numbers of fragments and all of their lengths.
-fn agree<R: Threads + Sync>(
+// Asserts that the digests are the plain ones, for each of these numbers of fragments and all of their lengths.
+fn assert_agree<R: Abort + Threads + Sync>(
     rt: &R,
     alloc: Global,
     numbers: &[u8],
     longer: usize,
     threads: usize,
-) -> Result<bool, AllocError>
+) -> Result<(), AllocError>
     requires { 0 < threads }
 {
-    let mut agree = true;
     for lengths in LENGTHS {
         for fragments in numbers {
             let racks = racks_of(alloc, *lengths, longer, *fragments)?;
             let made = digests_of_racks(rt, alloc, racks.as_slice(), threads)?;
             let plain = plain_digests(alloc, racks.as_slice())?;
-            agree = agree && made.as_slice() == plain.as_slice();
+            assert!(rt;
+                made.as_slice() == plain.as_slice(),
+                "{fragments} fragments of {lengths:?} lengths, {threads} threads"
+            );
         }
     }
-    Ok(agree)
+    Ok(())
 }
 
 #[test]
 fn digests_of_any_lengths_agree_with_sha2(rt: HostRuntime) -> Result<(), AllocError> {
-    assert!(&rt; agree(&rt, rt.alloc(), FRAGMENTS, 0, 1)?);
-    assert!(&rt; agree(&rt, rt.alloc(), FRAGMENTS, 0, 16)?);
-    Ok(())
+    assert_agree(&rt, rt.alloc(), FRAGMENTS, 0, 1)?;
+    assert_agree(&rt, rt.alloc(), FRAGMENTS, 0, 16)
 }
 
 // Of two grains and one fragment alone.
 #[test]
 fn digests_in_threads_agree_with_sha2(rt: HostRuntime) -> Result<(), AllocError> {
-    assert!(&rt; agree(&rt, rt.alloc(), &[33], LONGER, 16)?);
-    Ok(())
+    assert_agree(&rt, rt.alloc(), &[33], LONGER, 16)
 }
 
 // Whether every other digest, from the first on, is that of a million times `a`, and there are no others.
@@ -160,6 +161,6 @@ fn three_threads_make_the_known_digest(rt: HostRuntime) -> Result<(), AllocError
     }
     let racks = vec![in rt.alloc(); rack]?;
     let made = digests_of_racks(&rt, rt.alloc(), racks.as_slice(), 3)?;
-    assert!(&rt; are_of_million(made.as_slice()));
+    assert!(&rt; are_of_million(made.as_slice()), "{made:?}");
     Ok(())
 }

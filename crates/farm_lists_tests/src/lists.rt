@@ -98,30 +98,21 @@ const FAULTS_WITH_CODES: &[(&[u8], ListFault)] = &[
     (b"rebuild,abc,x0,3,x0,6-2-2", NOT_LOST),
 ];
 
-// Whether the list of this header and these records is refused with that fault.
-fn is_refused(
-    alloc: Global,
-    header: &[u8],
-    records: &[u8],
-    fault: ListFault,
-) -> Result<bool, AllocError> {
+// The fault of the list of this header and these records, if it is refused.
+fn fault_of(alloc: Global, header: &[u8], records: &[u8]) -> Result<Option<ListFault>, AllocError> {
     let bytes = list_with(alloc, header, records)?;
-    Ok(read_list(alloc, bytes.as_slice()).err() == Some(fault))
+    Ok(read_list(alloc, bytes.as_slice()).err())
 }
 
 #[test]
 fn each_wrong_record_has_its_fault(rt: HostRuntime) -> Result<(), AllocError> {
     for (records, fault) in FAULTS {
-        assert!(&rt;
-            is_refused(rt.alloc(), HEADER, records, *fault)?,
-            "{records:?}"
-        );
+        let found = fault_of(rt.alloc(), HEADER, records)?;
+        assert_eq!(&rt; found, Some(*fault), "{:?}", str::from_utf8(records));
     }
     for (records, fault) in FAULTS_WITH_CODES {
-        assert!(&rt;
-            is_refused(rt.alloc(), CODED_HEADER, records, *fault)?,
-            "{records:?}"
-        );
+        let found = fault_of(rt.alloc(), CODED_HEADER, records)?;
+        assert_eq!(&rt; found, Some(*fault), "{:?}", str::from_utf8(records));
     }
     Ok(())
 }
@@ -142,9 +133,12 @@ const BAD_HEADERS: &[&[u8]] = &[
 #[test]
 fn other_headers_are_refused(rt: HostRuntime) -> Result<(), AllocError> {
     for header in BAD_HEADERS {
-        assert!(&rt;
-            is_refused(rt.alloc(), header, b"", ListFault::BadHeader)?,
-            "{header:?}"
+        let found = fault_of(rt.alloc(), header, b"")?;
+        assert_eq!(&rt;
+            found,
+            Some(ListFault::BadHeader),
+            "{:?}",
+            str::from_utf8(header)
         );
     }
     Ok(())
@@ -159,11 +153,11 @@ fn each_record_has_its_own_code(rt: HostRuntime) -> Result<(), AllocError> {
         b"rebuild,abc,x0,3,x1 x2 x3 x4 x5 px,12-2-2\nclose,,,,,\nrebuild,abc,x0,3,x1 x2 px,6-2-2\n",
     )?;
     match read_list(rt.alloc(), bytes.as_slice()) {
-        Ok(list) => assert!(&rt; are_of_both_codes(list.as_slice())),
+        Ok(list) => assert!(&rt; are_of_both_codes(list.as_slice()), "{list:?}"),
         Err(_) => panic!(&rt; "the list with codes is refused"),
     }
     match read_list(rt.alloc(), LIST) {
-        Ok(list) => assert!(&rt; begins_with_narrow(list.as_slice())),
+        Ok(list) => assert!(&rt; begins_with_narrow(list.as_slice()), "{list:?}"),
         Err(_) => panic!(&rt; "the list without codes is refused"),
     }
     Ok(())
@@ -210,8 +204,8 @@ const WRITTEN_OTHERWISE: &[&[u8]] = &[
 fn line_ends_and_quotes_change_no_record(rt: HostRuntime) {
     for bytes in WRITTEN_OTHERWISE {
         match read_list(rt.alloc(), bytes) {
-            Ok(list) => assert!(&rt; is_one_request(list.as_slice()), "{bytes:?}"),
-            Err(_) => panic!(&rt; "refused: {bytes:?}"),
+            Ok(list) => assert!(&rt; is_one_request(list.as_slice()), "{list:?}"),
+            Err(fault) => panic!(&rt; "{fault}: {:?}", str::from_utf8(bytes)),
         }
     }
 }
@@ -233,7 +227,7 @@ fn is_one_request(list: &[Record]) -> bool {
 fn survivors_keep_their_order(rt: HostRuntime) {
     let bytes = b"order,stripe,target,length,survivors\nrebuild,a-1,p1,65536,py x0 p0\nclose,,,,\n";
     match read_list(rt.alloc(), bytes) {
-        Ok(list) => assert!(&rt; has_survivors_in_order(list.as_slice())),
+        Ok(list) => assert!(&rt; has_survivors_in_order(list.as_slice()), "{list:?}"),
         Err(_) => panic!(&rt; "the list is refused"),
     }
 }
@@ -258,9 +252,12 @@ fn a_byte_past_the_limit_is_refused(rt: HostRuntime) -> Result<(), AllocError> {
     for _ in HEADER.len()..1_048_576 {
         bytes.push(b'\n')?;
     }
-    assert!(&rt; count_of(rt.alloc(), bytes.as_slice()) == Ok(0));
+    assert_eq!(&rt; count_of(rt.alloc(), bytes.as_slice()), Ok(0));
     bytes.push(b'\n')?;
-    assert!(&rt; count_of(rt.alloc(), bytes.as_slice()) == Err(ListFault::InputTooLong));
+    assert_eq!(&rt;
+        count_of(rt.alloc(), bytes.as_slice()),
+        Err(ListFault::InputTooLong)
+    );
     Ok(())
 }
 
@@ -279,9 +276,9 @@ fn count_behind_closes(alloc: Global, last: &[u8]) -> Result<Result<usize, ListF
 fn a_record_past_the_limit_is_refused(rt: HostRuntime) -> Result<(), AllocError> {
     let alloc = rt.alloc();
     let too_many = Err(ListFault::TooManyOrders);
-    assert!(&rt; count_behind_closes(alloc, b"")? == Ok(4096));
-    assert!(&rt; count_behind_closes(alloc, b"close,,,,\n")? == too_many);
-    assert!(&rt; count_behind_closes(alloc, b"x\n")? == too_many);
+    assert_eq!(&rt; count_behind_closes(alloc, b"")?, Ok(4096));
+    assert_eq!(&rt; count_behind_closes(alloc, b"close,,,,\n")?, too_many);
+    assert_eq!(&rt; count_behind_closes(alloc, b"x\n")?, too_many);
     Ok(())
 }
 
@@ -341,10 +338,13 @@ fn is_of_first_bytes(read: &Result<Vec<Record>, ListFault>, length: usize) -> bo
 // A list that is cut after each of its bytes.
 #[test]
 fn a_list_cut_short_is_refused_or_has_fewer_records(rt: HostRuntime) {
-    assert!(&rt; LIST.len() == 109);
+    assert_eq!(&rt; LIST.len(), 109);
     for length in 0..=LIST.len() {
         let read = read_list(rt.alloc(), &LIST[..length]);
-        assert!(&rt; is_of_first_bytes(&read, length), "length {length}");
+        assert!(&rt;
+            is_of_first_bytes(&read, length),
+            "length {length}: {read:?}"
+        );
     }
 }
 
@@ -381,7 +381,7 @@ fn listed_requests_are_refused_for_their_places(rt: HostRuntime) -> Result<(), A
         let stripe = String::from_str(rt.alloc(), "abc")?;
         let survivors = Vec::from_slice(rt.alloc(), places)?;
         let listed = Listed::new(Code::Narrow, stripe, *target, 3, survivors);
-        assert!(&rt; matches!(listed, Err(why) if why == *fault));
+        assert_eq!(&rt; listed.err(), Some(*fault));
     }
     Ok(())
 }

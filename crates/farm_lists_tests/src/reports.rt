@@ -4,6 +4,7 @@ use farm_lists::{Listed, Record, read_list, requests_before_close};
 use farm_reports::{ReportRow, ReportShape, merged_report_text, report_text};
 use lrc_code::{Bytes, Code, Outcome, Place};
 use std::alloc::{AllocError, Global};
+use std::process::Abort;
 
 // One request of the (12,2,2) code.
 const WIDE_LIST: &[u8] = b"order,stripe,target,length,survivors,code
@@ -38,41 +39,34 @@ fn rebuilt(alloc: Global) -> Result<Outcome, AllocError> {
     Ok(Outcome::Rebuilt(Bytes::new(Vec::from_slice(alloc, b"abc")?)))
 }
 
-// Whether the report on the one request of a list with this outcome and these places left out is this one. A list without a request, or
-// with more, has none.
-fn is_reported(
+// Asserts that the report on the one request of a list with this outcome and these places left out is this one.
+fn assert_reported(
+    rt: &impl Abort,
     alloc: Global,
     list: &[u8],
     outcome: Outcome,
     unread: &[Place],
     report: &[u8],
-) -> Result<bool, AllocError> {
+) -> Result<(), AllocError> {
     let Ok(list) = read_list(alloc, list) else {
-        return Ok(false);
+        panic!(rt; "the list is refused");
     };
     if requests_before_close(alloc, &list)?.len() != 1 {
-        return Ok(false);
+        panic!(rt; "not one request");
     }
     let unread = Vec::from_slice(alloc, unread)?;
     let text = report_text(alloc, &list, &[outcome], &[unread])?;
-    Ok(text.as_slice() == report)
+    assert_eq!(rt; str::from_utf8(&text), str::from_utf8(report));
+    Ok(())
 }
 
 #[test]
 fn a_request_has_its_row(rt: HostRuntime) -> Result<(), AllocError> {
     let alloc = rt.alloc();
-    assert!(&rt; is_reported(alloc, LIST, rebuilt(alloc)?, &[], REPORT)?);
-    assert!(&rt;
-        is_reported(
-            alloc,
-            LIST,
-            Outcome::Several,
-            &[Place::Px],
-            REPORT_WITHOUT_PX
-        )?
-    );
-    assert!(&rt; is_reported(alloc, WIDE_LIST, rebuilt(alloc)?, &[], WIDE_REPORT)?);
-    Ok(())
+    assert_reported(&rt, alloc, LIST, rebuilt(alloc)?, &[], REPORT)?;
+    let several = Outcome::Several;
+    assert_reported(&rt, alloc, LIST, several, &[Place::Px], REPORT_WITHOUT_PX)?;
+    assert_reported(&rt, alloc, WIDE_LIST, rebuilt(alloc)?, &[], WIDE_REPORT)
 }
 
 #[test]
@@ -96,7 +90,7 @@ fn a_rack_of_two_feeds_has_their_column(rt: HostRuntime) -> Result<(), AllocErro
         codes: false,
     };
     let text = merged_report_text(alloc, shape, &[row])?;
-    assert!(&rt; text.as_slice() == REPORT_OF_TWO_FEEDS);
+    assert_eq!(&rt; str::from_utf8(&text), str::from_utf8(REPORT_OF_TWO_FEEDS));
     Ok(())
 }
 
@@ -150,7 +144,10 @@ fn rows_name_their_feeds_and_codes(rt: HostRuntime) -> Result<(), AllocError> {
         codes: true,
     };
     let text = merged_report_text(alloc, shape, &rows)?;
-    assert!(&rt; text.as_slice() == REPORT_OF_FEEDS_AND_CODES);
+    assert_eq!(&rt;
+        str::from_utf8(&text),
+        str::from_utf8(REPORT_OF_FEEDS_AND_CODES)
+    );
     Ok(())
 }
 
@@ -182,7 +179,7 @@ fn reports_without_rows_have_their_header(rt: HostRuntime) -> Result<(), AllocEr
             codes: *codes,
         };
         let text = merged_report_text(rt.alloc(), shape, &[])?;
-        assert!(&rt; text.as_slice() == *expected);
+        assert_eq!(&rt; str::from_utf8(&text), str::from_utf8(expected));
     }
     Ok(())
 }

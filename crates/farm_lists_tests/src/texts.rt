@@ -26,7 +26,7 @@ const REQUEST_FAULTS: &[(RequestFault, &str)] = &[
 fn request_faults_say_their_limits(rt: HostRuntime) -> Result<(), AllocError> {
     for (fault, text) in REQUEST_FAULTS {
         let said = format!(in rt.alloc(); "{fault}")?;
-        assert!(&rt; said.as_str() == *text, "{said}");
+        assert_eq!(&rt; said.as_str(), *text);
     }
     Ok(())
 }
@@ -60,7 +60,7 @@ const LIST_FAULTS: &[(ListFault, &str)] = &[
 fn list_faults_say_their_limits(rt: HostRuntime) -> Result<(), AllocError> {
     for (fault, text) in LIST_FAULTS {
         let said = format!(in rt.alloc(); "{fault}")?;
-        assert!(&rt; said.as_str() == *text, "{said}");
+        assert_eq!(&rt; said.as_str(), *text);
     }
     Ok(())
 }

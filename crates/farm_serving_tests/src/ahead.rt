@@ -1,11 +1,14 @@
 //! Files that a shelf over a folder reads ahead, in one thread to sixteen, and what a shelf is asked for.
-use crate::shared::{fails, has_none, input_of, reads, serve_with, shelf_of, written};
+use crate::shared::{
+    assert_fails, assert_none, assert_reads, input_of, serve_with, shelf_of, written,
+};
 use crate::watched::WatchedShelf;
 use farm_core::NoPause;
 use farm_lists_tests::samples::LIST;
 use farm_serving::{MemoryShelf, ReadAheadShelf, Shelf};
 use std::alloc::{AllocError, Global};
 use std::fs;
+use std::process::Abort;
 use std::rt::Files;
 
 // A folder with 300 files of 0 to 6 bytes; number 7 of each ten is absent.
@@ -46,28 +49,21 @@ fn names(alloc: Global, first: usize, end: usize) -> Result<Vec<(String, usize)>
     Ok(names)
 }
 
-// Whether the shelf gives the first bytes of the file of a number, four at most, or says that there is no such file.
-fn gives<S: Shelf>(shelf: &mut S, alloc: Global, number: usize) -> Result<bool, AllocError> {
-    let name = format!(in alloc; "{number}")?;
-    if number % 10 == 7 {
-        return Ok(has_none(shelf, alloc, name.as_str(), 4));
-    }
-    let front = bytes_of((number % 7).min(4));
-    Ok(reads(shelf, alloc, name.as_str(), 4, front))
-}
-
-// Whether the shelf gives the files of these numbers so, read in turn.
-fn gives_each<S: Shelf>(
+// Asserts that the shelf gives the first bytes of the file of a number, four at most, or says that there is no such file.
+fn assert_gives<S: Shelf>(
+    rt: &impl Abort,
     shelf: &mut S,
     alloc: Global,
-    numbers: &[usize],
-) -> Result<bool, AllocError> {
-    for number in numbers {
-        if !gives(shelf, alloc, *number)? {
-            return Ok(false);
-        }
+    number: usize,
+) -> Result<(), AllocError> {
+    let name = format!(in alloc; "{number}")?;
+    if number % 10 == 7 {
+        assert_none(rt, shelf, alloc, name.as_str());
+    } else {
+        let front = bytes_of((number % 7).min(4));
+        assert_reads(rt, shelf, alloc, name.as_str(), 4, front);
     }
-    Ok(true)
+    Ok(())
 }
 
 // How many files are read ahead.
@@ -82,10 +78,10 @@ fn files_read_ahead_are_given_as_they_are(rt: HostRuntime) -> Result<(), AllocEr
         for count in COUNTS {
             shelf.read_ahead(&rt, alloc, names(alloc, 0, *count)?.as_slice(), threads);
             for number in 0..*count {
-                assert!(&rt; gives(&mut shelf, alloc, number)?);
+                assert_gives(&rt, &mut shelf, alloc, number)?;
             }
         }
-        assert!(&rt; shelf.failures() == 0);
+        assert_eq!(&rt; shelf.failures(), 0);
     }
     Ok(())
 }
@@ -99,13 +95,15 @@ fn other_reads_and_writes_drop_what_was_read_ahead(rt: HostRuntime) -> Result<()
     let second = names(alloc, 1, 2)?;
     let mut shelf = ReadAheadShelf::open(&rt, alloc, "ahead/other")?;
     shelf.read_ahead(&rt, alloc, all.as_slice(), 4);
-    assert!(&rt; gives_each(&mut shelf, alloc, &[0, 2, 1, 1])?);
+    for number in [0usize, 2, 1, 1] {
+        assert_gives(&rt, &mut shelf, alloc, number)?;
+    }
     shelf.read_ahead(&rt, alloc, all.as_slice(), 4);
-    assert!(&rt; written(&mut shelf, alloc, "0", b"new") == Ok(()));
-    assert!(&rt; reads(&mut shelf, alloc, "0", 4, b"new"));
+    assert_eq!(&rt; written(&mut shelf, alloc, "0", b"new"), Ok(()));
+    assert_reads(&rt, &mut shelf, alloc, "0", 4, b"new");
     shelf.read_ahead(&rt, alloc, second.as_slice(), 4);
-    assert!(&rt; reads(&mut shelf, alloc, "1", 0, b""));
-    assert!(&rt; shelf.failures() == 0);
+    assert_reads(&rt, &mut shelf, alloc, "1", 0, b"");
+    assert_eq!(&rt; shelf.failures(), 0);
     Ok(())
 }
 
@@ -124,11 +122,13 @@ fn reads_that_fail_ahead_are_counted_once(rt: HostRuntime) -> Result<(), AllocEr
         let mut shelf = ReadAheadShelf::open(&rt, alloc, "ahead/failing")?;
         shelf.read_ahead(&rt, alloc, names.as_slice(), *threads);
         for number in 290..300usize {
-            assert!(&rt; gives(&mut shelf, alloc, number)?);
+            assert_gives(&rt, &mut shelf, alloc, number)?;
         }
-        assert!(&rt; shelf.failures() == 0);
-        assert!(&rt; fails(&mut shelf, alloc, "300", 4) && shelf.failures() == 1);
-        assert!(&rt; fails(&mut shelf, alloc, "301", 4) && shelf.failures() == 2);
+        assert_eq!(&rt; shelf.failures(), 0);
+        assert_fails(&rt, &mut shelf, alloc, "300");
+        assert_eq!(&rt; shelf.failures(), 1);
+        assert_fails(&rt, &mut shelf, alloc, "301");
+        assert_eq!(&rt; shelf.failures(), 2);
     }
     Ok(())
 }
@@ -140,9 +140,11 @@ fn memory_reads_nothing_ahead(rt: HostRuntime) -> Result<(), AllocError> {
     let mut shelf = shelf_of(alloc, &[("0", b""), ("1", b"a")])?;
     shelf.fail_at(1);
     shelf.read_ahead(&rt, alloc, names(alloc, 0, 300)?.as_slice(), 4);
-    assert!(&rt; gives(&mut shelf, alloc, 0)? && shelf.failures() == 0);
-    assert!(&rt; fails(&mut shelf, alloc, "1", 4));
-    assert!(&rt; gives(&mut shelf, alloc, 1)? && shelf.failures() == 1);
+    assert_gives(&rt, &mut shelf, alloc, 0)?;
+    assert_eq!(&rt; shelf.failures(), 0);
+    assert_fails(&rt, &mut shelf, alloc, "1");
+    assert_gives(&rt, &mut shelf, alloc, 1)?;
+    assert_eq!(&rt; shelf.failures(), 1);
     Ok(())
 }
 
@@ -152,6 +154,7 @@ fn what_is_read_is_named_ahead(rt: HostRuntime) -> Result<(), AllocError> {
     let mut input = WatchedShelf::new(rt.alloc(), input_of(rt.alloc(), LIST)?);
     let mut output = MemoryShelf::new(rt.alloc());
     let served = serve_with(&rt, rt.alloc(), (2, 1), &mut input, &mut output, &NoPause);
-    assert!(&rt; served.is_ok() && input.ahead.files.len() == 3 && input.ahead.next == 3);
+    assert!(&rt; served.is_ok(), "{served:?}");
+    assert_eq!(&rt; (input.ahead.files.len(), input.ahead.next), (3, 3));
     Ok(())
 }

@@ -102,7 +102,10 @@ fn are_of_racks(answered: &Answered) -> bool {
 // In a run that refuses an allocation or a thread this ends with the refusal.
 #[test]
 fn racks_are_answered_a_request_at_a_time(rt: HostRuntime) -> Result<(), AllocError> {
-    assert!(&rt; are_racks_answered(&rt, rt.alloc(), 2, 1, &NoPause)?);
+    assert!(&rt;
+        are_racks_answered(&rt, rt.alloc(), 2, 1, &NoPause)?,
+        "other answers"
+    );
     Ok(())
 }
 
@@ -126,16 +129,17 @@ const MOST: &[u64] = &[
 fn racks_are_answered_in_batches_of_any_size(rt: HostRuntime) -> Result<(), AllocError> {
     for workers in WORKERS {
         for most in MOST {
-            assert!(&rt; are_racks_answered(&rt, rt.alloc(), *workers, *most, &NoPause)?);
+            let are = are_racks_answered(&rt, rt.alloc(), *workers, *most, &NoPause)?;
+            assert!(&rt; are, "{workers} workers, batches of {most} bytes");
         }
     }
     Ok(())
 }
 
 // The numbers that name each request before a close once, and each request and close.
-const ALL_REQUESTS: u64 = 11_110_111_101_111;
+const ALL_REQUESTS: [u64; 3] = [1_111; 3];
 
-const ALL_ORDERS: u64 = 111_111_111_111_111;
+const ALL_ORDERS: [u64; 3] = [11_111; 3];
 
 const CUTS: &[u64] = &[1, 2 * OF_REQUEST, 4 * OF_REQUEST, u64::MAX];
 
@@ -144,8 +148,9 @@ const CUTS: &[u64] = &[1, 2 * OF_REQUEST, 4 * OF_REQUEST, u64::MAX];
 fn a_pause_is_given_the_numbers_of_all_lists(rt: HostRuntime) -> Result<(), AllocError> {
     for most in CUTS {
         let calls = Calls::new();
-        assert!(&rt; are_racks_answered(&rt, rt.alloc(), 2, *most, &calls)?);
-        assert!(&rt; calls.are(ALL_REQUESTS, ALL_ORDERS));
+        let are = are_racks_answered(&rt, rt.alloc(), 2, *most, &calls)?;
+        assert!(&rt; are, "batches of {most} bytes");
+        calls.assert_are(&rt, ALL_REQUESTS, ALL_ORDERS);
     }
     Ok(())
 }
@@ -177,6 +182,6 @@ fn a_list_longer_than_a_batch_is_answered(rt: HostRuntime) -> Result<(), AllocEr
         ("rack0-201.b.x0", b"b"),
         ("rack1-3.d.x0", b"d"),
     ];
-    assert!(&rt; run.gave(2, 206, files, &["rack0-0.none.x0"]));
+    run.assert_gave(&rt, 2, 206, files, &["rack0-0.none.x0"]);
     Ok(())
 }

@@ -1,5 +1,5 @@
 //! Files that a shelf reads ahead while a batch is answered.
-use crate::shared::{LIST_OF_FOUR, OF_REQUEST, are_answered, reads, shelf_of, written};
+use crate::shared::{LIST_OF_FOUR, OF_REQUEST, are_answered, assert_reads, shelf_of, written};
 use crate::watched::WatchedShelf;
 use farm_core::NoPause;
 use farm_serving::{FolderShelf, ReadAheadShelf, Shelf};
@@ -38,15 +38,21 @@ fn files_read_beside_work_are_given_once(rt: HostRuntime) -> Result<(), AllocErr
     assert!(&rt; make_files(&rt, "beside/work", "beside/work/a", "beside/work/b"));
     let names = limited(alloc, &["a", "b"])?;
     let mut shelf = ReadAheadShelf::open(&rt, alloc, "beside/work")?;
-    assert!(&rt; shelf.read_beside(&rt, alloc, names.as_slice(), 4, || gives(7)) == Ok(7));
+    assert_eq!(&rt;
+        shelf.read_beside(&rt, alloc, names.as_slice(), 4, || gives(7)),
+        Ok(7)
+    );
     assert!(&rt; fs::write(&rt, "beside/work/a", b"new").is_ok());
     shelf.read_ahead(&rt, alloc, names.as_slice(), 4);
-    assert!(&rt; shelf.read_beside(&rt, alloc, names.as_slice(), 4, || gives(8)) == Ok(8));
-    assert!(&rt; shelf.read_beside(&rt, alloc, &[], 4, || gives(9)) == Ok(9));
-    assert!(&rt; reads(&mut shelf, alloc, "a", 4, b"one"));
-    assert!(&rt; reads(&mut shelf, alloc, "b", 4, b"two"));
-    assert!(&rt; reads(&mut shelf, alloc, "a", 4, b"new"));
-    assert!(&rt; shelf.failures() == 0);
+    assert_eq!(&rt;
+        shelf.read_beside(&rt, alloc, names.as_slice(), 4, || gives(8)),
+        Ok(8)
+    );
+    assert_eq!(&rt; shelf.read_beside(&rt, alloc, &[], 4, || gives(9)), Ok(9));
+    assert_reads(&rt, &mut shelf, alloc, "a", 4, b"one");
+    assert_reads(&rt, &mut shelf, alloc, "b", 4, b"two");
+    assert_reads(&rt, &mut shelf, alloc, "a", 4, b"new");
+    assert_eq!(&rt; shelf.failures(), 0);
     Ok(())
 }
 
@@ -59,16 +65,22 @@ fn other_reads_and_writes_drop_what_was_read_beside_work(
     assert!(&rt; make_files(&rt, "beside/other", "beside/other/a", "beside/other/b"));
     let names = limited(alloc, &["a", "b"])?;
     let mut shelf = ReadAheadShelf::open(&rt, alloc, "beside/other")?;
-    assert!(&rt; shelf.read_beside(&rt, alloc, names.as_slice(), 1, || gives(7)) == Ok(7));
-    assert!(&rt; written(&mut shelf, alloc, "a", b"new") == Ok(()));
-    assert!(&rt; reads(&mut shelf, alloc, "a", 4, b"new"));
+    assert_eq!(&rt;
+        shelf.read_beside(&rt, alloc, names.as_slice(), 1, || gives(7)),
+        Ok(7)
+    );
+    assert_eq!(&rt; written(&mut shelf, alloc, "a", b"new"), Ok(()));
+    assert_reads(&rt, &mut shelf, alloc, "a", 4, b"new");
     let first = limited(alloc, &["a"])?;
-    assert!(&rt; shelf.read_beside(&rt, alloc, first.as_slice(), 1, || gives(7)) == Ok(7));
+    assert_eq!(&rt;
+        shelf.read_beside(&rt, alloc, first.as_slice(), 1, || gives(7)),
+        Ok(7)
+    );
     assert!(&rt; fs::write(&rt, "beside/other/a", b"newer").is_ok());
     shelf.read_ahead(&rt, alloc, names.as_slice(), 1);
-    assert!(&rt; reads(&mut shelf, alloc, "a", 4, b"newe"));
-    assert!(&rt; reads(&mut shelf, alloc, "b", 4, b"two"));
-    assert!(&rt; shelf.failures() == 0);
+    assert_reads(&rt, &mut shelf, alloc, "a", 4, b"newe");
+    assert_reads(&rt, &mut shelf, alloc, "b", 4, b"two");
+    assert_eq!(&rt; shelf.failures(), 0);
     Ok(())
 }
 
@@ -89,14 +101,21 @@ fn work_that_fails_beside_reading_is_done_again(rt: HostRuntime) -> Result<(), A
     let names = limited(alloc, &["a", "b"])?;
     let mut shelf = ReadAheadShelf::open(&rt, alloc, "beside/again")?;
     let calls = AtomicU64::new(0);
-    assert!(&rt;
-        shelf.read_beside(&rt, alloc, names.as_slice(), 4, || fails_once(&calls)) == Ok(2)
+    assert_eq!(&rt;
+        shelf.read_beside(&rt, alloc, names.as_slice(), 4, || fails_once(&calls)),
+        Ok(2)
     );
     assert!(&rt; fs::write(&rt, "beside/again/a", b"new").is_ok());
-    assert!(&rt; reads(&mut shelf, alloc, "a", 4, b"new"));
+    assert_reads(&rt, &mut shelf, alloc, "a", 4, b"new");
     let calls = AtomicU64::new(0);
-    assert!(&rt; shelf.read_beside(&rt, alloc, &[], 4, || fails_once(&calls)) == Err(AllocError));
-    assert!(&rt; shelf.read_beside(&rt, alloc, &[], 4, || fails_once(&calls)) == Ok(2));
+    assert_eq!(&rt;
+        shelf.read_beside(&rt, alloc, &[], 4, || fails_once(&calls)),
+        Err(AllocError)
+    );
+    assert_eq!(&rt;
+        shelf.read_beside(&rt, alloc, &[], 4, || fails_once(&calls)),
+        Ok(2)
+    );
     Ok(())
 }
 
@@ -110,9 +129,10 @@ fn work_that_fails_alone_is_done_once(rt: HostRuntime) -> Result<(), AllocError>
     shelf.read_ahead(&rt, alloc, names.as_slice(), 4);
     let calls = AtomicU64::new(0);
     let done = shelf.read_beside(&rt, alloc, names.as_slice(), 4, || fails_once(&calls));
-    assert!(&rt; done == Err(AllocError) && calls.load(Ordering::SeqCst) == 1);
+    assert_eq!(&rt; done, Err(AllocError));
+    assert_eq!(&rt; calls.load(Ordering::SeqCst), 1);
     assert!(&rt; fs::write(&rt, "beside/alone/a", b"new").is_ok());
-    assert!(&rt; reads(&mut shelf, alloc, "a", 4, b"new"));
+    assert_reads(&rt, &mut shelf, alloc, "a", 4, b"new");
     Ok(())
 }
 

@@ -1,45 +1,60 @@
 //! A pause that counts what it is given.
 use farm_core::Pause;
+use std::process::Abort;
 use std::sync::atomic::{AtomicU64, Ordering};
 
-/// Counts the calls, with a decimal digit for each order: the fifth one after that of the same number of the rack or feed before it.
+/// Counts the calls of up to three racks, or feeds of one rack, each with a decimal digit for each number or position from 0 on.
 #[derive(Drop)]
 pub(crate) struct Calls {
-    before: AtomicU64,
-    after: AtomicU64,
-    ahead: AtomicU64,
-    behind: AtomicU64,
+    before: [AtomicU64; 3],
+    after: [AtomicU64; 3],
+    ahead: [AtomicU64; 3],
+    behind: [AtomicU64; 3],
 }
 
-fn digit(rack: usize, number: u64) -> u64 {
+fn three_zeros() -> [AtomicU64; 3] {
+    [AtomicU64::new(0), AtomicU64::new(0), AtomicU64::new(0)]
+}
+
+// One, as the digit of a number.
+fn digit(number: u64) -> u64 {
     let mut one = 1u64;
-    for _place in 0..(rack as u64)
-        .saturating_mul(5)
-        .saturating_add(number)
-        .min(18)
-    {
+    for _place in 0..number.min(18) {
         one = one.saturating_mul(10);
     }
     one
 }
 
+// Counts a call. One of a fourth rack or feed is counted with the third.
+fn count(counts: &[AtomicU64; 3], index: usize, number: u64) {
+    if let Some(counted) = counts.get(index.min(2)) {
+        counted.fetch_add(digit(number), Ordering::SeqCst);
+    }
+}
+
+fn counts_of(counts: &[AtomicU64; 3]) -> [u64; 3] {
+    let mut found = [0; 3];
+    for index in 0..3usize {
+        found[index] = counts[index].load(Ordering::SeqCst);
+    }
+    found
+}
+
 impl Pause for Calls {
     fn before(&self, rack: usize, number: u64) {
-        self.before.fetch_add(digit(rack, number), Ordering::SeqCst);
+        count(&self.before, rack, number);
     }
 
     fn after(&self, rack: usize, number: u64) {
-        self.after.fetch_add(digit(rack, number), Ordering::SeqCst);
+        count(&self.after, rack, number);
     }
 
     fn ahead(&self, rack: usize, feed: usize, position: usize) {
-        let digit = digit(rack.saturating_add(feed), position as u64);
-        self.ahead.fetch_add(digit, Ordering::SeqCst);
+        count(&self.ahead, rack.saturating_add(feed), position as u64);
     }
 
     fn behind(&self, rack: usize, feed: usize, position: usize) {
-        let digit = digit(rack.saturating_add(feed), position as u64);
-        self.behind.fetch_add(digit, Ordering::SeqCst);
+        count(&self.behind, rack.saturating_add(feed), position as u64);
     }
 }
 
@@ -47,18 +62,18 @@ impl Calls {
     /// No calls.
     pub(crate) fn new() -> Calls {
         Calls {
-            before: AtomicU64::new(0),
-            after: AtomicU64::new(0),
-            ahead: AtomicU64::new(0),
-            behind: AtomicU64::new(0),
+            before: three_zeros(),
+            after: three_zeros(),
+            ahead: three_zeros(),
+            behind: three_zeros(),
         }
     }
 
-    /// Whether these numbers name the requests that were drawn and answered, and the orders that were come to and passed.
-    pub(crate) fn are(&self, requests: u64, orders: u64) -> bool {
-        self.before.load(Ordering::SeqCst) == requests
-            && self.after.load(Ordering::SeqCst) == requests
-            && self.ahead.load(Ordering::SeqCst) == orders
-            && self.behind.load(Ordering::SeqCst) == orders
+    /// Asserts that these numbers name the requests that were drawn and answered, and the orders that were come to and passed.
+    pub(crate) fn assert_are(&self, rt: &impl Abort, requests: [u64; 3], orders: [u64; 3]) {
+        assert_eq!(rt; counts_of(&self.before), requests, "drawn");
+        assert_eq!(rt; counts_of(&self.after), requests, "answered");
+        assert_eq!(rt; counts_of(&self.ahead), orders, "come to");
+        assert_eq!(rt; counts_of(&self.behind), orders, "passed");
     }
 }

@@ -172,15 +172,14 @@ const MOST: &[u64] = &[
 ];
 
 #[test]
-fn feeds_in_batches_of_any_size_are_merged_up_to_a_close(
-    rt: HostRuntime,
-) -> Result<(), AllocError> {
+fn feeds_in_any_batches_are_merged_up_to_a_close(rt: HostRuntime) -> Result<(), AllocError> {
     for workers in WORKERS {
         for most in MOST {
             for feeds in RACKS {
                 let settings = (*workers, *most);
                 let whole = |answered: &Answered| is_whole(feeds, answered);
-                assert!(&rt; is_answered(&rt, rt.alloc(), feeds, settings, &NoPause, whole)?);
+                let is = is_answered(&rt, rt.alloc(), feeds, settings, &NoPause, whole)?;
+                assert!(&rt; is, "{feeds:?}, {workers} workers, batches of {most} bytes");
             }
         }
     }
@@ -199,14 +198,15 @@ fn has_four_or_five(answered: &Answered) -> bool {
 #[test]
 fn no_piece_is_run_after_a_close(rt: HostRuntime) -> Result<(), AllocError> {
     let feeds: &[&str] = &["ab.", "abcdabcd"];
-    assert!(&rt; is_answered(&rt, rt.alloc(), feeds, (2, 0), &NoPause, has_four_or_five)?);
+    let is = is_answered(&rt, rt.alloc(), feeds, (2, 0), &NoPause, has_four_or_five)?;
+    assert!(&rt; is, "neither four answers nor five");
     Ok(())
 }
 
 // Two feeds of four requests: the numbers 0 to 7, which both draw, and of each feed the positions 0 to 3.
-const ALL_NUMBERS: u64 = 11_111_111;
+const ALL_NUMBERS: [u64; 3] = [11_111_111, 0, 0];
 
-const ALL_POSITIONS: u64 = 111_101_111;
+const ALL_POSITIONS: [u64; 3] = [1_111, 1_111, 0];
 
 // However a rack of two feeds is cut, a pause is given each number of the rack once, and each position of each feed.
 #[test]
@@ -215,8 +215,9 @@ fn a_pause_is_given_the_numbers_of_both_feeds(rt: HostRuntime) -> Result<(), All
     for most in MOST {
         let calls = Calls::new();
         let whole = |answered: &Answered| is_whole(feeds, answered);
-        assert!(&rt; is_answered(&rt, rt.alloc(), feeds, (2, *most), &calls, whole)?);
-        assert!(&rt; calls.are(ALL_NUMBERS, ALL_POSITIONS), "{most}");
+        let is = is_answered(&rt, rt.alloc(), feeds, (2, *most), &calls, whole)?;
+        assert!(&rt; is, "batches of {most} bytes");
+        calls.assert_are(&rt, ALL_NUMBERS, ALL_POSITIONS);
     }
     Ok(())
 }

@@ -1,11 +1,12 @@
 //! Shelves whose calls fail, one at a time.
 use crate::shared::{
-    REPORT_WITHOUT_X1, REPORT_WITHOUT_X2, Run, fails, has_file, has_none, input_of, reads,
-    serve_failing, serve_onto, shelf_of, written,
+    REPORT_WITHOUT_X1, REPORT_WITHOUT_X2, Run, assert_fails, assert_file, assert_none,
+    assert_reads, input_of, serve_failing, serve_onto, shelf_of, written,
 };
 use farm_lists_tests::samples::{LIST, REPORT, REPORT_WITHOUT_PX};
 use farm_serving::{ListFault, MemoryShelf, ServeFault, Shelf, ShelfFault};
 use std::alloc::{AllocError, Global};
+use std::process::Abort;
 use std::sync::Wait;
 use std::thread::Threads;
 
@@ -17,16 +18,23 @@ const FRAGMENT_FILE: &str = "rack0-0.abc.x0";
 fn a_shelf_in_memory_fails_at_the_call_that_is_set(rt: HostRuntime) -> Result<(), AllocError> {
     let alloc = rt.alloc();
     let mut shelf = MemoryShelf::new(alloc);
-    assert!(&rt; shelf.failures() == 0);
-    assert!(&rt; written(&mut shelf, alloc, "a", b"four") == Ok(()));
+    assert_eq!(&rt; shelf.failures(), 0);
+    assert_eq!(&rt; written(&mut shelf, alloc, "a", b"four"), Ok(()));
     shelf.fail_at(1);
-    assert!(&rt; reads(&mut shelf, alloc, "a", 3, b"fou") && shelf.failures() == 0);
-    assert!(&rt; written(&mut shelf, alloc, "a", b"later") == Err(ShelfFault::Device));
-    assert!(&rt; has_file(&shelf, "a", b"la") && shelf.failures() == 1);
-    assert!(&rt; has_none(&mut shelf, alloc, "b", 3));
+    assert_reads(&rt, &mut shelf, alloc, "a", 3, b"fou");
+    assert_eq!(&rt; shelf.failures(), 0);
+    assert_eq!(&rt;
+        written(&mut shelf, alloc, "a", b"later"),
+        Err(ShelfFault::Device)
+    );
+    assert_file(&rt, &shelf, "a", b"la");
+    assert_eq!(&rt; shelf.failures(), 1);
+    assert_none(&rt, &mut shelf, alloc, "b");
     shelf.fail_at(0);
-    assert!(&rt; shelf.failures() == 1 && fails(&mut shelf, alloc, "a", 3));
-    assert!(&rt; has_file(&shelf, "a", b"la") && shelf.failures() == 2);
+    assert_eq!(&rt; shelf.failures(), 1);
+    assert_fails(&rt, &mut shelf, alloc, "a");
+    assert_file(&rt, &shelf, "a", b"la");
+    assert_eq!(&rt; shelf.failures(), 2);
     Ok(())
 }
 
@@ -43,17 +51,17 @@ const REPORTS: &[(u64, &[u8])] = &[
 fn a_failed_read_ends_serving_for_a_list_alone(rt: HostRuntime) -> Result<(), AllocError> {
     for call in 0..3 {
         let run = serve_failing(&rt, rt.alloc(), &[], call)?;
-        let ended = run.ended_with(ServeFault::Device, &[REPORT_FILE, FRAGMENT_FILE]);
-        assert!(&rt; ended && run.failures == 1, "call {call}");
+        run.assert_ended(&rt, ServeFault::Device, 1, &[REPORT_FILE, FRAGMENT_FILE]);
     }
     for (call, report) in REPORTS {
         let run = serve_failing(&rt, rt.alloc(), &[], *call)?;
-        let gave = run.gave(1, 1, &[(REPORT_FILE, report)], &[FRAGMENT_FILE]);
-        assert!(&rt; gave && run.failures == 1, "call {call}");
+        run.assert_gave(&rt, 1, 1, &[(REPORT_FILE, report)], &[FRAGMENT_FILE]);
+        assert_eq!(&rt; run.failures, 1, "call {call}");
     }
     let run = serve_failing(&rt, rt.alloc(), &[], 6)?;
-    let gave = run.gave(1, 1, &[(REPORT_FILE, REPORT), (FRAGMENT_FILE, b"abc")], &[]);
-    assert!(&rt; gave && run.failures == 0);
+    let files: &[(&str, &[u8])] = &[(REPORT_FILE, REPORT), (FRAGMENT_FILE, b"abc")];
+    run.assert_gave(&rt, 1, 1, files, &[]);
+    assert_eq!(&rt; run.failures, 0);
     Ok(())
 }
 
@@ -66,9 +74,9 @@ fn failed_read_leaves_the_output(rt: HostRuntime) -> Result<(), AllocError> {
         let mut output = shelf_of(rt.alloc(), &[(REPORT_FILE, b"kept")])?;
         output.fail_at(0);
         let run = serve_onto(&rt, rt.alloc(), (2, 1), &mut input, output);
-        assert!(&rt; run.ended_with(ServeFault::Device, &[FRAGMENT_FILE]));
-        assert!(&rt; run.failures == 1 && run.output.failures() == 0);
-        assert!(&rt; run.wrote(REPORT_FILE, b"kept"));
+        run.assert_ended(&rt, ServeFault::Device, 1, &[FRAGMENT_FILE]);
+        assert_eq!(&rt; run.output.failures(), 0, "call {call}");
+        run.assert_wrote(&rt, REPORT_FILE, b"kept");
     }
     Ok(())
 }
@@ -85,11 +93,17 @@ fn serve_onto_failing<R: Threads + Wait + Sync>(
     serve_onto(rt, alloc, (2, 1), &mut input, output)
 }
 
-// Whether the report was written as so many of the first bytes of this one.
-fn has_front(run: &Run, report: &[u8], count: usize) -> bool {
+// Asserts that the report was written as so many of the first bytes of this one.
+fn assert_front(rt: &impl Abort, run: &Run, report: &[u8], count: usize) {
     match run.output.file(REPORT_FILE) {
-        Some(front) => front.len() == count && report.starts_with(front),
-        None => false,
+        Some(front) => {
+            assert_eq!(rt; front.len(), count);
+            assert!(rt;
+                report.starts_with(front),
+                "other bytes than the report's first {count}"
+            );
+        }
+        None => panic!(rt; "there is no report"),
     }
 }
 
@@ -97,18 +111,27 @@ fn has_front(run: &Run, report: &[u8], count: usize) -> bool {
 #[test]
 fn a_failed_write_leaves_half_of_its_bytes(rt: HostRuntime) -> Result<(), AllocError> {
     let alloc = rt.alloc();
-    assert!(&rt; REPORT.len() == 135);
+    assert_eq!(&rt; REPORT.len(), 135);
     let run = serve_onto_failing(&rt, alloc, input_of(alloc, LIST)?, 0);
-    assert!(&rt; run.ended_with(ServeFault::Device, &[REPORT_FILE]));
-    assert!(&rt; run.wrote(FRAGMENT_FILE, b"a") && run.output.failures() == 1);
+    run.assert_ended(&rt, ServeFault::Device, 0, &[REPORT_FILE]);
+    run.assert_wrote(&rt, FRAGMENT_FILE, b"a");
+    assert_eq!(&rt; run.output.failures(), 1);
 
     let run = serve_onto_failing(&rt, alloc, input_of(alloc, LIST)?, 1);
-    assert!(&rt; run.ended_with(ServeFault::Device, &[]) && has_front(&run, REPORT, 67));
-    assert!(&rt; run.wrote(FRAGMENT_FILE, b"abc") && run.output.failures() == 1);
+    run.assert_ended(&rt, ServeFault::Device, 0, &[]);
+    assert_front(&rt, &run, REPORT, 67);
+    run.assert_wrote(&rt, FRAGMENT_FILE, b"abc");
+    assert_eq!(&rt; run.output.failures(), 1);
 
     let run = serve_onto_failing(&rt, alloc, input_of(alloc, LIST)?, 2);
-    assert!(&rt; run.gave(1, 1, &[(FRAGMENT_FILE, b"abc"), (REPORT_FILE, REPORT)], &[]));
-    assert!(&rt; run.output.failures() == 0);
+    run.assert_gave(
+        &rt,
+        1,
+        1,
+        &[(FRAGMENT_FILE, b"abc"), (REPORT_FILE, REPORT)],
+        &[],
+    );
+    assert_eq!(&rt; run.output.failures(), 0);
     Ok(())
 }
 
@@ -130,8 +153,7 @@ fn the_first_of_a_failed_read_and_a_refused_list_is_reported(
         } else {
             (refused, 0)
         };
-        assert!(&rt; run.ended_with(fault, &[REPORT_FILE]), "call {call}");
-        assert!(&rt; run.failures == failures, "call {call}");
+        run.assert_ended(&rt, fault, failures, &[REPORT_FILE]);
     }
     Ok(())
 }
@@ -142,8 +164,9 @@ fn failures_are_counted_at_their_own_devices(rt: HostRuntime) -> Result<(), Allo
     let mut input = input_of(rt.alloc(), LIST)?;
     input.fail_at(3);
     let run = serve_onto_failing(&rt, rt.alloc(), input, 0);
-    assert!(&rt; run.ended_with(ServeFault::Device, &[FRAGMENT_FILE]));
-    assert!(&rt; run.failures == 1 && run.output.failures() == 1);
-    assert!(&rt; REPORT_WITHOUT_X1.len() == 73 && has_front(&run, REPORT_WITHOUT_X1, 36));
+    run.assert_ended(&rt, ServeFault::Device, 1, &[FRAGMENT_FILE]);
+    assert_eq!(&rt; run.output.failures(), 1);
+    assert_eq!(&rt; REPORT_WITHOUT_X1.len(), 73);
+    assert_front(&rt, &run, REPORT_WITHOUT_X1, 36);
     Ok(())
 }

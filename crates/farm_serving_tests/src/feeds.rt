@@ -1,12 +1,13 @@
 //! Racks that are fed by several lists.
 use crate::shared::{
-    FRAGMENTS, Run, has_file, has_served, input_of, input_with, serve_failing, serve_shelf,
-    serve_with, shelf_of,
+    FRAGMENTS, Run, assert_file, input_of, input_with, serve_failing, serve_shelf, serve_with,
+    shelf_of,
 };
 use farm_core::Pause;
 use farm_lists_tests::samples::{LIST, REPORT};
-use farm_serving::{ListFault, MemoryShelf, ServeFault};
+use farm_serving::{ListFault, MemoryShelf, ServeFault, Served};
 use std::alloc::{AllocError, Global};
+use std::process::Abort;
 use std::sync::Wait;
 use std::sync::atomic::{AtomicBool, Ordering};
 use std::thread::{self, Threads};
@@ -34,14 +35,13 @@ const WIDE_LIST: &[u8] = b"order,stripe,target,length,survivors,code
 rebuild,abc,x0,3,x1 x2 x3 x4 x5 px,12-2-2
 ";
 
-// Whether the report of rack 0 is one of these.
-fn reported_one_of(run: &Run, reports: &[&[u8]]) -> bool {
-    for report in reports {
-        if run.wrote("rack0.report.csv", report) {
-            return true;
-        }
-    }
-    false
+// Asserts that the report of rack 0 is one of these.
+fn assert_reported_one_of(rt: &impl Abort, run: &Run, reports: &[&[u8]]) {
+    let Some(found) = run.output.file("rack0.report.csv") else {
+        panic!(rt; "there is no report");
+    };
+    let text = str::from_utf8(found);
+    assert!(rt; reports.iter().any(|report| *report == found), "{text:?}");
 }
 
 // Lists beside that of rack 0, and the report where its request alone is answered. Feeds after one that is absent aren't read.
@@ -66,7 +66,7 @@ fn feeds_without_requests_add_no_answers(rt: HostRuntime) -> Result<(), AllocErr
     for (lists, report) in WITHOUT_REQUESTS {
         let run = serve_failing(&rt, rt.alloc(), lists, NO_CALL)?;
         let files = [("rack0.report.csv", *report), ("rack0-0.abc.x0", b"abc")];
-        assert!(&rt; run.gave(1, 1, &files, &["rack0-1.abc.x0"]));
+        run.assert_gave(&rt, 1, 1, &files, &["rack0-1.abc.x0"]);
     }
     Ok(())
 }
@@ -91,7 +91,7 @@ fn requests_of_a_second_feed_are_answered(rt: HostRuntime) -> Result<(), AllocEr
         ("rack0.report.csv", REPORT_OF_TWO),
         ("rack0-0.abc.x0", b"abc"),
     ];
-    assert!(&rt; run.gave(1, 2, &files, &["rack0-1.abc.y0"]));
+    run.assert_gave(&rt, 1, 2, &files, &["rack0-1.abc.y0"]);
     Ok(())
 }
 
@@ -110,15 +110,16 @@ const SECOND_THEN_FIRST: &[u8] = b"number,feed,stripe,target,length,outcome,dige
 1,0,abc,x0,3,rebuilt,ba7816bf8f01cfea414140de5dae2223b00361a396177a9cb410ff61f20015ad,
 ";
 
-// Whether one feed was answered and the other closed the rack ahead of it.
-fn answered_one(run: &Run) -> bool {
-    run.gave(1, 1, &[], &["rack0-1.abc.x0"]) && reported_one_of(run, &[FED_REPORT, SECOND])
-}
-
-// Whether one feed was answered after the other.
-fn answered_both(run: &Run) -> bool {
-    run.gave(1, 2, &[("rack0-1.abc.x0", b"abc")], &[])
-        && reported_one_of(run, &[FIRST_THEN_SECOND, SECOND_THEN_FIRST])
+// Asserts that one feed was answered and the other closed the rack ahead of it, or one was answered after the other.
+fn assert_one_or_both(rt: &impl Abort, run: &Run) {
+    let second: &[(&str, &[u8])] = &[("rack0-1.abc.x0", b"abc")];
+    if run.output.file("rack0-1.abc.x0").is_none() {
+        run.assert_gave(rt, 1, 1, &[], &[]);
+        assert_reported_one_of(rt, run, &[FED_REPORT, SECOND]);
+    } else {
+        run.assert_gave(rt, 1, 2, second, &[]);
+        assert_reported_one_of(rt, run, &[FIRST_THEN_SECOND, SECOND_THEN_FIRST]);
+    }
 }
 
 // Each feed has a close after one request. Either feed is whole, and of the other none or one is answered, in any order.
@@ -127,8 +128,9 @@ fn of_two_feeds_with_closes_one_is_answered_whole(rt: HostRuntime) -> Result<(),
     let mut input = input_with(rt.alloc(), &[("rack0.feed1.csv", LIST)])?;
     for _ in 0..20 {
         let run = serve_shelf(&rt, rt.alloc(), &mut input);
-        assert!(&rt; answered_one(&run) || answered_both(&run));
-        assert!(&rt; run.wrote("rack0-0.abc.x0", b"abc") && run.left_out("rack0-2.abc.x0"));
+        assert_one_or_both(&rt, &run);
+        run.assert_wrote(&rt, "rack0-0.abc.x0", b"abc");
+        run.assert_absent(&rt, &["rack0-2.abc.x0"]);
     }
     Ok(())
 }
@@ -165,13 +167,14 @@ impl Pause for FirstCloses {
     }
 }
 
-// Whether no request is answered of a rack whose first feed closes it ahead of the second, which has this list, and the report is this.
-fn is_closed_by_first<R: Threads + Wait + Sync>(
+// Asserts that no request is answered of a rack whose first feed closes it ahead of the second, which has this list, and that the report
+// is this.
+fn assert_closed_by_first<R: Abort + Threads + Wait + Sync>(
     rt: &R,
     alloc: Global,
     second: &[u8],
     report: &[u8],
-) -> Result<bool, AllocError> {
+) -> Result<(), AllocError> {
     let mut input = shelf_of(alloc, &[("rack0.csv", CLOSE), ("rack0.feed1.csv", second)])?;
     for (name, bytes) in &FRAGMENTS {
         input.place(alloc, name, bytes)?;
@@ -182,19 +185,24 @@ fn is_closed_by_first<R: Threads + Wait + Sync>(
         missed: AtomicBool::new(false),
     };
     let served = serve_with(rt, alloc, (3, 1), &mut input, &mut output, &pause);
-    Ok(
-        has_served(&served, 1, 0)
-            && !pause.missed.load(Ordering::SeqCst)
-            && has_file(&output, "rack0.report.csv", report),
-    )
+    assert!(rt;
+        !pause.missed.load(Ordering::SeqCst),
+        "the second feeder was held in vain"
+    );
+    let none = Served {
+        racks: 1,
+        answers: 0,
+    };
+    assert_eq!(rt; served, Ok(none));
+    assert_file(rt, &output, "rack0.report.csv", report);
+    Ok(())
 }
 
 // The close of a feed is handed on. A request that is left without an answer still says that its rack has codes.
 #[test]
 fn close_of_a_feed_is_handed_on(rt: HostRuntime) -> Result<(), AllocError> {
-    assert!(&rt; is_closed_by_first(&rt, rt.alloc(), LIST, EMPTY_FED_REPORT)?);
-    assert!(&rt; is_closed_by_first(&rt, rt.alloc(), WIDE_LIST, EMPTY_WIDE_FED_REPORT)?);
-    Ok(())
+    assert_closed_by_first(&rt, rt.alloc(), LIST, EMPTY_FED_REPORT)?;
+    assert_closed_by_first(&rt, rt.alloc(), WIDE_LIST, EMPTY_WIDE_FED_REPORT)
 }
 
 // Lists beside that of rack 0, a call of their device that fails, and the fault. A list that is refused is reported before the next
@@ -257,8 +265,7 @@ const REFUSED: &[(&[(&str, &[u8])], u64, ServeFault)] = &[
 fn the_first_refused_feed_is_reported(rt: HostRuntime) -> Result<(), AllocError> {
     for (lists, call, fault) in REFUSED {
         let run = serve_failing(&rt, rt.alloc(), lists, *call)?;
-        assert!(&rt; run.ended_with(*fault, &["rack0.report.csv"]), "{fault}");
-        assert!(&rt; run.failures == 0, "{fault}");
+        run.assert_ended(&rt, *fault, 0, &["rack0.report.csv"]);
     }
     Ok(())
 }
@@ -284,13 +291,12 @@ const REPORTS: &[(u64, &[u8])] = &[
 fn a_failed_read_ends_serving_for_the_list_of_a_feed(rt: HostRuntime) -> Result<(), AllocError> {
     for (call, report) in REPORTS {
         let run = serve_failing(&rt, rt.alloc(), &[("rack0.feed1.csv", HEADER)], *call)?;
-        let gave = run.gave(1, 1, &[("rack0.report.csv", report)], &[]);
-        assert!(&rt; gave && run.failures == 1, "call {call}");
+        run.assert_gave(&rt, 1, 1, &[("rack0.report.csv", report)], &[]);
+        assert_eq!(&rt; run.failures, 1, "call {call}");
     }
     for call in 0..4 {
         let run = serve_failing(&rt, rt.alloc(), &[("rack0.feed1.csv", HEADER)], call)?;
-        let ended = run.ended_with(ServeFault::Device, &["rack0.report.csv"]);
-        assert!(&rt; ended && run.failures == 1, "call {call}");
+        run.assert_ended(&rt, ServeFault::Device, 1, &["rack0.report.csv"]);
     }
     Ok(())
 }
@@ -315,13 +321,13 @@ fn sixteen_racks_of_four_feeds_are_served(rt: HostRuntime) -> Result<(), AllocEr
     let mut input = most_lists(rt.alloc())?;
     input.fail_at(81);
     let run = serve_shelf(&rt, rt.alloc(), &mut input);
-    assert!(&rt; run.gave(16, 0, &[("rack15.report.csv", EMPTY_FED_REPORT)], &[]));
+    run.assert_gave(&rt, 16, 0, &[("rack15.report.csv", EMPTY_FED_REPORT)], &[]);
     input.fail_at(80);
     let run = serve_shelf(&rt, rt.alloc(), &mut input);
-    assert!(&rt; run.ended_with(ServeFault::Device, &[]));
+    run.assert_ended(&rt, ServeFault::Device, 1, &[]);
     input.place(rt.alloc(), "rack16.csv", HEADER)?;
     let run = serve_shelf(&rt, rt.alloc(), &mut input);
-    assert!(&rt; run.ended_with(ServeFault::TooManyRacks, &[]));
+    run.assert_ended(&rt, ServeFault::TooManyRacks, 1, &[]);
     Ok(())
 }
 
@@ -380,7 +386,7 @@ const FILES_OF_CODES: &[(&str, &[u8])] = &[
 fn racks_of_either_code_are_answered(rt: HostRuntime) -> Result<(), AllocError> {
     let mut input = input_of_both_codes(rt.alloc(), LISTS_OF_CODES)?;
     let run = serve_shelf(&rt, rt.alloc(), &mut input);
-    assert!(&rt; run.gave(4, 4, FILES_OF_CODES, &[]));
+    run.assert_gave(&rt, 4, 4, FILES_OF_CODES, &[]);
     Ok(())
 }
 
@@ -419,20 +425,14 @@ const WIDE_FIRST_WITHOUT_X4: &[u8] = b"number,feed,stripe,target,length,outcome,
 fn feeds_of_both_codes_are_answered_in_either_order(rt: HostRuntime) -> Result<(), AllocError> {
     let mut input = input_of_both_codes(rt.alloc(), EITHER_CODE)?;
     let run = serve_shelf(&rt, rt.alloc(), &mut input);
-    assert!(&rt;
-        run.gave(
-            1,
-            2,
-            &[("rack0-0.abc.x0", b"abc"), ("rack0-1.abc.x0", b"abc")],
-            &[]
-        )
-    );
-    assert!(&rt; reported_one_of(&run, &[NARROW_FIRST, WIDE_FIRST]));
+    let files: &[(&str, &[u8])] = &[("rack0-0.abc.x0", b"abc"), ("rack0-1.abc.x0", b"abc")];
+    run.assert_gave(&rt, 1, 2, files, &[]);
+    assert_reported_one_of(&rt, &run, &[NARROW_FIRST, WIDE_FIRST]);
 
     input.place(rt.alloc(), "abc.x4", b"")?;
     let run = serve_shelf(&rt, rt.alloc(), &mut input);
-    assert!(&rt; run.has_served(1, 2));
-    assert!(&rt; reported_one_of(&run, &[NARROW_FIRST_WITHOUT_X4, WIDE_FIRST_WITHOUT_X4]));
+    run.assert_gave(&rt, 1, 2, &[], &[]);
+    assert_reported_one_of(&rt, &run, &[NARROW_FIRST_WITHOUT_X4, WIDE_FIRST_WITHOUT_X4]);
     Ok(())
 }
 

@@ -1,14 +1,21 @@
 //! One run over real folders, which the test makes where it runs.
-use crate::shared::{FRAGMENTS, has_none, has_served, reads, serve_with, written};
+use crate::shared::{FRAGMENTS, assert_none, assert_reads, serve_with, written};
 use farm_core::{NoPause, Settings};
 use farm_lists_tests::samples::{LIST, REPORT};
-use farm_serving::{FolderShelf, Folders, ServeFault, Shelf, ShelfFault, serve_folders};
+use farm_serving::{FolderShelf, Folders, ServeFault, Served, Shelf, ShelfFault, serve_folders};
 use farm_shelves::read_front;
 use std::alloc::{AllocError, Global};
 use std::fs;
 use std::io::{self, ErrorKind, Read};
+use std::process::Abort;
 use std::rt::Files;
 use std::sync::atomic::{AtomicU64, Ordering};
+
+// What is served of the list.
+const ONE: Served = Served {
+    racks: 1,
+    answers: 1,
+};
 
 // A folder with the list and its fragments, and an empty one.
 fn make_folders<R: Files>(
@@ -37,10 +44,10 @@ fn a_run_over_folders_writes_its_files(rt: HostRuntime) -> Result<(), AllocError
     let mut input = FolderShelf::open(&rt, alloc, "served/in")?;
     let mut output = FolderShelf::open(&rt, alloc, "served/out")?;
     let served = serve_with(&rt, alloc, (1, 1), &mut input, &mut output, &NoPause);
-    assert!(&rt; has_served(&served, 1, 1));
-    assert!(&rt; reads(&mut output, alloc, "rack0.report.csv", 1000, REPORT));
-    assert!(&rt; reads(&mut output, alloc, "rack0-0.abc.x0", 2, b"ab"));
-    assert!(&rt; output.failures() == 0);
+    assert_eq!(&rt; served, Ok(ONE));
+    assert_reads(&rt, &mut output, alloc, "rack0.report.csv", 1000, REPORT);
+    assert_reads(&rt, &mut output, alloc, "rack0-0.abc.x0", 2, b"ab");
+    assert_eq!(&rt; output.failures(), 0);
     Ok(())
 }
 
@@ -54,28 +61,34 @@ fn the_first_folder_is_read_and_the_second_written(rt: HostRuntime) -> Result<()
         return Err(AllocError);
     };
     let served = serve_folders(&rt, &rt, alloc, "ordered/in", "ordered/out", settings);
-    assert!(&rt; has_served(&served, 1, 1));
+    assert_eq!(&rt; served, Ok(ONE));
     let mut folders = Folders::open(&rt, alloc, "ordered/in", "ordered/out")?;
-    assert!(&rt; folders.output.path() == "ordered/out");
-    assert!(&rt; reads(&mut folders.output, alloc, "rack0.report.csv", 1000, REPORT));
-    assert!(&rt; has_none(&mut folders.input, alloc, "rack0.report.csv", 1000));
+    assert_eq!(&rt; folders.output.path(), "ordered/out");
+    assert_reads(
+        &rt,
+        &mut folders.output,
+        alloc,
+        "rack0.report.csv",
+        1000,
+        REPORT,
+    );
+    assert_none(&rt, &mut folders.input, alloc, "rack0.report.csv");
     Ok(())
 }
 
-// Whether a folder's shelf, over any runtime, gives a whole file that was written by it, and its first bytes up to a limit.
-fn gives_what_was_written<R: Files + Clone + Drop>(
+// Asserts that a folder's shelf, over any runtime, gives a whole file that was written by it, and its first bytes up to a limit.
+fn assert_gives_what_was_written<R: Abort + Files + Clone + Drop>(
     rt: &R,
     alloc: Global,
     folder: &str,
     bytes: &[u8],
-) -> Result<bool, AllocError> {
+) -> Result<(), AllocError> {
     let mut shelf = FolderShelf::open(rt, alloc, folder)?;
-    Ok(
-        written(&mut shelf, alloc, "a", bytes) == Ok(())
-            && reads(&mut shelf, alloc, "a", usize::MAX, bytes)
-            && reads(&mut shelf, alloc, "a", 3, &bytes[..bytes.len().min(3)])
-            && shelf.failures() == 0,
-    )
+    assert_eq!(rt; written(&mut shelf, alloc, "a", bytes), Ok(()));
+    assert_reads(rt, &mut shelf, alloc, "a", usize::MAX, bytes);
+    assert_reads(rt, &mut shelf, alloc, "a", 3, &bytes[..bytes.len().min(3)]);
+    assert_eq!(rt; shelf.failures(), 0);
+    Ok(())
 }
 
 // A file of more bytes than a fragment or a block of the system's has is written whole, and a shorter one in its place leaves none of them.
@@ -87,10 +100,9 @@ fn a_long_file_is_written_whole(rt: HostRuntime) -> Result<(), AllocError> {
     for number in 0..200_003u32 {
         bytes.push((number % 251) as u8)?;
     }
-    assert!(&rt; gives_what_was_written(&rt, alloc, "long", bytes.as_slice())?);
+    assert_gives_what_was_written(&rt, alloc, "long", bytes.as_slice())?;
     bytes.truncate(65_537);
-    assert!(&rt; gives_what_was_written(&rt, alloc, "long", bytes.as_slice())?);
-    Ok(())
+    assert_gives_what_was_written(&rt, alloc, "long", bytes.as_slice())
 }
 
 // A list that is a folder can't be read: that is a failure of the input's device, and nothing is written.
@@ -102,9 +114,9 @@ fn a_list_that_is_a_folder_fails_the_input(rt: HostRuntime) -> Result<(), AllocE
     let mut input = FolderShelf::open(&rt, alloc, "unread/in")?;
     let mut output = FolderShelf::open(&rt, alloc, "unread/out")?;
     let served = serve_with(&rt, alloc, (1, 1), &mut input, &mut output, &NoPause);
-    assert!(&rt; served == Err(ServeFault::Device));
-    assert!(&rt; input.failures() == 1 && output.failures() == 0);
-    assert!(&rt; has_none(&mut output, alloc, "rack0.report.csv", 1000));
+    assert_eq!(&rt; served, Err(ServeFault::Device));
+    assert_eq!(&rt; (input.failures(), output.failures()), (1, 0));
+    assert_none(&rt, &mut output, alloc, "rack0.report.csv");
     Ok(())
 }
 
@@ -113,10 +125,14 @@ fn a_list_that_is_a_folder_fails_the_input(rt: HostRuntime) -> Result<(), AllocE
 fn an_absent_folder_has_no_files_and_takes_none(rt: HostRuntime) -> Result<(), AllocError> {
     let alloc = rt.alloc();
     let mut shelf = FolderShelf::open(&rt, alloc, "no such folder")?;
-    assert!(&rt; shelf.failures() == 0);
-    assert!(&rt; has_none(&mut shelf, alloc, "a", 10) && shelf.failures() == 0);
-    assert!(&rt; written(&mut shelf, alloc, "a", b"x") == Err(ShelfFault::Device));
-    assert!(&rt; shelf.failures() == 1);
+    assert_eq!(&rt; shelf.failures(), 0);
+    assert_none(&rt, &mut shelf, alloc, "a");
+    assert_eq!(&rt; shelf.failures(), 0);
+    assert_eq!(&rt;
+        written(&mut shelf, alloc, "a", b"x"),
+        Err(ShelfFault::Device)
+    );
+    assert_eq!(&rt; shelf.failures(), 1);
     Ok(())
 }
 
@@ -172,10 +188,7 @@ const DRIPS: &[(usize, usize, usize, usize, u64)] = &[
 fn a_fragment_takes_two_reads(rt: HostRuntime) {
     for (left, step, limit, count, calls) in DRIPS {
         let read = read_drip(rt.alloc(), *left, *step, *limit);
-        assert!(&rt;
-            read == (Ok(*count), *calls),
-            "{left} bytes, at most {limit}"
-        );
+        assert_eq!(&rt; read, (Ok(*count), *calls), "{left} bytes, at most {limit}");
     }
 }
 
@@ -183,11 +196,11 @@ fn a_fragment_takes_two_reads(rt: HostRuntime) {
 #[test]
 fn reads_of_single_bytes_end_at_a_limit(rt: HostRuntime) {
     let read = read_drip(rt.alloc(), 16_777_215, 1, usize::MAX);
-    assert!(&rt; read == (Ok(16_777_215), 16_777_216));
+    assert_eq!(&rt; read, (Ok(16_777_215), 16_777_216));
     let read = read_drip(rt.alloc(), 16_777_217, 1, 16_777_216);
-    assert!(&rt; read == (Ok(16_777_216), 16_777_216));
+    assert_eq!(&rt; read, (Ok(16_777_216), 16_777_216));
     let read = read_drip(rt.alloc(), 16_777_217, 1, usize::MAX);
-    assert!(&rt; read == (Err(ShelfFault::Device), 16_777_216));
+    assert_eq!(&rt; read, (Err(ShelfFault::Device), 16_777_216));
 }
 
 // A reader that gives three bytes, one a call, and whose call of one number fails with an error of this kind.
@@ -239,8 +252,9 @@ const FAULTS: &[(ErrorKind, ShelfFault)] = &[
 fn interrupted_reads_alone_are_made_again(rt: HostRuntime) {
     for fails_at in 0..4u64 {
         match read_failing(rt.alloc(), fails_at, ErrorKind::Interrupted) {
-            Ok(bytes) => assert!(&rt;
-                bytes.as_slice() == [1u8, 2, 3].as_slice(),
+            Ok(bytes) => assert_eq!(&rt;
+                bytes.as_slice(),
+                [1u8, 2, 3].as_slice(),
                 "call {fails_at}"
             ),
             Err(_) => panic!(&rt; "call {fails_at} is interrupted"),
@@ -248,7 +262,7 @@ fn interrupted_reads_alone_are_made_again(rt: HostRuntime) {
         for (kind, fault) in FAULTS {
             match read_failing(rt.alloc(), fails_at, *kind) {
                 Ok(_) => panic!(&rt; "call {fails_at} fails"),
-                Err(e) => assert!(&rt; e == *fault, "call {fails_at}"),
+                Err(e) => assert_eq!(&rt; e, *fault, "call {fails_at}"),
             }
         }
     }

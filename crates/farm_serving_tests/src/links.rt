@@ -1,11 +1,12 @@
 //! Links in a folder, and what they lead to: files, folders, nothing, and each other.
-use crate::shared::{fails, has_none, has_served, reads, serve_with, written};
+use crate::shared::{assert_fails, assert_none, assert_reads, serve_with, written};
 use farm_core::NoPause;
 use farm_lists_tests::samples::LIST;
-use farm_serving::{FolderShelf, ReadAheadShelf, ServeFault, Shelf, ShelfFault};
+use farm_serving::{FolderShelf, ReadAheadShelf, ServeFault, Served, Shelf, ShelfFault};
 use std::alloc::{AllocError, Global};
 use std::fs;
 use std::os::unix::fs::symlink;
+use std::process::Abort;
 use std::rt::Files;
 
 // A folder with a file `there`, a folder `folder`, and links to both, to nothing and to each other.
@@ -52,17 +53,19 @@ fn all_names(alloc: Global) -> Result<Vec<(String, usize)>, AllocError> {
     Ok(names)
 }
 
-// Whether a name of the folder is read as it must be.
-fn is_as_named<S: Shelf>(shelf: &mut S, alloc: Global, name: &str) -> bool {
+// Asserts that a name of the folder is read as it must be.
+fn assert_as_named<S: Shelf>(rt: &impl Abort, shelf: &mut S, alloc: Global, name: &str) {
     let failures = shelf.failures();
     if FAILING.contains(&name) {
-        return fails(shelf, alloc, name, 2) && shelf.failures() == failures.saturating_add(1);
+        assert_fails(rt, shelf, alloc, name);
+        assert_eq!(rt; shelf.failures(), failures.saturating_add(1), "{name}");
+        return;
     }
-    let read = match name {
-        "absent" | "to-nothing" => has_none(shelf, alloc, name, 2),
-        _ => reads(shelf, alloc, name, 2, b"ab"),
-    };
-    read && shelf.failures() == failures
+    match name {
+        "absent" | "to-nothing" => assert_none(rt, shelf, alloc, name),
+        _ => assert_reads(rt, shelf, alloc, name, 2, b"ab"),
+    }
+    assert_eq!(rt; shelf.failures(), failures, "{name}");
 }
 
 // A file is absent only where nothing is found under its name. Links are followed, and what is no regular file isn't read.
@@ -73,7 +76,7 @@ fn links_are_followed_to_regular_files_alone(rt: HostRuntime) -> Result<(), Allo
     let names = all_names(alloc)?;
     let mut shelf = FolderShelf::open(&rt, alloc, "links/read")?;
     for (name, _) in names.iter() {
-        assert!(&rt; is_as_named(&mut shelf, alloc, name.as_str()), "{name}");
+        assert_as_named(&rt, &mut shelf, alloc, name.as_str());
     }
     Ok(())
 }
@@ -88,7 +91,7 @@ fn links_are_read_ahead_as_they_are_read(rt: HostRuntime) -> Result<(), AllocErr
         let mut shelf = ReadAheadShelf::open(&rt, alloc, "links/ahead")?;
         shelf.read_ahead(&rt, alloc, names.as_slice(), threads);
         for (name, _) in names.iter() {
-            assert!(&rt; is_as_named(&mut shelf, alloc, name.as_str()), "{name}");
+            assert_as_named(&rt, &mut shelf, alloc, name.as_str());
         }
     }
     Ok(())
@@ -103,15 +106,12 @@ fn writes_by_links_reach_regular_files_alone(rt: HostRuntime) -> Result<(), Allo
     for name in FAILING {
         let failures = shelf.failures();
         let answer = written(&mut shelf, alloc, name, b"new");
-        assert!(&rt; answer == Err(ShelfFault::Device), "{name}");
-        assert!(&rt; shelf.failures() == failures.saturating_add(1), "{name}");
+        assert_eq!(&rt; answer, Err(ShelfFault::Device), "{name}");
+        assert_eq!(&rt; shelf.failures(), failures.saturating_add(1), "{name}");
     }
     for (name, leads_to) in &[("to-link", "there"), ("to-nothing", "nowhere")] {
-        assert!(&rt; written(&mut shelf, alloc, name, name.as_bytes()) == Ok(()));
-        assert!(&rt;
-            reads(&mut shelf, alloc, leads_to, 100, name.as_bytes()),
-            "{name}"
-        );
+        assert_eq!(&rt; written(&mut shelf, alloc, name, name.as_bytes()), Ok(()));
+        assert_reads(&rt, &mut shelf, alloc, leads_to, 100, name.as_bytes());
     }
     Ok(())
 }
@@ -135,9 +135,13 @@ fn lists_that_are_links_are_read_or_end_serving(rt: HostRuntime) -> Result<(), A
         let run = serve_with(&rt, alloc, (1, 1), &mut input, &mut output, &NoPause);
         match served {
             Ok((racks, answers)) => {
-                assert!(&rt; has_served(&run, *racks, *answers), "{first}, {second}")
+                let served = Served {
+                    racks: *racks,
+                    answers: *answers,
+                };
+                assert_eq!(&rt; run, Ok(served), "{first}, {second}");
             }
-            Err(fault) => assert!(&rt; run == Err(*fault), "{first}, {second}"),
+            Err(fault) => assert_eq!(&rt; run, Err(*fault), "{first}, {second}"),
         }
     }
     Ok(())

@@ -1,7 +1,7 @@
 //! Serving where memory or a thread is refused.
 ghost use Rattle.std.specs.Prelude.{None};
 
-use crate::shared::{has_file, input_of, serve_with, written};
+use crate::shared::{assert_file, input_of, serve_with, written};
 use farm_core::NoPause;
 use farm_lists_tests::samples::LIST;
 use farm_serving::{MemoryShelf, ServeFault, Shelf, ShelfFault};
@@ -58,12 +58,13 @@ fn serve_counting<R: Abort + Threads + Wait + Sync>(
     let served = serve_with(rt, alloc, (workers, 1), &mut input, &mut output, &NoPause);
     match served {
         Ok(_) => {
-            assert!(rt; output.writes == 4);
+            assert_eq!(rt; output.writes, 4);
             Ok(())
         }
         Err(fault) => {
-            assert!(rt; matches!(fault, ServeFault::OutOfMemory | ServeFault::NoThread));
-            assert!(rt; output.writes == 0);
+            let refused = matches!(fault, ServeFault::OutOfMemory | ServeFault::NoThread);
+            assert!(rt; refused, "{fault}");
+            assert_eq!(rt; output.writes, 0);
             Err(AllocError)
         }
     }
@@ -89,12 +90,14 @@ fn a_failed_write_without_memory_changes_nothing(rt: HostRuntime) -> Result<(), 
     shelf.fail_at(0);
     match written(&mut shelf, alloc, "a", b"other") {
         Err(ShelfFault::Device) => {
-            assert!(&rt; has_file(&shelf, "a", b"ot") && shelf.failures() == 1);
+            assert_file(&rt, &shelf, "a", b"ot");
+            assert_eq!(&rt; shelf.failures(), 1);
             Ok(())
         }
         other => {
-            assert!(&rt; other == Err(ShelfFault::OutOfMemory));
-            assert!(&rt; has_file(&shelf, "a", b"kept") && shelf.failures() == 0);
+            assert_eq!(&rt; other, Err(ShelfFault::OutOfMemory));
+            assert_file(&rt, &shelf, "a", b"kept");
+            assert_eq!(&rt; shelf.failures(), 0);
             Err(AllocError)
         }
     }

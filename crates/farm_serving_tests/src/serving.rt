@@ -1,13 +1,13 @@
 //! Whole runs of `serve` over shelves in memory.
 use crate::shared::{
-    has_file, has_served, input_of, input_with, serve_files, serve_onto, serve_shelf, serve_with,
-    shelf_of,
+    assert_file, input_of, input_with, serve_files, serve_onto, serve_shelf, serve_with, shelf_of,
 };
 use farm_core::Pause;
 use farm_lists_tests::samples::{EMPTY_REPORT, LIST, REPORT, REPORT_WITHOUT_PX};
-use farm_serving::{ListFault, MemoryShelf, ServeFault, Shelf};
+use farm_serving::{ListFault, MemoryShelf, ServeFault, Served, Shelf};
 use lrc_code::RequestFault;
 use std::alloc::{AllocError, Global};
+use std::process::Abort;
 use std::sync::Wait;
 use std::sync::atomic::{AtomicU64, Ordering};
 use std::thread::Threads;
@@ -30,8 +30,8 @@ fn a_fragment_and_its_report_are_written(rt: HostRuntime) -> Result<(), AllocErr
         let mut input = input_of(rt.alloc(), LIST)?;
         let output = shelf_of(rt.alloc(), standing)?;
         let run = serve_onto(&rt, rt.alloc(), *settings, &mut input, output);
-        assert!(&rt; run.gave(1, 1, files, &["rack0-1.abc.x0"]));
-        assert!(&rt; has_file(&input, "rack0.csv", LIST));
+        run.assert_gave(&rt, 1, 1, files, &["rack0-1.abc.x0"]);
+        assert_file(&rt, &input, "rack0.csv", LIST);
     }
     Ok(())
 }
@@ -53,38 +53,39 @@ fn marked_list(alloc: Global) -> Result<Vec<u8>, AllocError> {
 fn carriage_returns_and_a_mark_change_nothing(rt: HostRuntime) -> Result<(), AllocError> {
     let mut input = input_of(rt.alloc(), marked_list(rt.alloc())?.as_slice())?;
     let run = serve_shelf(&rt, rt.alloc(), &mut input);
-    assert!(&rt; run.gave(1, 1, &[("rack0.report.csv", REPORT)], &[]));
+    run.assert_gave(&rt, 1, 1, &[("rack0.report.csv", REPORT)], &[]);
     Ok(())
 }
 
-// Whether the survivor px is left out and named, where these files are there beside the list and the other two survivors.
-fn leaves_px_out<R: Threads + Wait + Sync>(
+// Asserts that the survivor px is left out and named, where these files are there beside the list and the other two survivors.
+fn assert_px_left_out<R: Abort + Threads + Wait + Sync>(
     rt: &R,
     alloc: Global,
     files: &[(&str, &[u8])],
-) -> Result<bool, AllocError> {
+) -> Result<(), AllocError> {
     let mut input = shelf_of(alloc, files)?;
     input.place(alloc, "rack0.csv", LIST)?;
     input.place(alloc, "abc.x1", &[0, 0, 0])?;
     input.place(alloc, "abc.x2", &[0, 0, 0])?;
     let run = serve_shelf(rt, alloc, &mut input);
-    Ok(run.gave(
+    run.assert_gave(
+        rt,
         1,
         1,
         &[("rack0.report.csv", REPORT_WITHOUT_PX)],
         &["rack0-0.abc.x0"],
-    ))
+    );
+    Ok(())
 }
 
 // A listed survivor that is absent or hasn't the listed length is left out and named.
 #[test]
 fn survivors_of_another_length_are_left_out(rt: HostRuntime) -> Result<(), AllocError> {
     let alloc = rt.alloc();
-    assert!(&rt; leaves_px_out(&rt, alloc, &[])?);
-    assert!(&rt; leaves_px_out(&rt, alloc, &[("abc.px", b"")])?);
-    assert!(&rt; leaves_px_out(&rt, alloc, &[("abc.px", b"ab")])?);
-    assert!(&rt; leaves_px_out(&rt, alloc, &[("abc.px", b"abcd")])?);
-    Ok(())
+    assert_px_left_out(&rt, alloc, &[])?;
+    assert_px_left_out(&rt, alloc, &[("abc.px", b"")])?;
+    assert_px_left_out(&rt, alloc, &[("abc.px", b"ab")])?;
+    assert_px_left_out(&rt, alloc, &[("abc.px", b"abcd")])
 }
 
 // Contradictions and requests of several racks, and what is written for them; the digest is that of the byte 01.
@@ -122,7 +123,7 @@ const FILES_OF_RACKS: &[(&str, &[u8])] = &[
 #[test]
 fn each_rack_has_its_own_report(rt: HostRuntime) -> Result<(), AllocError> {
     let run = serve_files(&rt, rt.alloc(), RACKS)?;
-    assert!(&rt; run.gave(2, 3, FILES_OF_RACKS, &[]));
+    run.assert_gave(&rt, 2, 3, FILES_OF_RACKS, &[]);
     Ok(())
 }
 
@@ -197,7 +198,7 @@ fn digests_are_the_same_with_any_number_of_workers(rt: HostRuntime) -> Result<()
     for workers in WORKERS {
         let output = MemoryShelf::new(rt.alloc());
         let run = serve_onto(&rt, rt.alloc(), (*workers, 1), &mut input, output);
-        assert!(&rt; run.gave(3, 6, REPORTS, &[]));
+        run.assert_gave(&rt, 3, 6, REPORTS, &[]);
     }
     Ok(())
 }
@@ -229,9 +230,13 @@ fn the_pause_is_handed_on(rt: HostRuntime) -> Result<(), AllocError> {
         after: AtomicU64::new(0),
     };
     let served = serve_with(&rt, rt.alloc(), (2, 1), &mut input, &mut output, &pause);
-    assert!(&rt; has_served(&served, 2, 2));
-    assert!(&rt; pause.before.load(Ordering::SeqCst) == 2);
-    assert!(&rt; pause.after.load(Ordering::SeqCst) == 2);
+    let two = Served {
+        racks: 2,
+        answers: 2,
+    };
+    assert_eq!(&rt; served, Ok(two));
+    assert_eq!(&rt; pause.before.load(Ordering::SeqCst), 2);
+    assert_eq!(&rt; pause.after.load(Ordering::SeqCst), 2);
     Ok(())
 }
 
@@ -239,7 +244,7 @@ fn the_pause_is_handed_on(rt: HostRuntime) -> Result<(), AllocError> {
 fn a_list_without_requests_has_an_empty_report(rt: HostRuntime) -> Result<(), AllocError> {
     let mut input = input_of(rt.alloc(), HEADER)?;
     let run = serve_shelf(&rt, rt.alloc(), &mut input);
-    assert!(&rt; run.gave(1, 0, &[("rack0.report.csv", EMPTY_REPORT)], &[]));
+    run.assert_gave(&rt, 1, 0, &[("rack0.report.csv", EMPTY_REPORT)], &[]);
     Ok(())
 }
 
@@ -247,7 +252,7 @@ fn a_list_without_requests_has_an_empty_report(rt: HostRuntime) -> Result<(), Al
 fn without_a_first_list_there_are_no_racks(rt: HostRuntime) -> Result<(), AllocError> {
     let files: &[(&str, &[u8])] = &[("rack1.csv", HEADER), ("rack00.csv", HEADER)];
     let run = serve_files(&rt, rt.alloc(), files)?;
-    assert!(&rt; run.ended_with(ServeFault::NoRacks, &["rack1.report.csv"]));
+    run.assert_ended(&rt, ServeFault::NoRacks, 0, &["rack1.report.csv"]);
     Ok(())
 }
 
@@ -265,10 +270,10 @@ fn empty_lists(alloc: Global, racks: usize) -> Result<MemoryShelf, AllocError> {
 fn sixteen_racks_are_served(rt: HostRuntime) -> Result<(), AllocError> {
     let mut input = empty_lists(rt.alloc(), 16)?;
     let run = serve_shelf(&rt, rt.alloc(), &mut input);
-    assert!(&rt; run.gave(16, 0, &[], &["rack16.report.csv"]));
+    run.assert_gave(&rt, 16, 0, &[], &["rack16.report.csv"]);
     for rack in 0..16 {
         let name = format!(in rt.alloc(); "rack{rack}.report.csv")?;
-        assert!(&rt; run.wrote(&name, EMPTY_REPORT));
+        run.assert_wrote(&rt, &name, EMPTY_REPORT);
     }
     Ok(())
 }
@@ -278,7 +283,7 @@ fn sixteen_racks_are_served(rt: HostRuntime) -> Result<(), AllocError> {
 fn seventeen_racks_are_refused_after_their_lists(rt: HostRuntime) -> Result<(), AllocError> {
     let mut input = empty_lists(rt.alloc(), 17)?;
     let run = serve_shelf(&rt, rt.alloc(), &mut input);
-    assert!(&rt; run.ended_with(ServeFault::TooManyRacks, &["rack0.report.csv"]));
+    run.assert_ended(&rt, ServeFault::TooManyRacks, 0, &["rack0.report.csv"]);
 
     input.place(rt.alloc(), "rack3.csv", b"x")?;
     let run = serve_shelf(&rt, rt.alloc(), &mut input);
@@ -287,7 +292,7 @@ fn seventeen_racks_are_refused_after_their_lists(rt: HostRuntime) -> Result<(), 
         feed: 0,
         fault: ListFault::BadHeader,
     };
-    assert!(&rt; run.ended_with(fault, &["rack0.report.csv"]));
+    run.assert_ended(&rt, fault, 0, &["rack0.report.csv"]);
     Ok(())
 }
 
@@ -319,8 +324,8 @@ fn a_refused_list_is_reported_and_nothing_written(rt: HostRuntime) -> Result<(),
             feed: 0,
             fault: *fault,
         };
-        assert!(&rt; run.ended_with(fault, absent), "{fault}");
-        assert!(&rt; run.failures == 0 && run.output.failures() == 0);
+        run.assert_ended(&rt, fault, 0, absent);
+        assert_eq!(&rt; run.output.failures(), 0, "{fault}");
     }
     Ok(())
 }

@@ -6,6 +6,7 @@ use farm_serving::{
     read_lists, serve,
 };
 use std::alloc::{AllocError, Global};
+use std::process::Abort;
 use std::sync::Wait;
 use std::thread::Threads;
 
@@ -79,100 +80,112 @@ pub(crate) struct Run {
 }
 
 impl Run {
-    /// Whether so many racks were served, with so many answers.
-    pub(crate) fn has_served(&self, racks: usize, answers: u64) -> bool {
-        has_served(&self.served, racks, answers)
-    }
-
-    /// Whether so many racks were served, with so many answers, the files of these names have these bytes, and there are none of
-    /// the other names.
-    pub(crate) fn gave(
+    /// Asserts that so many racks were served, with so many answers, that the files of these names have these bytes, and that there are
+    /// none of the other names.
+    pub(crate) fn assert_gave(
         &self,
+        rt: &impl Abort,
         racks: usize,
         answers: u64,
         files: &[(&str, &[u8])],
         absent: &[&str],
-    ) -> bool {
+    ) {
+        assert_eq!(rt; self.served, Ok(Served { racks, answers }));
         for (name, bytes) in files {
-            if !self.wrote(name, bytes) {
-                return false;
-            }
+            self.assert_wrote(rt, name, bytes);
         }
-        self.has_served(racks, answers) && self.left_out_all(absent)
+        self.assert_absent(rt, absent);
     }
 
-    /// Whether serving ended with this fault, and there are no files of these names.
-    pub(crate) fn ended_with(&self, fault: ServeFault, absent: &[&str]) -> bool {
-        self.served == Err(fault) && self.left_out_all(absent)
+    /// Asserts that serving ended with this fault, that the device that was read from failed so often, and that there are no files of these
+    /// names.
+    pub(crate) fn assert_ended(
+        &self,
+        rt: &impl Abort,
+        fault: ServeFault,
+        failures: u64,
+        absent: &[&str],
+    ) {
+        assert_eq!(rt; self.served, Err(fault));
+        assert_eq!(rt; self.failures, failures, "{fault}");
+        self.assert_absent(rt, absent);
     }
 
-    fn left_out_all(&self, absent: &[&str]) -> bool {
+    /// Asserts that no files of these names were written.
+    pub(crate) fn assert_absent(&self, rt: &impl Abort, absent: &[&str]) {
         for name in absent {
-            if !self.left_out(name) {
-                return false;
-            }
+            assert!(rt; self.output.file(name).is_none(), "{name} was written");
         }
-        true
     }
 
-    /// Whether a file of this name was written, with these bytes.
-    pub(crate) fn wrote(&self, name: &str, bytes: &[u8]) -> bool {
-        has_file(&self.output, name, bytes)
-    }
-
-    /// Whether no file of this name was written.
-    pub(crate) fn left_out(&self, name: &str) -> bool {
-        self.output.file(name).is_none()
+    /// Asserts that a file of this name was written, with these bytes.
+    pub(crate) fn assert_wrote(&self, rt: &impl Abort, name: &str, bytes: &[u8]) {
+        assert_file(rt, &self.output, name, bytes);
     }
 }
 
-/// Whether so many racks were served, with so many answers.
-pub(crate) fn has_served(served: &Result<Served, ServeFault>, racks: usize, answers: u64) -> bool {
-    match served {
-        Ok(served) => served.racks == racks && served.answers == answers,
-        Err(_) => false,
-    }
+// Asserts that a file has these bytes, and shows both as text where it hasn't.
+fn assert_bytes(rt: &impl Abort, name: &str, found: &[u8], bytes: &[u8]) {
+    assert!(rt;
+        found == bytes,
+        "{name} has {:?} and not {:?}",
+        str::from_utf8(found),
+        str::from_utf8(bytes)
+    );
 }
 
-/// Whether the shelf has a file of this name with these bytes.
-pub(crate) fn has_file(shelf: &MemoryShelf, name: &str, bytes: &[u8]) -> bool {
+/// Asserts that the shelf has a file of this name with these bytes.
+pub(crate) fn assert_file(rt: &impl Abort, shelf: &MemoryShelf, name: &str, bytes: &[u8]) {
     match shelf.file(name) {
-        Some(found) => found == bytes,
-        None => false,
+        Some(found) => assert_bytes(rt, name, found, bytes),
+        None => panic!(rt; "there is no file {name}"),
     }
 }
 
-/// Whether the first bytes of a file of the shelf, as many as the limit, are read as these.
-pub(crate) fn reads<S: Shelf>(
+// What a read of at most so many bytes gives on a shelf that failed `MOST_FAILURES` times at most.
+fn read<S: Shelf>(
+    shelf: &mut S,
+    alloc: Global,
+    name: &str,
+    limit: usize,
+) -> Result<Option<Vec<u8>>, ShelfFault> {
+    if shelf.failures() > MOST_FAILURES {
+        return Err(ShelfFault::OutOfMemory);
+    }
+    shelf.read(alloc, name, limit)
+}
+
+/// Asserts that the first bytes of a file of the shelf, as many as the limit, are read as these.
+pub(crate) fn assert_reads<S: Shelf>(
+    rt: &impl Abort,
     shelf: &mut S,
     alloc: Global,
     name: &str,
     limit: usize,
     bytes: &[u8],
-) -> bool {
-    if shelf.failures() > MOST_FAILURES {
-        return false;
-    }
-    match shelf.read(alloc, name, limit) {
-        Ok(Some(read)) => read.as_slice() == bytes,
-        _ => false,
+) {
+    match read(shelf, alloc, name, limit) {
+        Ok(Some(read)) => assert_bytes(rt, name, read.as_slice(), bytes),
+        Ok(None) => panic!(rt; "there is no file {name}"),
+        Err(fault) => panic!(rt; "{name}: {fault}"),
     }
 }
 
-/// Whether a read says that the shelf has no file of this name.
-pub(crate) fn has_none<S: Shelf>(shelf: &mut S, alloc: Global, name: &str, limit: usize) -> bool {
-    if shelf.failures() > MOST_FAILURES {
-        return false;
+/// Asserts that a read says that the shelf has no file of this name.
+pub(crate) fn assert_none<S: Shelf>(rt: &impl Abort, shelf: &mut S, alloc: Global, name: &str) {
+    match read(shelf, alloc, name, 1000) {
+        Ok(None) => {}
+        Ok(Some(_)) => panic!(rt; "there is a file {name}"),
+        Err(fault) => panic!(rt; "{name}: {fault}"),
     }
-    matches!(shelf.read(alloc, name, limit), Ok(None))
 }
 
-/// Whether a read of this file fails on the device.
-pub(crate) fn fails<S: Shelf>(shelf: &mut S, alloc: Global, name: &str, limit: usize) -> bool {
-    if shelf.failures() > MOST_FAILURES {
-        return false;
+/// Asserts that a read of this file fails on the device.
+pub(crate) fn assert_fails<S: Shelf>(rt: &impl Abort, shelf: &mut S, alloc: Global, name: &str) {
+    match read(shelf, alloc, name, 4) {
+        Err(fault) => assert_eq!(rt; fault, ShelfFault::Device, "{name}"),
+        Ok(_) => panic!(rt; "{name} is read"),
     }
-    matches!(shelf.read(alloc, name, limit), Err(ShelfFault::Device))
 }
 
 /// What a write of these bytes gives on a shelf that failed `MOST_FAILURES` times at most.

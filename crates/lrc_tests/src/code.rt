@@ -41,11 +41,11 @@ fn places_are_found_by_name_and_index(rt: HostRuntime) {
     for index in 0..16usize {
         assert!(&rt; is_named(index, NAMES[index]), "place {index}");
     }
-    assert!(&rt; Place::from_index(16).is_none());
+    assert_eq!(&rt; Place::from_index(16), None);
     for name in NO_NAMES {
-        assert!(&rt; Place::parse(name).is_none(), "{name}");
+        assert_eq!(&rt; Place::parse(name), None, "{name}");
     }
-    assert!(&rt; Place::named(b"\xffp").is_none());
+    assert_eq!(&rt; Place::named(b"\xffp"), None);
 }
 
 #[test]
@@ -54,14 +54,17 @@ fn sets_have_the_places_that_were_added(rt: HostRuntime) {
         .with(Place::X1)
         .with(Place::P1)
         .with(Place::X1);
-    assert!(&rt; set.len() == 2 && set.has(Place::X1) && set.has(Place::P1) && !set.has(Place::X0));
+    assert_eq!(&rt; set.len(), 2);
+    let has = [set.has(Place::X1), set.has(Place::P1), set.has(Place::X0)];
+    assert_eq!(&rt; has, [true, true, false], "x1, p1 and x0");
     let others = set.others();
-    assert!(&rt;
-        others.len() == 8
-            && !others.has(Place::X1)
-            && !others.has(Place::P1)
-            && others.has(Place::X0)
-    );
+    assert_eq!(&rt; others.len(), 8);
+    let have = [
+        others.has(Place::X1),
+        others.has(Place::P1),
+        others.has(Place::X0),
+    ];
+    assert_eq!(&rt; have, [false, false, true], "x1, p1 and x0");
 }
 
 const NUMBERS: &[(&str, u32)] = &[
@@ -77,10 +80,10 @@ const NO_NUMBERS: &[&str] = &["", "00000003", "+3", "-3", "3 ", "3a", "٣"];
 #[test]
 fn numbers_have_one_to_seven_digits(rt: HostRuntime) {
     for (text, number) in NUMBERS {
-        assert!(&rt; parse_number(text.as_bytes()) == Some(*number), "{text}");
+        assert_eq!(&rt; parse_number(text.as_bytes()), Some(*number), "{text}");
     }
     for text in NO_NUMBERS {
-        assert!(&rt; parse_number(text.as_bytes()).is_none(), "{text}");
+        assert_eq!(&rt; parse_number(text.as_bytes()), None, "{text}");
     }
 }
 
@@ -177,7 +180,7 @@ const REFUSALS: &[(&str, Place, u32, &[(Place, &[u8])], Option<u8>)] = &[
 fn refusals_come_in_their_order(rt: HostRuntime) -> Result<(), AllocError> {
     for (stripe, target, length, survivors, expected) in REFUSALS {
         let refusal = refusal_of(rt.alloc(), stripe, *target, *length, survivors)?;
-        assert!(&rt; refusal == *expected, "{stripe} {length}");
+        assert_eq!(&rt; refusal, *expected, "{stripe} {length}");
     }
     Ok(())
 }
@@ -207,9 +210,9 @@ fn earlier_refusals_ask_for_no_bytes(rt: HostRuntime) {
         has_repeated: false,
         has_target: false,
     };
-    assert!(&rt; first_refusal("a", 1, places, None).is_none());
-    assert!(&rt; refusal_of_lengths(false, false) == Some(5));
-    assert!(&rt; refusal_of_lengths(true, true) == Some(3));
+    assert_eq!(&rt; first_refusal("a", 1, places, None), None);
+    assert_eq!(&rt; refusal_of_lengths(false, false), Some(5));
+    assert_eq!(&rt; refusal_of_lengths(true, true), Some(3));
 }
 
 // Whether the readers give what the request of the test was made with.
@@ -237,7 +240,7 @@ fn has_two_sources(request: &Request) -> bool {
 fn a_request_gives_what_it_was_made_of(rt: HostRuntime) -> Result<(), AllocError> {
     match asked(rt.alloc(), "a-1", Place::P0, 1, &[Y2, X1])? {
         Ok(request) => assert!(&rt; is_read(&request) && has_two_sources(&request)),
-        Err(_) => assert!(&rt; false, "it is refused"),
+        Err(_) => panic!(&rt; "it is refused"),
     }
     Ok(())
 }
@@ -246,8 +249,8 @@ fn a_request_gives_what_it_was_made_of(rt: HostRuntime) -> Result<(), AllocError
 fn bytes_give_what_they_were_made_of(rt: HostRuntime) -> Result<(), AllocError> {
     let three: &[u8] = b"\x01\x02\x03";
     let bytes = Bytes::new(three.to_vec(rt.alloc())?);
-    assert!(&rt; bytes.as_slice() == three);
-    assert!(&rt; bytes.into_vec().len() == 3);
+    assert_eq!(&rt; bytes.as_slice(), three);
+    assert_eq!(&rt; bytes.into_vec().len(), 3);
     Ok(())
 }
 
@@ -289,7 +292,10 @@ fn is_encoded(alloc: Global) -> Result<bool, AllocError> {
 // The parities of 61 62 63 and five data of zeros.
 #[test]
 fn a_stripe_has_the_known_parities(rt: HostRuntime) -> Result<(), AllocError> {
-    assert!(&rt; is_encoded(rt.alloc())?);
+    assert!(&rt;
+        is_encoded(rt.alloc())?,
+        "other fragments than the known ones"
+    );
     Ok(())
 }
 
@@ -301,9 +307,12 @@ fn a_place_lost_alone_is_the_one_pivot(rt: HostRuntime) {
     for row in 0..4usize {
         if let Some(place) = reduced.pivot(row) {
             pivots = pivots.wrapping_add(1);
-            assert!(&rt; place == Place::X0 && reduced.coefficient(row, place).byte() == 1);
+            assert_eq!(&rt;
+                (place, reduced.coefficient(row, place).byte()),
+                (Place::X0, 1)
+            );
         } else {
-            assert!(&rt; reduced.coefficient(row, Place::X0).byte() == 0);
+            assert_eq!(&rt; reduced.coefficient(row, Place::X0).byte(), 0);
         }
     }
     assert_eq!(&rt; pivots, 1);
@@ -311,15 +320,24 @@ fn a_place_lost_alone_is_the_one_pivot(rt: HostRuntime) {
 
 #[test]
 fn each_code_has_its_own_places(rt: HostRuntime) {
-    assert!(&rt; Code::Narrow.places().len() == 10 && Code::Wide.places().len() == 16);
-    assert!(&rt; Code::Narrow.data_count() == 6 && Code::Wide.data_count() == 12);
-    assert!(&rt;
-        !Code::Narrow.has(Place::X3) && Code::Narrow.has(Place::P1) && Code::Wide.has(Place::Y5)
+    assert_eq!(&rt;
+        (Code::Narrow.places().len(), Code::Wide.places().len()),
+        (10, 16)
     );
-    assert!(&rt; Code::Narrow.named(b"x3").is_none());
+    assert_eq!(&rt;
+        (Code::Narrow.data_count(), Code::Wide.data_count()),
+        (6, 12)
+    );
+    assert!(&rt; !Code::Narrow.has(Place::X3), "x3 is in the (6,2,2) code");
+    assert!(&rt; Code::Narrow.has(Place::P1), "p1 isn't in the (6,2,2) code");
+    assert!(&rt; Code::Wide.has(Place::Y5), "y5 isn't in the (12,2,2) code");
+    assert_eq!(&rt; Code::Narrow.named(b"x3"), None);
     assert_eq!(&rt; Code::Wide.named(b"x3"), Some(Place::X3));
     let set = PlaceSet::empty().with(Place::X0).with(Place::X3);
-    assert!(&rt; Code::Narrow.others(set).len() == 9 && Code::Wide.others(set).len() == 14);
+    assert_eq!(&rt;
+        (Code::Narrow.others(set).len(), Code::Wide.others(set).len()),
+        (9, 14)
+    );
 }
 
 // The coefficients of px, py, p0 and p1 of (6,2,2).
@@ -360,8 +378,11 @@ fn has_parities(code: Code, rows: &[[u8; 12]; 4]) -> bool {
 
 #[test]
 fn each_code_has_its_coefficients(rt: HostRuntime) {
-    assert!(&rt; has_parities(Code::Narrow, &NARROW_ROWS));
-    assert!(&rt; has_parities(Code::Wide, &WIDE_ROWS));
+    assert!(&rt;
+        has_parities(Code::Narrow, &NARROW_ROWS),
+        "the (6,2,2) code"
+    );
+    assert!(&rt; has_parities(Code::Wide, &WIDE_ROWS), "the (12,2,2) code");
 }
 
 const WIDE_STRIPE: &[&[u8]; 16] = &[
@@ -400,7 +421,10 @@ fn is_encoded_wide(alloc: Global) -> Result<bool, AllocError> {
 // The stripe with x0 = x5 = 01, y0 = 02 and no other data.
 #[test]
 fn a_wide_stripe_has_the_known_parities(rt: HostRuntime) -> Result<(), AllocError> {
-    assert!(&rt; is_encoded_wide(rt.alloc())?);
+    assert!(&rt;
+        is_encoded_wide(rt.alloc())?,
+        "other fragments than the known ones"
+    );
     Ok(())
 }
 
@@ -414,7 +438,10 @@ fn a_place_outside_the_code_is_no_pivot(rt: HostRuntime) {
         if wide.pivot(row) == Some(Place::X5) {
             pivots = pivots.wrapping_add(1);
         }
-        assert!(&rt; narrow.pivot(row).is_none() && narrow.coefficient(row, Place::X5).byte() == 0);
+        assert_eq!(&rt;
+            (narrow.pivot(row), narrow.coefficient(row, Place::X5).byte()),
+            (None, 0)
+        );
     }
     assert_eq!(&rt; pivots, 1);
 }

@@ -6,6 +6,7 @@ use lrc_field::{
     no_pairs, no_terms, pairs_in, scale_add_into, sums_are_zero, sums_are_zero_between, terms_in,
 };
 use std::alloc::{AllocError, Global};
+use std::process::Abort;
 
 // The product by shifts: for each bit of b the shifted a, reduced at each shift.
 fn product_by_shifts(a: u8, b: u8) -> u8 {
@@ -137,20 +138,20 @@ const PRODUCTS: &[(u8, u8, u8)] = &[
 fn products_are_the_known_ones(rt: HostRuntime) {
     for (a, b, product) in PRODUCTS {
         let found = Gf::new(*a).mul(Gf::new(*b)).byte();
-        assert!(&rt; found == *product, "{a} * {b} is {found}");
+        assert_eq!(&rt; found, *product, "{a} * {b}");
     }
-    assert!(&rt; Gf::new(0x61).add(Gf::new(0x99)).byte() == 0xf8);
+    assert_eq!(&rt; Gf::new(0x61).add(Gf::new(0x99)).byte(), 0xf8);
 }
 
 const INVERSES: &[(u8, u8)] = &[(0x01, 0x01), (0x02, 0x8e), (0x04, 0x47), (0x8e, 0x02)];
 
 #[test]
 fn inverses_are_the_known_ones(rt: HostRuntime) {
-    assert!(&rt; Gf::new(0).inverse().is_none());
+    assert!(&rt; Gf::new(0).inverse().is_none(), "an inverse of 00");
     for (a, expected) in INVERSES {
         match Gf::new(*a).inverse() {
-            Some(inverse) => assert!(&rt; inverse.byte() == *expected, "the inverse of {a}"),
-            None => assert!(&rt; false, "no inverse of {a}"),
+            Some(inverse) => assert_eq!(&rt; inverse.byte(), *expected, "the inverse of {a}"),
+            None => panic!(&rt; "no inverse of {a}"),
         }
     }
 }
@@ -160,7 +161,7 @@ fn each_product_is_that_by_shifts(rt: HostRuntime) {
     for a in 0..=255u8 {
         for b in 0..=255u8 {
             let found = Gf::new(a).mul(Gf::new(b)).byte();
-            assert!(&rt; found == product_by_shifts(a, b), "{a} * {b} is {found}");
+            assert_eq!(&rt; found, product_by_shifts(a, b), "{a} * {b}");
         }
     }
 }
@@ -311,8 +312,8 @@ fn is_combined_into(
     Ok(dst.len() == len && are_sums(&dst, from, terms))
 }
 
-// Whether they are so in all windows, with these scalars of the second and the third term.
-fn windows_are_combined(alloc: Global, b: u8, c: u8) -> Result<bool, AllocError> {
+// Asserts that they are so in all windows, with these scalars of the second and the third term.
+fn assert_windows_combined(rt: &impl Abort, alloc: Global, b: u8, c: u8) -> Result<(), AllocError> {
     let first = some_bytes(alloc, SOURCE, 5)?;
     let second = some_bytes(alloc, SOURCE, 11)?;
     let third = some_bytes(alloc, SOURCE, 17)?;
@@ -323,19 +324,19 @@ fn windows_are_combined(alloc: Global, b: u8, c: u8) -> Result<bool, AllocError>
     ];
     for from in [0usize, 1, 33, 100] {
         for len in WINDOWS {
-            if !is_combined_into(alloc, from, *len, &terms)? {
-                return Ok(false);
-            }
+            assert!(rt;
+                is_combined_into(alloc, from, *len, &terms)?,
+                "{len} bytes from {from}, scalars {b} and {c}"
+            );
         }
     }
-    Ok(true)
+    Ok(())
 }
 
 #[test]
 fn sums_of_terms_in_windows_are_those_by_shifts(rt: HostRuntime) -> Result<(), AllocError> {
-    assert!(&rt; windows_are_combined(rt.alloc(), 0x01, 0x01)?);
-    assert!(&rt; windows_are_combined(rt.alloc(), 0x53, 0x00)?);
-    Ok(())
+    assert_windows_combined(&rt, rt.alloc(), 0x01, 0x01)?;
+    assert_windows_combined(&rt, rt.alloc(), 0x53, 0x00)
 }
 
 // Lengths of windows of pairs: around the blocks of 96 bytes, of which one is the least.

@@ -61,7 +61,7 @@ fn check_in_each_lane(rt: &impl Abort, message: &'static [u8], wanted: &[u8; 32]
         messages[lane] = message;
         for (place, digest) in checked_digests(rt, &messages).iter().enumerate() {
             let right = if place == lane { wanted } else { &plain };
-            assert!(rt; digest == right, "message in lane {lane}, digest {place}");
+            assert_eq!(rt; digest, right, "message in lane {lane}, digest {place}");
         }
     }
 }
@@ -136,7 +136,7 @@ fn every_length_agrees_with_sha2(rt: HostRuntime) {
         let found = digests_of_rows(&rt, &rows, len);
         for (lane, (row, digest)) in rows.iter().zip(&found).enumerate() {
             let plain: [u8; 32] = Sha256::digest(&row[..len]);
-            assert!(rt; *digest == plain, "lane {lane} at {len}");
+            assert_eq!(rt; *digest, plain, "lane {lane} at {len}");
         }
     }
 }
@@ -151,7 +151,7 @@ const MIXED: &[usize] = &[
 fn messages_of_mixed_lengths_agree_with_sha2(rt: HostRuntime) {
     let row = rows_of(200)[3];
     let mut messages = [row.as_slice(); 40];
-    assert!(rt; MIXED.len() == messages.len());
+    assert_eq!(rt; MIXED.len(), messages.len());
     for (i, (message, len)) in messages.iter_mut().zip(MIXED).enumerate() {
         let Some(part) = row.get(i..i.saturating_add(*len)) else {
             panic!(rt; "message {i} is too long");
@@ -162,7 +162,7 @@ fn messages_of_mixed_lengths_agree_with_sha2(rt: HostRuntime) {
     digests(&messages, &mut found);
     for (i, (message, digest)) in messages.iter().zip(&found).enumerate() {
         let plain: [u8; 32] = Sha256::digest(*message);
-        assert!(rt; *digest == plain, "message {i}");
+        assert_eq!(rt; *digest, plain, "message {i}");
     }
     let no_messages: [&[u8]; 0] = [];
     digests(&no_messages, &mut []);
@@ -179,7 +179,7 @@ fn owned_messages_agree_with_sha2(rt: HostRuntime) {
     digests(&messages, &mut found);
     for (i, (message, digest)) in messages.iter().zip(&found).enumerate() {
         let plain: [u8; 32] = Sha256::digest(message);
-        assert!(rt; *digest == plain, "message {i}");
+        assert_eq!(rt; *digest, plain, "message {i}");
     }
 }
 

@@ -1,17 +1,30 @@
 //! What a repair of a stripe leaves.
 use crate::samples::{
-    NARROW, SHORT, Sample, WIDE, are_there, is_there, put_without, repair, repair_from_few,
+    NARROW, SHORT, Sample, WIDE, assert_there, put_without, repair, repair_from_few,
 };
 use lrc_code::{Code, Place};
 use std::alloc::{AllocError, Global};
+use std::process::Abort;
 use store_repair::{MemoryStore, Outcome, Reason};
 
-// Whether the stripe comes back whole where these fragments are lost.
-fn comes_back(alloc: Global, sample: &Sample, lost: &[Place]) -> Result<bool, AllocError> {
+// Asserts that the stripe comes back whole where these fragments are lost.
+fn assert_comes_back(
+    rt: &impl Abort,
+    alloc: Global,
+    sample: &Sample,
+    lost: &[Place],
+) -> Result<(), AllocError> {
     let mut store = MemoryStore::new(alloc);
     put_without(&mut store, sample, lost)?;
     let outcome = repair(alloc, &mut store, sample, false)?;
-    Ok(outcome.rebuilt.len() == lost.len() && are_there(&store, sample, &[]))
+    assert_eq!(rt;
+        outcome.rebuilt.len(),
+        lost.len(),
+        "{} without {lost:?}",
+        sample.name
+    );
+    assert_there(rt, &store, sample, &[]);
+    Ok(())
 }
 
 // Each loss of three fragments is one that both codes recover.
@@ -22,7 +35,8 @@ fn three_lost_fragments_come_back(rt: HostRuntime) -> Result<(), AllocError> {
         for (first, one) in places.iter().enumerate() {
             for (second, another) in places[..first].iter().enumerate() {
                 for third in &places[..second] {
-                    assert!(&rt; comes_back(rt.alloc(), &sample, &[*one, *another, *third])?);
+                    let lost = [*one, *another, *third];
+                    assert_comes_back(&rt, rt.alloc(), &sample, &lost)?;
                 }
             }
         }
@@ -46,8 +60,8 @@ fn few_survivors_are_read(rt: HostRuntime) -> Result<(), AllocError> {
             assert_eq!(&rt; outcome.survivors.len(), expected);
             assert_eq!(&rt; outcome.rebuilt.as_slice(), [*place].as_slice());
             assert!(&rt; !outcome.is_checked);
-            assert!(&rt; outcome.findings.is_empty());
-            assert!(&rt; are_there(&store, &sample, &[]));
+            assert_eq!(&rt; outcome.findings.len(), 0);
+            assert_there(&rt, &store, &sample, &[]);
         }
     }
     Ok(())
@@ -64,8 +78,11 @@ fn a_stripe_that_lost_two_is_repaired_from_few_survivors(
     let outcome = repair_from_few(rt.alloc(), &mut store, &NARROW)?;
     assert_eq!(&rt; outcome.survivors.len(), 6);
     assert_eq!(&rt; outcome.rebuilt.as_slice(), [Place::X0].as_slice());
-    assert!(&rt; are_there(&store, &NARROW, &[Place::X1]));
-    assert!(&rt; is_there(&store, NARROW.name, Place::X1, b""));
+    assert_there(&rt, &store, &NARROW, &[Place::X1]);
+    assert_eq!(&rt;
+        store.fragment(NARROW.name, Place::X1),
+        Some(b"".as_slice())
+    );
     Ok(())
 }
 
@@ -102,11 +119,15 @@ fn damaged_store(alloc: Global) -> Result<MemoryStore, AllocError> {
     Ok(store)
 }
 
-// Whether px is as it was, or was replaced and is kept under its second name.
-fn is_damaged_or_replaced(store: &MemoryStore) -> bool {
+// Asserts that px is as it was, or was replaced and is kept under its second name.
+fn assert_damaged_or_replaced(rt: &impl Abort, store: &MemoryStore) {
+    let px = store.fragment(SHORT.name, Place::Px);
     match store.kept(SHORT.name, Place::Px) {
-        Some(kept) => kept == b"\x01".as_slice() && is_there(store, SHORT.name, Place::Px, b"\x00"),
-        None => is_there(store, SHORT.name, Place::Px, b"\x01"),
+        Some(kept) => {
+            assert_eq!(rt; kept, b"\x01".as_slice());
+            assert_eq!(rt; px, Some(b"\x00".as_slice()));
+        }
+        None => assert_eq!(rt; px, Some(b"\x01".as_slice())),
     }
 }
 
@@ -114,11 +135,11 @@ fn is_damaged_or_replaced(store: &MemoryStore) -> bool {
 fn damaged_fragment_is_replaced_and_kept(rt: HostRuntime) -> Result<(), AllocError> {
     let mut store = damaged_store(rt.alloc())?;
     let outcome = repair(rt.alloc(), &mut store, &SHORT, true)?;
-    assert!(&rt; is_damaged(&outcome, Place::Px));
+    assert!(&rt; is_damaged(&outcome, Place::Px), "{:?}", outcome.findings);
     assert!(&rt; outcome.is_checked);
     assert_eq!(&rt; outcome.rebuilt.len(), 2);
-    assert!(&rt; are_there(&store, &SHORT, &[]));
-    assert!(&rt; store.kept(SHORT.name, Place::Px) == Some(b"\x01".as_slice()));
+    assert_there(&rt, &store, &SHORT, &[]);
+    assert_eq!(&rt; store.kept(SHORT.name, Place::Px), Some(b"\x01".as_slice()));
     Ok(())
 }
 
@@ -126,11 +147,14 @@ fn damaged_fragment_is_replaced_and_kept(rt: HostRuntime) -> Result<(), AllocErr
 fn damaged_fragment_stays_where_none_is_to_be_replaced(rt: HostRuntime) -> Result<(), AllocError> {
     let mut store = damaged_store(rt.alloc())?;
     let outcome = repair(rt.alloc(), &mut store, &SHORT, false)?;
-    assert!(&rt; is_damaged(&outcome, Place::Px));
+    assert!(&rt; is_damaged(&outcome, Place::Px), "{:?}", outcome.findings);
     assert_eq!(&rt; outcome.rebuilt.as_slice(), [Place::X0].as_slice());
-    assert!(&rt; are_there(&store, &SHORT, &[Place::Px]));
-    assert!(&rt; is_there(&store, SHORT.name, Place::Px, b"\x01"));
-    assert!(&rt; store.kept(SHORT.name, Place::Px).is_none());
+    assert_there(&rt, &store, &SHORT, &[Place::Px]);
+    assert_eq!(&rt;
+        store.fragment(SHORT.name, Place::Px),
+        Some(b"\x01".as_slice())
+    );
+    assert_eq!(&rt; store.kept(SHORT.name, Place::Px), None);
     Ok(())
 }
 
@@ -141,9 +165,12 @@ fn second_damaged_fragment_of_a_place_stays(rt: HostRuntime) -> Result<(), Alloc
     repair(rt.alloc(), &mut store, &SHORT, true)?;
     store.put(SHORT.name, Place::Px, b"\x02")?;
     let outcome = repair(rt.alloc(), &mut store, &SHORT, true)?;
-    assert!(&rt; outcome.rebuilt.is_empty());
-    assert!(&rt; is_there(&store, SHORT.name, Place::Px, b"\x02"));
-    assert!(&rt; store.kept(SHORT.name, Place::Px) == Some(b"\x01".as_slice()));
+    assert_eq!(&rt; outcome.rebuilt.len(), 0);
+    assert_eq!(&rt;
+        store.fragment(SHORT.name, Place::Px),
+        Some(b"\x02".as_slice())
+    );
+    assert_eq!(&rt; store.kept(SHORT.name, Place::Px), Some(b"\x01".as_slice()));
     Ok(())
 }
 
@@ -157,9 +184,9 @@ fn what_is_not_determined_is_left(rt: HostRuntime) -> Result<(), AllocError> {
         put_without(&mut store, &SHORT, lost)?;
         let outcome = repair(rt.alloc(), &mut store, &SHORT, true)?;
         assert_eq!(&rt; outcome.rebuilt.len() + group.len(), lost.len());
-        assert!(&rt; are_there(&store, &SHORT, &group));
+        assert_there(&rt, &store, &SHORT, &group);
         for place in group {
-            assert!(&rt; store.fragment(SHORT.name, place).is_none());
+            assert_eq!(&rt; store.fragment(SHORT.name, place), None);
         }
     }
     Ok(())
@@ -172,13 +199,16 @@ fn other_stripes_are_as_they_were(rt: HostRuntime) -> Result<(), AllocError> {
     put_without(&mut store, &NARROW, &[Place::X0])?;
     put_without(&mut store, &WIDE, &[Place::X3, Place::Y5])?;
     repair(rt.alloc(), &mut store, &WIDE, true)?;
-    assert!(&rt; are_there(&store, &WIDE, &[]));
-    assert!(&rt; are_there(&store, &NARROW, &[Place::X0]));
-    assert!(&rt; store.fragment(NARROW.name, Place::X0).is_none());
-    assert!(&rt; are_there(&store, &SHORT, &[Place::X0, Place::Px]));
-    assert!(&rt; store.fragment(SHORT.name, Place::X0).is_none());
-    assert!(&rt; is_there(&store, SHORT.name, Place::Px, b"\x01"));
-    assert!(&rt; store.kept(SHORT.name, Place::Px).is_none());
+    assert_there(&rt, &store, &WIDE, &[]);
+    assert_there(&rt, &store, &NARROW, &[Place::X0]);
+    assert_eq!(&rt; store.fragment(NARROW.name, Place::X0), None);
+    assert_there(&rt, &store, &SHORT, &[Place::X0, Place::Px]);
+    assert_eq!(&rt; store.fragment(SHORT.name, Place::X0), None);
+    assert_eq!(&rt;
+        store.fragment(SHORT.name, Place::Px),
+        Some(b"\x01".as_slice())
+    );
+    assert_eq!(&rt; store.kept(SHORT.name, Place::Px), None);
     Ok(())
 }
 
@@ -196,8 +226,8 @@ fn long_fragments_come_back(rt: HostRuntime) -> Result<(), AllocError> {
     assert_eq!(&rt; outcome.rebuilt.len(), 2);
     let x1 = vec![in rt.alloc(); 2u8; 200_001]?;
     let p1 = vec![in rt.alloc(); 0x6eu8; 200_001]?;
-    assert!(&rt; is_there(&store, SHORT.name, Place::X1, x1.as_slice()));
-    assert!(&rt; is_there(&store, SHORT.name, Place::P1, p1.as_slice()));
+    assert_eq!(&rt; store.fragment(SHORT.name, Place::X1), Some(x1.as_slice()));
+    assert_eq!(&rt; store.fragment(SHORT.name, Place::P1), Some(p1.as_slice()));
     Ok(())
 }
 
@@ -206,13 +236,14 @@ fn long_fragments_come_back(rt: HostRuntime) -> Result<(), AllocError> {
 fn each_name_is_as_it_was_or_rebuilt(rt: HostRuntime) -> Result<(), AllocError> {
     let mut store = damaged_store(rt.alloc())?;
     let repaired = repair(rt.alloc(), &mut store, &SHORT, true);
-    assert!(&rt; are_there(&store, &SHORT, &[Place::X0, Place::Px]));
-    assert!(&rt; is_damaged_or_replaced(&store));
+    assert_there(&rt, &store, &SHORT, &[Place::X0, Place::Px]);
+    assert_damaged_or_replaced(&rt, &store);
     match store.fragment(SHORT.name, Place::X0) {
-        Some(bytes) => assert!(&rt; bytes == b"\x01".as_slice()),
-        None => assert!(&rt; repaired.is_err()),
+        Some(bytes) => assert_eq!(&rt; bytes, b"\x01".as_slice()),
+        None => assert!(&rt; repaired.is_err(), "x0 is not rebuilt"),
     }
-    assert!(&rt; repaired.is_err() || store.kept(SHORT.name, Place::Px).is_some());
+    let kept = store.kept(SHORT.name, Place::Px);
+    assert!(&rt; repaired.is_err() || kept.is_some(), "px is not replaced");
     repaired?;
     Ok(())
 }

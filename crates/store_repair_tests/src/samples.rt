@@ -1,6 +1,7 @@
 //! Whole stripes, and repairs of them.
 use lrc_code::{Code, Place};
 use std::alloc::{AllocError, Global};
+use std::process::Abort;
 use store_repair::{
     Found, MemoryStore, Outcome, Reads, Repair, Stripe, StripeFiles, repair_stripe,
 };
@@ -139,16 +140,16 @@ fn repair_as(
     repair_stripe(alloc, store, repair, &stripe)
 }
 
-/// Whether a fragment is there with these bytes.
-pub(crate) fn is_there(store: &MemoryStore, stripe: &str, place: Place, bytes: &[u8]) -> bool {
-    store
-        .fragment(stripe, place)
-        .is_some_and(|there| there == bytes)
-}
-
-/// Whether all fragments of a stripe but those at lost places are there with their bytes.
-pub(crate) fn are_there(store: &MemoryStore, sample: &Sample, lost: &[Place]) -> bool {
-    sample.fragments.iter().all(|(place, bytes)| {
-        lost.iter().any(|gone| gone == place) || is_there(store, sample.name, *place, bytes)
-    })
+/// Asserts that all fragments of a stripe but those at lost places are there with their bytes.
+pub(crate) fn assert_there(rt: &impl Abort, store: &MemoryStore, sample: &Sample, lost: &[Place]) {
+    for (place, bytes) in sample.fragments {
+        if !lost.iter().any(|gone| gone == place) {
+            assert_eq!(rt;
+                store.fragment(sample.name, *place),
+                Some(*bytes),
+                "{} {place:?}",
+                sample.name
+            );
+        }
+    }
 }

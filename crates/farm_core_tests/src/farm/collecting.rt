@@ -5,7 +5,7 @@ ghost use Rattle.farm_orders.specs.Orders.{before_close, served};
 ghost use Rattle.farm_core.specs.Replies.{IsInPlace};
 
 use crate::farm::requests::{
-    ANSWERS_OF_ONE, Entry, GLOBAL, LOCAL, ONE, are_of_racks, is_byte, racks_of,
+    ANSWERS_OF_ONE, Answer, GLOBAL, LOCAL, ONE, answer_of, assert_racks, racks_of,
 };
 use farm_core::{CollectFault, Collector, FinishFault, Order, RackList, Racks, Reply, ReplyResult};
 use lrc_code::{Outcome, Request};
@@ -94,7 +94,7 @@ fn answers_are_in_order_however_replies_come(rt: HostRuntime) -> Result<(), Allo
     let racks = racks_of(&rt, alloc, ONE)?;
     for order in SIX_ORDERS {
         match gathered(alloc, &racks, order, &[])? {
-            Ok(answers) => assert!(rt; are_of_racks(answers.as_slice(), ANSWERS_OF_ONE)),
+            Ok(answers) => assert_racks(&rt, answers.as_slice(), ANSWERS_OF_ONE),
             Err(_) => panic!(rt; "no answers"),
         }
     }
@@ -113,12 +113,15 @@ fn a_starved_or_missing_reply_leaves_no_answers(rt: HostRuntime) -> Result<(), A
     let alloc = rt.alloc();
     let racks = racks_of(&rt, alloc, ONE)?;
     let starved = gathered(alloc, &racks, &[2, 0, 1], &[1])?;
-    assert!(rt; matches!(starved, Err(FinishFault::OutOfMemory)));
+    assert!(rt;
+        matches!(starved, Err(FinishFault::OutOfMemory)),
+        "{starved:?}"
+    );
     for (numbers, starved, first) in MISSING {
         match gathered(alloc, &racks, numbers, starved)? {
-            Err(FinishFault::Missing { rack, number }) => assert!(rt;
-                rack == 0 && number == *first
-            ),
+            Err(FinishFault::Missing { rack, number }) => {
+                assert_eq!(rt; (rack, number), (0, *first), "of the replies {numbers:?}")
+            }
             _ => panic!(rt; "no reply is missing"),
         }
     }
@@ -142,7 +145,7 @@ fn is_second<'a>(collector: &mut Collector<'a>, reply: Reply<'a>, byte: u8) -> b
 {
     match collector.accept(reply) {
         Err(CollectFault::Double { reply }) => match reply.into_outcome() {
-            Some(outcome) => is_byte(&outcome, byte),
+            Some(outcome) => answer_of(&outcome) == Answer::Byte(byte),
             None => false,
         },
         _ => false,
@@ -167,11 +170,23 @@ fn strangers_and_second_replies_are_handed_back(rt: HostRuntime) -> Result<(), A
         request,
         result: ReplyResult::Starved,
     };
-    assert!(rt; is_stranger(&mut collector, elsewhere));
-    assert!(rt; is_stranger(&mut collector, Reply::starved(0, 1, request)));
-    assert!(rt; collector.accept(Reply::starved(0, 0, request)).is_ok());
+    assert!(rt;
+        is_stranger(&mut collector, elsewhere),
+        "a reply of another rack"
+    );
+    assert!(rt;
+        is_stranger(&mut collector, Reply::starved(0, 1, request)),
+        "a number that is too great"
+    );
+    assert!(rt;
+        collector.accept(Reply::starved(0, 0, request)).is_ok(),
+        "the first reply"
+    );
     let outcome = solve(alloc, alloc, request)?;
-    assert!(rt; is_second(&mut collector, Reply::done(0, 0, request, outcome), 0x01));
+    assert!(rt;
+        is_second(&mut collector, Reply::done(0, 0, request, outcome), 0x01),
+        "a second reply"
+    );
     Ok(())
 }
 
@@ -188,14 +203,21 @@ fn refused_replies_leave_the_collector_as_it_was(rt: HostRuntime) -> Result<(), 
     let Some(request) = requests.get(1) else {
         panic!(rt; "no request");
     };
-    assert!(rt; accepts(&mut collector, reply_of(alloc, 1, request, false)?));
-    assert!(rt; is_second(&mut collector, reply_of(alloc, 1, request, false)?, 0x6e));
-    assert!(rt; is_stranger(&mut collector, reply_of(alloc, 2, request, true)?));
     assert!(rt;
-        matches!(
-            collector.finish(),
-            Err(FinishFault::Missing { rack: 0, number: 0 })
-        )
+        accepts(&mut collector, reply_of(alloc, 1, request, false)?),
+        "the first reply"
     );
+    assert!(rt;
+        is_second(&mut collector, reply_of(alloc, 1, request, false)?, 0x6e),
+        "a second reply"
+    );
+    assert!(rt;
+        is_stranger(&mut collector, reply_of(alloc, 2, request, true)?),
+        "a number that is too great"
+    );
+    match collector.finish() {
+        Err(FinishFault::Missing { rack, number }) => assert_eq!(rt; (rack, number), (0, 0)),
+        _ => panic!(rt; "no reply is missing"),
+    }
     Ok(())
 }

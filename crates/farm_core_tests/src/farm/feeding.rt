@@ -1,5 +1,7 @@
 //! Racks with several feeds.
-use crate::farm::requests::{Entry, GLOBAL, LOCAL, SEVERAL, is_answer, is_byte, lists_of};
+use crate::farm::requests::{
+    Answer, Entry, GLOBAL, LOCAL, SEVERAL, answer_of, lists_of, wanted_of,
+};
 use crate::farm::running::settings_of;
 use farm_core::{Feeds, NoPause, Pause, RackList, Settings, run_feeds};
 use lrc_code::Outcome;
@@ -50,24 +52,26 @@ pub(crate) fn answers_of_feeds<R: Abort + Threads + Wait + Sync, P: Pause>(
     }
 }
 
-/// Whether the answers to one feed are these, in this order, each as `are_answers` takes it.
-pub(crate) fn are_of_feed(
+/// Asserts that the answers to one feed are these, in this order, each as `wanted_of` takes it.
+pub(crate) fn assert_feed(
+    rt: &impl Abort,
     answers: &[(usize, Outcome)],
     feed: usize,
     wanted: &[Option<u8>],
-) -> bool {
+) {
     let mut wanted = wanted.iter();
     for (from, outcome) in answers {
         if *from == feed {
             let Some(byte) = wanted.next() else {
-                return false;
+                panic!(rt; "feed {feed} has more answers than it should");
             };
-            if !is_answer(outcome, *byte) {
-                return false;
-            }
+            assert_eq!(rt; answer_of(outcome), wanted_of(*byte), "feed {feed}");
         }
     }
-    wanted.next().is_none()
+    assert!(rt;
+        wanted.next().is_none(),
+        "feed {feed} has fewer answers than it should"
+    );
 }
 
 // Holds the feeder of one feed ahead of its first order until that of the other has passed it.
@@ -116,30 +120,35 @@ const TWO_FEEDS: &[&[&[Entry]]] = &[
     &[&[LOCAL, CLOSE, GLOBAL], &[LOCAL, CLOSE, GLOBAL]],
 ];
 
-// Whether the first of two feeds got a byte and several, in this order, and the second a byte.
-fn are_of_open(answers: &[(usize, Outcome)]) -> bool {
-    answers.len() == 3
-        && are_of_feed(answers, 0, &[Some(0x01), None])
-        && are_of_feed(answers, 1, &[Some(0x6e)])
+// Asserts that the first of two feeds got a byte and several, in this order, and the second a byte.
+fn assert_open(rt: &impl Abort, answers: &[(usize, Outcome)]) {
+    assert_eq!(rt; answers.len(), 3);
+    assert_feed(rt, answers, 0, &[Some(0x01), None]);
+    assert_feed(rt, answers, 1, &[Some(0x6e)]);
 }
 
-/// Whether there is no answer, or one to this feed, of byte 01.
-pub(crate) fn are_of_raced(answers: &[(usize, Outcome)], feed: usize) -> bool {
+/// Asserts that there is no answer, or one to this feed, of byte 01.
+pub(crate) fn assert_raced(rt: &impl Abort, answers: &[(usize, Outcome)], feed: usize) {
     match answers {
-        [] => true,
-        [(from, outcome)] => *from == feed && is_byte(outcome, 0x01),
-        _ => false,
+        [] => {}
+        [(from, outcome)] => assert_eq!(rt;
+            (*from, answer_of(outcome)),
+            (feed, Answer::Byte(0x01))
+        ),
+        _ => panic!(rt; "more than one answer"),
     }
 }
 
-// Whether there is an answer to one feed, or one to each, of byte 01.
-fn are_of_both(answers: &[(usize, Outcome)]) -> bool {
+// Asserts that there is an answer to one feed, or one to each, of byte 01.
+fn assert_both(rt: &impl Abort, answers: &[(usize, Outcome)]) {
     match answers {
-        [(_, only)] => is_byte(only, 0x01),
+        [(_, only)] => assert_eq!(rt; answer_of(only), Answer::Byte(0x01)),
         [(one, first), (other, second)] => {
-            *one != *other && is_byte(first, 0x01) && is_byte(second, 0x01)
+            assert!(rt; *one != *other, "both answers are to feed {one}");
+            assert_eq!(rt; answer_of(first), Answer::Byte(0x01));
+            assert_eq!(rt; answer_of(second), Answer::Byte(0x01));
         }
-        _ => false,
+        _ => panic!(rt; "neither one answer nor two"),
     }
 }
 
@@ -153,10 +162,10 @@ fn feeds_are_answered_up_to_a_close(rt: HostRuntime) -> Result<(), AllocError> {
         let racks = answers_of_feeds(&rt, alloc, &feeds, settings, &NoPause)?;
         match racks.as_slice() {
             [open, closed, raced, both] => {
-                assert!(rt; are_of_open(open.as_slice()));
-                assert!(rt; closed.is_empty());
-                assert!(rt; are_of_raced(raced.as_slice(), 1));
-                assert!(rt; are_of_both(both.as_slice()));
+                assert_open(&rt, open.as_slice());
+                assert_eq!(rt; closed.len(), 0);
+                assert_raced(&rt, raced.as_slice(), 1);
+                assert_both(&rt, both.as_slice());
             }
             _ => panic!(rt; "not four racks"),
         }
@@ -180,7 +189,10 @@ fn answers_with_first<R: Abort + Threads + Wait + Sync>(
         passed: AtomicU64::new(0),
     };
     let racks = answers_of_feeds(rt, alloc, &feeds, settings_of(rt, 3, 1), &held)?;
-    assert!(rt; !held.missed.load(Ordering::SeqCst));
+    assert!(rt;
+        !held.missed.load(Ordering::SeqCst),
+        "a feeder was held in vain"
+    );
     // A draw that is refused is counted too.
     assert_eq!(rt; held.passed.load(Ordering::SeqCst), 2);
     match racks.as_slice() {
@@ -194,8 +206,8 @@ fn answers_with_first<R: Abort + Threads + Wait + Sync>(
 fn either_feed_may_go_first(rt: HostRuntime) -> Result<(), AllocError> {
     let alloc = rt.alloc();
     for _ in 0..100 {
-        assert!(rt; answers_with_first(&rt, alloc, 1)? == 1);
-        assert!(rt; answers_with_first(&rt, alloc, 0)? == 0);
+        assert_eq!(rt; answers_with_first(&rt, alloc, 1)?, 1);
+        assert_eq!(rt; answers_with_first(&rt, alloc, 0)?, 0);
     }
     Ok(())
 }
@@ -270,11 +282,18 @@ fn fills<R: Abort + Threads + Wait + Sync>(
     let feeds = feeds_of(rt, alloc, asked)?;
     let full = Full::new(queue.saturating_add(1));
     let racks = answers_of_feeds(rt, alloc, &feeds, settings_of(rt, 1, queue), &full)?;
-    assert!(rt; !full.missed.load(Ordering::SeqCst));
-    assert!(rt; !full.early.load(Ordering::SeqCst));
+    assert!(rt;
+        !full.missed.load(Ordering::SeqCst),
+        "fewer jobs wait than the queue holds"
+    );
+    assert!(rt;
+        !full.early.load(Ordering::SeqCst),
+        "more jobs wait than the queue holds"
+    );
     match racks.as_slice() {
         [only] => {
-            assert!(rt; only.len() == wanted.len() && are_of_feed(only.as_slice(), 0, wanted));
+            assert_eq!(rt; only.len(), wanted.len());
+            assert_feed(rt, only.as_slice(), 0, wanted);
         }
         _ => panic!(rt; "not one rack"),
     }

@@ -1,7 +1,7 @@
 //! Runs in which a pause holds requests: two until each has met the other, so that one thread alone can't answer both; and one until
 //! the other worker has ended.
 use crate::farm::requests::{
-    ANSWERS_OF_ONE, Entry, GLOBAL, LOCAL, ONE, SEVERAL, are_of_racks, racks_of,
+    ANSWERS_OF_ONE, Entry, GLOBAL, LOCAL, ONE, SEVERAL, assert_racks, racks_of,
 };
 use crate::farm::running::{answers_of, settings_of};
 use farm_core::{Pause, Settings};
@@ -120,8 +120,11 @@ fn meets<R: Abort + Threads + Wait + Sync>(
     let racks = racks_of(rt, alloc, asked)?;
     let pause = Crossed::new();
     let answers = answers_of(rt, alloc, &racks, settings, &pause)?;
-    assert!(rt; !pause.missed.load(Ordering::SeqCst));
-    assert!(rt; are_of_racks(answers.as_slice(), wanted));
+    assert!(rt;
+        !pause.missed.load(Ordering::SeqCst),
+        "a request was held in vain"
+    );
+    assert_racks(rt, answers.as_slice(), wanted);
     Ok(())
 }
 
@@ -172,8 +175,11 @@ fn all_sixteen_workers_meet(rt: HostRuntime) -> Result<(), AllocError> {
         missed: AtomicBool::new(false),
     };
     let answers = answers_of(&rt, alloc, &racks, settings_of(&rt, 16, 1), &pause)?;
-    assert!(rt; !pause.missed.load(Ordering::SeqCst));
-    assert!(rt; are_of_racks(answers.as_slice(), ANSWERS_OF_SIXTEEN));
+    assert!(rt;
+        !pause.missed.load(Ordering::SeqCst),
+        "a request was held in vain"
+    );
+    assert_racks(&rt, answers.as_slice(), ANSWERS_OF_SIXTEEN);
     Ok(())
 }
 
@@ -183,6 +189,6 @@ fn the_worker_that_ends_last_is_waited_for(rt: HostRuntime) -> Result<(), AllocE
     let alloc = rt.alloc();
     let racks = racks_of(&rt, alloc, ONE)?;
     let answers = answers_of(&rt, alloc, &racks, settings_of(&rt, 2, 1), &Late)?;
-    assert!(rt; are_of_racks(answers.as_slice(), ANSWERS_OF_ONE));
+    assert_racks(&rt, answers.as_slice(), ANSWERS_OF_ONE);
     Ok(())
 }

@@ -2,7 +2,7 @@
 ghost use Rattle.std.specs.Prelude.{IfOk};
 ghost use Rattle.farm_lanes.specs.LaneEnds.{IsUnusedPut, IsUnusedTake};
 
-use crate::farm::requests::{Entry, GLOBAL, LOCAL, SEVERAL, is_answer, list_of};
+use crate::farm::requests::{Answer, Entry, GLOBAL, LOCAL, SEVERAL, answer_of, list_of, wanted_of};
 use farm_core::{Fed, Job, NoPause, RackList, Reply, ReplyResult, feed, work};
 use farm_lanes::{Gate, GateError, Item, Lane, LaneError, PutEnd, TakeEnd};
 use std::alloc::{AllocError, Global};
@@ -49,7 +49,7 @@ fn works<'a, R: Abort + Wait>(
     requires { IsUnusedTake jobs × IsUnusedPut replies }
 {
     let worked = work(rt, alloc, jobs, replies, &NoPause);
-    assert!(rt; worked.jobs.count() == taken && worked.replies.count() == put);
+    assert_eq!(rt; (worked.jobs.count(), worked.replies.count()), (taken, put));
 }
 
 // Feeds this list through a gate of its own.
@@ -75,7 +75,8 @@ fn feeds_two<'a, R: Abort + Wait>(rt: &R, alloc: Global, list: &'a RackList, job
     let Ok(fed) = feed_alone(rt, alloc, list, jobs) else {
         panic!(rt; "no gate");
     };
-    assert!(rt; fed.close == Some(2) && fed.right.is_none() && fed.jobs.count() == 3);
+    assert_eq!(rt; (fed.close, fed.jobs.count()), (Some(2), 3));
+    assert!(rt; fed.right.is_none(), "the right to close is left");
 }
 
 fn stops_both<'a>(rt: &impl Wait, mut jobs: PutEnd<Job<'a>>)
@@ -85,22 +86,22 @@ fn stops_both<'a>(rt: &impl Wait, mut jobs: PutEnd<Job<'a>>)
     jobs.put(rt, Job::Stop);
 }
 
-// Whether the next item is a reply of this number with this answer.
-fn is_next<'a>(
-    rt: &impl Wait,
+// Asserts that the next item is a reply of this number with this answer.
+fn assert_next<'a, R: Abort + Wait>(
+    rt: &R,
     replies: &mut TakeEnd<Reply<'a>>,
     number: u64,
     wanted: Option<u8>,
-) -> bool {
+) {
     match replies.take(rt) {
         Item::Value { value, .. } => {
-            let same = value.number == number;
+            assert_eq!(rt; value.number, number);
             match value.into_outcome() {
-                Some(outcome) => same && is_answer(&outcome, wanted),
-                None => false,
+                Some(outcome) => assert_eq!(rt; answer_of(&outcome), wanted_of(wanted)),
+                None => panic!(rt; "reply {number} has no outcome"),
             }
         }
-        Item::End { .. } => false,
+        Item::End { .. } => panic!(rt; "no reply {number}"),
     }
 }
 
@@ -120,9 +121,9 @@ fn a_feeder_and_two_workers_answer_up_to_the_close(rt: HostRuntime) -> Result<()
     works(&rt, alloc, jobs.taker, replies.first, 4, 3);
     works(&rt, alloc, jobs.other, replies.second, 1, 1);
     let mut taker = replies.taker;
-    assert!(rt; is_next(&rt, &mut taker, 0, None));
-    assert!(rt; is_next(&rt, &mut taker, 1, Some(0x01)));
-    assert!(rt; is_end(&rt, &mut taker));
+    assert_next(&rt, &mut taker, 0, None);
+    assert_next(&rt, &mut taker, 1, Some(0x01));
+    assert!(rt; is_end(&rt, &mut taker), "more than two replies");
     Ok(())
 }
 
@@ -148,7 +149,10 @@ fn answers_each<R: Abort + Wait>(rt: &R, alloc: Global, entries: &[Entry]) -> Re
     for _ in entries {
         match taker.take(rt) {
             Item::Value { value, .. } => match value.result {
-                ReplyResult::Done(outcome) => assert!(rt; is_answer(&outcome, Some(0x01))),
+                ReplyResult::Done(outcome) => assert_eq!(rt;
+                    answer_of(&outcome),
+                    Answer::Byte(0x01)
+                ),
                 ReplyResult::Starved => return Err(Fail::from("starved")),
             },
             Item::End { .. } => panic!(rt; "no reply"),

@@ -28,11 +28,11 @@ fn a_list_has_at_most_4096_orders(rt: HostRuntime) -> Result<(), AllocError> {
     let Ok(list) = RackList::new(closes(alloc, 4096)?) else {
         panic!(rt; "4096 orders were refused");
     };
-    assert!(rt; list.orders().len() == 4096 && list.served() == 0);
+    assert_eq!(rt; (list.orders().len(), list.served()), (4096, 0));
     let Err(fault) = RackList::new(closes(alloc, 4097)?) else {
         panic!(rt; "4097 orders were accepted");
     };
-    assert!(rt; fault.orders.len() == 4097);
+    assert_eq!(rt; fault.orders.len(), 4097);
     Ok(())
 }
 
@@ -42,11 +42,11 @@ fn a_run_has_at_most_16_racks(rt: HostRuntime) -> Result<(), AllocError> {
     let Ok(racks) = Racks::new(empty_lists(&rt, alloc, 16)?) else {
         panic!(rt; "16 racks were refused");
     };
-    assert!(rt; racks.lists().len() == 16);
+    assert_eq!(rt; racks.lists().len(), 16);
     let Err(fault) = Racks::new(empty_lists(&rt, alloc, 17)?) else {
         panic!(rt; "17 racks were accepted");
     };
-    assert!(rt; fault.lists.len() == 17);
+    assert_eq!(rt; fault.lists.len(), 17);
     Ok(())
 }
 
@@ -91,16 +91,16 @@ fn racks_have_one_to_four_feeds(rt: HostRuntime) -> Result<(), AllocError> {
     let alloc = rt.alloc();
     for (racks, each, last) in ACCEPTED {
         match Feeds::new(feeds(&rt, alloc, *racks, *each, *last)?) {
-            Ok(accepted) => assert!(rt; sizes(accepted.racks()) == (*racks, *last)),
-            Err(_) => panic!(rt; "feeds were refused"),
+            Ok(accepted) => assert_eq!(rt; sizes(accepted.racks()), (*racks, *last)),
+            Err(_) => panic!(rt; "{racks} racks of {each} feeds, the last of {last}, were refused"),
         }
     }
     for (racks, last) in REFUSED {
         match Feeds::new(feeds(&rt, alloc, *racks, 4, *last)?) {
             Err(FeedsFault::BadFeeds { racks: back }) => {
-                assert!(rt; sizes(back.as_slice()) == (*racks, *last))
+                assert_eq!(rt; sizes(back.as_slice()), (*racks, *last))
             }
-            _ => panic!(rt; "a rack of no feed or of five isn't refused as such"),
+            _ => panic!(rt; "{racks} racks, the last of {last} feeds, aren't refused as such"),
         }
     }
     Ok(())
@@ -113,7 +113,7 @@ fn racks_are_counted_before_their_feeds(rt: HostRuntime) -> Result<(), AllocErro
     for last in [0, 1, 4, 5] {
         match Feeds::new(feeds(&rt, alloc, 17, 4, last)?) {
             Err(FeedsFault::TooManyRacks { racks }) => {
-                assert!(rt; sizes(racks.as_slice()) == (17, last))
+                assert_eq!(rt; sizes(racks.as_slice()), (17, last))
             }
             _ => panic!(rt; "17 racks aren't refused as such"),
         }
@@ -126,10 +126,13 @@ fn settings_are_refused_beyond_their_limits(rt: HostRuntime) {
     let Ok(settings) = Settings::new(16, 1024) else {
         panic!(rt; "the greatest settings were refused");
     };
-    assert!(rt; settings.workers() == 16 && settings.queue() == 1024);
-    assert!(rt; Settings::new(1, 1).is_ok());
-    assert!(rt; matches!(Settings::new(0, 0), Err(SettingsFault::BadWorkers)));
-    assert!(rt; matches!(Settings::new(17, 1), Err(SettingsFault::BadWorkers)));
-    assert!(rt; matches!(Settings::new(1, 0), Err(SettingsFault::BadQueue)));
-    assert!(rt; matches!(Settings::new(1, 1025), Err(SettingsFault::BadQueue)));
+    assert_eq!(rt; (settings.workers(), settings.queue()), (16, 1024));
+    assert!(rt;
+        Settings::new(1, 1).is_ok(),
+        "the least settings were refused"
+    );
+    assert_eq!(rt; Settings::new(0, 0).err(), Some(SettingsFault::BadWorkers));
+    assert_eq!(rt; Settings::new(17, 1).err(), Some(SettingsFault::BadWorkers));
+    assert_eq!(rt; Settings::new(1, 0).err(), Some(SettingsFault::BadQueue));
+    assert_eq!(rt; Settings::new(1, 1025).err(), Some(SettingsFault::BadQueue));
 }

@@ -30,7 +30,10 @@ impl Calls {
 
     // Asserts that no call was strange, and how many there were for the requests of each rack and for the orders of each feed.
     fn assert_are(&self, rt: &impl Abort, requests: [u64; 3], orders: [u64; 7]) {
-        assert!(rt; !self.strange.load(Ordering::SeqCst));
+        assert!(rt;
+            !self.strange.load(Ordering::SeqCst),
+            "a request or an order that isn't there"
+        );
         assert_eq!(rt; counts_of_racks(&self.before), requests);
         assert_eq!(rt; counts_of_racks(&self.after), requests);
         assert_eq!(rt; counts_of_feeds(&self.ahead), orders);

@@ -1,9 +1,9 @@
 //! Calls that a script also makes with each of their allocations refused in turn: they end with an `AllocError` where they meet a
 //! refusal, and else with the answers.
 use crate::farm::collecting::gathered;
-use crate::farm::feeding::{answers_of_feeds, are_of_feed, are_of_raced, feeds_of};
+use crate::farm::feeding::{answers_of_feeds, assert_feed, assert_raced, feeds_of};
 use crate::farm::requests::{
-    ANSWERS_OF_ONE, Entry, GLOBAL, LOCAL, ONE, SEVERAL, are_of_racks, racks_of,
+    ANSWERS_OF_ONE, Entry, GLOBAL, LOCAL, ONE, SEVERAL, assert_racks, racks_of,
 };
 use crate::farm::running::{answers_of, settings_of};
 use farm_core::{FinishFault, NoPause};
@@ -29,7 +29,7 @@ fn runs_two_racks<R: Abort + Threads + Wait + Sync>(
 ) -> Result<(), AllocError> {
     let racks = racks_of(rt, alloc, TWO_RACKS)?;
     let answers = answers_of(rt, alloc, &racks, settings_of(rt, workers, queue), &NoPause)?;
-    assert!(rt; are_of_racks(answers.as_slice(), ANSWERS_OF_TWO));
+    assert_racks(rt, answers.as_slice(), ANSWERS_OF_TWO);
     Ok(())
 }
 
@@ -49,11 +49,11 @@ const SIX_FEEDS: &[&[&[Entry]]] = &[
     &[&[LOCAL, Entry::Close], &[Entry::Close]],
 ];
 
-fn are_of_four(answers: &[(usize, Outcome)]) -> bool {
-    answers.len() == 4
-        && are_of_feed(answers, 0, &[Some(0x01), None])
-        && are_of_feed(answers, 1, &[Some(0x6e)])
-        && are_of_feed(answers, 3, &[Some(0x01)])
+fn assert_four(rt: &impl Abort, answers: &[(usize, Outcome)]) {
+    assert_eq!(rt; answers.len(), 4);
+    assert_feed(rt, answers, 0, &[Some(0x01), None]);
+    assert_feed(rt, answers, 1, &[Some(0x6e)]);
+    assert_feed(rt, answers, 3, &[Some(0x01)]);
 }
 
 fn runs_six_feeds<R: Abort + Threads + Wait + Sync>(
@@ -66,8 +66,8 @@ fn runs_six_feeds<R: Abort + Threads + Wait + Sync>(
     let answers = answers_of_feeds(rt, alloc, &feeds, settings_of(rt, workers, queue), &NoPause)?;
     match answers.as_slice() {
         [open, closing] => {
-            assert!(rt; are_of_four(open.as_slice()));
-            assert!(rt; are_of_raced(closing.as_slice(), 0));
+            assert_four(rt, open.as_slice());
+            assert_raced(rt, closing.as_slice(), 0);
         }
         _ => panic!(rt; "not two racks"),
     }
@@ -89,7 +89,7 @@ fn collector_takes_its_room(rt: HostRuntime) -> Result<(), AllocError> {
     let alloc = rt.alloc();
     let racks = racks_of(&rt, alloc, ONE)?;
     match gathered(alloc, &racks, &[2, 0, 1], &[])? {
-        Ok(answers) => assert!(rt; are_of_racks(answers.as_slice(), ANSWERS_OF_ONE)),
+        Ok(answers) => assert_racks(&rt, answers.as_slice(), ANSWERS_OF_ONE),
         Err(FinishFault::OutOfMemory) => return Err(AllocError),
         Err(FinishFault::Missing { .. }) => panic!(rt; "a reply is missing"),
     }

@@ -46,7 +46,7 @@ pub(crate) const GLOBAL: Entry = Entry::Lost(
 /// A rack with each of these three.
 pub(crate) const ONE: &[&[Entry]] = &[&[LOCAL, SEVERAL, GLOBAL]];
 
-/// Its answers, as `are_of_racks` takes them.
+/// Its answers, as `assert_racks` takes them.
 pub(crate) const ANSWERS_OF_ONE: &[&[Option<u8>]] = &[&[Some(0x01), None, Some(0x6e)]];
 
 // A request, which is accepted.
@@ -95,46 +95,55 @@ pub(crate) fn list_of(
     }
 }
 
-/// Whether the answer is a fragment of this one byte.
-pub(crate) fn is_byte(outcome: &Outcome, byte: u8) -> bool {
+/// An answer, as it is compared and shown.
+#[derive(Clone, Copy, PartialEq, Eq, Debug)]
+pub(crate) enum Answer {
+    /// A fragment of this one byte.
+    Byte(u8),
+    /// A fragment that hasn't one byte.
+    Long,
+    Contradiction,
+    Several,
+}
+
+/// The answer, as it is compared and shown.
+pub(crate) fn answer_of(outcome: &Outcome) -> Answer {
     match outcome {
-        Outcome::Rebuilt(bytes) => bytes.as_slice() == [byte].as_slice(),
-        Outcome::Contradiction => false,
-        Outcome::Several => false,
+        Outcome::Rebuilt(bytes) => match bytes.as_slice() {
+            [byte] => Answer::Byte(*byte),
+            _ => Answer::Long,
+        },
+        Outcome::Contradiction => Answer::Contradiction,
+        Outcome::Several => Answer::Several,
     }
 }
 
-// Whether the answer is that two stripes differ.
-fn is_several(outcome: &Outcome) -> bool {
-    matches!(outcome, Outcome::Several)
-}
-
-/// Whether these are the answers: each a fragment of this one byte, or where there is none, that two stripes differ.
-pub(crate) fn are_answers(outcomes: &[Outcome], wanted: &[Option<u8>]) -> bool {
-    for (outcome, byte) in outcomes.iter().zip(wanted) {
-        if !is_answer(outcome, *byte) {
-            return false;
-        }
-    }
-    outcomes.len() == wanted.len()
-}
-
-/// Whether the answer is a fragment of this one byte, or where there is none, that two stripes differ.
-pub(crate) fn is_answer(outcome: &Outcome, wanted: Option<u8>) -> bool {
-    match wanted {
-        Some(byte) => is_byte(outcome, byte),
-        None => is_several(outcome),
+/// The answer that is wanted: a fragment of this one byte, or where there is none, that two stripes differ.
+pub(crate) fn wanted_of(byte: Option<u8>) -> Answer {
+    match byte {
+        Some(byte) => Answer::Byte(byte),
+        None => Answer::Several,
     }
 }
 
-/// Whether these are the answers of each rack.
-pub(crate) fn are_of_racks(racks: &[Vec<Outcome>], wanted: &[&[Option<u8>]]) -> bool {
-    for (outcomes, bytes) in racks.iter().zip(wanted) {
-        if !are_answers(outcomes.as_slice(), bytes) {
-            return false;
-        }
+// Asserts that these are the answers of the rack of this number.
+fn assert_answers(rt: &impl Abort, rack: usize, outcomes: &[Outcome], wanted: &[Option<u8>]) {
+    assert_eq!(rt; outcomes.len(), wanted.len(), "answers of rack {rack}");
+    for (number, (outcome, byte)) in outcomes.iter().zip(wanted).enumerate() {
+        assert_eq!(rt;
+            answer_of(outcome),
+            wanted_of(*byte),
+            "answer {number} of rack {rack}"
+        );
     }
-    racks.len() == wanted.len()
+}
+
+/// Asserts that these are the answers of each rack, each as `wanted_of` takes it.
+pub(crate) fn assert_racks(rt: &impl Abort, racks: &[Vec<Outcome>], wanted: &[&[Option<u8>]]) {
+    assert_eq!(rt; racks.len(), wanted.len(), "racks");
+    for (rack, (outcomes, bytes)) in racks.iter().zip(wanted).enumerate() {
+        assert_answers(rt, rack, outcomes.as_slice(), bytes);
+    }
 }
 
 /// Lists of these entries: of several racks, or of one rack's feeds.

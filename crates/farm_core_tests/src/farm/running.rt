@@ -1,5 +1,5 @@
 //! Runs of the farm.
-use crate::farm::requests::{Entry, GLOBAL, LOCAL, SEVERAL, are_of_racks, list_of, racks_of};
+use crate::farm::requests::{Entry, GLOBAL, LOCAL, SEVERAL, assert_racks, list_of, racks_of};
 use farm_core::{NoPause, Pause, Racks, Settings, run};
 use lrc_code::Outcome;
 use std::alloc::{AllocError, Global};
@@ -42,7 +42,7 @@ fn requests_before_the_close_are_answered(rt: HostRuntime) -> Result<(), AllocEr
     for (workers, queue) in SETTINGS {
         let settings = settings_of(&rt, *workers, *queue);
         let answers = answers_of(&rt, alloc, &racks, settings, &NoPause)?;
-        assert!(rt; are_of_racks(answers.as_slice(), ANSWERS_OF_CLOSED));
+        assert_racks(&rt, answers.as_slice(), ANSWERS_OF_CLOSED);
     }
     Ok(())
 }
@@ -51,7 +51,7 @@ fn requests_before_the_close_are_answered(rt: HostRuntime) -> Result<(), AllocEr
 #[test]
 fn a_list_serves_the_requests_before_its_close(rt: HostRuntime) -> Result<(), AllocError> {
     let list = list_of(&rt, rt.alloc(), &[LOCAL, SEVERAL, Entry::Close, GLOBAL])?;
-    assert!(rt; list.orders().len() == 4 && list.served() == 2);
+    assert_eq!(rt; (list.orders().len(), list.served()), (4, 2));
     Ok(())
 }
 
@@ -65,9 +65,9 @@ fn racks_without_requests_have_no_answers(rt: HostRuntime) -> Result<(), AllocEr
     let settings = settings_of(&rt, 1, 1);
     let none = racks_of(&rt, alloc, NO_RACKS)?;
     let answers = answers_of(&rt, alloc, &none, settings, &NoPause)?;
-    assert!(rt; answers.is_empty());
+    assert_eq!(rt; answers.len(), 0);
     let one = racks_of(&rt, alloc, NO_REQUESTS)?;
     let answers = answers_of(&rt, alloc, &one, settings, &NoPause)?;
-    assert!(rt; are_of_racks(answers.as_slice(), &[&[]]));
+    assert_racks(&rt, answers.as_slice(), &[&[]]);
     Ok(())
 }

@@ -5,6 +5,7 @@ use bumpalo::Bump;
 use lrc_code::{Fragment, Outcome, Request};
 use lrc_plan::{RememberedPlans, solve};
 use std::alloc::{AllocError, Allocator, Global};
+use std::process::Abort;
 
 // Whether `solve` gives the expected answer, with its plan in an allocator.
 fn is_answered<A: Allocator + Clone>(
@@ -117,24 +118,28 @@ fn long_answers_have_no_room_left(rt: HostRuntime) -> Result<(), AllocError> {
     Ok(())
 }
 
-// Whether each case is answered by plans that remember those of the cases before it.
-fn are_remembered(
+// Asserts that each case is answered by plans that remember those of the cases before it.
+fn assert_remembered(
+    rt: &impl Abort,
     alloc: Global,
     plans: &mut RememberedPlans,
     cases: &[Case],
-) -> Result<bool, AllocError> {
+) -> Result<(), AllocError> {
     for case in cases {
         let Some(request) = request_of(alloc, case)? else {
-            return Ok(false);
+            panic!(rt; "{}: the request is refused", case.name);
         };
         // The second time the plan is one that is remembered.
         for _ in 0..2u8 {
-            if !is_outcome(&plans.solve(alloc, &request)?, case.answer) {
-                return Ok(false);
-            }
+            let outcome = plans.solve(alloc, &request)?;
+            assert!(rt;
+                is_outcome(&outcome, case.answer),
+                "{}: {outcome:?}",
+                case.name
+            );
         }
     }
-    Ok(true)
+    Ok(())
 }
 
 // There are more cases than plans that are remembered, so some are forgotten and made again.
@@ -142,8 +147,8 @@ fn are_remembered(
 fn worked_requests_are_answered_by_remembered_plans(rt: HostRuntime) -> Result<(), AllocError> {
     let mut plans = RememberedPlans::new();
     for _ in 0..2u8 {
-        assert!(&rt; are_remembered(rt.alloc(), &mut plans, &CASES)?);
-        assert!(&rt; are_remembered(rt.alloc(), &mut plans, &WIDE_CASES)?);
+        assert_remembered(&rt, rt.alloc(), &mut plans, &CASES)?;
+        assert_remembered(&rt, rt.alloc(), &mut plans, &WIDE_CASES)?;
     }
     Ok(())
 }

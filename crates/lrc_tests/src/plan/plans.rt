@@ -77,14 +77,14 @@ fn grafts_nothing<A: Allocator + Clone>(alloc: &A) -> Result<bool, AllocError> {
 #[test]
 fn plans_are_local_and_grafts_replace_each_leaf(rt: HostRuntime) -> Result<(), AllocError> {
     let alloc = rt.alloc();
-    assert!(&rt; local_plans(&alloc)?);
-    assert!(&rt; grafts(&alloc)?);
-    assert!(&rt; grafts_nothing(&alloc)?);
+    assert!(&rt; local_plans(&alloc)?, "local plans in the heap");
+    assert!(&rt; grafts(&alloc)?, "a graft in the heap");
+    assert!(&rt; grafts_nothing(&alloc)?, "no graft in the heap");
     let bump = Bump::new(alloc);
     let arena = &bump;
-    assert!(&rt; local_plans(&arena)?);
-    assert!(&rt; grafts(&arena)?);
-    assert!(&rt; grafts_nothing(&arena)?);
+    assert!(&rt; local_plans(&arena)?, "local plans in an arena");
+    assert!(&rt; grafts(&arena)?, "a graft in an arena");
+    assert!(&rt; grafts_nothing(&arena)?, "no graft in an arena");
     Ok(())
 }
 
@@ -122,8 +122,14 @@ fn plans_have_the_known_numbers_of_checks(rt: HostRuntime) -> Result<(), AllocEr
         (PlaceSet::empty(), Place::X0, (false, 0)),
     ];
     for (survivors, target, expected) in cases {
-        assert!(&rt; counts(alloc, Code::Narrow, survivors, target)? == Some(expected));
-        assert!(&rt; counts(&bump, Code::Narrow, survivors, target)? == Some(expected));
+        assert_eq!(&rt;
+            counts(alloc, Code::Narrow, survivors, target)?,
+            Some(expected)
+        );
+        assert_eq!(&rt;
+            counts(&bump, Code::Narrow, survivors, target)?,
+            Some(expected)
+        );
     }
     Ok(())
 }
@@ -186,12 +192,12 @@ fn recovered<A: Allocator + Clone>(
 fn each_three_and_most_four_lost_places_have_plans(rt: HostRuntime) -> Result<(), AllocError> {
     let alloc = rt.alloc();
     let bump = Bump::new(alloc);
-    assert!(&rt; recovered(alloc, &alloc, Code::Narrow, 3)? == (120, 120));
-    assert!(&rt; recovered(alloc, &alloc, Code::Narrow, 4)? == (210, 180));
-    assert!(&rt; recovered(alloc, &&bump, Code::Narrow, 3)? == (120, 120));
-    assert!(&rt; recovered(alloc, &&bump, Code::Narrow, 4)? == (210, 180));
-    assert!(&rt; recovered(alloc, &alloc, Code::Wide, 3)? == (560, 560));
-    assert!(&rt; recovered(alloc, &&bump, Code::Wide, 3)? == (560, 560));
+    assert_eq!(&rt; recovered(alloc, &alloc, Code::Narrow, 3)?, (120, 120));
+    assert_eq!(&rt; recovered(alloc, &alloc, Code::Narrow, 4)?, (210, 180));
+    assert_eq!(&rt; recovered(alloc, &&bump, Code::Narrow, 3)?, (120, 120));
+    assert_eq!(&rt; recovered(alloc, &&bump, Code::Narrow, 4)?, (210, 180));
+    assert_eq!(&rt; recovered(alloc, &alloc, Code::Wide, 3)?, (560, 560));
+    assert_eq!(&rt; recovered(alloc, &&bump, Code::Wide, 3)?, (560, 560));
     Ok(())
 }
 
@@ -229,8 +235,8 @@ fn is_plan_of_six(alloc: Global, survivors: PlaceSet, checks: usize) -> Result<b
 #[test]
 fn the_local_plan_of_the_wide_code_reads_six(rt: HostRuntime) -> Result<(), AllocError> {
     let alloc = rt.alloc();
-    assert!(&rt; is_plan_of_six(alloc, set_of(&SIX), 0)?);
+    assert!(&rt; is_plan_of_six(alloc, set_of(&SIX), 0)?, "of the six alone");
     let others = Code::Wide.others(PlaceSet::empty().with(Place::X0));
-    assert!(&rt; is_plan_of_six(alloc, others, 3)?);
+    assert!(&rt; is_plan_of_six(alloc, others, 3)?, "of all others");
     Ok(())
 }

@@ -136,7 +136,10 @@ fn copies_in_turn(alloc: Global) -> Result<bool, AllocError> {
 
 #[test]
 fn copy_in_refused_leaves_its_source(rt: HostRuntime) -> Result<(), AllocError> {
-    assert!(&rt; copies_in_turn(rt.alloc())?);
+    assert!(&rt;
+        copies_in_turn(rt.alloc())?,
+        "a refusal that isn't said, or another copy"
+    );
     Ok(())
 }
 
@@ -186,7 +189,10 @@ fn grafts_in_turn(alloc: Global) -> Result<bool, AllocError> {
 
 #[test]
 fn graft_refused_gives_both_trees_back(rt: HostRuntime) -> Result<(), AllocError> {
-    assert!(&rt; grafts_in_turn(rt.alloc())?);
+    assert!(&rt;
+        grafts_in_turn(rt.alloc())?,
+        "a refusal that isn't said, or another tree"
+    );
     Ok(())
 }
 

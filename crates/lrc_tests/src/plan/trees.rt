@@ -56,7 +56,7 @@ fn copy_outlives(alloc: Global) -> Result<bool, AllocError> {
 
 #[test]
 fn copy_outlives_its_arena(rt: HostRuntime) -> Result<(), AllocError> {
-    assert!(&rt; copy_outlives(rt.alloc())?);
+    assert!(&rt; copy_outlives(rt.alloc())?, "the copy differs");
     Ok(())
 }
 
@@ -174,8 +174,11 @@ fn rebuilt_by_value_trees<R: Threads + Sync>(
 
 #[test]
 fn value_trees_give_the_same_bytes_at_any_forks(rt: HostRuntime) -> Result<(), AllocError> {
-    assert!(&rt; rebuilt_by_value_trees(&rt, rt.alloc(), &CASES)? == Some(10));
-    assert!(&rt; rebuilt_by_value_trees(&rt, rt.alloc(), &WIDE_CASES)? == Some(5));
+    assert_eq!(&rt; rebuilt_by_value_trees(&rt, rt.alloc(), &CASES)?, Some(10));
+    assert_eq!(&rt;
+        rebuilt_by_value_trees(&rt, rt.alloc(), &WIDE_CASES)?,
+        Some(5)
+    );
     Ok(())
 }
 
@@ -184,15 +187,16 @@ fn value_trees_give_the_same_bytes_at_any_forks(rt: HostRuntime) -> Result<(), A
 fn the_most_forks_give_both_values(rt: HostRuntime) -> Result<(), AllocError> {
     let alloc = rt.alloc();
     let Some(request) = request_of(alloc, &WIDE_CASES[1])? else {
-        assert!(&rt; false, "the request is refused");
-        return Ok(());
+        panic!(&rt; "the request is refused");
     };
     let Some(tree) = value_tree(alloc, &request)? else {
-        assert!(&rt; false, "there is no tree");
-        return Ok(());
+        panic!(&rt; "there is no tree");
     };
-    assert!(&rt; tree.leaf_count() == 12);
-    assert!(&rt; gives(&rt, alloc, &tree, &request, 255, b"\xa6")?);
+    assert_eq!(&rt; tree.leaf_count(), 12);
+    assert!(&rt;
+        gives(&rt, alloc, &tree, &request, 255, b"\xa6")?,
+        "other bytes"
+    );
     Ok(())
 }
 
@@ -202,12 +206,16 @@ fn the_most_forks_give_both_values(rt: HostRuntime) -> Result<(), AllocError> {
 fn two_forks_give_both_values(rt: HostRuntime) -> Result<(), AllocError> {
     let alloc = rt.alloc();
     let Some(request) = request_of(alloc, &CASES[0])? else {
-        assert!(&rt; false, "the request is refused");
-        return Ok(());
+        panic!(&rt; "the request is refused");
     };
     let survivors = request.survivors();
-    assert!(&rt; survivors.has(Place::X1) && survivors.has(Place::X2) && survivors.has(Place::Px));
+    assert!(&rt; survivors.has(Place::X1), "x1 is lost");
+    assert!(&rt; survivors.has(Place::X2), "x2 is lost");
+    assert!(&rt; survivors.has(Place::Px), "px is lost");
     let tree = three_leaves(alloc)?;
-    assert!(&rt; gives(&rt, alloc, &tree, &request, 2, b"\x01")?);
+    assert!(&rt;
+        gives(&rt, alloc, &tree, &request, 2, b"\x01")?,
+        "other bytes"
+    );
     Ok(())
 }
