@@ -18,12 +18,14 @@
 
 namespace azure_lrc {
 
+using ceph::bufferlist;
 using ceph::Chunks;
 using ceph::Costs;
 using ceph::Profile;
 using ceph::Reads;
 using ceph::Shards;
-using ceph::buffer::list;
+
+namespace {
 
 constexpr unsigned kAlignment = 32; /* of chunks: their lengths, and memory that is taken for them */
 constexpr int kErasureRule = 3;     /* the number of erasure coded pools in placement rules */
@@ -32,12 +34,12 @@ constexpr unsigned kMostLost = 4;   /* the parities: of five lost shards none is
 const char *const kWords[] = {"plugin",     "directory",            "stripe_unit",        "code",          "layout", "k", "m",
                               "crush-root", "crush-failure-domain", "crush-device-class", "crush-locality"};
 
-const uint8_t *bytes(const list &chunk) { return reinterpret_cast<const uint8_t *>(chunk.front().c_str()); }
+const uint8_t *bytes(const bufferlist &chunk) { return reinterpret_cast<const uint8_t *>(chunk.front().c_str()); }
 
 /* A chunk of memory of its own, in one piece. */
-list fresh(unsigned length)
+bufferlist fresh(unsigned length)
 {
-    list chunk;
+    bufferlist chunk;
     chunk.push_back(ceph::buffer::ptr(ceph::buffer::create_aligned(length, kAlignment)));
     return chunk;
 }
@@ -84,6 +86,8 @@ int error_of(uint32_t status)
         return -EIO;
     }
 }
+
+} // namespace
 
 class LrcCode final : public ceph::ErasureCodeInterface {
 public:
@@ -152,23 +156,23 @@ public:
     }
 
     /* The data is cut into chunks, the last ones filled up with zeros; the parities get memory of their own. */
-    int encode(const Shards &want, const list &in, Chunks *encoded) override
+    int encode(const Shards &want, const bufferlist &in, Chunks *encoded) override
     {
         return guarded([&] {
-            unsigned size = get_chunk_size(in.length());
+            unsigned chunk_size = get_chunk_size(in.length());
             for (unsigned i = 0; i < get_chunk_count(); i++) {
-                list &chunk = (*encoded)[numbered(i)];
-                chunk = list();
+                bufferlist &chunk = (*encoded)[numbered(i)];
+                chunk = bufferlist();
                 if (i >= get_data_chunk_count()) {
-                    chunk = fresh(size);
+                    chunk = fresh(chunk_size);
                     continue;
                 }
-                unsigned from = unsigned(std::min(uint64_t(i) * size, uint64_t(in.length())));
-                unsigned there = std::min(size, in.length() - from);
+                unsigned from = unsigned(std::min(uint64_t(i) * chunk_size, uint64_t(in.length())));
+                unsigned there = std::min(chunk_size, in.length() - from);
                 chunk.substr_of(in, from, there);
-                chunk.append_zero(size - there);
+                chunk.append_zero(chunk_size - there);
             }
-            int r = size == 0 ? 0 : encode_chunks(want, encoded);
+            int r = chunk_size == 0 ? 0 : encode_chunks(want, encoded);
             for (auto it = encoded->begin(); it != encoded->end();)
                 it = want.count(it->first) ? std::next(it) : encoded->erase(it);
             return r;
@@ -220,7 +224,7 @@ public:
                 return r;
             uint8_t *outs[kMostLost];
             for (size_t i = 0; i < lost.size(); i++) {
-                list &chunk = rebuilt[shard_of(lost[i])] = fresh(unsigned(length));
+                bufferlist &chunk = rebuilt[shard_of(lost[i])] = fresh(unsigned(length));
                 outs[i] = reinterpret_cast<uint8_t *>(chunk.c_str());
             }
             uint32_t status = rebuild(lost, stripe, outs, length);
@@ -238,14 +242,14 @@ public:
 
     const std::vector<int> &get_chunk_mapping() const override { return mapping_; }
 
-    int decode_concat(const Chunks &chunks, list *decoded) override
+    int decode_concat(const Chunks &chunks, bufferlist *decoded) override
     {
         return guarded([&] {
             Chunks all;
-            Shards data;
+            Shards data_shards;
             for (unsigned i = 0; i < get_data_chunk_count(); i++)
-                data.insert(numbered(i));
-            if (int r = decode(data, chunks, &all, 0))
+                data_shards.insert(numbered(i));
+            if (int r = decode(data_shards, chunks, &all, 0))
                 return r;
             for (unsigned i = 0; i < get_data_chunk_count(); i++)
                 decoded->claim_append(all[numbered(i)]);
@@ -307,11 +311,11 @@ private:
         for (const auto &[shard, chunk] : chunks) {
             if (!is_shard(shard) || chunk.length() != *length || *length == 0)
                 return -EINVAL;
-            const list *whole = &chunk;
+            const bufferlist *whole = &chunk;
             if (chunk.get_num_buffers() != 1) {
-                list &copy = (*joined)[shard] = chunk;
-                copy.rebuild();
-                whole = &copy;
+                bufferlist &one_piece = (*joined)[shard] = chunk;
+                one_piece.rebuild();
+                whole = &one_piece;
             }
             stripe[place_of(shard)] = bytes(*whole);
         }
@@ -329,20 +333,20 @@ private:
      * left out. Else the wanted ones are made as they are without `fast_read`, from the fewest, which have no check. */
     uint32_t around(const std::vector<lrc_place> &lost, const uint8_t *const *stripe, uint8_t **outs, size_t length) const
     {
-        const uint8_t *left[LRC_PLACES];
+        const uint8_t *kept[LRC_PLACES];
         std::vector<int> fitting;
-        std::copy(stripe, stripe + LRC_PLACES, left);
+        std::copy(stripe, stripe + LRC_PLACES, kept);
         for (int place = 0; place < LRC_PLACES; place++) {
-            left[place] = nullptr;
-            if (stripe[place] != nullptr && lrc_verify(code_, left, length) == LRC_OK)
+            kept[place] = nullptr;
+            if (stripe[place] != nullptr && lrc_verify(code_, kept, length) == LRC_OK)
                 fitting.push_back(place);
-            left[place] = stripe[place];
+            kept[place] = stripe[place];
         }
         if (fitting.size() == 1) {
-            left[fitting[0]] = nullptr;
+            kept[fitting[0]] = nullptr;
             say_of_decode("of the shards " + names_of(stripe) + " shard " + std::to_string(shard_of(lrc_place(fitting[0]))) +
                 " is damaged, and is left out");
-            return rebuild(lost, left, outs, length);
+            return rebuild(lost, kept, outs, length);
         }
         uint32_t wanted = 0, there = 0, reads;
         for (lrc_place place : lost)
@@ -352,10 +356,10 @@ private:
         if (uint32_t status = lrc_reads_into(uint8_t(code_), wanted, there, &reads))
             return status;
         for (int place = 0; place < LRC_PLACES; place++)
-            left[place] = reads >> place & 1 ? stripe[place] : nullptr;
+            kept[place] = reads >> place & 1 ? stripe[place] : nullptr;
         say_of_decode("the shards " + names_of(stripe) + " contradict each other, and which is damaged can't be said; taken are " +
-            names_of(left) + ", without a check");
-        return rebuild(lost, left, outs, length);
+            names_of(kept) + ", without a check");
+        return rebuild(lost, kept, outs, length);
     }
 
     /* The numbers of the shards that are there. */
@@ -402,12 +406,12 @@ private:
         word("crush-root", "default");
         word("crush-failure-domain", "host");
         word("crush-device-class", "");
-        take(is_wide ? LRC_12_2_2 : LRC_6_2_2, has_groups ? LRC_GROUPS : LRC_PLAIN);
+        set_code(is_wide ? LRC_12_2_2 : LRC_6_2_2, has_groups ? LRC_GROUPS : LRC_PLAIN);
         profile_ = profile;
         return 0;
     }
 
-    void take(lrc_code code, lrc_layout layout)
+    void set_code(lrc_code code, lrc_layout layout)
     {
         code_ = code;
         layout_ = layout;
@@ -424,14 +428,14 @@ private:
         const std::string &locality = profile_.at("crush-locality"), &domain = profile_.at("crush-failure-domain");
         if ((locality + domain).find_first_of("\"\\") != std::string::npos)
             return -EINVAL;
-        const size_t data = get_data_chunk_count();
+        const size_t data_count = get_data_chunk_count();
         Profile steps = {{"plugin", "lrc"},
-                         {"mapping", std::string(data, 'D') + "____"},
-                         {"layers", "[[\"" + std::string(data, 'D') + "cccc\",\"\"]]"},
+                         {"mapping", std::string(data_count, 'D') + "____"},
+                         {"layers", "[[\"" + std::string(data_count, 'D') + "cccc\",\"\"]]"},
                          {"crush-root", profile_.at("crush-root")},
                          {"crush-device-class", profile_.at("crush-device-class")},
                          {"crush-steps", "[[\"choose\",\"" + locality + "\",3],[\"chooseleaf\",\"" + domain + "\"," +
-                                             std::to_string(data / 2 + 1) + "]]"}};
+                                             std::to_string(data_count / 2 + 1) + "]]"}};
         ceph::Code other;
         int r = ceph::ErasureCodePluginRegistry::singleton.factory("lrc", directory_, steps, &other, err);
         return r == 0 ? other->create_rule(name, crush, err) : r;

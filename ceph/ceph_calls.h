@@ -1,6 +1,6 @@
 /* What a plugin has to know of Ceph 16.2 ("pacific"): the names, arguments and order of the functions through which its programs
  * call a code. Debian ships no header of them. They are facts of the binary interface, written down here; tests/abi.sh compares their
- * order and arguments with those of the shipped plugins. `ceph::buffer::list` is that of Debian's libradospp-dev. */
+ * order and arguments with those of the shipped plugins. `ceph::bufferlist` is that of Debian's libradospp-dev. */
 #ifndef CEPH_CALLS_H
 #define CEPH_CALLS_H
 
@@ -29,7 +29,7 @@ namespace ceph {
 using Profile = std::map<std::string, std::string>;
 using Shards = std::set<int>;
 using Costs = std::map<int, int>;
-using Chunks = std::map<int, buffer::list>;
+using Chunks = std::map<int, bufferlist>;
 /* For each shard the runs of its parts to read, as (first, how many); a code without parts has one run, (0, 1). */
 using Reads = std::map<int, std::vector<std::pair<int, int>>>;
 
@@ -46,12 +46,12 @@ public:
     virtual unsigned int get_chunk_size(unsigned int object_size) const = 0;
     virtual int minimum_to_decode(const Shards &want, const Shards &available, Reads *minimum) = 0;
     virtual int minimum_to_decode_with_cost(const Shards &want, const Costs &available, Shards *minimum) = 0;
-    virtual int encode(const Shards &want, const buffer::list &in, Chunks *encoded) = 0;
+    virtual int encode(const Shards &want, const bufferlist &in, Chunks *encoded) = 0;
     virtual int encode_chunks(const Shards &want, Chunks *encoded) = 0;
     virtual int decode(const Shards &want, const Chunks &chunks, Chunks *decoded, int chunk_size) = 0;
     virtual int decode_chunks(const Shards &want, const Chunks &chunks, Chunks *decoded) = 0;
     virtual const std::vector<int> &get_chunk_mapping() const = 0;
-    virtual int decode_concat(const Chunks &chunks, buffer::list *decoded) = 0;
+    virtual int decode_concat(const Chunks &chunks, bufferlist *decoded) = 0;
 };
 
 using Code = std::shared_ptr<ErasureCodeInterface>;

@@ -10,7 +10,7 @@ using Clock = std::chrono::steady_clock;
 struct Timed {
     std::string words;
     Code code;
-    list in;
+    bufferlist in;
     Chunks encoded;
     double best[4]; /* encode; decode one data shard, two of a group, one of each group */
 };
@@ -32,7 +32,7 @@ static double decode_seconds(const Timed &t, const Shards &lost)
         stop(t.words + ": minimum_to_decode");
     for (auto &[shard, runs] : reads)
         for (auto [first, number] : runs) {
-            list piece;
+            bufferlist piece;
             piece.substr_of(t.encoded.at(shard), unsigned(first) * part, unsigned(number) * part);
             few[shard].claim_append(piece);
         }

@@ -46,7 +46,7 @@ Outcome of_decode(const Stripe &stripe, const Shards &want, const Chunks &chunks
     return kRight;
 }
 
-Chunks each(const Chunks &chunks, list (*change)(list))
+Chunks each(const Chunks &chunks, bufferlist (*change)(bufferlist))
 {
     Chunks changed;
     for (auto &[shard, chunk] : chunks)
@@ -55,11 +55,11 @@ Chunks each(const Chunks &chunks, list (*change)(list))
 }
 
 /* A chunk's bytes in one piece of memory, three bytes after an aligned place. */
-list unaligned(list chunk)
+bufferlist unaligned(bufferlist chunk)
 {
     ceph::buffer::ptr room(ceph::buffer::create_aligned(chunk.length() + 3, 64));
     memcpy(room.c_str() + 3, chunk.c_str(), chunk.length());
-    list moved;
+    bufferlist moved;
     moved.push_back(ceph::buffer::ptr(room, 3, chunk.length()));
     return moved;
 }
@@ -67,21 +67,21 @@ list unaligned(list chunk)
 Outcome wants_nothing(const Stripe &s) { return of_decode(s, {}, s.left()); }
 Outcome wants_what_is_there(const Stripe &s) { return of_decode(s, {s.other}, s.left()); }
 Outcome wants_both(const Stripe &s) { return of_decode(s, {s.lost, s.other}, s.left()); }
-Outcome holds_stale_chunks(const Stripe &s) { return of_decode(s, {s.lost}, s.left(), {{s.other, list()}}); }
+Outcome holds_stale_chunks(const Stripe &s) { return of_decode(s, {s.lost}, s.left(), {{s.other, bufferlist()}}); }
 Outcome comes_in_pieces(const Stripe &s) { return of_decode(s, {s.lost}, each(s.left(), in_pieces)); }
 Outcome comes_unaligned(const Stripe &s) { return of_decode(s, {s.lost}, each(s.left(), unaligned)); }
 
 Outcome has_no_bytes(const Stripe &s)
 {
     Chunks encoded;
-    if (s.code->encode(everything(s.code), list(), &encoded) != 0)
+    if (s.code->encode(everything(s.code), bufferlist(), &encoded) != 0)
         return kError;
     return !encoded.empty() && encoded.begin()->second.length() == 0 ? kRight : kOtherBytes;
 }
 
 Outcome joins_the_data(const Stripe &s)
 {
-    list all, wanted;
+    bufferlist all, wanted;
     for (unsigned i = 0; i < s.code->get_data_chunk_count(); i++)
         wanted.append(s.encoded.at(data_shard(s.code, i)));
     return s.code->decode_concat(s.left(), &all) != 0 ? kError : all.contents_equal(wanted) ? kRight : kOtherBytes;

@@ -39,7 +39,8 @@ struct Counts {
 };
 
 /* Whether the lost shards, and the data, come from what is left, and the lost ones from the planned reads alone in pieces. */
-static bool same_bytes(const Code &code, const Chunks &encoded, const list &whole, const Shards &lost, const Reads &reads, Chunks &all)
+static bool same_bytes(const Code &code, const Chunks &encoded, const bufferlist &whole, const Shards &lost, const Reads &reads,
+                       Chunks &all)
 {
     Chunks left = without(encoded, lost), few, from_few;
     const bool whole_chunks = !reads.empty() && code->get_sub_chunk_count() == 1;
@@ -50,11 +51,11 @@ static bool same_bytes(const Code &code, const Chunks &encoded, const list &whol
     for (int shard : lost)
         if (!all.at(shard).contents_equal(encoded.at(shard)) || (whole_chunks && !from_few.at(shard).contents_equal(encoded.at(shard))))
             return false;
-    list concat;
+    bufferlist concat;
     return code->decode_concat(left, &concat) == 0 && concat.contents_equal(whole);
 }
 
-static Counts try_sets(const Code &code, const Chunks &encoded, const list &whole, unsigned size)
+static Counts try_sets(const Code &code, const Chunks &encoded, const bufferlist &whole, unsigned size)
 {
     Counts counts = {};
     for (const Shards &lost : sets_of(code->get_chunk_count(), size)) {
@@ -79,7 +80,7 @@ static Counts try_sets(const Code &code, const Chunks &encoded, const list &whol
 static void sets(const std::string &words, unsigned length)
 {
     Code code = open(words);
-    list in = random_bytes(length, length), whole, head;
+    bufferlist in = random_bytes(length, length), whole, head;
     Chunks encoded;
     if (code->encode(everything(code), in, &encoded) != 0 || encoded.size() != code->get_chunk_count())
         stop("encode");

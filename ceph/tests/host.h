@@ -10,7 +10,7 @@ using ceph::Costs;
 using ceph::Profile;
 using ceph::Reads;
 using ceph::Shards;
-using ceph::buffer::list;
+using ceph::bufferlist;
 
 /* The program's version as plugins are given it, and the folder in which they are looked for. */
 extern std::string given_version;
@@ -26,7 +26,7 @@ Profile parse(const std::string &words);
 int try_open(const std::string &words, Code *code, std::string *said);
 Code open(const std::string &words);
 
-list random_bytes(unsigned length, unsigned seed);
+bufferlist random_bytes(unsigned length, unsigned seed);
 Shards everything(const Code &code);
 /* All sets of so many of the shards 0 to n-1. */
 std::vector<Shards> sets_of(unsigned n, unsigned size);
@@ -36,7 +36,7 @@ Shards shards_of(const Chunks &chunks);
 int data_shard(const Code &code, unsigned i);
 
 /* A chunk's bytes in pieces of memory, most of them not aligned. */
-list in_pieces(list chunk);
+bufferlist in_pieces(bufferlist chunk);
 /* The chunk at this shard with another byte. */
 Chunks with_damage(Chunks chunks, int shard);
 

@@ -105,7 +105,7 @@ Code open(const std::string &words)
 
 /* ---- chunks and shards */
 
-list random_bytes(unsigned length, unsigned seed)
+bufferlist random_bytes(unsigned length, unsigned seed)
 {
     std::mt19937_64 random(seed);
     ceph::buffer::ptr bytes(ceph::buffer::create_aligned(length, 64));
@@ -113,7 +113,7 @@ list random_bytes(unsigned length, unsigned seed)
         uint64_t word = random();
         memcpy(bytes.c_str() + i, &word, std::min(8u, length - i));
     }
-    list in;
+    bufferlist in;
     in.push_back(std::move(bytes));
     return in;
 }
@@ -162,9 +162,9 @@ int data_shard(const Code &code, unsigned i)
 }
 
 /* A chunk's bytes in pieces of memory, most of them not aligned. */
-list in_pieces(list chunk)
+bufferlist in_pieces(bufferlist chunk)
 {
-    list pieces;
+    bufferlist pieces;
     unsigned at = 0, step = 1;
     while (at < chunk.length()) {
         unsigned length = std::min(step, chunk.length() - at);
@@ -180,7 +180,7 @@ Chunks with_damage(Chunks chunks, int shard)
 {
     std::string bytes = chunks.at(shard).to_str();
     bytes[bytes.size() / 2] = char(bytes[bytes.size() / 2] ^ 0x40);
-    chunks[shard] = list();
+    chunks[shard] = bufferlist();
     chunks[shard].append(bytes);
     return chunks;
 }

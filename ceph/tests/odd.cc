@@ -21,7 +21,7 @@ static void odd_decoding(const Code &code, const Chunks &encoded)
     expect(code->decode({0, 1, 2, 3, 4}, without(left, {1, 2, 3, 4}), &decoded, 0) == -EIO, "five lost are -EIO");
     std::string bytes = left.at(3).to_str();
     bytes[17] = char(bytes[17] ^ 1);
-    damaged[3] = list();
+    damaged[3] = bufferlist();
     damaged[3].append(bytes);
     decoded.clear();
     expect(code->decode({0}, damaged, &decoded, 0) == 0 && decoded.at(0).contents_equal(encoded.at(0)),
@@ -29,7 +29,7 @@ static void odd_decoding(const Code &code, const Chunks &encoded)
     shorter[2].substr_of(left.at(2), 0, 32);
     expect(code->decode({0}, shorter, &decoded, 0) == -EINVAL, "chunks of several lengths are -EINVAL");
     for (auto &[shard, chunk] : empty)
-        chunk = list();
+        chunk = bufferlist();
     expect(code->decode({0}, empty, &decoded, 0) == -EINVAL, "chunks without bytes are -EINVAL");
     strange[last + 1] = left.at(1);
     expect(code->decode({0}, strange, &decoded, 0) == -EINVAL && code->decode({last + 1}, left, &decoded, 0) == -EINVAL,
@@ -94,14 +94,14 @@ void odd(const std::string &words)
 {
     Code code = open(words);
     Chunks encoded, none, some;
-    list in = random_bytes(100000, 7);
+    bufferlist in = random_bytes(100000, 7);
     if (code->encode(everything(code), in, &encoded) != 0)
         stop("encode");
     printf("%s\n", words.c_str());
     odd_decoding(code, encoded);
     odd_contradictions(code, encoded);
     odd_costs(code);
-    expect(code->encode({0, 7}, list(), &none) == 0 && none.at(7).length() == 0, "no bytes are encoded as no bytes");
+    expect(code->encode({0, 7}, bufferlist(), &none) == 0 && none.at(7).length() == 0, "no bytes are encoded as no bytes");
     expect(code->encode({0, 7}, in_pieces(in), &some) == 0 && shards_of(some) == Shards({0, 7}), "only the wanted shards are given");
     expect(some.at(7).contents_equal(encoded.at(7)), "with the same bytes from pieces");
     Chunks incomplete = without(encoded, {1});

@@ -49,7 +49,7 @@ template <class Call> static void starve(const char *name, Call call)
 void starved(const std::string &words)
 {
     Code code = open(words);
-    const list in = random_bytes(5000, 3);
+    const bufferlist in = random_bytes(5000, 3);
     const Shards every = everything(code), lost = {0, 5, 9};
     Chunks encoded;
     if (code->encode(every, in, &encoded) != 0)
@@ -62,7 +62,7 @@ void starved(const std::string &words)
     printf("%s\n", words.c_str());
     starve("encode", [&] { Chunks out; return code->encode(every, in, &out); });
     starve("decode", [&] { Chunks out; return code->decode(lost, left, &out, 0); });
-    starve("decode_concat", [&] { list out; return code->decode_concat(left, &out); });
+    starve("decode_concat", [&] { bufferlist out; return code->decode_concat(left, &out); });
     starve("minimum_to_decode", [&] { Reads out; return code->minimum_to_decode(lost, there, &out); });
     starve("minimum_to_decode_with_cost", [&] { Shards out; return code->minimum_to_decode_with_cost(lost, costs, &out); });
     Profile profile = parse(words);

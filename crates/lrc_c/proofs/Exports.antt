@@ -36,3 +36,11 @@ pub said_of : (P : CodeName → (Place → Bool) → Place → Type 0) (mask : �
     → ((x : Place) → is_in set x ≡ is_set mask x) → b ≡ a → q ≡ p → P a (is_in set) p → P b (is_set mask) q
 said_of P mask set a b p q h e f x =
     subst (λ c. P c (is_set mask) q) (sym e) (subst (λ r. P a (is_set mask) r) (sym f) (subst (λ s. P a s p) (set_is mask set h) x))
+
+-- the same of two sets
+pub said_of_sets : (P : CodeName → (Place → Bool) → (Place → Bool) → Type 0) (m n : ℕ) (set other : List Bool) (a b : CodeName)
+    → ((x : Place) → is_in set x ≡ is_set m x) → ((x : Place) → is_in other x ≡ is_set n x) → b ≡ a → P a (is_in set) (is_in other)
+    → P b (is_set m) (is_set n)
+said_of_sets P m n set other a b g h e x =
+    subst (λ c. P c (is_set m) (is_set n)) (sym e)
+    (subst (λ s. P a s (is_set n)) (set_is m set g) (subst (P a (is_in set)) (set_is n other h) x))

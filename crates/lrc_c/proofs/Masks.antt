@@ -1,13 +1,17 @@
 -- Sets by the bits of a number.
-use Rattle.std.proofs.Common.{◌≡◌, ◌<◌, ◌≤◌, ◌+◌, ℕ, Bool, true, false, List, sym, ap, ◌∙◌, arith, inl, inr}
+use Rattle.std.proofs.Common.{◌≡◌, ◌<◌, ◌≤◌, ◌+◌, ◌*◌, ◌^◌, ◌%◌, w16, ℕ, Bool, true, false, List, sym, ap, ◌∙◌, arith, inl, inr}
 use Rattle.std.specs.Prelude.{◌||◌, ◌==◌}
 use Rattle.std.specs.Int.{bit_at}
+use Rattle.std.specs.Int.RustNames.{bit_or}
+use Rattle.std.proofs.lemmas.Nat.Bits.{bit_at_set_same, bit_at_set_other}
 use Rattle.std.proofs.lemmas.Bool.{cases_lt}
 use Rattle.std.proofs.lemmas.Bool.Decides.{eqb_tells}
 use Rattle.lrc_code.specs.declared.places.Place.{Place}
 use Rattle.lrc_code.specs.Places.{index_of, same_place}
 use Rattle.lrc_code.specs.Sets.{is_in}
+use Rattle.lrc_code.proofs.PlaceSums.{index_of-eq}
 use Rattle.lrc_c.specs.Arguments.{is_set}
+use Rattle.lrc_c.specs.Reads.{without}
 
 -- the places of the first indexes are in the set as their bits say, and no others
 pub record IsSetBelow (mask i : ℕ) (set : List Bool) : Type 0 where
@@ -35,3 +39,45 @@ set_same mask i set bit s = record {
   ];
   above = λ p le. s.above p (omega (arith, le));
 }
+
+-- the bits of the first indexes are set as their places are in the set, and no others
+pub record AreBitsBelow (set : List Bool) (i mask : ℕ) : Type 0 where
+  pub below : (p : Place) → index_of p < i → is_set mask p ≡ is_in set p
+  pub above : (p : Place) → i ≤ index_of p → is_set mask p ≡ false
+
+pub bit_more : (set : List Bool) (i mask : ℕ) (place : Place) → i < 16 → index_of place ≡ i → is_in set place ≡ true
+    → AreBitsBelow set i mask → AreBitsBelow set (i + 1) (bit_or mask (1 * 2 ^ i % 65536))
+bit_more set i mask place within e there s = record {
+  below = λ p lt. elim (cases_lt (index_of p) i) as (λ _. is_set (bit_or mask (1 * 2 ^ i % 65536)) p ≡ is_in set p) [
+    | inl less ↦
+        ap (λ b. b == 1) (bit_at_set_other w16 mask i within (index_of p) (λ h. absurd (omega (arith, less, h)))) ∙ s.below p less
+    | inr more ↦
+        (let at : index_of p ≡ i = omega (arith, lt, more) in
+        let same : p ≡ place = index_of-eq p place (at ∙ sym e) in
+        ap (λ k. bit_at (bit_or mask (1 * 2 ^ i % 65536)) k == 1) at ∙ ap (λ b. b == 1) (bit_at_set_same w16 mask i within)
+        ∙ sym (ap (is_in set) same ∙ there))
+  ];
+  above = λ p le.
+      ap (λ b. b == 1) (bit_at_set_other w16 mask i within (index_of p) (λ h. absurd (omega (arith, le, h))))
+      ∙ s.above p (omega (arith, le));
+}
+
+pub bit_same : (set : List Bool) (i mask : ℕ) (place : Place) → index_of place ≡ i → is_in set place ≡ false
+    → AreBitsBelow set i mask → AreBitsBelow set (i + 1) mask
+bit_same set i mask place e there s = record {
+  below = λ p lt. elim (cases_lt (index_of p) i) as (λ _. is_set mask p ≡ is_in set p) [
+    | inl less ↦ s.below p less
+    | inr more ↦
+        (let at : index_of p ≡ i = omega (arith, lt, more) in
+        let same : p ≡ place = index_of-eq p place (at ∙ sym e) in
+        s.above p more ∙ sym (ap (is_in set) same ∙ there))
+  ];
+  above = λ p le. s.above p (omega (arith, le));
+}
+
+-- ---- a set without a place
+
+-- the places of the first indexes are in the set as in another without a place, and no others
+pub record IsRestBelow (set : List Bool) (place : Place) (i : ℕ) (rest : List Bool) : Type 0 where
+  pub below : (p : Place) → index_of p < i → is_in rest p ≡ without (is_in set) place p
+  pub above : (p : Place) → i ≤ index_of p → is_in rest p ≡ false

@@ -1,6 +1,9 @@
 -- The answers for several lost targets.
-use Rattle.std.specs.Prelude.{◌≡◌, ◌≢◌, ℕ, ◌<◌, List, Bool, true, false, Some, slice_index}
+use Rattle.std.specs.Prelude.{◌≡◌, ◌≢◌, ℕ, ◌<◌, List, length, Bool, true, false, Option, Some, None, slice_index, slice_index_or}
+use Rattle.std.specs.Borrow.{Bor}
 use Rattle.lrc_field.specs.declared.terms.Term.{Term}
+use Rattle.lrc_field.specs.declared.pairs.Pair.{Pair}
+use Rattle.lrc_field.specs.Pairs.{ArePairsOf}
 use Rattle.lrc_code.specs.declared.places.Place.{Place}
 use Rattle.lrc_code.specs.declared.codes.Code.{Code as CodeName}
 use Rattle.lrc_code.specs.Code.{has_place}
@@ -13,8 +16,6 @@ use Rattle.lrc_c.specs.declared.rebuilding_many.Target.{Target}
 use Rattle.lrc_c.specs.declared.rebuilding_many.Target.TheVariants as target
 use Rattle.lrc_c.specs.declared.rebuilding_many.Aim.{Aim}
 use Rattle.lrc_c.specs.declared.rebuilding_many.Aim.TheVariants as aim
-use Rattle.lrc_c.specs.declared.windows.Wanted.{Wanted}
-use Rattle.lrc_c.specs.declared.windows.Wanted.TheVariants as wanted
 use Rattle.lrc_plan.specs.Stripes.{AreWhole, at_place, AreUsed}
 use Rattle.lrc_c.specs.Arguments.{code_numbered, is_set}
 use Rattle.lrc_field.specs.Terms.{AreTermsOf}
@@ -57,6 +58,13 @@ pub record AreAnswered (code : CodeName) (survives : Place → Bool) (at : List 
 
 -- ---- the steps
 
+-- four numbers are, each with its room
+pub record AreFourAsked (code : CodeName) (survives : Place → Bool) (len : ℕ) (numbers rooms : List ℕ) : Type 0 where
+  pub first : IsAsked code survives len (slice_index numbers 0) (slice_index rooms 0)
+  pub second : IsAsked code survives len (slice_index numbers 1) (slice_index rooms 1)
+  pub third : IsAsked code survives len (slice_index numbers 2) (slice_index rooms 2)
+  pub fourth : IsAsked code survives len (slice_index numbers 3) (slice_index rooms 3)
+
 -- a target is lost
 abbrev pub IsLostOf : CodeName → (Place → Bool) → Target → Type 0
 IsLostOf code survives target.Nothing = Unit
@@ -67,16 +75,35 @@ abbrev pub IsReady : CodeName → (Place → Bool) → ℕ → Target → ℕ �
 IsReady code survives len target.Nothing room = Unit
 IsReady code survives len (target.Lost p) room = IsLostPlace code survives p × (room ≡ len)
 
+-- the target of an index
+abbrev pub target_at : List Target → ℕ → Target
+target_at targets k = slice_index_or targets k target.Nothing
+
+-- four targets are, each with its room
+pub record AreFourReady (code : CodeName) (survives : Place → Bool) (len : ℕ) (targets : List Target) (a b c d : ℕ) : Type 0 where
+  pub first : IsReady code survives len (target_at targets 0) a
+  pub second : IsReady code survives len (target_at targets 1) b
+  pub third : IsReady code survives len (target_at targets 2) c
+  pub fourth : IsReady code survives len (target_at targets 3) d
+
 -- it is that of a number
 abbrev pub IsTargetOf : CodeName → (Place → Bool) → ℕ → ℕ → ℕ → Target → Type 0
 IsTargetOf code survives len number room target.Nothing = number ≡ 255
 IsTargetOf code survives len number room (target.Lost p) = (index_of p ≡ number) × IsLostPlace code survives p × (room ≡ len)
 
--- what a lost place's plan asks for
+-- four targets are those of four numbers
+pub record AreFourTargets (code : CodeName) (survives : Place → Bool) (len : ℕ) (numbers rooms : List ℕ) (targets : List Target)
+    : Type 0 where
+  pub first : IsTargetOf code survives len (slice_index numbers 0) (slice_index rooms 0) (target_at targets 0)
+  pub second : IsTargetOf code survives len (slice_index numbers 1) (slice_index rooms 1) (target_at targets 1)
+  pub third : IsTargetOf code survives len (slice_index numbers 2) (slice_index rooms 2) (target_at targets 2)
+  pub fourth : IsTargetOf code survives len (slice_index numbers 3) (slice_index rooms 3) (target_at targets 3)
+
+-- what a lost place's plan asks for, with the terms of its combination
 abbrev pub IsPlanned : CodeName → (Place → Bool) → List (List ℕ) → ℕ → Place → Aim → List Term → Type 0
 IsPlanned code survives at len p aim.Nothing ts = p ≢ p
 IsPlanned code survives at len p aim.Several ts = ExtensionsDiffer (tables_of code) survives p
-IsPlanned code survives at len p aim.Sums ts = (row : List ℕ) × IsValueRow (tables_of code) survives p row × AreTermsOf row at len ts
+IsPlanned code survives at len p (aim.Sums row) ts = IsValueRow (tables_of code) survives p row × AreTermsOf row at len ts
 
 -- what a target's plan asks for
 abbrev pub IsAimed : CodeName → (Place → Bool) → List (List ℕ) → ℕ → Target → Aim → List Term → Type 0
@@ -84,39 +111,48 @@ IsAimed code survives at len target.Nothing a ts = a ≡ aim.Nothing
 IsAimed code survives at len (target.Lost p) a ts = IsPlanned code survives at len p a ts
 
 -- the row of a combination: its bytes have the length
-abbrev pub IsUsedRow : Aim → List ℕ → List (List ℕ) → ℕ → Type 0
-IsUsedRow aim.Nothing row xss len = Unit
-IsUsedRow aim.Several row xss len = Unit
-IsUsedRow aim.Sums row xss len = AreUsed row xss len
+abbrev pub IsUsedRow : Aim → List (List ℕ) → ℕ → Type 0
+IsUsedRow aim.Nothing xss len = Unit
+IsUsedRow aim.Several xss len = Unit
+IsUsedRow (aim.Sums row) xss len = AreUsed row xss len
 
--- and the terms are its
-abbrev pub IsTermRow : Aim → List ℕ → List (List ℕ) → ℕ → List Term → Type 0
-IsTermRow aim.Nothing row xss len ts = Unit
-IsTermRow aim.Several row xss len ts = Unit
-IsTermRow aim.Sums row xss len ts = AreTermsOf row xss len ts
+-- the pairs of a row and that of a combination, or none
+abbrev pub ArePairsWith : List ℕ → Aim → List (List ℕ) → ℕ → List Pair → Type 0
+ArePairsWith row aim.Nothing xss len ps = length ps ≡ 0
+ArePairsWith row aim.Several xss len ps = length ps ≡ 0
+ArePairsWith row (aim.Sums other) xss len ps = 0 < length ps → ArePairsOf row other xss len ps
 
--- two targets both have combinations
-pub record AreBothSums (one other : Aim) : Type 0 where
-  pub first : one ≡ aim.Sums
-  pub second : other ≡ aim.Sums
+-- the pairs of two combinations, or none
+abbrev pub ArePairsOfBoth : Aim → Aim → List (List ℕ) → ℕ → List Pair → Type 0
+ArePairsOfBoth aim.Nothing other xss len ps = length ps ≡ 0
+ArePairsOfBoth aim.Several other xss len ps = length ps ≡ 0
+ArePairsOfBoth (aim.Sums row) other xss len ps = ArePairsWith row other xss len ps
 
 -- terms are wanted for sums alone
-abbrev pub IsWantedOf : Aim → List Term → Wanted → Type 0
-IsWantedOf aim.Nothing ts w = w ≡ wanted.Nothing
-IsWantedOf aim.Several ts w = w ≡ wanted.Nothing
-IsWantedOf aim.Sums ts wanted.Nothing = ts ≢ ts
-IsWantedOf aim.Sums ts (wanted.Sums us) = us.now ≡ ts
+abbrev pub IsWantedOf : Aim → List Term → Option (Bor (List Term)) → Type 0
+IsWantedOf aim.Nothing ts w = w ≡ None
+IsWantedOf aim.Several ts w = w ≡ None
+IsWantedOf (aim.Sums row) ts None = ts ≢ ts
+IsWantedOf (aim.Sums row) ts (Some us) = us.now ≡ ts
 
 -- the status, by whether the checks are 0
 abbrev pub status_at : Aim → Bool → ℕ
 status_at aim.Nothing b = 0
 status_at aim.Several true = 2
 status_at aim.Several false = 1
-status_at aim.Sums true = 0
-status_at aim.Sums false = 1
+status_at (aim.Sums row) true = 0
+status_at (aim.Sums row) false = 1
 
 -- what is answered of a target
 abbrev pub IsTargetAnswered : CodeName → (Place → Bool) → List (List ℕ) → ℕ → Target → ℕ → List ℕ → Type 0
 IsTargetAnswered code survives at len target.Nothing status out = status ≡ 0
 IsTargetAnswered code survives at len (target.Lost p) status out =
     (a : Answer) × (status ≡ status_of a) × IsAnswerAt (tables_of code) survives (at_place at) len p a out
+
+-- what is answered of four
+pub record AreFourAnswered (code : CodeName) (survives : Place → Bool) (at : List (List ℕ)) (len : ℕ) (targets : List Target)
+    (statuses a b c d : List ℕ) : Type 0 where
+  pub first : IsTargetAnswered code survives at len (target_at targets 0) (slice_index statuses 0) a
+  pub second : IsTargetAnswered code survives at len (target_at targets 1) (slice_index statuses 1) b
+  pub third : IsTargetAnswered code survives at len (target_at targets 2) (slice_index statuses 2) c
+  pub fourth : IsTargetAnswered code survives at len (target_at targets 3) (slice_index statuses 3) d

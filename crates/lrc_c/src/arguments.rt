@@ -32,8 +32,8 @@ pub(crate) fn place_at(i: usize) -> Place
     Place::from_index(i).unwrap()
 }
 
-/// Whether a bit is set.
-pub(crate) fn has_bit(mask: u32, i: usize) -> bool
+// Whether a bit is set.
+fn has_bit(mask: u32, i: usize) -> bool
     requires { i < 16 }
     ensures { result ≡ (bit_at mask i == 1) }
 {
@@ -51,6 +51,20 @@ pub(crate) fn set_of(mask: u32) -> PlaceSet
         }
     }
     set
+}
+
+/// The bits of a set's places.
+pub(crate) fn bits_of(set: PlaceSet) -> u32
+    ensures bits { (p : Place) → is_set result p ≡ is_in set p }
+    ensures below { result < 65536 }
+{
+    let mut bits = 0u16;
+    for i in 0..16usize {
+        if set.has(place_at(i)) {
+            bits |= 1 << i;
+        }
+    }
+    u32::from(bits)
 }
 
 // Whether a place, if it is in the set, is one of the code's and has so many bytes.

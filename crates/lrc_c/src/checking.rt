@@ -8,72 +8,54 @@ ghost use Rattle.lrc_code.specs.Sets.{is_in};
 ghost use Rattle.lrc_plan.specs.Stripes.{AreWhole, at_place, AreUsed, AreZeroRows, IsContradiction, IsPossible};
 ghost use Rattle.lrc_c.specs.Arguments.{is_set, IsSurveyed};
 ghost use Rattle.lrc_c.specs.Lent.{lent};
-ghost use Rattle.lrc_c.specs.Windows.{AreCoupled, AreRooms, AreWritten};
+ghost use Rattle.lrc_c.specs.Windows.{AreRooms, AreWritten};
 
 use crate::arguments::{are_whole, code_numbered, set_of};
 use crate::lent::Lent;
 use crate::statuses::{BAD_ARGUMENT, CONTRADICTION, DONE};
-use crate::windows::{Checks, Couples, Wanted, Wants, write_checked};
+use crate::windows::{Checks, Couple, Wants, write_checked};
 use lrc_code::{Code, PlaceSet, are_bytes};
 use lrc_field::{Gf, no_terms, terms_in};
 use lrc_plan::check_rows;
 
-/// Tests whether four combinations of lent bytes are 00 at every position, and writes what is wanted, in one pass, by pairs where there
-/// are any. Where some combination isn't 00 the rooms are written up to some position, and the answer is false.
-pub(crate) fn write_coupled_if_zero(
-    rows: [[Gf; 16]; 4],
-    at: &[Lent; 16],
-    wants: Wants,
-    couples: Couples,
-    len: usize,
+/// Four rows of coefficients, and the lent bytes of which they are to give 00: those whose coefficient isn't 00 have the length.
+#[derive(Clone, Copy)]
+pub(crate) struct CheckRows<'s, 'a> {
+    pub(crate) rows: [[Gf; 16]; 4],
+    pub(crate) at: &'s [Lent<'a>; 16],
+    pub(crate) len: usize,
+}
+
+/// Tests whether the rows' combinations are 00 at every position, and writes what is wanted, in one pass. Where some combination isn't 00
+/// the rooms are written up to some position, and the answer is false.
+pub(crate) fn write_if_zero(
+    checks: &CheckRows,
+    wants: &Wants,
     a: &mut [u8],
     b: &mut [u8],
     c: &mut [u8],
     d: &mut [u8],
 ) -> bool
-    requires used { All (λ row. AreUsed row (lent at.now) len) rows }
-    requires rooms { AreRooms len wants (length a.old) (length b.old) (length c.old) (length d.old) }
-    requires coupled { AreCoupled len wants (length a.old) (length b.old) (length c.old) (length d.old) couples }
-    ensures zero { result ≡ true → AreZeroRows rows (lent at.now) len }
-    ensures written { result ≡ true → AreWritten wants.entry len a.new b.new c.new d.new }
-    ensures no { result ≡ false → ¬ AreZeroRows rows (lent at.now) len }
+    requires used { All (λ row. AreUsed row (lent checks.now.at.now) checks.now.len) checks.now.rows }
+    requires rooms { AreRooms checks.now.len wants.now (length a.old) (length b.old) (length c.old) (length d.old) }
+    ensures zero { result ≡ true → AreZeroRows checks.now.rows (lent checks.now.at.now) checks.now.len }
+    ensures written { result ≡ true → AreWritten wants.now checks.now.len a.new b.new c.new d.new }
+    ensures no { result ≡ false → ¬ AreZeroRows checks.now.rows (lent checks.now.at.now) checks.now.len }
 {
+    let at = checks.at;
+    let rows = checks.rows;
     let mut first_room = no_terms();
     let mut second_room = no_terms();
     let mut third_room = no_terms();
     let mut fourth_room = no_terms();
-    let checks = Checks {
+    let checked = Checks {
+        len: checks.len,
         first: terms_in(&mut first_room, &rows[0], at),
         second: terms_in(&mut second_room, &rows[1], at),
         third: terms_in(&mut third_room, &rows[2], at),
         fourth: terms_in(&mut fourth_room, &rows[3], at),
     };
-    write_checked(checks, wants, couples, len, a, b, c, d)
-}
-
-/// Tests whether four combinations of lent bytes are 00 at every position, and writes what is wanted, in one pass and without pairs.
-/// Where some combination isn't 00 the rooms are written up to some position, and the answer is false.
-pub(crate) fn write_if_zero(
-    rows: [[Gf; 16]; 4],
-    at: &[Lent; 16],
-    wants: Wants,
-    len: usize,
-    a: &mut [u8],
-    b: &mut [u8],
-    c: &mut [u8],
-    d: &mut [u8],
-) -> bool
-    requires used { All (λ row. AreUsed row (lent at.now) len) rows }
-    requires rooms { AreRooms len wants (length a.old) (length b.old) (length c.old) (length d.old) }
-    ensures zero { result ≡ true → AreZeroRows rows (lent at.now) len }
-    ensures written { result ≡ true → AreWritten wants.entry len a.new b.new c.new d.new }
-    ensures no { result ≡ false → ¬ AreZeroRows rows (lent at.now) len }
-{
-    let couples = Couples {
-        front: &[],
-        back: &[],
-    };
-    write_coupled_if_zero(rows, at, wants, couples, len, a, b, c, d)
+    write_checked(&checked, wants, a, b, c, d)
 }
 
 // Whether the bytes at the places of a set are those of a stripe.
@@ -83,25 +65,23 @@ fn is_possible(code: Code, set: PlaceSet, at: &[Lent; 16], len: usize) -> bool
     ensures no { result ≡ false → IsContradiction (tables_of code) (is_in set) (at_place (lent at.now)) len }
 {
     learn_sixteen(at);
-    let checks = check_rows(code, set);
-    are_zero(checks, at, len)
+    let rows = check_rows(code, set);
+    are_zero(&CheckRows { rows, at, len })
 }
 
-/// Whether four combinations of lent bytes are 00 at every position.
-pub(crate) fn are_zero(rows: [[Gf; 16]; 4], at: &[Lent; 16], len: usize) -> bool
-    requires { All (λ row. AreUsed row (lent at.now) len) rows }
-    ensures { IsTrue result ↔ AreZeroRows rows (lent at.now) len }
+/// Whether the rows' combinations are 00 at every position.
+pub(crate) fn are_zero(checks: &CheckRows) -> bool
+    requires { All (λ row. AreUsed row (lent checks.now.at.now) checks.now.len) checks.now.rows }
+    ensures { IsTrue result ↔ AreZeroRows checks.now.rows (lent checks.now.at.now) checks.now.len }
 {
     let nothing = Wants {
-        first: Wanted::Nothing,
-        second: Wanted::Nothing,
-        third: Wanted::Nothing,
-        fourth: Wanted::Nothing,
+        front: Couple::nothing(),
+        back: Couple::nothing(),
     };
-    write_if_zero(rows, at, nothing, len, &mut [], &mut [], &mut [], &mut [])
+    write_if_zero(checks, &nothing, &mut [], &mut [], &mut [], &mut [])
 }
 
-/// Lent bytes are bytes. Does nothing: it is called for its contract.
+/// Lent bytes are bytes: the prover learns it of each only where code goes over them. Does nothing.
 pub(crate) fn learn_lent_bytes(at: &[Lent])
     ensures { All AreBytes (lent at.now) }
 {
@@ -110,7 +90,7 @@ pub(crate) fn learn_lent_bytes(at: &[Lent])
     }
 }
 
-/// Sixteen slices of bytes. Does nothing: it is called for its contract.
+/// Sixteen slices of bytes: the prover learns it from a contract alone. Does nothing.
 pub(crate) fn learn_sixteen(at: &[Lent; 16])
     ensures bytes { All AreBytes (lent at.now) }
     ensures count { length (lent at.now) ≡ 16 }

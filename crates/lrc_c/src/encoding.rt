@@ -5,14 +5,14 @@ ghost use Rattle.lrc_code.specs.declared.codes.Code.{Code};
 ghost use Rattle.lrc_code.specs.Codes.{data_count, tables_of};
 ghost use Rattle.lrc_code.specs.Encoding.{HaveLength, IsEncoding, IsParity};
 ghost use Rattle.lrc_c.specs.Lent.{lent};
-ghost use Rattle.lrc_c.specs.Windows.{AreCoupled, AreRooms, AreWritten};
+ghost use Rattle.lrc_c.specs.Windows.{AreRooms, AreWritten};
 ghost use Rattle.lrc_c.specs.Encoded.{AreSources};
 
 use crate::arguments::code_numbered;
 use crate::checking::learn_lent_bytes;
 use crate::lent::Lent;
 use crate::statuses::{BAD_ARGUMENT, DONE};
-use crate::windows::{Checks, Couples, Wanted, Wants, write_checked};
+use crate::windows::{Checks, Couple, Wants, write_checked};
 use lrc_code::{Code, ParityRows};
 use lrc_field::{no_pairs, no_terms, pairs_in, terms_in};
 
@@ -70,41 +70,35 @@ fn write_parities(
     let mut py_room = no_terms();
     let mut p0_room = no_terms();
     let mut p1_room = no_terms();
-    let wants = Wants {
-        first: Wanted::Sums(terms_in(&mut px_room, &rows.px[..count], sources)),
-        second: Wanted::Sums(terms_in(&mut py_room, &rows.py[..count], sources)),
-        third: Wanted::Sums(terms_in(&mut p0_room, &rows.p0[..count], sources)),
-        fourth: Wanted::Sums(terms_in(&mut p1_room, &rows.p1[..count], sources)),
-    };
     let mut room = no_pairs();
-    let couples = Couples {
-        front: &[],
-        back: pairs_in(&mut room, &rows.p0[..count], &rows.p1[..count], sources),
+    let wants = Wants {
+        front: Couple {
+            first: Some(terms_in(&mut px_room, &rows.px[..count], sources)),
+            second: Some(terms_in(&mut py_room, &rows.py[..count], sources)),
+            pairs: &[],
+        },
+        back: Couple {
+            first: Some(terms_in(&mut p0_room, &rows.p0[..count], sources)),
+            second: Some(terms_in(&mut p1_room, &rows.p1[..count], sources)),
+            pairs: pairs_in(&mut room, &rows.p0[..count], &rows.p1[..count], sources),
+        },
     };
-    write_all(wants, couples, len, px, py, p0, p1);
+    write_all(&wants, len, px, py, p0, p1);
 }
 
-// Writes what is wanted, without checks.
-fn write_all(
-    wants: Wants,
-    couples: Couples,
-    len: usize,
-    a: &mut [u8],
-    b: &mut [u8],
-    c: &mut [u8],
-    d: &mut [u8],
-)
-    requires rooms { AreRooms len wants (length a.old) (length b.old) (length c.old) (length d.old) }
-    requires coupled { AreCoupled len wants (length a.old) (length b.old) (length c.old) (length d.old) couples }
-    ensures { AreWritten wants.entry len a.new b.new c.new d.new }
+// Writes what is wanted over a length, without checks.
+fn write_all(wants: &Wants, len: usize, a: &mut [u8], b: &mut [u8], c: &mut [u8], d: &mut [u8])
+    requires { AreRooms len wants.now (length a.old) (length b.old) (length c.old) (length d.old) }
+    ensures { AreWritten wants.now len a.new b.new c.new d.new }
 {
     let none = Checks {
+        len,
         first: &[],
         second: &[],
         third: &[],
         fourth: &[],
     };
-    let _ = write_checked(none, wants, couples, len, a, b, c, d);
+    let _ = write_checked(&none, wants, a, b, c, d);
 }
 
 /// Writes the four parities of the data fragments, which are in the order of the code. 0: done. 3: the code has

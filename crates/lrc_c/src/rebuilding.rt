@@ -13,10 +13,10 @@ ghost use Rattle.lrc_c.specs.Arguments.{is_set, IsAsked};
 ghost use Rattle.lrc_c.specs.Rebuilt.{status_of, IsAnswerAt};
 
 use crate::arguments::{are_whole, lost_place, set_of};
-use crate::checking::{are_zero, learn_sixteen, write_if_zero};
+use crate::checking::{CheckRows, are_zero, learn_sixteen, write_if_zero};
 use crate::lent::Lent;
 use crate::statuses::{BAD_ARGUMENT, CONTRADICTION, DONE, SEVERAL};
-use crate::windows::{Wanted, Wants};
+use crate::windows::{Couple, Wants};
 use lrc_code::{Code, Place, PlaceSet};
 use lrc_field::{Gf, no_terms, terms_in};
 use lrc_plan::plan_rows;
@@ -40,35 +40,40 @@ fn rebuild(code: Code, set: PlaceSet, at: &[Lent; 16], target: Place, out: &mut 
     learn_sixteen(at);
     let len = out.len();
     let plan = plan_rows(code, set, target);
+    let rows = plan.checks;
+    let checks = CheckRows { rows, at, len };
     let Some(row) = plan.value else {
-        if !are_zero(plan.checks, at, len) {
+        if !are_zero(&checks) {
             return Answer::Contradiction;
         }
         return Answer::Several;
     };
-    if !write_value(plan.checks, &row, at, out) {
+    if !write_value(&checks, &row, out) {
         return Answer::Contradiction;
     }
     Answer::Rebuilt
 }
 
 // Tests the checks, and writes a row's combination in the same pass.
-fn write_value(checks: [[Gf; 16]; 4], row: &[Gf; 16], at: &[Lent; 16], out: &mut [u8]) -> bool
-    requires checks { All (λ row. AreUsed row (lent at.now) (length out.old)) checks }
-    requires row { AreUsed row.now (lent at.now) (length out.old) }
-    ensures zero { result ≡ true → AreZeroRows checks (lent at.now) (length out.old) }
-    ensures value { result ≡ true → IsParity row.now (lent at.now) (length out.old) out.new }
-    ensures no { result ≡ false → ¬ AreZeroRows checks (lent at.now) (length out.old) }
+fn write_value(checks: &CheckRows, row: &[Gf; 16], out: &mut [u8]) -> bool
+    requires len { length out.old ≡ checks.now.len }
+    requires checks { All (λ row. AreUsed row (lent checks.now.at.now) checks.now.len) checks.now.rows }
+    requires row { AreUsed row.now (lent checks.now.at.now) checks.now.len }
+    ensures zero { result ≡ true → AreZeroRows checks.now.rows (lent checks.now.at.now) checks.now.len }
+    ensures value { result ≡ true → IsParity row.now (lent checks.now.at.now) checks.now.len out.new }
+    ensures no { result ≡ false → ¬ AreZeroRows checks.now.rows (lent checks.now.at.now) checks.now.len }
 {
-    let len = out.len();
+    let at = checks.at;
     let mut room = no_terms();
     let wants = Wants {
-        first: Wanted::Sums(terms_in(&mut room, row, at)),
-        second: Wanted::Nothing,
-        third: Wanted::Nothing,
-        fourth: Wanted::Nothing,
+        front: Couple {
+            first: Some(terms_in(&mut room, row, at)),
+            second: None,
+            pairs: &[],
+        },
+        back: Couple::nothing(),
     };
-    write_if_zero(checks, at, wants, len, out, &mut [], &mut [], &mut [])
+    write_if_zero(checks, &wants, out, &mut [], &mut [], &mut [])
 }
 
 fn status_of(answer: Answer) -> u32

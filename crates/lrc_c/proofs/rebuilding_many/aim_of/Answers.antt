@@ -15,18 +15,11 @@ returns-clause-aim c =
     (row_used survivors.code (is_in survivors.set)
     at survivors.len c.requires.whole c.learn_sixteen.ensures.bytes c.learn_sixteen.ensures.count c.in-Some.row
     c.in-Some.ensures.value.reads)) in
-    subst (λ t. IsAimed survivors.code (is_in survivors.set) at survivors.len t aim.Sums c.terms_in.result.now) (sym c.in-Lost.is)
-    (c.in-Some.row, c.in-Some.ensures.value, terms)
+    subst (λ t. IsAimed survivors.code (is_in survivors.set) at survivors.len t (aim.Sums c.in-Some.row) c.terms_in.result.now)
+    (sym c.in-Lost.is) (c.in-Some.ensures.value, terms)
 
 pub returns-clause-used : goal.returns-clause-used
 returns-clause-used c =
     let survivors = c.args.survivors.now in
     row_used survivors.code (is_in survivors.set) (lent survivors.at.now) survivors.len c.requires.whole
     c.learn_sixteen.ensures.bytes c.learn_sixteen.ensures.count c.in-Some.row c.in-Some.ensures.value.reads
-
-pub returns-clause-row : goal.returns-clause-row
-returns-clause-row c =
-    let survivors = c.args.survivors.now in
-    let at = lent survivors.at.now in
-    c.terms_in.ensures.terms survivors.len (where_used c.in-Some.row at survivors.len (row_used survivors.code (is_in survivors.set) at
-    survivors.len c.requires.whole c.learn_sixteen.ensures.bytes c.learn_sixteen.ensures.count c.in-Some.row c.in-Some.ensures.value.reads))
