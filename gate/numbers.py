@@ -79,7 +79,7 @@ def compare_polynomial():
 
 def limits():
     """What each document says of the limits, one line each."""
-    farm, lists = "crates/farm_orders/src/limits.rt", "crates/farm_lists/src/lists/listing.rt"
+    farm, lists = "crates/farm_orders/src/limits.rt", "crates/farm_lists/src/listing.rt"
     racks, feeds = constant(farm, "MOST_RACKS"), constant(farm, "MOST_FEEDS")
     workers, queue = constant(farm, "MOST_WORKERS"), constant(farm, "MOST_QUEUE")
     records, list_bytes = constant(lists, "MOST_RECORDS"), constant(lists, "MOST_LIST_BYTES")
