@@ -11,6 +11,7 @@ use Rattle.lrc_code.specs.declared.outcomes.Outcome.{Outcome}
 use Rattle.lrc_code.specs.declared.outcomes.Outcome.TheVariants as outcome
 use Rattle.lrc_code.specs.Places.{name_of}
 use Rattle.farm_lists.specs.Listed.{ListedRequest}
+use Rattle.farm_lists.specs.Requests.{RequestRead}
 use Rattle.farm_reports.specs.declared.report.ReportShape.{ReportShape}
 use Rattle.farm_reports.specs.declared.report.ReportRow.{ReportRow}
 use Rattle.farm_lists.specs.declared.listing.Record.{Record}
