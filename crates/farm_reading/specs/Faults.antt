@@ -5,13 +5,11 @@ use Rattle.farm_lists.specs.Listing.{list_of}
 use Rattle.farm_lists.specs.declared.listing.Record.{Record}
 use Rattle.farm_lists.specs.declared.listing.ListFault.{ListFault}
 use Rattle.farm_lists.specs.declared.listing.ListFault.TheVariants as list_fault
-use Rattle.farm_shelves.specs.Files.{Files, StopsWriting, Shown}
-use Rattle.farm_shelves.specs.declared.shelf.ShelfFault.{ShelfFault}
-use Rattle.farm_shelves.specs.declared.shelf.ShelfFault.TheVariants as shelf_fault
+use Rattle.farm_shelves.specs.Files.{Files, Shown}
 use Rattle.farm_reading.specs.declared.faults.ServeFault.{ServeFault}
 use Rattle.farm_reading.specs.declared.faults.ServeFault.TheVariants as fault
 use Rattle.farm_lists.specs.Names.{list_name}
-use Rattle.farm_reading.specs.Reading.{AreLists, HaveFeeds, HaveLists, Reads}
+use Rattle.farm_reading.specs.Reading.{AreLists, HaveFeeds, HaveLists}
 
 -- some first feeds of the rack have lists, and the list of the feed after them is refused
 abbrev pub RefusesFeed : Files → ℕ → ℕ → ListFault → Type 0

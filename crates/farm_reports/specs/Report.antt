@@ -14,9 +14,6 @@ use Rattle.farm_lists.specs.Listed.{ListedRequest}
 use Rattle.farm_lists.specs.Requests.{RequestRead}
 use Rattle.farm_reports.specs.declared.report.ReportShape.{ReportShape}
 use Rattle.farm_reports.specs.declared.report.ReportRow.{ReportRow}
-use Rattle.farm_lists.specs.declared.listing.Record.{Record}
-use Rattle.farm_lists.specs.declared.requests.ReadRequest.{ReadRequest}
-use Rattle.farm_lists.specs.declared.listing.Record.TheVariants as rec
 
 abbrev pub outcome_name : Outcome → List ℕ
 outcome_name (outcome.Rebuilt f) = codes "rebuilt"

@@ -1,17 +1,13 @@
 -- What a fault of serving leaves, and how often devices failed.
 use Rattle.std.specs.Prelude.{◌≡◌, ◌+◌, ◌<◌, ◌⊎◌, ℕ, List, length, Some, None, IfSome, Err, option_map}
 use Rattle.lrc_code.specs.declared.outcomes.Outcome.{Outcome}
-use Rattle.farm_lists.specs.Listing.{list_of}
 use Rattle.farm_lists.specs.declared.listing.Record.{Record}
-use Rattle.farm_lists.specs.declared.listing.ListFault.{ListFault}
-use Rattle.farm_lists.specs.declared.listing.ListFault.TheVariants as list_fault
-use Rattle.farm_shelves.specs.Files.{Files, StopsWriting, Shown}
+use Rattle.farm_shelves.specs.Files.{StopsWriting, Shown}
 use Rattle.farm_shelves.specs.declared.shelf.ShelfFault.{ShelfFault}
 use Rattle.farm_shelves.specs.declared.shelf.ShelfFault.TheVariants as shelf_fault
 use Rattle.farm_reading.specs.declared.faults.ServeFault.{ServeFault}
 use Rattle.farm_reading.specs.declared.faults.ServeFault.TheVariants as fault
-use Rattle.farm_lists.specs.Names.{list_name}
-use Rattle.farm_reading.specs.Reading.{AreLists, HaveFeeds, HaveLists, Reads}
+use Rattle.farm_reading.specs.Reading.{Reads}
 use Rattle.farm_serving.specs.Serving.{Serves, written_files}
 
 -- a write of what serving these files gives failed
