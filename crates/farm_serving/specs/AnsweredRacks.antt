@@ -7,7 +7,7 @@ use Rattle.farm_orders.specs.Orders.{before_close}
 use Rattle.farm_orders.specs.declared.orders.Order.{Order}
 use Rattle.farm_shelves.specs.Files.{Files, Shown}
 use Rattle.farm_lists.specs.Requests.{RequestRead, read_of}
-use Rattle.farm_reading.specs.Reading.{AreAllReads, Reads, all_read, orders_all}
+use Rattle.farm_reading.specs.Reading.{AreAllReads, Reads, all_read, listed_counts, orders_all}
 use Rattle.farm_lists.specs.declared.listing.Record.{Record}
 use Rattle.farm_lists.specs.declared.requests.ReadRequest.{ReadRequest}
 
