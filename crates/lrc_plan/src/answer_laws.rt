@@ -1,7 +1,7 @@
 //! A law of answers.
 ghost use Rattle.lrc_plan.specs.AnswerLaws.{HasOneAnswer};
 
-use crate::invariant::recall_invariant;
+use crate::invariant::learn_invariant;
 use crate::plans::row_plans::plan_rows;
 use crate::solving::by_rows::are_zero;
 use lrc_code::Request;
@@ -13,7 +13,7 @@ pub fn request_has_one_answer(request: &Request)
 {
     let survivors = request.survivors();
     let target = request.target();
-    recall_invariant(request);
+    learn_invariant(request);
     let plan = plan_rows(request.code(), survivors, target);
     let sources = request.sources();
     let _possible = are_zero(&plan.checks, request, &sources);

@@ -12,7 +12,7 @@ pub(crate) mod by_rows;
 mod combining;
 pub(crate) mod terms;
 
-use crate::invariant::recall_invariant;
+use crate::invariant::learn_invariant;
 use crate::plans::Plan;
 use crate::plans::planning::plan_in;
 use crate::solving::terms::{is_zero, row_sums};
@@ -37,7 +37,7 @@ pub fn solve<A: Allocator + Clone>(
 ) -> Result<Outcome, AllocError>
     ensures { IfOk result (IsAnswer request.now) }
 {
-    recall_invariant(request);
+    learn_invariant(request);
     let plan = plan_in(
         plan_alloc,
         request.code(),
@@ -58,7 +58,7 @@ pub fn answer_by<A: Allocator>(
         (value_form plan.now) (check_forms plan.now) }
     ensures { IfOk result (IsAnswer request.now) }
 {
-    recall_invariant(request);
+    learn_invariant(request);
     let sources = request.sources();
     let possible = are_zero_trees(plan.checks.as_slice(), request, &sources);
     if !possible {
@@ -92,7 +92,7 @@ fn is_zero_tree<A: Allocator>(tree: &Tree<A>, request: &Request, sources: &Sourc
     requires { AreSources request.now.survivors sources.now }
     ensures { IsTrue result ↔ IsZeroTree request.now (form_of tree.now) }
 {
-    recall_invariant(request);
+    learn_invariant(request);
     let row = tree.coefficients();
     is_zero(&row, request, sources)
 }

@@ -29,7 +29,7 @@ pub(crate) fn send<T: Drop, A: Allocator, R: Wait>(
     rt: &R,
     sends: &LaneSender<T, A>,
     pass: &mut LanePass<T>,
-    item: Item<T>,
+    mut item: Item<T>,
 )
     requires seated { IsSeatAt (sends_on sends.now) pass.old }
     requires mine { (view pass.old).puts ≡ (sender_of item, put_of (view pass.old)) ∷ [] }
@@ -39,7 +39,6 @@ pub(crate) fn send<T: Drop, A: Allocator, R: Wait>(
     ensures put { view pass.new ≡ end_record (view pass.old).ends (view pass.old).parts (put_last (view pass.old).puts item)
         (view pass.old).taken }
 {
-    let mut item = item;
     for _ in rt.forever() {
         match sends.send_as::<Puts, R>(rt, pass, item) {
             Ok(()) => return,

@@ -6,7 +6,7 @@ ghost use Rattle.lrc_code.specs.Codes.{tables_of};
 ghost use Rattle.lrc_code.specs.Sets.{is_in};
 ghost use Rattle.lrc_plan.specs.RowPlans.{IsRowPlan};
 
-use crate::invariant::recall_invariant;
+use crate::invariant::learn_invariant;
 use crate::plans::row_plans::{RowPlan, plan_rows};
 use crate::solving::by_rows::answer_by_rows;
 use lrc_code::{Code, Outcome, Place, PlaceSet, Request};
@@ -121,7 +121,7 @@ impl RememberedPlans {
     pub fn solve(&mut self, alloc: Global, request: &Request) -> Result<Outcome, AllocError>
         ensures { IfOk result (IsAnswer request.now) }
     {
-        recall_invariant(request);
+        learn_invariant(request);
         let plan = self.plan(request.code(), request.survivors(), request.target());
         answer_by_rows(alloc, &plan, request)
     }

@@ -7,7 +7,7 @@ ghost use Rattle.lrc_code.specs.Requests.{AreSources, is_among};
 ghost use Rattle.lrc_plan.specs.RowPlans.{AnswerBy};
 ghost use Rattle.lrc_plan.specs.Terms.{IsZeroRow};
 
-use crate::invariant::recall_invariant;
+use crate::invariant::learn_invariant;
 use crate::plans::row_plans::RowPlan;
 use crate::solving::terms::{is_zero, row_sums};
 use lrc_code::{Bytes, Outcome, Request, Sources};
@@ -24,7 +24,7 @@ pub(crate) fn answer_by_rows(
         plan.now.checks }
     ensures { IfOk result (IsAnswer request.now) }
 {
-    recall_invariant(request);
+    learn_invariant(request);
     let sources = request.sources();
     let possible = are_zero(&plan.checks, request, &sources);
     if !possible {

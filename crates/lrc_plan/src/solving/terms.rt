@@ -5,7 +5,7 @@ ghost use Rattle.std.specs.List.{list_all};
 ghost use Rattle.lrc_code.specs.Requests.{AreSources};
 ghost use Rattle.lrc_plan.specs.Terms.{AreRowSums, AreRowTerms, IsZeroRow};
 
-use crate::invariant::recall_invariant;
+use crate::invariant::learn_invariant;
 use crate::solving::combining::combined;
 use lrc_code::{Place, Request, Sources};
 use lrc_field::{Gf, Term, no_terms, sums_are_zero, terms_in};
@@ -68,6 +68,6 @@ fn row_terms<'s, 'a>(
     requires sources { AreSources request.now.survivors sources.now }
     ensures { AreRowTerms request.now row.now result.now }
 {
-    recall_invariant(request);
+    learn_invariant(request);
     terms_in(room, row, sources)
 }

@@ -5,7 +5,7 @@ ghost use Rattle.lrc_plan.specs.Evaluation.{CanEvaluate, IsValue};
 ghost use Rattle.lrc_plan.specs.EvaluationParts.{IsScaledValue};
 ghost use Rattle.lrc_plan.specs.Tree.{form_of};
 
-use crate::invariant::recall_invariant;
+use crate::invariant::learn_invariant;
 use crate::tree::Tree;
 use crate::tree::evaluation::evaluate_scaled;
 use lrc_code::Request;
@@ -25,7 +25,7 @@ pub fn evaluate_both<R: Threads + Sync, A: Allocator + Sync>(
     requires { CanEvaluate request.now (form_of tree.now) }
     ensures { IfOk result (λ v. IsValue request.now (form_of tree.now) v.items) }
 {
-    recall_invariant(request);
+    learn_invariant(request);
     evaluate_forked(rt, alloc, tree, Gf::new(1), request, forks.min(4))
 }
 

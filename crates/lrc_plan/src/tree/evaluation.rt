@@ -5,7 +5,7 @@ ghost use Rattle.lrc_plan.specs.Tree.{form_of};
 ghost use Rattle.lrc_plan.specs.Evaluation.{byte_at, CanEvaluate, IsValue};
 ghost use Rattle.lrc_plan.specs.EvaluationParts.{AreWhole, AreZeros, IsProductAdded, IsScaledValue, IsValueAdded};
 
-use crate::invariant::recall_invariant;
+use crate::invariant::learn_invariant;
 use crate::tree::Tree;
 use lrc_code::Request;
 use lrc_field::{Gf, add_into, scale_add_into};
@@ -21,7 +21,7 @@ pub fn evaluate<A: Allocator>(
     requires { CanEvaluate request.now (form_of tree.now) }
     ensures { IfOk result (λ v. IsValue request.now (form_of tree.now) v.items) }
 {
-    recall_invariant(request);
+    learn_invariant(request);
     evaluate_scaled(alloc, tree, Gf::new(1), request)
 }
 

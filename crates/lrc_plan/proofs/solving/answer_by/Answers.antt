@@ -19,7 +19,7 @@ returns-then-not-possible g c =
     let zero : IsTrue c.are_zero_trees-possible.result ↔ All (λ t. IsZeroTree r (form_of t)) trees =
     subst (λ ts. IsTrue c.are_zero_trees-possible.result ↔ All (λ t. IsZeroTree r (form_of t)) ts) c.as_slice.ensures.value
     c.are_zero_trees-possible.ensures in
-    contradiction r c.recall_invariant.ensures.accepted c.recall_invariant.ensures.bytes (λ p. is_among p r.survivors) (λ p. refl)
+    contradiction r c.learn_invariant.ensures.accepted c.learn_invariant.ensures.bytes (λ p. is_among p r.survivors) (λ p. refl)
     (ZeroTrees (check_forms c.args.plan.now)) c.requires.of_survivors.possible
     (λ all. fails zero c.if-not-possible.true (trees_along form_of r trees all))
 
@@ -34,7 +34,7 @@ returns-in_ok-bytes-in-Some g c =
     subst (λ o. IsTargetValue (tables_of r.code) (λ p. is_among p r.survivors) r.target (option_map form_of o)) c.in-Some.is
     c.requires.of_target in
     subst (λ f. IsAnswer r (Rebuilt f)) (sym c.new.ensures)
-    (rebuilt r c.recall_invariant.ensures.accepted c.recall_invariant.ensures.bytes (λ p. is_among p r.survivors) (λ p. refl)
+    (rebuilt r c.learn_invariant.ensures.accepted c.learn_invariant.ensures.bytes (λ p. is_among p r.survivors) (λ p. refl)
     (ZeroTrees (check_forms c.args.plan.now)) c.requires.of_survivors.possible
     (trees_at form_of r trees (zero.0 c.if-not-possible.false)) c.coefficients-row.result _
     (λ s e h x. c.coefficients-row.ensures s h ∙ value.right s e h x) c.in_ok-bytes-in-Some.ensures)
@@ -49,6 +49,6 @@ returns-in-None g c =
     let value : IsTargetValue (tables_of r.code) (λ p. is_among p r.survivors) r.target None =
     subst (λ o. IsTargetValue (tables_of r.code) (λ p. is_among p r.survivors) r.target (option_map form_of o)) c.in-None.is
     c.requires.of_target in
-    several r c.recall_invariant.ensures.accepted c.recall_invariant.ensures.bytes (λ p. is_among p r.survivors) (λ p. refl)
+    several r c.learn_invariant.ensures.accepted c.learn_invariant.ensures.bytes (λ p. is_among p r.survivors) (λ p. refl)
     (ZeroTrees (check_forms c.args.plan.now)) c.requires.of_survivors.possible
     (trees_at form_of r trees (zero.0 c.if-not-possible.false)) (value.several.0 refl)

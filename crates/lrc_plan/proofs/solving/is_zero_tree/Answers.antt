@@ -11,5 +11,5 @@ returns g c =
     let r = c.args.request.now in
     let same : (i : ℕ) → row_at r c.coefficients-row.result i ≡ meaning (byte_at r i) (form_of c.args.tree.now) =
     λ i. c.coefficients-row.ensures (byte_at r i)
-    (byte_at-lt r c.recall_invariant.ensures.accepted c.recall_invariant.ensures.bytes i) in
+    (byte_at-lt r c.learn_invariant.ensures.accepted c.learn_invariant.ensures.bytes i) in
     (λ t i h. sym (same i) ∙ c.is_zero.ensures.0 t i h, λ zero. c.is_zero.ensures.1 (λ i h. same i ∙ zero i h))

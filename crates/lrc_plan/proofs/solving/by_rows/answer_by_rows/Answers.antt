@@ -18,7 +18,7 @@ decide code survives t (Some row) checks h = h.1
 pub returns-then-not-possible : goal.returns-then-not-possible
 returns-then-not-possible c =
     let r = c.args.request.now in
-    contradiction r c.recall_invariant.ensures.accepted c.recall_invariant.ensures.bytes
+    contradiction r c.learn_invariant.ensures.accepted c.learn_invariant.ensures.bytes
     (λ p. is_among p r.survivors) (λ p. refl) (ZeroRows c.args.plan.now.checks)
     (decide (tables_of r.code) (λ p. is_among p r.survivors) r.target c.args.plan.now.value c.args.plan.now.checks c.requires)
     (λ all. fails c.are_zero-possible.ensures c.if-not-possible.true (rows_along r c.args.plan.now.checks all))
@@ -29,7 +29,7 @@ returns-in_ok-bytes-in-Some c =
     let by = subst (λ v. AnswerBy (tables_of r.code) (λ p. is_among p r.survivors) r.target v c.args.plan.now.checks) c.in-Some.is
     c.requires in
     subst (λ f. IsAnswer r (Rebuilt f)) (sym c.new.ensures)
-    (rebuilt r c.recall_invariant.ensures.accepted c.recall_invariant.ensures.bytes
+    (rebuilt r c.learn_invariant.ensures.accepted c.learn_invariant.ensures.bytes
     (λ p. is_among p r.survivors) (λ p. refl) (ZeroRows c.args.plan.now.checks) by.1
     (rows_at r c.args.plan.now.checks (c.are_zero-possible.ensures.0 c.if-not-possible.false)) _ _ by.0 c.in_ok-bytes-in-Some.ensures)
 
@@ -38,6 +38,6 @@ returns-in-None c =
     let r = c.args.request.now in
     let by = subst (λ v. AnswerBy (tables_of r.code) (λ p. is_among p r.survivors) r.target v c.args.plan.now.checks) c.in-None.is
     c.requires in
-    several r c.recall_invariant.ensures.accepted c.recall_invariant.ensures.bytes
+    several r c.learn_invariant.ensures.accepted c.learn_invariant.ensures.bytes
     (λ p. is_among p r.survivors) (λ p. refl) (ZeroRows c.args.plan.now.checks) by.1
     (rows_at r c.args.plan.now.checks (c.are_zero-possible.ensures.0 c.if-not-possible.false)) by.0

@@ -7,5 +7,5 @@ use Rattle.lrc_plan.proofs.tree.evaluation.evaluate.Goals as goal
 pub returns : goal.returns
 returns g c = IfOk-weaker c.evaluate_scaled.result _ _
     (λ v. scaled_once _ c.args.request.now (form_of c.args.tree.now) v.items
-    c.new.ensures (byte_at-lt c.args.request.now c.recall_invariant.ensures.accepted c.recall_invariant.ensures.bytes))
+    c.new.ensures (byte_at-lt c.args.request.now c.learn_invariant.ensures.accepted c.learn_invariant.ensures.bytes))
     c.evaluate_scaled.ensures
