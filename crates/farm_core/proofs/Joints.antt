@@ -108,12 +108,12 @@ left_spent gate was list all None close left spent is = (is.2, is.3)
 left_spent gate was list all (Some r) close left spent is = absurd (cc)
 
 -- each right came back, or some didn't
-scan : (feds : List Fed) → Each (λ (f : Fed). is_some f.right ≡ true) feds
-    ⊎ ((k : ℕ) × (f : Fed) × (get_elem? feds k ≡ some f) × (f.right ≡ None))
+scan : (given_back : List Fed) → Each (λ (f : Fed). is_some f.right ≡ true) given_back
+    ⊎ ((k : ℕ) × (f : Fed) × (get_elem? given_back k ≡ some f) × (f.right ≡ None))
 scan [] = inl (λ k f at. absurd (some-ne-none f (sym at)))
-scan (f ∷ feds) = ⊎_elim
-    (λ back. ⊎_elim (λ all. inl (both f feds back all)) (λ (w : (k : ℕ) × (g : Fed) × (get_elem? feds k ≡ some g) × (g.right ≡ None)). inr
-    (suc w.0, w.1, w.2, w.3)) (scan feds))
+scan (f ∷ given_back) = ⊎_elim
+    (λ back. ⊎_elim (λ all. inl (both f given_back back all))
+    (λ (w : (k : ℕ) × (g : Fed) × (get_elem? given_back k ≡ some g) × (g.right ≡ None)). inr (suc w.0, w.1, w.2, w.3)) (scan given_back))
     (λ spent. inr (0, f, refl, spent))
     (decide f.right)
   where
@@ -121,10 +121,10 @@ scan (f ∷ feds) = ⊎_elim
     decide None = inr refl
     decide (Some r) = inl refl
 
-    both : (f : Fed) (feds : List Fed) → is_some f.right ≡ true → Each (λ (f : Fed). is_some f.right ≡ true) feds
-        → Each (λ (f : Fed). is_some f.right ≡ true) (f ∷ feds)
-    both f feds back all zero g at = subst (λ (u : Fed). is_some u.right ≡ true) (some-injective f g at) back
-    both f feds back all (suc k) g at = all k g at
+    both : (f : Fed) (given_back : List Fed) → is_some f.right ≡ true → Each (λ (f : Fed). is_some f.right ≡ true) given_back
+        → Each (λ (f : Fed). is_some f.right ≡ true) (f ∷ given_back)
+    both f given_back back all zero g at = subst (λ (u : Fed). is_some u.right ≡ true) (some-injective f g at) back
+    both f given_back back all (suc k) g at = all k g at
 
 module _ {A : Type 0} where
   pub same_sums : (f g : A → ℕ) (xs : List A) → ((k : ℕ) (x : A) → get_elem? xs k ≡ some x → f x ≡ g x) → sum_by f xs ≡ sum_by g xs
@@ -132,7 +132,7 @@ module _ {A : Type 0} where
   same_sums f g (x ∷ xs) same = let a = sum_by-cons f x xs in let b = sum_by-cons g x xs in let c = same 0 x refl in
       let d = same_sums f g xs (λ k. same (suc k)) in omega arith
 
-module _ (gate : GateName) (rack : ℕ) (lists : List (List Order)) (feds : List Fed) (fed : AreFed gate rack lists feds) where
+module _ (gate : GateName) (rack : ℕ) (lists : List (List Order)) (given_back : List Fed) (fed : AreFed gate rack lists given_back) where
   abbrev draws_at : Fed → Draws
   draws_at f = draws_of (values f.jobs.put)
 
@@ -140,7 +140,7 @@ module _ (gate : GateName) (rack : ℕ) (lists : List (List Order)) (feds : List
   jobs_at f = f.jobs
 
   abbrev drawn : List Draws
-  drawn = map (λ (e : PutView Job). draws_of (values e.put)) (map jobs_at feds)
+  drawn = map (λ (e : PutView Job). draws_of (values e.put)) (map jobs_at given_back)
 
   vals_are : (f : Fed) (seat : SeatView) (k : ℕ) (list : List Order) (jobs : PutView Job)
       → (h : HasFed gate seat (slot_of rack k) list jobs f.seat f.right f.close f.jobs) → values f.jobs.put ≡ values h.put
@@ -149,32 +149,32 @@ module _ (gate : GateName) (rack : ℕ) (lists : List (List Order)) (feds : List
       ∙ (values-append h.put (End jobs.sender (length h.put) ∷ []) ∙ append-nil (values h.put))
 
   -- what the feeder at an index left
-  at_feed : (k : ℕ) (f : Fed) → get_elem? feds k ≡ some f
+  at_feed : (k : ℕ) (f : Fed) → get_elem? given_back k ≡ some f
       → (list : List Order) × (get_elem? lists k ≡ some list) × (seat : SeatView) × (jobs : PutView Job) × (seat.has.used ≡ 0)
       × (seat.has.made ≡ []) × HasFed gate seat (slot_of rack k) list jobs f.seat f.right f.close f.jobs
   at_feed k f at =
-      let l = there lists k (let a = at_below feds k f at in let b = fed.count in omega arith) in
+      let l = there lists k (let a = at_below given_back k f at in let b = fed.count in omega arith) in
       let h = fed.each k l.0 f l.1 at in
       (l.0, l.1, h.0, h.1, h.2, h.3, h.4)
 
-  few_at : (k : ℕ) (f : Fed) → get_elem? feds k ≡ some f → k < 4
+  few_at : (k : ℕ) (f : Fed) → get_elem? given_back k ≡ some f → k < 4
   few_at k f at =
-      let l = there lists k (let a = at_below feds k f at in let b = fed.count in omega arith) in
+      let l = there lists k (let a = at_below given_back k f at in let b = fed.count in omega arith) in
       (fed.each k l.0 f l.1 at).5
 
   -- the feeder at an index of what was drawn
-  from_drawn : (k : ℕ) (d : Draws) → get_elem? drawn k ≡ some d → (f : Fed) × (get_elem? feds k ≡ some f) × (draws_at f ≡ d)
+  from_drawn : (k : ℕ) (d : Draws) → get_elem? drawn k ≡ some d → (f : Fed) × (get_elem? given_back k ≡ some f) × (draws_at f ≡ d)
   from_drawn k d at =
-      let e = from_map (λ (e : PutView Job). draws_of (values e.put)) (map jobs_at feds) k d at in
-      let f = from_map jobs_at feds k e.0 e.1 in
+      let e = from_map (λ (e : PutView Job). draws_of (values e.put)) (map jobs_at given_back) k d at in
+      let f = from_map jobs_at given_back k e.0 e.1 in
       (f.0, f.1, ap (λ (u : PutView Job). draws_of (values u.put)) f.2 ∙ e.2)
 
-  numbers_at : (k : ℕ) (f : Fed) → get_elem? feds k ≡ some f → drawn_numbers (draws_at f) ≡ f.seat.has.numbers
+  numbers_at : (k : ℕ) (f : Fed) → get_elem? given_back k ≡ some f → drawn_numbers (draws_at f) ≡ f.seat.has.numbers
   numbers_at k f at =
       let h = at_feed k f at in
       numbers_drawn (values f.jobs.put) ∙ (ap numbers_of (vals_are f h.2 k h.0 h.3 h.6) ∙ sym h.6.numbers_are)
 
-  requests_at : (k : ℕ) (f : Fed) (list : List Order) → get_elem? feds k ≡ some f → get_elem? lists k ≡ some list
+  requests_at : (k : ℕ) (f : Fed) (list : List Order) → get_elem? given_back k ≡ some f → get_elem? lists k ≡ some list
       → drawn_requests (draws_at f) ≡ take (length (draws_at f)) (before_close list)
   requests_at k f list at at_list =
       let h = at_feed k f at in
@@ -186,7 +186,7 @@ module _ (gate : GateName) (rack : ℕ) (lists : List (List Order)) (feds : List
       ∙ (h.6.requests_are ∙ (ap (λ n. take n (before_close h.0)) long
       ∙ ap (λ (l : List Order). take (length (draws_at f)) (before_close l)) same)))
 
-  drew_all : (k : ℕ) (f : Fed) (list : List Order) → get_elem? feds k ≡ some f → get_elem? lists k ≡ some list
+  drew_all : (k : ℕ) (f : Fed) (list : List Order) → get_elem? given_back k ≡ some f → get_elem? lists k ≡ some list
       → (h : (list : List Order) × (get_elem? lists k ≡ some list) × (seat : SeatView) × (jobs : PutView Job) × (seat.has.used ≡ 0)
       × (seat.has.made ≡ []) × HasFed gate seat (slot_of rack k) list jobs f.seat f.right f.close f.jobs)
       → length (values h.6.put) ≡ length (before_close h.0) → DrewAll (draws_at f) list
@@ -197,17 +197,18 @@ module _ (gate : GateName) (rack : ℕ) (lists : List (List Order)) (feds : List
       ∙ (h.6.requests_are ∙ (take_all (length (values h.6.put)) (before_close h.0) (omega arith) ∙ ap before_close same)))
 
   -- the joined seat, of which all rights that came back were spent
-  pub rack_drawn : (s : SeatRecord) (back : ℕ) → IsJoint s (map (λ (f : Fed). f.seat.has) feds) → IsSound gate.size s
-      → (Each (λ (f : Fed). is_some f.right ≡ true) feds → back ≡ length feds)
+  pub rack_drawn : (s : SeatRecord) (back : ℕ) → IsJoint s (map (λ (f : Fed). f.seat.has) given_back) → IsSound gate.size s
+      → (Each (λ (f : Fed). is_some f.right ≡ true) given_back → back ≡ length given_back)
       → (s.used ≡ 0 → length s.made ≡ 0 → back ≡ gate.size.rights → s.knows ≡ false)
-      → HasDrawn rack lists (map jobs_at feds)
+      → HasDrawn rack lists (map jobs_at given_back)
   rack_drawn s back joint sound came spent =
-      let whole = sound.whole (joint.share ∙ (sum_map (λ (t : SeatRecord). t.share) (λ (f : Fed). f.seat.has) feds ∙ fed.shares)) in
+      let whole = sound.whole (joint.share ∙ (sum_map (λ (t : SeatRecord). t.share) (λ (f : Fed). f.seat.has) given_back ∙ fed.shares)) in
       let n = whole.0 in
       record {
         n = n;
         are = record {
-          count = map_length (λ (e : PutView Job). draws_of (values e.put)) (map jobs_at feds) ∙ (map_length jobs_at feds ∙ fed.count);
+          count = map_length (λ (e : PutView Job). draws_of (values e.put)) (map jobs_at given_back)
+              ∙ (map_length jobs_at given_back ∙ fed.count);
           rising = λ k d at.
               let f = from_drawn k d at in
               let h = at_feed k f.0 f.1 in
@@ -215,23 +216,23 @@ module _ (gate : GateName) (rack : ℕ) (lists : List (List Order)) (feds : List
               subst AreRising (sym (numbers_drawn (values f.0.jobs.put) ∙ ap numbers_of (vals_are f.0 h.2 k h.0 h.3 h.6))) h.6.rising in
               subst (λ (l : Draws). AreRising (drawn_numbers l)) f.2 up;
           once = λ x.
-              sum_map (λ (l : Draws). times x (drawn_numbers l)) (λ (e : PutView Job). draws_of (values e.put)) (map jobs_at feds)
-              ∙ (sum_map (λ (e : PutView Job). times x (drawn_numbers (draws_of (values e.put)))) jobs_at feds
-              ∙ (same_sums (λ (f : Fed). times x (drawn_numbers (draws_at f))) (λ (f : Fed). times x f.seat.has.numbers) feds
+              sum_map (λ (l : Draws). times x (drawn_numbers l)) (λ (e : PutView Job). draws_of (values e.put)) (map jobs_at given_back)
+              ∙ (sum_map (λ (e : PutView Job). times x (drawn_numbers (draws_of (values e.put)))) jobs_at given_back
+              ∙ (same_sums (λ (f : Fed). times x (drawn_numbers (draws_at f))) (λ (f : Fed). times x f.seat.has.numbers) given_back
               (λ k f at. ap (times x) (numbers_at k f at))
-              ∙ (sym (sum_map (λ (t : SeatRecord). times x t.numbers) (λ (f : Fed). f.seat.has) feds)
+              ∙ (sym (sum_map (λ (t : SeatRecord). times x t.numbers) (λ (f : Fed). f.seat.has) given_back)
               ∙ (sym (joint.numbers x) ∙ whole.1 x))));
           prefixes = λ k list d at_list at.
               let f = from_drawn k d at in
               subst (λ (l : Draws). drawn_requests l ≡ take (length l) (before_close list)) f.2 (requests_at k f.0 list f.1 at_list);
           ended = ⊎_elim
               (λ all.
-              let used : s.used ≡ 0 = joint.used ∙ (sum_map (λ (t : SeatRecord). t.used) (λ (f : Fed). f.seat.has) feds
-              ∙ total_none (λ (f : Fed). f.seat.has.used) feds
+              let used : s.used ≡ 0 = joint.used ∙ (sum_map (λ (t : SeatRecord). t.used) (λ (f : Fed). f.seat.has) given_back
+              ∙ total_none (λ (f : Fed). f.seat.has.used) given_back
               (λ k f at. let h = at_feed k f at in (left_back gate.id h.2.has h.0 _ f.right f.close f.seat.has (all k f at) h.6.right).0
               ∙ h.4)) in
-              let made : length s.made ≡ 0 = joint.made ∙ (sum_map (λ (t : SeatRecord). length t.made) (λ (f : Fed). f.seat.has) feds
-              ∙ total_none (λ (f : Fed). length f.seat.has.made) feds
+              let made : length s.made ≡ 0 = joint.made ∙ (sum_map (λ (t : SeatRecord). length t.made) (λ (f : Fed). f.seat.has) given_back
+              ∙ total_none (λ (f : Fed). length f.seat.has.made) given_back
               (λ k f at. let h = at_feed k f at in ap (λ (l : List ℕ). length l)
               ((left_back gate.id h.2.has h.0 _ f.right f.close f.seat.has (all k f at) h.6.right).1 ∙ h.5))) in
               let none = joint.unclosed (spent used made (came all ∙ sym fed.rights)) in
@@ -239,22 +240,23 @@ module _ (gate : GateName) (rack : ℕ) (lists : List (List Order)) (feds : List
               let f = from_drawn k d at in
               let h = at_feed k f.0 f.1 in
               let said = (left_back gate.id h.2.has h.0 _ f.0.right f.0.close f.0.seat.has (all k f.0 f.1) h.6.right).2
-              (none k f.0.seat.has (at_map (λ (f : Fed). f.seat.has) feds k f.0 f.1)) in
+              (none k f.0.seat.has (at_map (λ (f : Fed). f.seat.has) given_back k f.0 f.1)) in
               let same : h.0 ≡ list = some-injective _ _ (sym h.1 ∙ at_list) in (
                 subst (λ l. ¬ HasClose l) same said.1,
                 subst (λ (l : Draws). DrewAll l list) f.2
                     (drew_all k f.0 list f.1 at_list h said.0),
               )))
-              (λ (w : (k : ℕ) × (f : Fed) × (get_elem? feds k ≡ some f) × (f.right ≡ None)).
+              (λ (w : (k : ℕ) × (f : Fed) × (get_elem? given_back k ≡ some f) × (f.right ≡ None)).
               let h = at_feed w.0 w.1 w.2 in
               let said = left_spent gate.id h.2.has h.0 _ w.1.right w.1.close w.1.seat.has w.3 h.6.right in
               let here : get_elem? drawn w.0 ≡ some (draws_at w.1) =
-              at_map (λ (e : PutView Job). draws_of (values e.put)) (map jobs_at feds) w.0 w.1.jobs (at_map jobs_at feds w.0 w.1 w.2) in
+              at_map (λ (e : PutView Job). draws_of (values e.put)) (map jobs_at given_back) w.0 w.1.jobs
+              (at_map jobs_at given_back w.0 w.1 w.2) in
               inr (w.0, h.0, draws_at w.1, h.1, here, said.1, drew_all w.0 w.1 h.0 w.2 h.1 h said.0))
-              (scan feds);
+              (scan given_back);
         };
         each = λ k e at.
-            let f = from_map jobs_at feds k e at in
+            let f = from_map jobs_at given_back k e at in
             let h = at_feed k f.0 f.1 in
             subst (λ (u : PutView Job). All (IsOfFeed rack k) (values u.put)) f.2
             (subst (λ (l : List Job). All (IsOfFeed rack k) l) (sym (vals_are f.0 h.2 k h.0 h.3 h.6))
@@ -294,28 +296,29 @@ spend_ends size was s count sound spending used made all = decide was.knows (λ 
 -- the rights that came back
 abbrev pub rights_of : List Fed → List TableId
 rights_of [] = []
-rights_of (f ∷ feds) = right_back f.right ++ rights_of feds
+rights_of (f ∷ given_back) = right_back f.right ++ rights_of given_back
 
-pub rights_snoc : (feds : List Fed) (f : Fed) → rights_of (feds ++ f ∷ []) ≡ rights_of feds ++ right_back f.right
+pub rights_snoc : (given_back : List Fed) (f : Fed) → rights_of (given_back ++ f ∷ []) ≡ rights_of given_back ++ right_back f.right
 rights_snoc [] f = append-nil (right_back f.right)
-rights_snoc (g ∷ feds) f = ap (λ l. right_back g.right ++ l) (rights_snoc feds f)
-    ∙ sym (append_assoc (right_back g.right) (rights_of feds) (right_back f.right))
+rights_snoc (g ∷ given_back) f = ap (λ l. right_back g.right ++ l) (rights_snoc given_back f)
+    ∙ sym (append_assoc (right_back g.right) (rights_of given_back) (right_back f.right))
 
-pub all_back : (feds : List Fed) → Each (λ (f : Fed). is_some f.right ≡ true) feds → length (rights_of feds) ≡ length feds
+pub all_back : (given_back : List Fed) → Each (λ (f : Fed). is_some f.right ≡ true) given_back
+    → length (rights_of given_back) ≡ length given_back
 all_back [] back = refl
-all_back (f ∷ feds) back =
-    let a = length-append (right_back f.right) (rights_of feds) in
+all_back (f ∷ given_back) back =
+    let a = length-append (right_back f.right) (rights_of given_back) in
     let b = one f.right (back 0 f refl) in
-    let c = all_back feds (λ k. back (suc k)) in omega arith
+    let c = all_back given_back (λ k. back (suc k)) in omega arith
   where
     one : (o : Option TableId) → is_some o ≡ true → length (right_back o) ≡ 1
     one None is = absurd (cc)
     one (Some r) is = refl
 
-pub rights_own : (gate : TableId) (feds : List Fed) → Each (IsOfGate gate) feds → Each (λ r. r ≡ gate) (rights_of feds)
+pub rights_own : (gate : TableId) (given_back : List Fed) → Each (IsOfGate gate) given_back → Each (λ r. r ≡ gate) (rights_of given_back)
 rights_own gate [] own = λ k r at. absurd (some-ne-none r (sym at))
-rights_own gate (f ∷ feds) own = both (right_back f.right) (rights_of feds) (one f.right (own 0 f refl).1)
-    (rights_own gate feds (λ k. own (suc k)))
+rights_own gate (f ∷ given_back) own = both (right_back f.right) (rights_of given_back) (one f.right (own 0 f refl).1)
+    (rights_own gate given_back (λ k. own (suc k)))
   where
     only : (q : TableId) (k : ℕ) (r : TableId) → get_elem? (q ∷ []) k ≡ some r → q ≡ gate → r ≡ gate
     only q zero r at is = sym (some-injective q r at) ∙ is

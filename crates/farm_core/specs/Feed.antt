@@ -127,11 +127,11 @@ IsOfGate gate fed = (fed.seat.gate ≡ gate) × ((right : TableId) → fed.right
     × (fed.seat.has.draws ≤ fed.seat.has.share)
 
 -- these are what the feeders of a rack left, in order, which had all seats and all rights of its gate
-pub record AreFed (gate : GateName) (rack : ℕ) (lists : List (List Order)) (feds : List Fed) : Type 0 where
-  pub count : length feds ≡ length lists
-  pub rights : gate.size.rights ≡ length feds
-  pub shares : sum_by (λ (f : Fed). f.seat.has.share) feds ≡ gate.size.total
-  pub each : (feed : ℕ) (list : List Order) (fed : Fed) → get_elem? lists feed ≡ some list → get_elem? feds feed ≡ some fed
+pub record AreFed (gate : GateName) (rack : ℕ) (lists : List (List Order)) (given_back : List Fed) : Type 0 where
+  pub count : length given_back ≡ length lists
+  pub rights : gate.size.rights ≡ length given_back
+  pub shares : sum_by (λ (f : Fed). f.seat.has.share) given_back ≡ gate.size.total
+  pub each : (feed : ℕ) (list : List Order) (fed : Fed) → get_elem? lists feed ≡ some list → get_elem? given_back feed ≡ some fed
       → (seat : SeatView) × (jobs : PutView Job) × (seat.has.used ≡ 0) × (seat.has.made ≡ [])
       × HasFed gate seat (slot_of rack feed) list jobs fed.seat fed.right fed.close fed.jobs × (feed < feed_limit)
 

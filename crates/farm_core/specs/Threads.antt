@@ -41,9 +41,9 @@ pub record AreWorkerEnds (jobs_lane : LaneName Job) (replies_lane : LaneName Rep
   pub each : (k : ℕ) (e : WorkerEnds) → get_elem? ends k ≡ some e → (e.jobs ≡ new_take jobs_lane) × (e.replies ≡ new_put replies_lane k)
 
 -- what each feeder left is at its index
-pub record FeedersJoined (handles : List (PromisedHandle (Option Fed) FeedOf)) (feds : List Fed) : Type 0 where
-  pub count : length feds ≡ length handles
-  pub each : (k : ℕ) (h : PromisedHandle (Option Fed) FeedOf) (f : Fed) → get_elem? handles k ≡ some h → get_elem? feds k ≡ some f
+pub record FeedersJoined (handles : List (PromisedHandle (Option Fed) FeedOf)) (given_back : List Fed) : Type 0 where
+  pub count : length given_back ≡ length handles
+  pub each : (k : ℕ) (h : PromisedHandle (Option Fed) FeedOf) (f : Fed) → get_elem? handles k ≡ some h → get_elem? given_back k ≡ some f
       → LeftBy h.promise.0.value f
 
 -- all seats and rights of these feeders are this gate's

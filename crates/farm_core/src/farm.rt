@@ -4,21 +4,19 @@ ghost use Rattle.farm_core.specs.Expected.{AreExpected};
 ghost use Rattle.farm_core.specs.Merge.{AreAllMergedAnswers};
 ghost use Rattle.farm_core.specs.Boards.{AreMergedRows};
 ghost use Rattle.farm_orders.specs.FedLists.{one_each};
-ghost use Rattle.farm_core.specs.RunFeeds.{lists_of};
-ghost use Rattle.farm_core.specs.Ready.{AreGates, IsReady};
+ghost use Rattle.farm_core.specs.Ready.{IsReady};
 
 use crate::lists::Lists;
 use crate::pause::Pause;
 use crate::replies::board::Board;
 use crate::settling::settle_all;
 use crate::slots::SlotPause;
-use crate::taken::gates::{RackSeats, gates_for};
+use crate::taken::gates::gates_for;
 use crate::taken::space::Space;
 use crate::taken::{Room, room_for};
 use crate::threads::all::{Started, Starts, end_all, join_all, start_all};
 use crate::threads::collecting::{Cleared, start_collector};
 use crate::threads::{Refusals, Shared};
-use farm_lanes::Gate;
 use farm_orders::{FarmError, Feeds, Racks, Settings};
 use lrc_code::Outcome;
 use std::alloc::Global;
@@ -77,19 +75,15 @@ fn run_in<'s, 'a: 's, E, R: Threads + Wait + Sync, P: Pause>(
 }
 
 // What `run` and `run_feeds` share: the board of all racks, with the replies to a lawful merge of each rack's feeds.
-fn run_lists<'a, R: Threads + Wait + Sync, P: Pause>(
+fn run_room<'a, R: Threads + Wait + Sync, P: Pause>(
     rt: &R,
     alloc: Global,
-    lists: Lists<'a>,
-    gates: &'a [Gate],
-    seats: Vec<RackSeats>,
-    settings: Settings,
+    room: Room<'a>,
     pause: &P,
 ) -> Result<Board<'a>, FarmError>
-    requires { AreGates (lists_of lists) gates.now seats.items }
-    ensures { IfOk result (λ b. (b.racks ≡ lists_of lists.entry) × AreMergedRows b.racks b.table) }
+    requires { IsReady room }
+    ensures { IfOk result (λ b. (b.racks ≡ room.entry.desk.board.racks) × AreMergedRows b.racks b.table) }
 {
-    let room = room_for(alloc, lists, gates, seats, settings)?;
     let slots = SlotPause { pause };
     let lent = Shared {
         rt,
@@ -126,7 +120,8 @@ pub fn run<R: Threads + Wait + Sync, P: Pause>(
 {
     let lists = Lists::One(racks);
     let (gates, seats) = gates_for(alloc, lists)?;
-    let board = run_lists(rt, alloc, lists, gates.as_slice(), seats, settings, pause)?;
+    let room = room_for(alloc, lists, gates.as_slice(), seats, settings)?;
+    let board = run_room(rt, alloc, room, pause)?;
     Ok(board.answers(alloc)?)
 }
 
@@ -143,6 +138,7 @@ pub fn run_feeds<R: Threads + Wait + Sync, P: Pause>(
 {
     let lists = Lists::Several(feeds);
     let (gates, seats) = gates_for(alloc, lists)?;
-    let board = run_lists(rt, alloc, lists, gates.as_slice(), seats, settings, pause)?;
+    let room = room_for(alloc, lists, gates.as_slice(), seats, settings)?;
+    let board = run_room(rt, alloc, room, pause)?;
     Ok(board.by_feed(alloc)?)
 }

@@ -87,7 +87,7 @@ fn rack_room<'a>(
         gate,
         feeders,
         handles: Vec::with_capacity(alloc, count)?,
-        feds: Vec::with_capacity(alloc, count)?,
+        given_back: Vec::with_capacity(alloc, count)?,
         rights: Vec::with_capacity(alloc, count)?,
     })
 }

@@ -11,7 +11,6 @@ use Rattle.lrc_code.specs.Places.{index_of, same_place}
 use Rattle.lrc_code.specs.Sets.{is_in}
 use Rattle.lrc_code.proofs.PlaceSums.{index_of-eq}
 use Rattle.lrc_c.specs.Arguments.{is_set}
-use Rattle.lrc_c.specs.Reads.{without}
 
 -- the places of the first indexes are in the set as their bits say, and no others
 pub record IsSetBelow (mask i : ℕ) (set : List Bool) : Type 0 where
@@ -74,10 +73,3 @@ bit_same set i mask place e there s = record {
   ];
   above = λ p le. s.above p (omega (arith, le));
 }
-
--- ---- a set without a place
-
--- the places of the first indexes are in the set as in another without a place, and no others
-pub record IsRestBelow (set : List Bool) (place : Place) (i : ℕ) (rest : List Bool) : Type 0 where
-  pub below : (p : Place) → index_of p < i → is_in rest p ≡ without (is_in set) place p
-  pub above : (p : Place) → i ≤ index_of p → is_in rest p ≡ false

@@ -58,7 +58,7 @@ pub record AreAnswered (code : CodeName) (survives : Place → Bool) (at : List 
 
 -- ---- the steps
 
--- four numbers are, each with its room
+-- four numbers are asked for so, each with its room
 pub record AreFourAsked (code : CodeName) (survives : Place → Bool) (len : ℕ) (numbers rooms : List ℕ) : Type 0 where
   pub first : IsAsked code survives len (slice_index numbers 0) (slice_index rooms 0)
   pub second : IsAsked code survives len (slice_index numbers 1) (slice_index rooms 1)
@@ -79,19 +79,19 @@ IsReady code survives len (target.Lost p) room = IsLostPlace code survives p × 
 abbrev pub target_at : List Target → ℕ → Target
 target_at targets k = slice_index_or targets k target.Nothing
 
--- four targets are, each with its room
+-- four targets are ready, each with its room
 pub record AreFourReady (code : CodeName) (survives : Place → Bool) (len : ℕ) (targets : List Target) (a b c d : ℕ) : Type 0 where
   pub first : IsReady code survives len (target_at targets 0) a
   pub second : IsReady code survives len (target_at targets 1) b
   pub third : IsReady code survives len (target_at targets 2) c
   pub fourth : IsReady code survives len (target_at targets 3) d
 
--- it is that of a number
+-- a target is that of a number, with its room
 abbrev pub IsTargetOf : CodeName → (Place → Bool) → ℕ → ℕ → ℕ → Target → Type 0
 IsTargetOf code survives len number room target.Nothing = number ≡ 255
 IsTargetOf code survives len number room (target.Lost p) = (index_of p ≡ number) × IsLostPlace code survives p × (room ≡ len)
 
--- four targets are those of four numbers
+-- four targets are those of four numbers, each with its room
 pub record AreFourTargets (code : CodeName) (survives : Place → Bool) (len : ℕ) (numbers rooms : List ℕ) (targets : List Target)
     : Type 0 where
   pub first : IsTargetOf code survives len (slice_index numbers 0) (slice_index rooms 0) (target_at targets 0)

@@ -68,7 +68,7 @@ pub(crate) fn reply_lane<'a>(
 /// A pair of ends for each worker.
 pub(crate) fn worker_ends<'a>(
     alloc: Global,
-    takes: Vec<TakeEnd<Job<'a>>>,
+    mut takes: Vec<TakeEnd<Job<'a>>>,
     puts: Vec<PutEnd<Reply<'a>>>,
 ) -> Result<Vec<WorkerEnds<'a>>, AllocError>
     requires count { vec_len takes ≡ vec_len puts }
@@ -78,7 +78,6 @@ pub(crate) fn worker_ends<'a>(
     ensures jobs { IfOk result (λ v. (lane : LaneName Job) → Each (λ t. t ≡ new_take lane) takes.entry.items
         → Each (λ e. e.jobs ≡ new_take lane) v.items) }
 {
-    let mut takes = takes;
     let mut ends = Vec::with_capacity(alloc, puts.len())?;
     for replies in puts {
         let Some(jobs) = takes.pop() else {

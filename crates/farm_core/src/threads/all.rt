@@ -64,7 +64,7 @@ fn start_racks<'s, 'a: 's, E, R: Threads + Wait + Sync, P: Pause>(
             gate,
             feeders,
             mut handles,
-            feds,
+            given_back,
             rights,
         } = rack;
         if left.is_some() {
@@ -74,7 +74,7 @@ fn start_racks<'s, 'a: 's, E, R: Threads + Wait + Sync, P: Pause>(
             started.push_reserved(RackFeeders {
                 gate,
                 handles,
-                feds,
+                given_back,
                 rights,
             });
         } else {
@@ -143,11 +143,11 @@ fn join_racks<'a, R: Threads>(
         let RackFeeders {
             gate,
             handles,
-            mut feds,
+            mut given_back,
             rights,
         } = rack;
-        if join_feeders(rt, handles, &mut feds) {
-            close_rack(gate, feds, rights, put_ends);
+        if join_feeders(rt, handles, &mut given_back) {
+            close_rack(gate, given_back, rights, put_ends);
         } else {
             all = false;
         }

@@ -49,21 +49,21 @@ fn keep(rights: &mut Vec<Right>, right: Option<Right>)
 /// Joins what a rack's feeders gave back: the put ends in order. What they drew is a lawful merge of their lists.
 pub(crate) fn close_rack<'a>(
     gate: &Gate,
-    mut feds: Vec<Fed<'a>>,
+    mut given_back: Vec<Fed<'a>>,
     mut rights: Vec<Right>,
     put_ends: &mut Vec<EndedPut<Job<'a>>>,
 )
-    requires some { 0 < length feds.items }
-    requires own { Each (IsOfGate gate.now.id) feds.items }
-    requires rights { (rights.items ≡ []) × (vec_len feds ≤ vec_capacity rights) }
-    requires room { vec_len put_ends.old + vec_len feds ≤ vec_capacity put_ends.old }
+    requires some { 0 < length given_back.items }
+    requires own { Each (IsOfGate gate.now.id) given_back.items }
+    requires rights { (rights.items ≡ []) × (vec_len given_back ≤ vec_capacity rights) }
+    requires room { vec_len put_ends.old + vec_len given_back ≤ vec_capacity put_ends.old }
     ensures capacity { vec_capacity put_ends.new ≡ vec_capacity put_ends.old }
-    ensures len { vec_len put_ends.new ≡ vec_len put_ends.old + vec_len feds.entry }
-    ensures ends { put_ends.new.items ≡ put_ends.old.items ++ map (λ (f : TheFed). f.jobs) feds.entry.items }
-    ensures drawn { (rack : ℕ) (lists : List (List Order)) → AreFed gate.now rack lists feds.entry.items
-        → HasDrawn rack lists (map (λ (f : TheFed). f.jobs) feds.entry.items) }
+    ensures len { vec_len put_ends.new ≡ vec_len put_ends.old + vec_len given_back.entry }
+    ensures ends { put_ends.new.items ≡ put_ends.old.items ++ map (λ (f : TheFed). f.jobs) given_back.entry.items }
+    ensures drawn { (rack : ℕ) (lists : List (List Order)) → AreFed gate.now rack lists given_back.entry.items
+        → HasDrawn rack lists (map (λ (f : TheFed). f.jobs) given_back.entry.items) }
 {
-    let Some(last) = feds.pop() else {
+    let Some(last) = given_back.pop() else {
         unreachable!();
     };
     let Fed {
@@ -73,7 +73,7 @@ pub(crate) fn close_rack<'a>(
         ..
     } = last;
     let mut joined = learn_sound(gate, seat);
-    for fed in feds {
+    for fed in given_back {
         let Fed {
             seat,
             right,

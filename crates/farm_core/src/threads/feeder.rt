@@ -33,7 +33,7 @@ pub struct Fed<'a> {
 }
 
 /// Puts a job for each request before the list's close, with its slot and a number that it draws, closes the gate there, and
-/// puts its end mark. It stops early only where a draw is refused since the gate is closed.
+/// puts its end mark. It stops early only where a draw is refused since the gate is closed. The arguments are a promise to callers.
 pub fn feed<'a, R: Wait, P: Pause>(
     rt: &R,
     gate: &Gate,
@@ -194,17 +194,17 @@ pub(crate) fn start_feeders<'s, 'a: 's, E, R: Threads + Wait + Sync, P: Pause>(
 pub(crate) fn join_feeders<'a, R: Threads>(
     rt: &R,
     handles: Vec<FeederHandle<'a>>,
-    feds: &mut Vec<Fed<'a>>,
+    given_back: &mut Vec<Fed<'a>>,
 ) -> bool
-    requires empty { feds.old.items ≡ [] }
-    requires room { vec_len handles ≤ vec_capacity feds.old }
-    ensures joined { result ≡ true → FeedersJoined handles.entry.items feds.new.items }
-    ensures count { result ≡ true → vec_len feds.new ≡ vec_len handles.entry }
+    requires empty { given_back.old.items ≡ [] }
+    requires room { vec_len handles ≤ vec_capacity given_back.old }
+    ensures joined { result ≡ true → FeedersJoined handles.entry.items given_back.new.items }
+    ensures count { result ≡ true → vec_len given_back.new ≡ vec_len handles.entry }
 {
     let mut all = true;
     for handle in handles {
         match handle.join(rt) {
-            Some(fed) => feds.push_reserved(fed),
+            Some(fed) => given_back.push_reserved(fed),
             None => all = false,
         }
     }

@@ -13,11 +13,11 @@ use farm_lanes::{Gate, Right};
 pub(crate) struct RackFeeders<'a> {
     pub gate: &'a Gate,
     pub handles: Vec<FeederHandle<'a>>,
-    pub feds: Vec<Fed<'a>>,
+    pub given_back: Vec<Fed<'a>>,
     pub rights: Vec<Right>,
     pub ghost own: { AreOfGate gate.now handles.items },
     pub ghost some: { (0 < vec_len handles) × (vec_len handles ≤ feed_limit) },
-    pub ghost room: { (feds.items ≡ []) × (vec_len handles ≤ vec_capacity feds) × (rights.items ≡ [])
+    pub ghost room: { (given_back.items ≡ []) × (vec_len handles ≤ vec_capacity given_back) × (rights.items ≡ [])
         × (vec_len handles ≤ vec_capacity rights) },
 }
 
@@ -27,10 +27,10 @@ pub(crate) struct RackRoom<'a> {
     pub gate: &'a Gate,
     pub feeders: Vec<Feeder<'a>>,
     pub handles: Vec<FeederHandle<'a>>,
-    pub feds: Vec<Fed<'a>>,
+    pub given_back: Vec<Fed<'a>>,
     pub rights: Vec<Right>,
     pub ghost own: { Each (λ f. f.gate.now ≡ gate.now) feeders.items },
     pub ghost some: { (0 < vec_len feeders) × (vec_len feeders ≤ feed_limit) },
-    pub ghost room: { (handles.items ≡ []) × (vec_len feeders ≤ vec_capacity handles) × (feds.items ≡ [])
-        × (vec_len feeders ≤ vec_capacity feds) × (rights.items ≡ []) × (vec_len feeders ≤ vec_capacity rights) },
+    pub ghost room: { (handles.items ≡ []) × (vec_len feeders ≤ vec_capacity handles) × (given_back.items ≡ [])
+        × (vec_len feeders ≤ vec_capacity given_back) × (rights.items ≡ []) × (vec_len feeders ≤ vec_capacity rights) },
 }

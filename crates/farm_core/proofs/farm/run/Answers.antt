@@ -1,4 +1,4 @@
-use Rattle.std.proofs.Common.{List, map, subst, Vec, Global, Option}
+use Rattle.std.proofs.Common.{◌∙◌, List, map, subst, Vec, Global, Option}
 use Rattle.std.specs.List.{AllZip}
 use Rattle.lrc_code.specs.declared.outcomes.Outcome.{Outcome}
 use Rattle.farm_orders.specs.declared.orders.Order.{Order}
@@ -12,6 +12,6 @@ pub returns : goal.returns
 returns g c =
     let is = c.in_ok-board.ensures in let b = c.in_ok-board.board in let v = c.in_ok-answers.field-0 in
     expected_answers c.args.racks.now b.table (map (λ (a : Vec Outcome Global). a.items) v.items)
-    (subst (λ (l : List (List (List Order))). AreMergedRows l b.table) is.0 is.1)
+    (subst (λ (l : List (List (List Order))). AreMergedRows l b.table) (is.0 ∙ c.in_ok-room.ensures.racks) is.1)
     (zip_map (λ (row : List (Option Entry)) (outs : List Outcome). AllZip (λ (e : Entry) (o : Outcome). IsOutcomeOf e (slot_feed e.rack, o))
     (filled row) outs) (λ (a : Vec Outcome Global). a.items) b.table v.items c.in_ok-answers.ensures)

@@ -1,4 +1,4 @@
-use Rattle.std.proofs.Common.{ℕ, List, map, subst, Vec, Global, Option}
+use Rattle.std.proofs.Common.{◌∙◌, ℕ, List, map, subst, Vec, Global, Option}
 use Rattle.std.specs.List.{AllZip}
 use Rattle.lrc_code.specs.declared.outcomes.Outcome.{Outcome}
 use Rattle.farm_orders.specs.declared.orders.Order.{Order}
@@ -11,6 +11,6 @@ pub returns : goal.returns
 returns g c =
     let is = c.in_ok-board.ensures in let b = c.in_ok-board.board in let v = c.in_ok-by_feed.field-0 in
     merged_answers c.args.feeds.now b.table (map (λ (a : Vec (ℕ × Outcome) Global). a.items) v.items)
-    (subst (λ (l : List (List (List Order))). AreMergedRows l b.table) is.0 is.1)
+    (subst (λ (l : List (List (List Order))). AreMergedRows l b.table) (is.0 ∙ c.in_ok-room.ensures.racks) is.1)
     (zip_map (λ (row : List (Option Entry)) (outs : List (ℕ × Outcome)). AllZip IsOutcomeOf (filled row) outs)
     (λ (a : Vec (ℕ × Outcome) Global). a.items) b.table v.items c.in_ok-by_feed.ensures)

@@ -19,7 +19,7 @@ loop-rack-init g c = (
 
 pub close_rack-requires-clause-own : goal.close_rack-requires-clause-own
 close_rack-requires-clause-own g c =
-    all_own c.in-Some.rack.gate.now c.in-Some.rack.handles.items c.join_feeders.new.feds.items
+    all_own c.in-Some.rack.gate.now c.in-Some.rack.handles.items c.join_feeders.new.given_back.items
     (c.join_feeders.ensures.joined c.if-join_feeders.true) c.in-Some.rack.own
 
 pub loop-rack-preserved-then-join_feeders : goal.loop-rack-preserved-then-join_feeders
@@ -27,9 +27,9 @@ loop-rack-preserved-then-join_feeders g c =
     let was = c.loop-rack.invariant in let done = c.loop-rack.yielded in (
       rw append_assoc (was.0 ∙ ap (λ (t : List RackFeeders). done ++ t) c.in-Some.ensures.steps.0),
       (λ all. subst (λ (l : List (PutView Job)). HavePutRacks (done ++ c.in-Some.rack ∷ []) l) (sym c.close_rack.ensures.ends)
-          (racks_next done (vec_items c.loop-rack.put_ends) _ c.in-Some.rack c.join_feeders.new.feds.items (was.1 all)
+          (racks_next done (vec_items c.loop-rack.put_ends) _ c.in-Some.rack c.join_feeders.new.given_back.items (was.1 all)
           (c.join_feeders.ensures.joined c.if-join_feeders.true) c.close_rack.ensures.drawn)),
-      (λ all. ends_next done (vec_items c.loop-rack.put_ends) _ c.in-Some.rack c.join_feeders.new.feds.items (was.2 all)
+      (λ all. ends_next done (vec_items c.loop-rack.put_ends) _ c.in-Some.rack c.join_feeders.new.given_back.items (was.2 all)
           (c.join_feeders.ensures.joined c.if-join_feeders.true) c.close_rack.ensures.ends),
       search rules,
       search rules,

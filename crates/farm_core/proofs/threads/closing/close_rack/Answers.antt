@@ -17,7 +17,7 @@ abbrev seats : Fed → SeatRecord
 seats f = f.seat.has
 
 pub learn_sound-joined-requires-clause-own : goal.learn_sound-joined-requires-clause-own
-learn_sound-joined-requires-clause-own c = (each_middle (IsOfGate c.args.gate.now.id) c.args.feds.items c.pop.new.self.items []
+learn_sound-joined-requires-clause-own c = (each_middle (IsOfGate c.args.gate.now.id) c.args.given_back.items c.pop.new.self.items []
     c.in-Some.last c.in-Some.ensures.items c.requires.own).0
 
 pub join-joined-requires : goal.join-joined-requires
@@ -28,7 +28,7 @@ join-joined-requires c =
     record {
       own = (
         was.1,
-        (each_middle (IsOfGate c.args.gate.now.id) c.args.feds.items done _ c.in-Some-fed.fed
+        (each_middle (IsOfGate c.args.gate.now.id) c.args.given_back.items done _ c.in-Some-fed.fed
             (c.in-Some.ensures.items ∙ (ap (λ (t : List Fed). t ++ c.in-Some.last ∷ []) rest
             ∙ append_assoc done (c.in-Some-fed.fed ∷ _) (c.in-Some.last ∷ []))) c.requires.own).0,
       );
@@ -63,12 +63,12 @@ spend_all-requires-clause-own c =
     (sym c.into_iter-fed-iterator.ensures.into_iter_gives.0 ∙ was.0)
     (let a = was.9 in let b = c.in-None.ensures.steps.0 in let d = c.into_iter-fed-iterator.ensures.into_iter_gives.1 in
     let e = c.pop.new.self.ok in omega arith) in
-    let all_is : done ++ last ∷ [] ≡ c.args.feds.items = ap (λ (l : List Fed). l ++ last ∷ []) whole ∙ sym c.in-Some.ensures.items in
+    let all_is : done ++ last ∷ [] ≡ c.args.given_back.items = ap (λ (l : List Fed). l ++ last ∷ []) whole ∙ sym c.in-Some.ensures.items in
     let rights_are = c.keep-2.ensures.rights ∙ (ap (λ (l : List TableId). l ++ right_back last.right) was.5
     ∙ (sym (rights_snoc done last) ∙ ap rights_of all_is)) in (
       was.1,
       subst (λ (l : List TableId). Each (λ r. r ≡ c.args.gate.now.id) l) (sym rights_are)
-          (rights_own c.args.gate.now.id c.args.feds.items c.requires.own),
+          (rights_own c.args.gate.now.id c.args.given_back.items c.requires.own),
     )
 
 pub returns-clause-drawn : goal.returns-clause-drawn
@@ -78,12 +78,12 @@ returns-clause-drawn c = λ rack lists fed.
     (sym c.into_iter-fed-iterator.ensures.into_iter_gives.0 ∙ was.0)
     (let a = was.9 in let b = c.in-None.ensures.steps.0 in let d = c.into_iter-fed-iterator.ensures.into_iter_gives.1 in
     let e = c.pop.new.self.ok in omega arith) in
-    let all_is : done ++ last ∷ [] ≡ c.args.feds.items = ap (λ (l : List Fed). l ++ last ∷ []) whole ∙ sym c.in-Some.ensures.items in
+    let all_is : done ++ last ∷ [] ≡ c.args.given_back.items = ap (λ (l : List Fed). l ++ last ∷ []) whole ∙ sym c.in-Some.ensures.items in
     let rights_are = c.keep-2.ensures.rights ∙ (ap (λ (l : List TableId). l ++ right_back last.right) was.5
     ∙ (sym (rights_snoc done last) ∙ ap rights_of all_is)) in
-    rack_drawn c.args.gate.now rack lists c.args.feds.items fed s (length c.keep-2.new.rights.items)
+    rack_drawn c.args.gate.now rack lists c.args.given_back.items fed s (length c.keep-2.new.rights.items)
     (subst (λ (l : List SeatRecord). IsJoint s l) (sym (map_snoc seats done last) ∙ ap (map seats) all_is)
     (joint_turn s last.seat.has (map seats done) (was.2 (last.seat.has ∷ []) c.learn_sound-joined.ensures.same)))
     was.3
-    (λ back. ap (λ (l : List TableId). length l) rights_are ∙ all_back c.args.feds.items back)
+    (λ back. ap (λ (l : List TableId). length l) rights_are ∙ all_back c.args.given_back.items back)
     c.spend_all.ensures

@@ -11,7 +11,7 @@ loop-handle-preserved-in-Some-join g c =
     let was = c.loop-handle.invariant in let done = c.loop-handle.yielded in (
       rw append_assoc (was.0 ∙ ap (λ (t : List (PromisedHandle (Option Fed) FeedOf)). done ++ t) c.in-Some.ensures.steps.0),
       (λ all. subst (λ (l : List Fed). FeedersJoined (done ++ c.in-Some.handle ∷ []) l) (sym c.push_reserved.ensures.items)
-          (fed_next done (vec_items c.loop-handle.feds) c.in-Some.handle c.in-Some-join.fed (was.1 all) c.in-Some-join.ensures)),
+          (fed_next done (vec_items c.loop-handle.given_back) c.in-Some.handle c.in-Some-join.fed (was.1 all) c.in-Some-join.ensures)),
       search rules,
     )
 

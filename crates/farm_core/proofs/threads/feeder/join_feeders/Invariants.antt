@@ -7,5 +7,5 @@ use Rattle.farm_core.proofs.threads.feeder.join_feeders.Given as goal
 abbrev pub invariant-loop-handle : goal.invariant-loop-handle
 invariant-loop-handle g l =
     (into_iter_items l.initial.handle-iterator ≡ l.yielded ++ into_iter_items l.handle-iterator)
-    × (l.all ≡ true → FeedersJoined l.yielded (vec_items l.feds))
-    × (vec_len l.feds + into_iter_len l.handle-iterator ≤ vec_capacity l.feds)
+    × (l.all ≡ true → FeedersJoined l.yielded (vec_items l.given_back))
+    × (vec_len l.given_back + into_iter_len l.handle-iterator ≤ vec_capacity l.given_back)
