@@ -1,6 +1,6 @@
 //! What a repair of a stripe leaves.
 use crate::samples::{
-    NARROW, SHORT, Sample, WIDE, assert_there, put_without, repair, repair_from_few,
+    NARROW, SHORT, Sample, WIDE, assert_there, is_there, put_without, repair, repair_from_few,
 };
 use lrc_code::{Code, Place};
 use std::alloc::{AllocError, Global};
@@ -79,10 +79,7 @@ fn a_stripe_that_lost_two_is_repaired_from_few_survivors(
     assert_eq!(&rt; outcome.survivors.len(), 6);
     assert_eq!(&rt; outcome.rebuilt.as_slice(), [Place::X0].as_slice());
     assert_there(&rt, &store, &NARROW, &[Place::X1]);
-    assert_eq!(&rt;
-        store.fragment(NARROW.name, Place::X1),
-        Some(b"".as_slice())
-    );
+    assert!(&rt; is_there(&store, NARROW.name, Place::X1, b""));
     Ok(())
 }
 
@@ -121,13 +118,18 @@ fn damaged_store(alloc: Global) -> Result<MemoryStore, AllocError> {
 
 // Asserts that px is as it was, or was replaced and is kept under its second name.
 fn assert_damaged_or_replaced(rt: &impl Abort, store: &MemoryStore) {
-    let px = store.fragment(SHORT.name, Place::Px);
+    let Some(px) = store.fragment(SHORT.name, Place::Px) else {
+        panic!(rt; "there is no px");
+    };
     match store.kept(SHORT.name, Place::Px) {
         Some(kept) => {
-            assert_eq!(rt; kept, b"\x01".as_slice());
-            assert_eq!(rt; px, Some(b"\x00".as_slice()));
+            assert!(rt; kept == b"\x01".as_slice(), "{kept:?} is kept");
+            assert!(rt; px == b"\x00".as_slice(), "px is {px:?} and was replaced");
         }
-        None => assert_eq!(rt; px, Some(b"\x01".as_slice())),
+        None => assert!(rt;
+            px == b"\x01".as_slice(),
+            "px is {px:?} and wasn't replaced"
+        ),
     }
 }
 
@@ -139,7 +141,7 @@ fn damaged_fragment_is_replaced_and_kept(rt: HostRuntime) -> Result<(), AllocErr
     assert!(&rt; outcome.is_checked);
     assert_eq!(&rt; outcome.rebuilt.len(), 2);
     assert_there(&rt, &store, &SHORT, &[]);
-    assert_eq!(&rt; store.kept(SHORT.name, Place::Px), Some(b"\x01".as_slice()));
+    assert!(&rt; store.kept(SHORT.name, Place::Px) == Some(b"\x01".as_slice()));
     Ok(())
 }
 
@@ -150,11 +152,8 @@ fn damaged_fragment_stays_where_none_is_to_be_replaced(rt: HostRuntime) -> Resul
     assert!(&rt; is_damaged(&outcome, Place::Px), "{:?}", outcome.findings);
     assert_eq!(&rt; outcome.rebuilt.as_slice(), [Place::X0].as_slice());
     assert_there(&rt, &store, &SHORT, &[Place::Px]);
-    assert_eq!(&rt;
-        store.fragment(SHORT.name, Place::Px),
-        Some(b"\x01".as_slice())
-    );
-    assert_eq!(&rt; store.kept(SHORT.name, Place::Px), None);
+    assert!(&rt; is_there(&store, SHORT.name, Place::Px, b"\x01"));
+    assert!(&rt; store.kept(SHORT.name, Place::Px).is_none());
     Ok(())
 }
 
@@ -166,11 +165,8 @@ fn second_damaged_fragment_of_a_place_stays(rt: HostRuntime) -> Result<(), Alloc
     store.put(SHORT.name, Place::Px, b"\x02")?;
     let outcome = repair(rt.alloc(), &mut store, &SHORT, true)?;
     assert_eq!(&rt; outcome.rebuilt.len(), 0);
-    assert_eq!(&rt;
-        store.fragment(SHORT.name, Place::Px),
-        Some(b"\x02".as_slice())
-    );
-    assert_eq!(&rt; store.kept(SHORT.name, Place::Px), Some(b"\x01".as_slice()));
+    assert!(&rt; is_there(&store, SHORT.name, Place::Px, b"\x02"));
+    assert!(&rt; store.kept(SHORT.name, Place::Px) == Some(b"\x01".as_slice()));
     Ok(())
 }
 
@@ -186,7 +182,7 @@ fn what_is_not_determined_is_left(rt: HostRuntime) -> Result<(), AllocError> {
         assert_eq!(&rt; outcome.rebuilt.len() + group.len(), lost.len());
         assert_there(&rt, &store, &SHORT, &group);
         for place in group {
-            assert_eq!(&rt; store.fragment(SHORT.name, place), None);
+            assert!(&rt; store.fragment(SHORT.name, place).is_none());
         }
     }
     Ok(())
@@ -201,14 +197,11 @@ fn other_stripes_are_as_they_were(rt: HostRuntime) -> Result<(), AllocError> {
     repair(rt.alloc(), &mut store, &WIDE, true)?;
     assert_there(&rt, &store, &WIDE, &[]);
     assert_there(&rt, &store, &NARROW, &[Place::X0]);
-    assert_eq!(&rt; store.fragment(NARROW.name, Place::X0), None);
+    assert!(&rt; store.fragment(NARROW.name, Place::X0).is_none());
     assert_there(&rt, &store, &SHORT, &[Place::X0, Place::Px]);
-    assert_eq!(&rt; store.fragment(SHORT.name, Place::X0), None);
-    assert_eq!(&rt;
-        store.fragment(SHORT.name, Place::Px),
-        Some(b"\x01".as_slice())
-    );
-    assert_eq!(&rt; store.kept(SHORT.name, Place::Px), None);
+    assert!(&rt; store.fragment(SHORT.name, Place::X0).is_none());
+    assert!(&rt; is_there(&store, SHORT.name, Place::Px, b"\x01"));
+    assert!(&rt; store.kept(SHORT.name, Place::Px).is_none());
     Ok(())
 }
 
@@ -226,8 +219,8 @@ fn long_fragments_come_back(rt: HostRuntime) -> Result<(), AllocError> {
     assert_eq!(&rt; outcome.rebuilt.len(), 2);
     let x1 = vec![in rt.alloc(); 2u8; 200_001]?;
     let p1 = vec![in rt.alloc(); 0x6eu8; 200_001]?;
-    assert_eq!(&rt; store.fragment(SHORT.name, Place::X1), Some(x1.as_slice()));
-    assert_eq!(&rt; store.fragment(SHORT.name, Place::P1), Some(p1.as_slice()));
+    assert!(&rt; is_there(&store, SHORT.name, Place::X1, x1.as_slice()));
+    assert!(&rt; is_there(&store, SHORT.name, Place::P1, p1.as_slice()));
     Ok(())
 }
 
@@ -239,7 +232,7 @@ fn each_name_is_as_it_was_or_rebuilt(rt: HostRuntime) -> Result<(), AllocError> 
     assert_there(&rt, &store, &SHORT, &[Place::X0, Place::Px]);
     assert_damaged_or_replaced(&rt, &store);
     match store.fragment(SHORT.name, Place::X0) {
-        Some(bytes) => assert_eq!(&rt; bytes, b"\x01".as_slice()),
+        Some(bytes) => assert!(&rt; bytes == b"\x01".as_slice(), "{bytes:?}"),
         None => assert!(&rt; repaired.is_err(), "x0 is not rebuilt"),
     }
     let kept = store.kept(SHORT.name, Place::Px);

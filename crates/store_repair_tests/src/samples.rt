@@ -140,14 +140,23 @@ fn repair_as(
     repair_stripe(alloc, store, repair, &stripe)
 }
 
+/// Whether a fragment is there with these bytes.
+pub(crate) fn is_there(store: &MemoryStore, stripe: &str, place: Place, bytes: &[u8]) -> bool {
+    store
+        .fragment(stripe, place)
+        .is_some_and(|there| there == bytes)
+}
+
 /// Asserts that all fragments of a stripe but those at lost places are there with their bytes.
 pub(crate) fn assert_there(rt: &impl Abort, store: &MemoryStore, sample: &Sample, lost: &[Place]) {
     for (place, bytes) in sample.fragments {
         if !lost.iter().any(|gone| gone == place) {
-            assert_eq!(rt;
-                store.fragment(sample.name, *place),
-                Some(*bytes),
-                "{} {place:?}",
+            let Some(found) = store.fragment(sample.name, *place) else {
+                panic!(rt; "{} has no {place:?}", sample.name);
+            };
+            assert!(rt;
+                found == *bytes,
+                "{} has {found:?} at {place:?}",
                 sample.name
             );
         }

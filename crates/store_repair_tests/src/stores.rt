@@ -11,12 +11,12 @@ fn put_is_found(rt: HostRuntime) -> Result<(), AllocError> {
     store.put("ab", Place::X0, b"two")?;
     store.put("a", Place::P1, b"three")?;
     store.put("a", Place::X0, b"four")?;
-    assert_eq!(&rt; store.fragment("a", Place::X0), Some(b"four".as_slice()));
-    assert_eq!(&rt; store.fragment("ab", Place::X0), Some(b"two".as_slice()));
-    assert_eq!(&rt; store.fragment("a", Place::P1), Some(b"three".as_slice()));
-    assert_eq!(&rt; store.fragment("b", Place::X0), None);
-    assert_eq!(&rt; store.fragment("a", Place::X1), None);
-    assert_eq!(&rt; store.kept("a", Place::X0), None);
+    assert!(&rt; store.fragment("a", Place::X0) == Some(b"four".as_slice()));
+    assert!(&rt; store.fragment("ab", Place::X0) == Some(b"two".as_slice()));
+    assert!(&rt; store.fragment("a", Place::P1) == Some(b"three".as_slice()));
+    assert!(&rt; store.fragment("b", Place::X0).is_none());
+    assert!(&rt; store.fragment("a", Place::X1).is_none());
+    assert!(&rt; store.kept("a", Place::X0).is_none());
     Ok(())
 }
 
@@ -43,21 +43,21 @@ fn new_fragment_gets_its_name(rt: HostRuntime) -> Result<(), io::Error> {
     let mut first = store.create("a", Place::X0)?;
     first.append(b"ab")?;
     first.append(b"c")?;
-    assert_eq!(&rt; store.fragment("a", Place::X0), None);
+    assert!(&rt; store.fragment("a", Place::X0).is_none());
     assert_eq!(&rt; store.place(first, "a", Place::X0)?, Placed::Placed);
-    assert_eq!(&rt; store.fragment("a", Place::X0), Some(b"abc".as_slice()));
+    assert!(&rt; store.fragment("a", Place::X0) == Some(b"abc".as_slice()));
     let second = store.create("a", Place::X0)?;
     assert_eq!(&rt; store.place(second, "a", Place::X0)?, Placed::IsThere);
-    assert_eq!(&rt; store.fragment("a", Place::X0), Some(b"abc".as_slice()));
+    assert!(&rt; store.fragment("a", Place::X0) == Some(b"abc".as_slice()));
     let third = store.create("a", Place::X0)?;
     assert_eq!(&rt; store.replace(third, "a", Place::X0)?, Placed::Placed);
-    assert_eq!(&rt; store.fragment("a", Place::X0), Some(b"".as_slice()));
-    assert_eq!(&rt; store.kept("a", Place::X0), Some(b"abc".as_slice()));
+    assert!(&rt; store.fragment("a", Place::X0) == Some(b"".as_slice()));
+    assert!(&rt; store.kept("a", Place::X0) == Some(b"abc".as_slice()));
     let fourth = store.create("a", Place::X0)?;
     assert_eq!(&rt; store.replace(fourth, "a", Place::X0)?, Placed::IsThere);
     let fifth = store.create("a", Place::X1)?;
     store.discard(fifth)?;
     assert!(&rt; store.settle().is_ok());
-    assert_eq!(&rt; store.fragment("a", Place::X1), None);
+    assert!(&rt; store.fragment("a", Place::X1).is_none());
     Ok(())
 }
