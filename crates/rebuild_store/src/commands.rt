@@ -13,7 +13,7 @@ use std::alloc::{AllocError, Global};
 use std::sync::atomic::AtomicU64;
 use std::thread::Threads;
 use std::{fs, io};
-use store_folder::{FolderStore, Pattern, is_leftover_of};
+use store_folder::{FolderStore, Pattern, Site, is_leftover_of};
 use store_repair::{Reads, Repair};
 
 // The begin of the names of unfinished files, by the part of the store that a run works on.
@@ -34,8 +34,14 @@ pub fn repair_all<R: Threads + Sync>(
 ) -> io::Result<u8> {
     let alloc = system.alloc();
     let tag = tag_of(alloc, options.part)?;
-    let target = options.to.as_ref().unwrap_or(&store.folder).as_str();
-    let site = store.site(pattern, target, tag.as_str());
+    let site = Site {
+        folder: store.folder.as_str(),
+        target: options.to.as_ref().unwrap_or(&store.folder).as_str(),
+        pattern: *pattern,
+        code: store.code,
+        sums: store.sums.as_ref(),
+        tag: tag.as_str(),
+    };
     let stripes = store.stripes(system, options.part)?;
     let numbers = AtomicU64::new(0);
     let files = FolderStore::new(system, site, &numbers);
@@ -45,7 +51,12 @@ pub fn repair_all<R: Threads + Sync>(
     }
     let are_removed = options.dry_run || remove_leftovers(system, store, tag.as_str())?;
     let progress = Progress::new(system, alloc, store.code, stripes.as_slice())?;
-    let work = repair_work(store.code, options, &progress);
+    let repair = repair_of(store.code, options);
+    let work = if options.dry_run {
+        Work::Plan(repair)
+    } else {
+        Work::Repair(repair, &progress)
+    };
     let all = work_on(rt, system, &site, work, stripes.as_slice(), options.workers)?;
     progress.end();
     let results = Results::new(&site, stripes.as_slice(), all.as_slice());
@@ -59,18 +70,13 @@ pub fn repair_all<R: Threads + Sync>(
     Ok(status)
 }
 
-// What is done with each stripe: a repair, or its plan.
-fn repair_work<'p, 'r>(code: Code, options: &Options, progress: &'p Progress<'r>) -> Work<'p, 'r> {
-    let repair = Repair {
+// How stripes are repaired, by the options.
+fn repair_of(code: Code, options: &Options) -> Repair {
+    Repair {
         code,
         reads: options.reads,
         replace_damaged: options.replace_damaged,
         elsewhere: options.to.is_some(),
-    };
-    if options.dry_run {
-        Work::Plan(repair)
-    } else {
-        Work::Repair(repair, progress)
     }
 }
 
@@ -174,7 +180,15 @@ pub fn scrub<R: Threads + Sync>(
     options: &Options,
 ) -> io::Result<u8> {
     let stripes = store.stripes(system, options.part)?;
-    let site = store.site(pattern, store.folder.as_str(), "");
+    let folder = store.folder.as_str();
+    let site = Site {
+        folder,
+        target: folder,
+        pattern: *pattern,
+        code: store.code,
+        sums: store.sums.as_ref(),
+        tag: "",
+    };
     let work = Work::Scrub(store.code);
     let all = work_on(rt, system, &site, work, stripes.as_slice(), options.workers)?;
     let results = Results::new(&site, stripes.as_slice(), all.as_slice());

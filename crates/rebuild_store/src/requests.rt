@@ -152,49 +152,52 @@ struct Wanted<'a> {
 }
 
 impl<'a> Wanted<'a> {
-    // The names of the survivors, with something between them and something around each.
-    fn survivors(self, alloc: Global, between: char, around: &str) -> Result<String, AllocError> {
-        let mut names = String::new(alloc);
-        for survivor in self.code.places() {
-            if self.survivors.has(*survivor) {
-                if !names.is_empty() {
-                    names.push(between)?;
-                }
-                names.push_str(around)?;
-                names.push_str(survivor.name())?;
-                names.push_str(around)?;
-            }
-        }
-        Ok(names)
-    }
-
     // The request for a lost fragment, as an object.
-    fn object(self, alloc: Global, target: Place) -> Result<String, AllocError> {
+    fn object(&self, alloc: Global, target: Place) -> Result<String, AllocError> {
         let stripe = quoted(alloc, self.stripe)?;
         let target = target.name();
         let length = self.length;
-        let survivors = self.survivors(alloc, ',', "\"")?;
+        let survivors = names_of(alloc, self.code, self.survivors, "\",\"")?;
+        let quote = if survivors.is_empty() { "" } else { "\"" };
         let code = self.code.text();
         let head = format!(in alloc;
             "\"order\":\"rebuild\",\"stripe\":{stripe},\"target\":\"{target}\""
         )?;
         format!(in alloc;
-            "{{{head},\"length\":{length},\"survivors\":[{survivors}],\"code\":\"{code}\"}}\n"
+            "{{{head},\"length\":{length},\"survivors\":[{quote}{survivors}{quote}],\"code\":\"{code}\"}}\n"
         )
     }
 
     // The request for a lost fragment, as a record of a list.
-    fn line(self, alloc: Global, target: Place) -> Result<String, AllocError> {
+    fn line(&self, alloc: Global, target: Place) -> Result<String, AllocError> {
         let stripe = self.stripe;
         let target = target.name();
         let length = self.length;
-        let survivors = self.survivors(alloc, ' ', "")?;
+        let survivors = names_of(alloc, self.code, self.survivors, " ")?;
         let code = match self.code {
             Code::Narrow => "",
             Code::Wide => ",12-2-2",
         };
         format!(in alloc; "rebuild,{stripe},{target},{length},{survivors}{code}\n")
     }
+}
+
+// The names of the places of a set, with a text between two.
+fn names_of(
+    alloc: Global,
+    code: Code,
+    places: PlaceSet,
+    between: &str,
+) -> Result<String, AllocError> {
+    let mut names = String::new(alloc);
+    for place in code.places() {
+        if places.has(*place) {
+            let separator = if names.is_empty() { "" } else { between };
+            names.push_str(separator)?;
+            names.push_str(place.name())?;
+        }
+    }
+    Ok(names)
 }
 
 // Whether a list takes a stripe of this name and length.

@@ -6,8 +6,7 @@ use std::alloc::{AllocError, AllocFailed, Global};
 use std::fs::{self, File, TryLockError};
 use std::io::{self, BufRead, BufReader, ErrorKind};
 use store_folder::{
-    Found, Listing, Pattern, SUMS_NAME, Site, StripeFiles, Sums, SumsFault, list, path_in,
-    read_sums,
+    Found, Listing, Pattern, SUMS_NAME, StripeFiles, Sums, SumsFault, list, path_in, read_sums,
 };
 use store_repair::Stripe;
 use thiserror::Error;
@@ -270,18 +269,6 @@ fn is_narrow(files: &StripeFiles) -> bool {
 }
 
 impl OpenStore {
-    /// Where the store is, and how its fragments are named; rebuilt ones go to the target.
-    pub fn site<'a>(&'a self, pattern: &Pattern<'a>, target: &'a str, tag: &'a str) -> Site<'a> {
-        Site {
-            folder: self.folder.as_str(),
-            target,
-            pattern: *pattern,
-            code: self.code,
-            sums: self.sums.as_ref(),
-            tag,
-        }
-    }
-
     /// The stripes of a part, or all, in the order of their names.
     pub fn stripes(
         &self,
