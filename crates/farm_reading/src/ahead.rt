@@ -8,6 +8,7 @@ use crate::fragments::push_fragment_files;
 use crate::rack_lists::RackLists;
 use farm_lists::{Record, requests_before_close};
 use farm_orders::limits::MOST_ORDERS;
+use farm_shelves::FileRead;
 use std::alloc::{AllocError, Global};
 
 /// The files of the survivors that are read of the batch that begins at a rack; none after the last rack. A batch's bytes bound them.
@@ -16,7 +17,7 @@ pub fn files_of_batch(
     racks: &[RackLists],
     first: usize,
     most: u64,
-) -> Result<Vec<(String, usize)>, AllocError>
+) -> Result<Vec<FileRead>, AllocError>
     requires { length racks.now ≤ rack_limit }
 {
     if first >= racks.len() {
@@ -41,7 +42,7 @@ pub fn files_of_piece(
     lists: &[&[Record]],
     first: usize,
     most: u64,
-) -> Result<Vec<(String, usize)>, AllocError>
+) -> Result<Vec<FileRead>, AllocError>
     requires { length lists.now ≤ feed_limit }
 {
     let mut files = Vec::new(alloc);
@@ -56,7 +57,7 @@ pub fn files_of_piece(
 // Adds the files of lists, one list after the other.
 fn push_files(
     alloc: Global,
-    files: &mut Vec<(String, usize)>,
+    files: &mut Vec<FileRead>,
     lists: &[&[Record]],
 ) -> Result<(), AllocError> {
     for list in lists {

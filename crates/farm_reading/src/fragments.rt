@@ -24,7 +24,7 @@ use crate::cutting::lists_through_close;
 use crate::rack_lists::RackLists;
 use farm_lists::{Listed, ReadRequest, Record, fragment_file, requests_before_close};
 use farm_orders::{Feeds, Order, RackList};
-use farm_shelves::{Shelf, ShelfFault};
+use farm_shelves::{FileRead, Shelf, ShelfFault};
 use lrc_code::{Fragment, Place, Request};
 use std::alloc::{AllocError, Global};
 use std::thread::Threads;
@@ -117,7 +117,7 @@ fn read_request<'a, I: Shelf>(
 }
 
 // The names of the files of the requests' listed survivors, each with the limit that it is read up to, in the order of the reads.
-fn fragment_files(alloc: Global, requests: &[&Listed]) -> Result<Vec<(String, usize)>, AllocError>
+fn fragment_files(alloc: Global, requests: &[&Listed]) -> Result<Vec<FileRead>, AllocError>
     ensures { IfOk result (λ v. map named_limit v.items ≡ flat_map (λ r. fragment_reads r.now) requests.now) }
 {
     let mut files = Vec::new(alloc);
@@ -130,7 +130,7 @@ fn fragment_files(alloc: Global, requests: &[&Listed]) -> Result<Vec<(String, us
 /// Adds the files of a request's listed survivors.
 pub fn push_fragment_files(
     alloc: Global,
-    files: &mut Vec<(String, usize)>,
+    files: &mut Vec<FileRead>,
     listed: &Listed,
 ) -> Result<(), AllocError>
     ensures { OnOk result (map named_limit files.new.items ≡ map named_limit files.old.items ++ fragment_reads listed.now) }

@@ -14,7 +14,7 @@ use farm_reading::RackLists;
 use farm_reading::ahead::{files_of_batch, files_of_piece};
 use farm_reading::cutting::{end_of_positions, end_of_racks, lists_through_close, piece_of};
 use farm_reading::fragments::{read_feeds, read_piece};
-use farm_shelves::Shelf;
+use farm_shelves::{FileRead, Shelf};
 use lrc_code::Outcome;
 use std::alloc::{AllocError, Global};
 use std::sync::Wait;
@@ -49,7 +49,7 @@ pub struct Batching<'p, P> {
 struct Batch<'b, P> {
     settings: Settings,
     pause: &'b P,
-    after: &'b [(String, usize)],
+    after: &'b [FileRead],
 }
 
 // The answers to the pieces of a rack so far, and whether a close has ended it.
@@ -256,10 +256,7 @@ fn answer_rack<'a, R: Threads + Wait + Sync, I: Shelf, P: Pause>(
 }
 
 // These files, or the others where there are none.
-fn or_others<'a>(
-    files: &'a [(String, usize)],
-    others: &'a [(String, usize)],
-) -> &'a [(String, usize)] {
+fn or_others<'a>(files: &'a [FileRead], others: &'a [FileRead]) -> &'a [FileRead] {
     if files.is_empty() { others } else { files }
 }
 

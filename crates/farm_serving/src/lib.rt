@@ -27,6 +27,6 @@ pub use batches::{Answered, Batching, FeedAnswer, MOST_BATCH_BYTES, answer_lists
 pub use farm_lists::{ListFault, Listed, ReadRequest, Record, list_file, read_list};
 pub use farm_reading::{RackLists, ServeFault, read_lists};
 pub use farm_reports::{ReportRow, ReportShape, merged_report_text, report_laws, report_text};
-pub use farm_shelves::{FolderShelf, MemoryShelf, ReadAheadShelf, Shelf, ShelfFault};
+pub use farm_shelves::{FileRead, FolderShelf, MemoryShelf, ReadAheadShelf, Shelf, ShelfFault};
 pub use folders::{Folders, serve_folders};
 pub use serving::{Served, serve};

@@ -6,6 +6,7 @@ use crate::watched::WatchedShelf;
 use farm_core::NoPause;
 use farm_lists_tests::samples::LIST;
 use farm_serving::{MemoryShelf, ReadAheadShelf, Shelf};
+use farm_shelves::FileRead;
 use std::alloc::{AllocError, Global};
 use std::fs;
 use std::process::Abort;
@@ -41,7 +42,7 @@ fn bytes_of(number: usize) -> &'static [u8] {
 }
 
 // The names of the files of these numbers, each with a limit of 4 bytes.
-fn names(alloc: Global, first: usize, end: usize) -> Result<Vec<(String, usize)>, AllocError> {
+fn names(alloc: Global, first: usize, end: usize) -> Result<Vec<FileRead>, AllocError> {
     let mut names = Vec::new(alloc);
     for number in first..end {
         names.push((format!(in alloc; "{number}")?, 4))?;

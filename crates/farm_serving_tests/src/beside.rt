@@ -3,6 +3,7 @@ use crate::shared::{LIST_OF_FOUR, OF_REQUEST, are_answered, assert_reads, shelf_
 use crate::watched::WatchedShelf;
 use farm_core::NoPause;
 use farm_serving::{FolderShelf, ReadAheadShelf, Shelf};
+use farm_shelves::FileRead;
 use std::alloc::{AllocError, Global};
 use std::fs;
 use std::rt::Files;
@@ -18,7 +19,7 @@ fn make_files<R: Files>(rt: &R, folder: &str, first: &str, second: &str) -> bool
 }
 
 // These names, each with a limit of 4 bytes.
-fn limited(alloc: Global, names: &[&str]) -> Result<Vec<(String, usize)>, AllocError> {
+fn limited(alloc: Global, names: &[&str]) -> Result<Vec<FileRead>, AllocError> {
     let mut limited = Vec::new(alloc);
     for name in names {
         limited.push((String::from_str(alloc, name)?, 4))?;

@@ -3,6 +3,7 @@ use crate::shared::{assert_fails, assert_none, assert_reads, serve_with, written
 use farm_core::NoPause;
 use farm_lists_tests::samples::LIST;
 use farm_serving::{FolderShelf, ReadAheadShelf, ServeFault, Served, Shelf, ShelfFault};
+use farm_shelves::FileRead;
 use std::alloc::{AllocError, Global};
 use std::fs;
 use std::os::unix::fs::symlink;
@@ -42,7 +43,7 @@ const LINKS: &[(&str, &str)] = &[
 const FAILING: &[&str] = &["folder", "to-folder", "loop", "below-a-file", "to-device"];
 
 // All names of the folder, and one that it hasn't, each with a limit of 2 bytes.
-fn all_names(alloc: Global) -> Result<Vec<(String, usize)>, AllocError> {
+fn all_names(alloc: Global) -> Result<Vec<FileRead>, AllocError> {
     let mut names = Vec::new(alloc);
     for name in &["there", "folder", "absent"] {
         names.push((String::from_str(alloc, name)?, 2))?;

@@ -3,6 +3,7 @@ ghost use Rattle.std.specs.Prelude.{None};
 
 use crate::shared::MOST_FAILURES;
 use farm_serving::{MemoryShelf, Shelf, ShelfFault};
+use farm_shelves::FileRead;
 use std::alloc::{AllocError, Global};
 use std::thread::Threads;
 
@@ -10,7 +11,7 @@ use std::thread::Threads;
 #[derive(Drop)]
 pub(crate) struct Named {
     /// The files that the latest call named, each with its limit.
-    pub(crate) files: Vec<(String, usize)>,
+    pub(crate) files: Vec<FileRead>,
     /// How many of these were read so far, as they were named and in their order.
     pub(crate) next: usize,
     /// How many files of all calls were read so.
@@ -27,7 +28,7 @@ impl Named {
     }
 
     // Keeps the files of a call, in place of those of the call before it; none where memory is refused.
-    fn keep(&mut self, alloc: Global, files: &[(String, usize)]) {
+    fn keep(&mut self, alloc: Global, files: &[FileRead]) {
         self.files = copy_of(alloc, files).unwrap_or(Vec::new(alloc));
         self.next = 0;
     }
@@ -44,7 +45,7 @@ impl Named {
 }
 
 // A copy of names and limits.
-fn copy_of(alloc: Global, files: &[(String, usize)]) -> Result<Vec<(String, usize)>, AllocError> {
+fn copy_of(alloc: Global, files: &[FileRead]) -> Result<Vec<FileRead>, AllocError> {
     let mut copy = Vec::new(alloc);
     for (name, limit) in files {
         copy.push((String::from_str(alloc, name.as_str())?, *limit))?;
@@ -103,7 +104,7 @@ impl Shelf for WatchedShelf {
         &mut self,
         _rt: &H,
         alloc: Global,
-        files: &[(String, usize)],
+        files: &[FileRead],
         _threads: usize,
     ) {
         self.ahead.keep(alloc, files);
@@ -113,7 +114,7 @@ impl Shelf for WatchedShelf {
         &mut self,
         _rt: &H,
         alloc: Global,
-        files: &[(String, usize)],
+        files: &[FileRead],
         _threads: usize,
         work: F,
     ) -> Result<T, E> {

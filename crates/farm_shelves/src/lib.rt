@@ -22,4 +22,4 @@ pub use folder::FolderShelf;
 pub use memory::MemoryShelf;
 pub use read_ahead::ReadAheadShelf;
 pub use regular_files::read_front;
-pub use shelf::{Shelf, ShelfFault};
+pub use shelf::{FileRead, Shelf, ShelfFault};

@@ -5,7 +5,7 @@ ghost use Rattle.farm_shelves.specs.ReadAhead.{read_ahead_failed, read_ahead_pat
 
 use crate::ahead::{ReadAhead, has_ahead, read_all, take_ahead};
 use crate::folder::FolderShelf;
-use crate::shelf::{Shelf, ShelfFault};
+use crate::shelf::{FileRead, Shelf, ShelfFault};
 use std::alloc::{AllocError, Global};
 use std::thread;
 use std::thread::Threads;
@@ -52,7 +52,7 @@ impl ReadAheadShelf {
     }
 
     // Whether these files were read ahead, by the first of them and their number.
-    fn has_each_ahead(&self, files: &[(String, usize)]) -> bool {
+    fn has_each_ahead(&self, files: &[FileRead]) -> bool {
         match files.first() {
             Some((name, limit)) => self.has_ahead(name.as_str(), *limit, files.len()),
             None => true,
@@ -63,7 +63,7 @@ impl ReadAheadShelf {
     fn list_ahead(
         &mut self,
         alloc: Global,
-        files: &[(String, usize)],
+        files: &[FileRead],
     ) -> Result<Vec<ReadAhead>, AllocError>
         ensures { read_ahead_failed self.new ≡ read_ahead_failed self.old }
     {
@@ -82,7 +82,7 @@ impl ReadAheadShelf {
         &mut self,
         rt: &H,
         alloc: Global,
-        files: &[(String, usize)],
+        files: &[FileRead],
         threads: usize,
         work: &F,
     ) -> Result<T, E>
@@ -145,7 +145,7 @@ impl Shelf for ReadAheadShelf {
         &mut self,
         rt: &H,
         alloc: Global,
-        files: &[(String, usize)],
+        files: &[FileRead],
         threads: usize,
     ) {
         if self.has_each_ahead(files) {
@@ -160,7 +160,7 @@ impl Shelf for ReadAheadShelf {
         &mut self,
         rt: &H,
         alloc: Global,
-        files: &[(String, usize)],
+        files: &[FileRead],
         threads: usize,
         work: F,
     ) -> Result<T, E> {

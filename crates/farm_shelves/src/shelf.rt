@@ -18,6 +18,9 @@ pub enum ShelfFault {
     OutOfMemory,
 }
 
+/// A file that is to be read: its name, and the most bytes that are read of it.
+pub type FileRead = (String, usize);
+
 /// Named files on a device that may fail.
 pub trait Shelf {
     /// The files, where the shelf shows them.
@@ -57,7 +60,7 @@ pub trait Shelf {
         &mut self,
         _rt: &H,
         _alloc: Global,
-        _files: &[(String, usize)],
+        _files: &[FileRead],
         _threads: usize,
     )
         requires { IsSync H.row }
@@ -73,7 +76,7 @@ pub trait Shelf {
         &mut self,
         _rt: &H,
         _alloc: Global,
-        _files: &[(String, usize)],
+        _files: &[FileRead],
         _threads: usize,
         work: F,
     ) -> Result<T, E>
