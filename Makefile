@@ -141,9 +141,10 @@ install-ceph:
 	@test -f ceph/$(BUILT)/libec_azure_lrc.so || { echo "The plugin isn't built: run 'make ceph' first." >&2; exit 1; }
 	install -D -m 644 ceph/$(BUILT)/libec_azure_lrc.so "$(DESTDIR)$(CEPH_PLUGINS)/libec_azure_lrc.so"
 	install -D -m 755 ceph/rebuild-ceph "$(PLACE)/bin/rebuild-ceph"
+	install -D -m 644 man/rebuild-ceph.1 "$(PLACE)/share/man/man1/rebuild-ceph.1"
 
 uninstall-ceph:
-	rm -f "$(DESTDIR)$(CEPH_PLUGINS)/libec_azure_lrc.so" "$(PLACE)/bin/rebuild-ceph"
+	rm -f "$(DESTDIR)$(CEPH_PLUGINS)/libec_azure_lrc.so" "$(PLACE)/bin/rebuild-ceph" "$(PLACE)/share/man/man1/rebuild-ceph.1"
 
 # Tries the plugin in Ceph itself, as far as that is installed, for both levels; half an hour to an hour. It is no part of the gate.
 try-ceph:

@@ -91,7 +91,8 @@ fi
 installed=usr/lib/x86_64-linux-gnu/ceph/erasure-code/libec_azure_lrc.so
 quietly 'make install-ceph' make -s install-ceph "DESTDIR=$scratch/root"
 came=$(cd "$scratch/root" && find . -type f -printf '%m %P\n' | sort)
-[ "$came" = "$(printf '644 %s\n755 usr/local/bin/rebuild-ceph' "$installed")" ] || fail "what comes is $(find "$scratch/root" -type f)"
+[ "$came" = "$(printf '644 %s\n' "$installed" usr/local/share/man/man1/rebuild-ceph.1
+  echo '755 usr/local/bin/rebuild-ceph')" ] || fail "what comes is $(find "$scratch/root" -type f)"
 cmp "$plain/libec_azure_lrc.so" "$scratch/root/$installed" || fail 'another plugin was installed'
 for level in ceph/out/x86-64-v*; do
   quietly 'make install-ceph of a level' make -s install-ceph "LEVEL=${level##*/}" "DESTDIR=$scratch/root"

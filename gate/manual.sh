@@ -1,7 +1,7 @@
 #!/usr/bin/env bash
-# Tests the manual pages: mandoc finds no fault in them where it is installed; the page of the program has each number of a fault, and that
-# of rebuild-store each command and option of its help; and each example (a display after a comment "example") is run and gives what the
-# page shows. That the page of the formats is made from docs/FORMATS.md is tested by format-page.py.
+# Tests the manual pages: mandoc finds no fault in them where it is installed; the page of the program has each number of a fault, and
+# those of rebuild-store and rebuild-ceph each command and option of their help; and each example (a display after a comment "example") is
+# run and gives what the page shows. That the page of the formats is made from docs/FORMATS.md is tested by format-page.py.
 set -euo pipefail
 cd "$(dirname "$0")/.."
 program=$PWD/crates/rebuild/out/rebuild
@@ -10,7 +10,7 @@ scratch=$(mktemp -d)
 trap 'rm -rf "$scratch"' EXIT
 
 if command -v mandoc > "$scratch/log"; then
-  mandoc -Tlint -Wwarning man/rebuild.1 man/rebuild-lists.1 man/rebuild-store.1 man/rebuild.5
+  mandoc -Tlint -Wwarning man/rebuild.1 man/rebuild-lists.1 man/rebuild-store.1 man/rebuild-ceph.1 man/rebuild.5
   echo 'manual: mandoc finds no fault in the pages'
 else
   echo "manual: mandoc is not installed (Debian's mandoc): the form of the pages isn't tested"
@@ -65,6 +65,14 @@ for command in sorted(commands):
         print(f'manual: rebuild-store {command} does not have yet what its page shows: {" ".join(sorted(shown_of[command] - options))}')
 if set(shown_of) - commands:
     print(f'manual: rebuild-store does not have yet what its page shows: {" ".join(sorted(set(shown_of) - commands))}')
+
+# Its example needs a cluster's OSDs, so it isn't run.
+of_ceph = open('man/rebuild-ceph.1', encoding='ascii').read()
+help_of_ceph = subprocess.run(['python3', 'ceph/rebuild-ceph', '--help'], check=True, capture_output=True, text=True).stdout
+has = {f'-{it}' for it in re.findall(r'^\.It Fl (-[a-z-]+)', of_ceph, re.M)} | set(re.findall(r'^\.It Cm ([a-z]+)$', of_ceph, re.M))
+wants = options_of(help_of_ceph) | set(re.search(r'\{([a-z,]+)\}', help_of_ceph)[1].split(','))
+if has != wants:
+    fail(f'rebuild-ceph.1 and the help of rebuild-ceph differ: {" ".join(sorted(has ^ wants))}')
 
 for name, page in pages.items():
     lines = page.splitlines()
