@@ -70,7 +70,7 @@ if set(shown_of) - commands:
 of_ceph = open('man/rebuild-ceph.1', encoding='ascii').read()
 help_of_ceph = subprocess.run(['python3', 'ceph/rebuild-ceph', '--help'], check=True, capture_output=True, text=True).stdout
 has = {f'-{it}' for it in re.findall(r'^\.It Fl (-[a-z-]+)', of_ceph, re.M)} | set(re.findall(r'^\.It Cm ([a-z]+)$', of_ceph, re.M))
-wants = options_of(help_of_ceph) | set(re.search(r'\{([a-z,]+)\}', help_of_ceph)[1].split(','))
+wants = options_of(help_of_ceph) | set(re.search(r'^ +\{([a-z,]+)\}', help_of_ceph, re.M)[1].split(','))
 if has != wants:
     fail(f'rebuild-ceph.1 and the help of rebuild-ceph differ: {" ".join(sorted(has ^ wants))}')
 
