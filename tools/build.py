@@ -9,8 +9,9 @@ What is built is in the crate's out/LEVEL, with the record of its build; what wa
 too. So a level that was built before isn't built again.
 
 Crates are proved beside each other, each as soon as those that it uses are there. The crate with the longest way to the end has all
-processors, the next half of them at a lower priority, and the others one each at a lower one still. A crate whose sources, and those of
-the crates below it, are as they were when it was proved is not proved again, and a build that was interrupted goes on where it was.
+processors, the next half of them at a lower priority, and the others one each at lower ones still. A few more are proved than there are
+processors, so that a crate on a long way doesn't wait for one on a short way. A crate whose sources, and those of the crates below it, are
+as they were when it was proved is not proved again, and a build that was interrupted goes on where it was.
 
 `rt` locks every crate that it reads, so two crates above a third can't be proved at once in one place. So each is proved in a room
 of its own below out/: a copy of its sources and of those below it, with the libraries below it as hard links."""
@@ -34,12 +35,15 @@ TIMES = ROOT / "out" / "build-times"
 PARTS = ("src", "specs", "proofs")
 # What is in a crate's out/ beside the record of the build: the prover's work, the library, and what is built.
 WORK = ("incremental", "rlib")
-# The memory of a proof with one job, and of each further job; the most that was seen is 3 GB and half of that.
-FIRST, FURTHER = 3_000_000_000, 1_500_000_000
+# The memory of a proof with one job, and of each further job, about: the most that was seen is 1.4 GB, and 10 with four (farm_core), of
+# which a part is shared.
+FIRST, FURTHER = 1_400_000_000, 2_000_000_000
 # More jobs than this a proof doesn't use.
 MOST_JOBS = 8
-# The crate with the longest way has rank 0, the next 1, and all others this rank.
-MOST_RANK = 2
+# The crate with the longest way has rank 0, the next 1 and so on; all after them have this rank.
+MOST_RANK = 3
+# How many more crates are proved at once than there are processors: they take what is left by those of lower rank.
+MORE = 2
 # How many lines of what rt said are shown where it fails.
 SHOWN = 40
 
@@ -301,9 +305,9 @@ class Build:
         for crate in sorted(ready, key=lambda it: -self.way[it]):
             rank = min(sum(self.way[it.crate] >= self.way[crate] for it in self.running), MOST_RANK)
             free = self.memory - sum(it.need() for it in self.running)
-            if self.running and (free < FIRST or len(self.running) >= self.jobs):
+            if self.running and (free < FIRST or len(self.running) >= self.jobs + MORE):
                 return
-            jobs = min(max(self.jobs // 2**rank, 1), MOST_JOBS, 1 + int(max(free - FIRST, 0) // FURTHER)) if rank < MOST_RANK else 1
+            jobs = min(max(self.jobs // 2**rank, 1), MOST_JOBS, 1 + int(max(free - FIRST, 0) // FURTHER)) if rank < 2 else 1
             lock = lock_of(crate.folder)
             if lock is None:
                 if crate not in self.waits:

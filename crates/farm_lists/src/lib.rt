@@ -15,5 +15,5 @@ mod requests;
 
 pub use listed::Listed;
 pub use listing::{ListFault, MOST_LIST_BYTES, MOST_RECORDS, Record, read_list};
-pub use names::{fragment_file, list_file};
+pub use names::{fragment_file, list_file, write_fragment_file};
 pub use requests::{ReadRequest, count_requests, requests_before_close};

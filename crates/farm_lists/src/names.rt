@@ -1,5 +1,5 @@
 //! The names of files.
-ghost use Rattle.std.specs.Prelude.{◌≡◌, IfOk, string_bytes};
+ghost use Rattle.std.specs.Prelude.{◌≡◌, IfOk, OnOk, string_bytes};
 ghost use Rattle.farm_lists.specs.Names.{fragment_name, list_name, rebuilt_name, report_name};
 
 use lrc_code::Place;
@@ -27,14 +27,24 @@ pub fn report_file(alloc: Global, rack: usize) -> Result<String, AllocError>
 pub fn fragment_file(alloc: Global, stripe: &str, place: Place) -> Result<String, AllocError>
     ensures { IfOk result (λ s. string_bytes s ≡ fragment_name stripe.now place) }
 {
-    let place = place.name();
     // Made for each survivor, so its memory is taken once.
-    let room = stripe.len().saturating_add(1).saturating_add(place.len());
+    let room = stripe
+        .len()
+        .saturating_add(1)
+        .saturating_add(place.name().len());
     let mut name = String::with_capacity(alloc, room)?;
+    write_fragment_file(&mut name, stripe, place)?;
+    Ok(name)
+}
+
+/// The name of the file that has the fragment of a stripe at a place, in place of what the text had.
+pub fn write_fragment_file(name: &mut String, stripe: &str, place: Place) -> Result<(), AllocError>
+    ensures { OnOk result (string_bytes name.new ≡ fragment_name stripe.now place) }
+{
+    name.clear();
     name.push_str(stripe)?;
     name.push_str(".")?;
-    name.push_str(place)?;
-    Ok(name)
+    name.push_str(place.name())
 }
 
 /// The name of the fragment that a request of a rack rebuilds.

@@ -70,4 +70,11 @@ impl Feeds {
     {
         self.racks.as_slice()
     }
+
+    /// The feeds of each rack, which are given up.
+    pub fn into_racks(self) -> Vec<Vec<RackList>>
+        ensures { map (λ rack. rack.items) result.items ≡ self }
+    {
+        self.racks
+    }
 }

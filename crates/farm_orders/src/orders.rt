@@ -68,6 +68,13 @@ impl RackList {
         self.orders.as_slice()
     }
 
+    /// The orders, which the list gives up.
+    pub fn into_orders(self) -> Vec<Order>
+        ensures { result.items ≡ self }
+    {
+        self.orders
+    }
+
     /// The number of requests before the first close, or of all where there is no close. These are served.
     pub fn served(&self) -> usize
         ensures count { result ≡ length (before_close self.now) }

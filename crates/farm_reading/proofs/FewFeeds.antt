@@ -1,5 +1,5 @@
 -- The feeds that were read are as few as the lists.
-use Rattle.std.proofs.Common.{◌≡◌, ◌<◌, ◌≤◌, Global, Vec, ℕ, zero, suc, List, [], ◌∷◌, All, length, map, drop, get_or, sym, ap, arith}
+use Rattle.std.proofs.Common.{◌≡◌, ◌<◌, ◌≤◌, Global, Vec, ℕ, zero, suc, List, [], ◌∷◌, All, length, map, sym, ap, arith}
 use Rattle.std.proofs.Common.{subst}
 use Rattle.std.specs.List.{AllByRecursion}
 use Rattle.std.proofs.lemmas.List.{length-map}

@@ -1,12 +1,9 @@
 -- Pieces of a rack's feeds.
 use Rattle.std.proofs.Common.{◌≡◌, ◌<◌, ◌≤◌, ◌+◌, ◌*◌, ◌++◌, ◌∙◌, Bor, Vec, Global, ℕ, zero, suc, Bool, List, [], ◌∷◌, All, length, map}
-use Rattle.std.proofs.Common.{take, drop, get_or, refl, sym, ap, subst, arith}
+use Rattle.std.proofs.Common.{take, drop, get_or, refl, ap, subst, arith}
 use Rattle.std.specs.Prelude.{nat_lt}
 use Rattle.std.specs.List.{AllZip}
-use Rattle.std.proofs.lemmas.List.{take_all}
 use Rattle.std.proofs.lemmas.List.Sums.{sum_by-cons}
-use mathlib.Core.Option.{some, some-ne-none, some-injective}
-use lib.ListN.{get_elem?}
 use Rattle.lrc_code.specs.Requests.{Asked}
 use Rattle.farm_orders.specs.Orders.{HasClose, before_close}
 use Rattle.farm_orders.specs.declared.orders.Order.{Order}

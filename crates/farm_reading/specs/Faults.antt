@@ -1,6 +1,5 @@
 -- Why serving ends, by the lists that are read.
-use Rattle.std.specs.Prelude.{◌≡◌, ◌+◌, ◌<◌, ◌⊎◌, ℕ, List, length, Some, None, IfSome, Err, option_map}
-use Rattle.lrc_code.specs.declared.outcomes.Outcome.{Outcome}
+use Rattle.std.specs.Prelude.{◌≡◌, ◌+◌, ◌<◌, ℕ, List, length, Some, None, Err, option_map}
 use Rattle.farm_lists.specs.Listing.{list_of}
 use Rattle.farm_lists.specs.declared.listing.Record.{Record}
 use Rattle.farm_lists.specs.declared.listing.ListFault.{ListFault}

@@ -22,7 +22,9 @@ ghost use Rattle.farm_lists.specs.Parts.{ArePart};
 
 use crate::cutting::lists_through_close;
 use crate::rack_lists::RackLists;
-use farm_lists::{Listed, ReadRequest, Record, fragment_file, requests_before_close};
+use farm_lists::{
+    Listed, ReadRequest, Record, fragment_file, requests_before_close, write_fragment_file,
+};
 use farm_orders::{Feeds, Order, RackList};
 use farm_shelves::{FileRead, Shelf, ShelfFault};
 use lrc_code::{Fragment, Place, Request};
@@ -30,10 +32,11 @@ use std::alloc::{AllocError, Global};
 use std::thread::Threads;
 
 // The bytes of a listed survivor, where they are there and as many as listed and the device doesn't fail. One byte more than listed
-// is read, so that a longer file shows.
+// is read, so that a longer file shows. Its name is made in this text.
 fn read_fragment<I: Shelf>(
     alloc: Global,
     input: &mut I,
+    name: &mut String,
     listed: &Listed,
     place: Place,
 ) -> Result<Option<Vec<u8>>, AllocError>
@@ -45,7 +48,7 @@ fn read_fragment<I: Shelf>(
     ensures more { I.failed input.old ≤ I.failed input.new }
     ensures few { I.failed input.new ≤ I.failed input.old + 1 }
 {
-    let name = fragment_file(alloc, listed.stripe(), place)?;
+    write_fragment_file(name, listed.stripe(), place)?;
     let length = listed.length() as usize;
     let bytes = match input.read(alloc, name.as_str(), length + 1) {
         Ok(Some(bytes)) => bytes,
@@ -64,6 +67,7 @@ fn read_fragment<I: Shelf>(
 fn read_survivors<I: Shelf>(
     alloc: Global,
     input: &mut I,
+    name: &mut String,
     listed: &Listed,
 ) -> Result<(Vec<Fragment>, Vec<Place>), AllocError>
     requires { I.failed input.old + survivor_limit < 2 ^ 63 }
@@ -81,7 +85,7 @@ fn read_survivors<I: Shelf>(
     let places = listed.survivors();
     for index in 0..places.len() {
         let place = places[index];
-        match read_fragment(alloc, input, listed, place)? {
+        match read_fragment(alloc, input, name, listed, place)? {
             Some(bytes) => fragments.push(Fragment { place, bytes })?,
             None => unread.push(place)?,
         }
@@ -93,6 +97,7 @@ fn read_survivors<I: Shelf>(
 fn read_request<'a, I: Shelf>(
     alloc: Global,
     input: &mut I,
+    name: &mut String,
     listed: &'a Listed,
 ) -> Result<(Request, ReadRequest<'a>), AllocError>
     requires { I.failed input.old + survivor_limit < 2 ^ 63 }
@@ -104,7 +109,7 @@ fn read_request<'a, I: Shelf>(
     ensures more { I.failed input.old ≤ I.failed input.new }
     ensures few { I.failed input.new ≤ I.failed input.old + survivor_limit }
 {
-    let (fragments, unread) = read_survivors(alloc, input, listed)?;
+    let (fragments, unread) = read_survivors(alloc, input, name, listed)?;
     let stripe = String::from_str(alloc, listed.stripe())?;
     let request = Request::from_checked(
         listed.code(),
@@ -176,7 +181,7 @@ fn read_ahead<R: Threads + Sync, I: Shelf>(
         return;
     }
     if let Ok(files) = fragment_files(alloc, requests) {
-        input.read_ahead(rt, alloc, files.as_slice(), threads);
+        input.read_ahead(rt, alloc, files, threads);
     }
 }
 
@@ -207,8 +212,9 @@ fn read_requests<'a, R: Threads + Sync, I: Shelf>(
     read_ahead(rt, alloc, input, requests, threads);
     let mut orders = Vec::new(alloc);
     let mut read = Vec::new(alloc);
+    let mut name = String::new(alloc);
     for index in 0..requests.len() {
-        let (request, with_unread) = read_request(alloc, input, requests[index])?;
+        let (request, with_unread) = read_request(alloc, input, &mut name, requests[index])?;
         orders.push(Order::Rebuild(request))?;
         read.push(with_unread)?;
     }

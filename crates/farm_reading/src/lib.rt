@@ -18,6 +18,7 @@ mod faults;
 pub mod fragments;
 mod lists;
 mod rack_lists;
+pub mod rooms;
 
 pub use faults::ServeFault;
 pub use lists::read_lists;

@@ -1,5 +1,5 @@
 -- What a fault of serving leaves, and how often devices failed.
-use Rattle.std.specs.Prelude.{◌≡◌, ◌+◌, ◌<◌, ◌⊎◌, ℕ, List, length, Some, None, IfSome, Err, option_map}
+use Rattle.std.specs.Prelude.{◌≡◌, ◌+◌, ◌⊎◌, ℕ, List, IfSome}
 use Rattle.lrc_code.specs.declared.outcomes.Outcome.{Outcome}
 use Rattle.farm_lists.specs.declared.listing.Record.{Record}
 use Rattle.farm_shelves.specs.Files.{StopsWriting, Shown}

@@ -14,9 +14,11 @@ use farm_reading::RackLists;
 use farm_reading::ahead::{files_of_batch, files_of_piece};
 use farm_reading::cutting::{end_of_positions, end_of_racks, lists_through_close, piece_of};
 use farm_reading::fragments::{read_feeds, read_piece};
+use farm_reading::rooms::rooms_of;
 use farm_shelves::{FileRead, Shelf};
 use lrc_code::Outcome;
 use std::alloc::{AllocError, Global};
+use std::mem;
 use std::sync::Wait;
 use std::thread::Threads;
 
@@ -49,7 +51,7 @@ pub struct Batching<'p, P> {
 struct Batch<'b, P> {
     settings: Settings,
     pause: &'b P,
-    after: &'b [FileRead],
+    after: Vec<FileRead>,
 }
 
 // The answers to the pieces of a rack so far, and whether a close has ended it.
@@ -136,9 +138,9 @@ pub fn answer_lists<'a, R: Threads + Wait + Sync, I: Shelf, P: Pause>(
                 number: 0,
                 position: 0,
             },
-            after: after.as_slice(),
+            after,
         };
-        let mut part = answer_racks(rt, alloc, input, &racks[first..end], &batch, batching.most)?;
+        let mut part = answer_racks(rt, alloc, input, &racks[first..end], batch, batching.most)?;
         answers.append(&mut part.answers)?;
         requests.append(&mut part.requests)?;
         first = end;
@@ -152,7 +154,7 @@ fn answer_racks<'a, R: Threads + Wait + Sync, I: Shelf, P: Pause>(
     alloc: Global,
     input: &mut I,
     racks: &'a [RackLists],
-    batch: &Batch<'_, P>,
+    batch: Batch<'_, P>,
     most: u64,
 ) -> Result<Answered<'a>, FarmError>
     requires room { I.failed input.old + rack_survivors * length racks.now < 2 ^ 63 }
@@ -172,24 +174,37 @@ fn answer_racks<'a, R: Threads + Wait + Sync, I: Shelf, P: Pause>(
     Ok(Answered { answers, requests })
 }
 
-// The answers to feeds, which are dropped with their survivors. Beside it the files may be read ahead that are read after it.
+// The answers to feeds, whose survivors' memory goes back to the shelf. Beside it the files may be read ahead that are read after it.
 fn answer_feeds<R: Threads + Wait + Sync, I: Shelf, P: Pause>(
     rt: &R,
     alloc: Global,
     input: &mut I,
     feeds: Feeds,
-    batch: &Batch<'_, P>,
+    batch: Batch<'_, P>,
 ) -> Result<Vec<Vec<FeedAnswer>>, FarmError>
     ensures answers { IfOk result (λ v. AreAllMergedAnswers feeds (map (λ answers. answers.items) v.items)) }
     ensures same { I.files input.new ≡ I.files input.old }
     ensures calm { I.failed input.new ≡ I.failed input.old }
 {
-    let settings = batch.settings;
-    let pause = batch.pause;
+    let Batch {
+        settings,
+        pause,
+        after,
+    } = batch;
+    // Nothing is read into the memory of the last batch.
+    let is_last = after.is_empty();
+    let lent = &feeds;
     let run = move || -> Result<Vec<Vec<FeedAnswer>>, FarmError>
-        ensures { IfOk result (λ v. AreAllMergedAnswers feeds (map (λ answers. answers.items) v.items)) }
-    { run_feeds(rt, alloc, &feeds, settings, pause) };
-    input.read_beside(rt, alloc, batch.after, settings.workers(), run)
+        ensures { IfOk result (λ v. AreAllMergedAnswers lent.entry.now (map (λ answers. answers.items) v.items)) }
+    { run_feeds(rt, alloc, lent, settings, pause) };
+    let answers = input.read_beside(rt, alloc, after, settings.workers(), run)?;
+    let rooms = if is_last {
+        Vec::new(alloc)
+    } else {
+        rooms_of(alloc, feeds)
+    };
+    input.keep_rooms(rooms);
+    Ok(answers)
 }
 
 // The lists of a single rack.
@@ -211,7 +226,7 @@ fn answer_rack<'a, R: Threads + Wait + Sync, I: Shelf, P: Pause>(
     alloc: Global,
     input: &mut I,
     lists: &'a [Vec<Record>],
-    batch: &Batch<'_, P>,
+    batch: Batch<'_, P>,
     most: u64,
 ) -> Result<Answered<'a>, FarmError>
     requires room { I.failed input.old + rack_survivors < 2 ^ 63 }
@@ -225,6 +240,11 @@ fn answer_rack<'a, R: Threads + Wait + Sync, I: Shelf, P: Pause>(
     ensures more { I.failed input.old ≤ I.failed input.new }
     ensures few { I.failed input.new ≤ I.failed input.old + rack_survivors }
 {
+    let Batch {
+        settings,
+        pause,
+        after: mut next,
+    } = batch;
     let served = lists_through_close(alloc, lists)?;
     let mut so_far = RackAnswers {
         answers: Vec::new(alloc),
@@ -235,29 +255,39 @@ fn answer_rack<'a, R: Threads + Wait + Sync, I: Shelf, P: Pause>(
     while first < MOST_ORDERS {
         let end = end_of_positions(served.as_slice(), first, most);
         let part = piece_of(alloc, served.as_slice(), first, end)?;
-        let workers = batch.settings.workers();
-        let (orders, later) = read_piece(rt, alloc, input, part.as_slice(), workers)?;
+        let (orders, later) = read_piece(rt, alloc, input, part.as_slice(), settings.workers())?;
         requests = append_each(alloc, requests, later)?;
-        let own = files_of_piece(alloc, served.as_slice(), end, most).unwrap_or(Vec::new(alloc));
+        let after = files_after(alloc, served.as_slice(), end, most, &mut next);
         let piece = Batch {
-            settings: batch.settings,
+            settings,
             pause: &BatchPause {
-                pause: batch.pause,
+                pause,
                 rack: 0,
                 number: so_far.answers.len(),
                 position: first,
             },
-            after: or_others(own.as_slice(), batch.after),
+            after,
         };
-        so_far = answer_piece(rt, alloc, input, orders, &piece, so_far)?;
+        so_far = answer_piece(rt, alloc, input, orders, piece, so_far)?;
         first = end;
     }
     Ok(one_rack(alloc, so_far.answers, requests)?)
 }
 
-// These files, or the others where there are none.
-fn or_others<'a>(files: &'a [FileRead], others: &'a [FileRead]) -> &'a [FileRead] {
-    if files.is_empty() { others } else { files }
+// The files that are read after the piece that ends at a position: those of the rack's next piece, or where it has none the others, once.
+fn files_after(
+    alloc: Global,
+    lists: &[&[Record]],
+    end: usize,
+    most: u64,
+    others: &mut Vec<FileRead>,
+) -> Vec<FileRead>
+    requires { length lists.now ≤ feed_limit }
+{
+    match files_of_piece(alloc, lists, end, most) {
+        Ok(files) if !files.is_empty() => files,
+        _ => mem::replace(others, Vec::new(alloc)),
+    }
 }
 
 // No requests of each list.
@@ -299,7 +329,7 @@ fn answer_piece<R: Threads + Wait + Sync, I: Shelf, P: Pause>(
     alloc: Global,
     input: &mut I,
     orders: Vec<RackList>,
-    piece: &Batch<'_, P>,
+    piece: Batch<'_, P>,
     so_far: RackAnswers,
 ) -> Result<RackAnswers, FarmError>
     requires { (0 < length orders.items) × (length orders.items ≤ feed_limit) }
@@ -338,7 +368,7 @@ fn answer_orders<R: Threads + Wait + Sync, I: Shelf, P: Pause>(
     alloc: Global,
     input: &mut I,
     orders: Vec<RackList>,
-    batch: &Batch<'_, P>,
+    batch: Batch<'_, P>,
 ) -> Result<Vec<FeedAnswer>, FarmError>
     requires { (0 < length orders.items) × (length orders.items ≤ feed_limit) }
     ensures answered { IfOk result (λ v. AreMergedAnswers orders.items v.items) }

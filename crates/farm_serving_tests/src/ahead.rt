@@ -1,6 +1,6 @@
 //! Files that a shelf over a folder reads ahead, in one thread to sixteen, and what a shelf is asked for.
 use crate::shared::{
-    assert_fails, assert_none, assert_reads, input_of, serve_with, shelf_of, written,
+    MOST_FAILURES, assert_fails, assert_none, assert_reads, input_of, serve_with, shelf_of, written,
 };
 use crate::watched::WatchedShelf;
 use farm_core::NoPause;
@@ -77,7 +77,7 @@ fn files_read_ahead_are_given_as_they_are(rt: HostRuntime) -> Result<(), AllocEr
     for threads in 0..17usize {
         let mut shelf = ReadAheadShelf::open(&rt, alloc, "ahead/many")?;
         for count in COUNTS {
-            shelf.read_ahead(&rt, alloc, names(alloc, 0, *count)?.as_slice(), threads);
+            shelf.read_ahead(&rt, alloc, names(alloc, 0, *count)?, threads);
             for number in 0..*count {
                 assert_gives(&rt, &mut shelf, alloc, number)?;
             }
@@ -92,19 +92,59 @@ fn files_read_ahead_are_given_as_they_are(rt: HostRuntime) -> Result<(), AllocEr
 fn other_reads_and_writes_drop_what_was_read_ahead(rt: HostRuntime) -> Result<(), AllocError> {
     let alloc = rt.alloc();
     assert!(&rt; make_files(&rt, alloc, "ahead/other")?);
-    let all = names(alloc, 0, 300)?;
-    let second = names(alloc, 1, 2)?;
     let mut shelf = ReadAheadShelf::open(&rt, alloc, "ahead/other")?;
-    shelf.read_ahead(&rt, alloc, all.as_slice(), 4);
+    shelf.read_ahead(&rt, alloc, names(alloc, 0, 300)?, 4);
     for number in [0usize, 2, 1, 1] {
         assert_gives(&rt, &mut shelf, alloc, number)?;
     }
-    shelf.read_ahead(&rt, alloc, all.as_slice(), 4);
+    shelf.read_ahead(&rt, alloc, names(alloc, 0, 300)?, 4);
     assert_eq!(&rt; written(&mut shelf, alloc, "0", b"new"), Ok(()));
     assert_reads(&rt, &mut shelf, alloc, "0", 4, b"new");
-    shelf.read_ahead(&rt, alloc, second.as_slice(), 4);
+    shelf.read_ahead(&rt, alloc, names(alloc, 1, 2)?, 4);
     assert_reads(&rt, &mut shelf, alloc, "1", 0, b"");
     assert_eq!(&rt; shelf.failures(), 0);
+    Ok(())
+}
+
+// What the shelf gives of the files of these numbers, which it was to read ahead.
+fn taken(
+    shelf: &mut ReadAheadShelf,
+    alloc: Global,
+    first: usize,
+    end: usize,
+) -> Result<Vec<Vec<u8>>, AllocError> {
+    let mut taken = Vec::new(alloc);
+    for number in first..end {
+        let name = format!(in alloc; "{number}")?;
+        if shelf.failures() < MOST_FAILURES {
+            if let Ok(Some(bytes)) = shelf.read(alloc, name.as_str(), 4) {
+                taken.push(bytes)?;
+            }
+        }
+    }
+    Ok(taken)
+}
+
+// Of memory that other files were read into nothing is given, whether the file now read into it is shorter, longer or absent.
+#[test]
+fn files_read_into_memory_of_others_are_given_as_they_are(
+    rt: HostRuntime,
+) -> Result<(), AllocError> {
+    let alloc = rt.alloc();
+    assert!(&rt; make_files(&rt, alloc, "ahead/rooms")?);
+    for first in 0..10usize {
+        let mut shelf = ReadAheadShelf::open(&rt, alloc, "ahead/rooms")?;
+        shelf.read_ahead(&rt, alloc, names(alloc, 0, 290)?, 4);
+        let rooms = taken(&mut shelf, alloc, 0, 290)?;
+        assert_eq!(&rt; rooms.len(), 261);
+        shelf.keep_rooms(rooms);
+        let end = first.saturating_add(290);
+        shelf.read_ahead(&rt, alloc, names(alloc, first, end)?, 4);
+        for number in first..end {
+            assert_gives(&rt, &mut shelf, alloc, number)?;
+        }
+        assert_eq!(&rt; shelf.failures(), 0);
+    }
     Ok(())
 }
 
@@ -118,10 +158,9 @@ fn reads_that_fail_ahead_are_counted_once(rt: HostRuntime) -> Result<(), AllocEr
     assert!(&rt; make_files(&rt, alloc, "ahead/failing")?);
     assert!(&rt; fs::create_dir_all(&rt, "ahead/failing/300").is_ok());
     assert!(&rt; fs::create_dir_all(&rt, "ahead/failing/301").is_ok());
-    let names = names(alloc, 290, 302)?;
     for threads in THREADS {
         let mut shelf = ReadAheadShelf::open(&rt, alloc, "ahead/failing")?;
-        shelf.read_ahead(&rt, alloc, names.as_slice(), *threads);
+        shelf.read_ahead(&rt, alloc, names(alloc, 290, 302)?, *threads);
         for number in 290..300usize {
             assert_gives(&rt, &mut shelf, alloc, number)?;
         }
@@ -140,7 +179,7 @@ fn memory_reads_nothing_ahead(rt: HostRuntime) -> Result<(), AllocError> {
     let alloc = rt.alloc();
     let mut shelf = shelf_of(alloc, &[("0", b""), ("1", b"a")])?;
     shelf.fail_at(1);
-    shelf.read_ahead(&rt, alloc, names(alloc, 0, 300)?.as_slice(), 4);
+    shelf.read_ahead(&rt, alloc, names(alloc, 0, 300)?, 4);
     assert_gives(&rt, &mut shelf, alloc, 0)?;
     assert_eq!(&rt; shelf.failures(), 0);
     assert_fails(&rt, &mut shelf, alloc, "1");

@@ -1,6 +1,7 @@
 //! Answering lists in batches: of one request, of a part of a list, and of whole racks.
 use crate::calls::Calls;
 use crate::shared::{LIST_OF_FOUR, OF_REQUEST, are_answered, serve_shelf, shelf_of};
+use crate::watched::WatchedShelf;
 use farm_core::{NoPause, Pause};
 use farm_serving::{Answered, MemoryShelf, ReadRequest};
 use lrc_code::{Outcome, Place};
@@ -106,6 +107,28 @@ fn racks_are_answered_a_request_at_a_time(rt: HostRuntime) -> Result<(), AllocEr
         are_racks_answered(&rt, rt.alloc(), 2, 1, &NoPause)?,
         "other answers"
     );
+    Ok(())
+}
+
+// Of how many survivors the memory is given back, where the racks are cut into batches of so many bytes.
+fn given_back<R: Threads + Wait + Sync>(
+    rt: &R,
+    alloc: Global,
+    most: u64,
+) -> Result<usize, AllocError> {
+    let mut input = WatchedShelf::new(alloc, input_of(alloc)?);
+    are_answered(rt, alloc, &mut input, (2, most), &NoPause, are_of_racks)?;
+    Ok(input.rooms)
+}
+
+// The memory of all batches but the last, into which nothing is read, is given back: of 33 survivors those of all requests but one, of two
+// racks, of these again, and none.
+#[test]
+fn the_memory_of_batches_is_given_back(rt: HostRuntime) -> Result<(), AllocError> {
+    assert_eq!(&rt; given_back(&rt, rt.alloc(), 1)?, 30);
+    assert_eq!(&rt; given_back(&rt, rt.alloc(), 5 * OF_REQUEST)?, 22);
+    assert_eq!(&rt; given_back(&rt, rt.alloc(), 10 * OF_REQUEST)?, 22);
+    assert_eq!(&rt; given_back(&rt, rt.alloc(), 15 * OF_REQUEST)?, 0);
     Ok(())
 }
 

@@ -37,19 +37,21 @@ fn gives(number: u64) -> Result<u64, AllocError> {
 fn files_read_beside_work_are_given_once(rt: HostRuntime) -> Result<(), AllocError> {
     let alloc = rt.alloc();
     assert!(&rt; make_files(&rt, "beside/work", "beside/work/a", "beside/work/b"));
-    let names = limited(alloc, &["a", "b"])?;
     let mut shelf = ReadAheadShelf::open(&rt, alloc, "beside/work")?;
     assert_eq!(&rt;
-        shelf.read_beside(&rt, alloc, names.as_slice(), 4, || gives(7)),
+        shelf.read_beside(&rt, alloc, limited(alloc, &["a", "b"])?, 4, || gives(7)),
         Ok(7)
     );
     assert!(&rt; fs::write(&rt, "beside/work/a", b"new").is_ok());
-    shelf.read_ahead(&rt, alloc, names.as_slice(), 4);
+    shelf.read_ahead(&rt, alloc, limited(alloc, &["a", "b"])?, 4);
     assert_eq!(&rt;
-        shelf.read_beside(&rt, alloc, names.as_slice(), 4, || gives(8)),
+        shelf.read_beside(&rt, alloc, limited(alloc, &["a", "b"])?, 4, || gives(8)),
         Ok(8)
     );
-    assert_eq!(&rt; shelf.read_beside(&rt, alloc, &[], 4, || gives(9)), Ok(9));
+    assert_eq!(&rt;
+        shelf.read_beside(&rt, alloc, Vec::new(alloc), 4, || gives(9)),
+        Ok(9)
+    );
     assert_reads(&rt, &mut shelf, alloc, "a", 4, b"one");
     assert_reads(&rt, &mut shelf, alloc, "b", 4, b"two");
     assert_reads(&rt, &mut shelf, alloc, "a", 4, b"new");
@@ -64,21 +66,19 @@ fn other_reads_and_writes_drop_what_was_read_beside_work(
 ) -> Result<(), AllocError> {
     let alloc = rt.alloc();
     assert!(&rt; make_files(&rt, "beside/other", "beside/other/a", "beside/other/b"));
-    let names = limited(alloc, &["a", "b"])?;
     let mut shelf = ReadAheadShelf::open(&rt, alloc, "beside/other")?;
     assert_eq!(&rt;
-        shelf.read_beside(&rt, alloc, names.as_slice(), 1, || gives(7)),
+        shelf.read_beside(&rt, alloc, limited(alloc, &["a", "b"])?, 1, || gives(7)),
         Ok(7)
     );
     assert_eq!(&rt; written(&mut shelf, alloc, "a", b"new"), Ok(()));
     assert_reads(&rt, &mut shelf, alloc, "a", 4, b"new");
-    let first = limited(alloc, &["a"])?;
     assert_eq!(&rt;
-        shelf.read_beside(&rt, alloc, first.as_slice(), 1, || gives(7)),
+        shelf.read_beside(&rt, alloc, limited(alloc, &["a"])?, 1, || gives(7)),
         Ok(7)
     );
     assert!(&rt; fs::write(&rt, "beside/other/a", b"newer").is_ok());
-    shelf.read_ahead(&rt, alloc, names.as_slice(), 1);
+    shelf.read_ahead(&rt, alloc, limited(alloc, &["a", "b"])?, 1);
     assert_reads(&rt, &mut shelf, alloc, "a", 4, b"newe");
     assert_reads(&rt, &mut shelf, alloc, "b", 4, b"two");
     assert_eq!(&rt; shelf.failures(), 0);
@@ -99,22 +99,27 @@ fn fails_once(calls: &AtomicU64) -> Result<u64, AllocError> {
 fn work_that_fails_beside_reading_is_done_again(rt: HostRuntime) -> Result<(), AllocError> {
     let alloc = rt.alloc();
     assert!(&rt; make_files(&rt, "beside/again", "beside/again/a", "beside/again/b"));
-    let names = limited(alloc, &["a", "b"])?;
     let mut shelf = ReadAheadShelf::open(&rt, alloc, "beside/again")?;
     let calls = AtomicU64::new(0);
     assert_eq!(&rt;
-        shelf.read_beside(&rt, alloc, names.as_slice(), 4, || fails_once(&calls)),
+        shelf.read_beside(
+            &rt,
+            alloc,
+            limited(alloc, &["a", "b"])?,
+            4,
+            || fails_once(&calls)
+        ),
         Ok(2)
     );
     assert!(&rt; fs::write(&rt, "beside/again/a", b"new").is_ok());
     assert_reads(&rt, &mut shelf, alloc, "a", 4, b"new");
     let calls = AtomicU64::new(0);
     assert_eq!(&rt;
-        shelf.read_beside(&rt, alloc, &[], 4, || fails_once(&calls)),
+        shelf.read_beside(&rt, alloc, Vec::new(alloc), 4, || fails_once(&calls)),
         Err(AllocError)
     );
     assert_eq!(&rt;
-        shelf.read_beside(&rt, alloc, &[], 4, || fails_once(&calls)),
+        shelf.read_beside(&rt, alloc, Vec::new(alloc), 4, || fails_once(&calls)),
         Ok(2)
     );
     Ok(())
@@ -125,11 +130,16 @@ fn work_that_fails_beside_reading_is_done_again(rt: HostRuntime) -> Result<(), A
 fn work_that_fails_alone_is_done_once(rt: HostRuntime) -> Result<(), AllocError> {
     let alloc = rt.alloc();
     assert!(&rt; make_files(&rt, "beside/alone", "beside/alone/a", "beside/alone/b"));
-    let names = limited(alloc, &["a", "b"])?;
     let mut shelf = FolderShelf::open(&rt, alloc, "beside/alone")?;
-    shelf.read_ahead(&rt, alloc, names.as_slice(), 4);
+    shelf.read_ahead(&rt, alloc, limited(alloc, &["a", "b"])?, 4);
     let calls = AtomicU64::new(0);
-    let done = shelf.read_beside(&rt, alloc, names.as_slice(), 4, || fails_once(&calls));
+    let done = shelf.read_beside(
+        &rt,
+        alloc,
+        limited(alloc, &["a", "b"])?,
+        4,
+        || fails_once(&calls),
+    );
     assert_eq!(&rt; done, Err(AllocError));
     assert_eq!(&rt; calls.load(Ordering::SeqCst), 1);
     assert!(&rt; fs::write(&rt, "beside/alone/a", b"new").is_ok());

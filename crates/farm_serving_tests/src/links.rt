@@ -90,7 +90,7 @@ fn links_are_read_ahead_as_they_are_read(rt: HostRuntime) -> Result<(), AllocErr
     let names = all_names(alloc)?;
     for threads in 0..5usize {
         let mut shelf = ReadAheadShelf::open(&rt, alloc, "links/ahead")?;
-        shelf.read_ahead(&rt, alloc, names.as_slice(), threads);
+        shelf.read_ahead(&rt, alloc, all_names(alloc)?, threads);
         for (name, _) in names.iter() {
             assert_as_named(&rt, &mut shelf, alloc, name.as_str());
         }

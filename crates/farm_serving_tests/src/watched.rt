@@ -4,7 +4,7 @@ ghost use Rattle.std.specs.Prelude.{None};
 use crate::shared::MOST_FAILURES;
 use farm_serving::{MemoryShelf, Shelf, ShelfFault};
 use farm_shelves::FileRead;
-use std::alloc::{AllocError, Global};
+use std::alloc::Global;
 use std::thread::Threads;
 
 /// The files that one kind of call names, and those of them that were read.
@@ -27,10 +27,12 @@ impl Named {
         }
     }
 
-    // Keeps the files of a call, in place of those of the call before it; none where memory is refused.
-    fn keep(&mut self, alloc: Global, files: &[FileRead]) {
-        self.files = copy_of(alloc, files).unwrap_or(Vec::new(alloc));
-        self.next = 0;
+    // Keeps the files of a call, in place of those of the call before it, unless it names none.
+    fn keep(&mut self, files: Vec<FileRead>) {
+        if !files.is_empty() {
+            self.files = files;
+            self.next = 0;
+        }
     }
 
     // Counts a read, if it is of the file that was named next.
@@ -44,15 +46,6 @@ impl Named {
     }
 }
 
-// A copy of names and limits.
-fn copy_of(alloc: Global, files: &[FileRead]) -> Result<Vec<FileRead>, AllocError> {
-    let mut copy = Vec::new(alloc);
-    for (name, limit) in files {
-        copy.push((String::from_str(alloc, name.as_str())?, *limit))?;
-    }
-    Ok(copy)
-}
-
 /// A shelf that keeps which files are named ahead of their reads, and which beside the latest work. It writes none, and its device
 /// never fails.
 #[derive(Drop)]
@@ -60,6 +53,8 @@ pub(crate) struct WatchedShelf {
     shelf: MemoryShelf,
     pub(crate) ahead: Named,
     pub(crate) beside: Named,
+    /// How many files' memory was given to be read into again, over all calls.
+    pub(crate) rooms: usize,
 }
 
 impl WatchedShelf {
@@ -69,6 +64,7 @@ impl WatchedShelf {
             shelf,
             ahead: Named::new(alloc),
             beside: Named::new(alloc),
+            rooms: 0,
         }
     }
 }
@@ -103,23 +99,27 @@ impl Shelf for WatchedShelf {
     fn read_ahead<H: Threads + Sync>(
         &mut self,
         _rt: &H,
-        alloc: Global,
-        files: &[FileRead],
+        _alloc: Global,
+        files: Vec<FileRead>,
         _threads: usize,
     ) {
-        self.ahead.keep(alloc, files);
+        self.ahead.keep(files);
     }
 
     fn read_beside<H: Threads + Sync, T: Drop, E: Drop, F: Fn() -> Result<T, E>>(
         &mut self,
         _rt: &H,
-        alloc: Global,
-        files: &[FileRead],
+        _alloc: Global,
+        files: Vec<FileRead>,
         _threads: usize,
         work: F,
     ) -> Result<T, E> {
-        self.beside.keep(alloc, files);
+        self.beside.keep(files);
         work()
+    }
+
+    fn keep_rooms(&mut self, rooms: Vec<Vec<u8>>) {
+        self.rooms = self.rooms.saturating_add(rooms.len());
     }
 
     fn write(&mut self, _alloc: Global, _name: &str, _bytes: &[u8]) -> Result<(), ShelfFault> {

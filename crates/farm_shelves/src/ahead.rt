@@ -2,8 +2,9 @@
 ghost use Rattle.std.specs.Prelude.{◌≡◌, ◌<◌, option_map};
 ghost use Rattle.farm_shelves.specs.Ahead.{IsKnown, known};
 
+use crate::folder::FolderShelf;
 use crate::regular_files::{FIRST_ROOM, open_regular, read_front};
-use crate::shelf::ShelfFault;
+use crate::shelf::{FileRead, ShelfFault};
 use std::alloc::{AllocError, Global};
 use std::io::Read;
 use std::sync::Mutex;
@@ -20,10 +21,10 @@ const LEAST_PART: u64 = 1_048_576;
 // How many parts of the files there are for each thread that reads them.
 const PARTS_PER_THREAD: usize = 8;
 
-/// A file that is read ahead: its path, its limit and how far it is.
+/// A file of a folder that is read ahead: its name, its limit and how far it is.
 #[derive(Drop)]
 pub(crate) struct ReadAhead {
-    path: String,
+    name: String,
     limit: usize,
     state: State,
 }
@@ -46,20 +47,30 @@ impl ReadAhead {
     /// makes threads that take memory at once wait for each other.
     pub(crate) fn listed(
         alloc: Global,
-        path: String,
-        limit: usize,
+        file: FileRead,
+        rooms: &mut Vec<Vec<u8>>,
     ) -> Result<ReadAhead, AllocError> {
-        let room = Vec::with_capacity(alloc, FIRST_ROOM.min(limit))?;
+        let (name, limit) = file;
+        let room = room_for(alloc, limit, rooms)?;
         Ok(ReadAhead {
-            path,
+            name,
             limit,
             state: State::Listed(room),
         })
     }
 
-    // Whether it is the file of a name in a folder, up to this limit.
-    fn is_of(&self, folder: &str, name: &str, limit: usize) -> bool {
-        self.limit == limit && is_path_of(self.path.as_str(), folder, name)
+    // Whether it is the file of this name, up to this limit.
+    fn is_of(&self, name: &str, limit: usize) -> bool {
+        self.limit == limit && self.name.as_str() == name
+    }
+}
+
+// The room for a file: the last of these that were read into before, if that file had the length that is listed here (the limit is one
+// more), so that nothing of it is cleared and no memory is taken; else a new one.
+fn room_for(alloc: Global, limit: usize, rooms: &mut Vec<Vec<u8>>) -> Result<Vec<u8>, AllocError> {
+    match rooms.pop() {
+        Some(room) if room.len().saturating_add(1) == limit => Ok(room),
+        _ => Vec::with_capacity(alloc, FIRST_ROOM.min(limit)),
     }
 }
 
@@ -82,18 +93,17 @@ fn worthwhile(files: &[ReadAhead], threads: usize) -> usize
 fn read_listed<R: Threads + Sync>(
     rt: &R,
     alloc: Global,
-    system: &HostRuntime,
+    folder: &FolderShelf<HostRuntime>,
     files: &mut [ReadAhead],
     threads: usize,
 ) -> Result<(), AllocError> {
     let threads = worthwhile(files, threads);
     if threads == 1 {
-        read_each(system, files);
-        return Ok(());
+        return read_each(alloc, folder, files);
     }
     let parts = parts_of(alloc, files, threads.saturating_mul(PARTS_PER_THREAD))?;
     let next = AtomicUsize::new(0);
-    let reader = |_thread: usize| read_parts(system, parts.as_slice(), &next);
+    let reader = |_thread: usize| read_parts(alloc, folder, parts.as_slice(), &next);
     thread::map_indices(rt, alloc, threads, &reader)?;
     Ok(())
 }
@@ -102,12 +112,12 @@ fn read_listed<R: Threads + Sync>(
 pub(crate) fn read_all<R: Threads + Sync>(
     rt: &R,
     alloc: Global,
-    system: &HostRuntime,
+    folder: &FolderShelf<HostRuntime>,
     files: Vec<ReadAhead>,
     threads: usize,
 ) -> Vec<ReadAhead> {
     let mut files = files;
-    if read_listed(rt, alloc, system, files.as_mut_slice(), threads).is_err() {
+    if read_listed(rt, alloc, folder, files.as_mut_slice(), threads).is_err() {
         files.clear();
     }
     files
@@ -130,29 +140,41 @@ fn parts_of(
 }
 
 // Reads the files of one part after the other, each the next that no thread has taken. Nobody else has a part's lock: if it is refused
-// all the same, its files are read in their turn.
-fn read_parts(system: &HostRuntime, parts: &[Mutex<&mut [ReadAhead]>], next: &AtomicUsize) {
+// all the same, its files are read in their turn, as those are whose path was refused memory.
+fn read_parts(
+    alloc: Global,
+    folder: &FolderShelf<HostRuntime>,
+    parts: &[Mutex<&mut [ReadAhead]>],
+    next: &AtomicUsize,
+) {
     for _turn in 0..parts.len() {
         let Some(part) = parts.get(next.fetch_add(1, Ordering::SeqCst)) else {
             return;
         };
         if let Some(mut files) = part.try_lock() {
-            read_each(system, &mut files);
+            let _read = read_each(alloc, folder, &mut files);
         }
     }
 }
 
-// Opens, reads and closes listed files, one after the other, each into its room.
-fn read_each(system: &HostRuntime, files: &mut [ReadAhead]) {
+// Opens, reads and closes listed files, one after the other, each into its room. Their paths are made in one text, one after the other.
+fn read_each(
+    alloc: Global,
+    folder: &FolderShelf<HostRuntime>,
+    files: &mut [ReadAhead],
+) -> Result<(), AllocError> {
+    let mut path = String::new(alloc);
     for file in files.iter_mut() {
+        folder.write_path(&mut path, file.name.as_str())?;
         file.state = match mem::replace(&mut file.state, State::Unread) {
             State::Listed(room) => {
-                let opened = open_regular(system, file.path.as_str());
+                let opened = open_regular(folder.system(), path.as_str());
                 state_of(opened, room, file.limit)
             }
             state => state,
         };
     }
+    Ok(())
 }
 
 // How far a file is that was opened so, once its first bytes are read into this room. A failure says nothing of the file.
@@ -173,30 +195,23 @@ fn state_of<F: Read + Drop>(
     }
 }
 
-/// Whether so many files of a folder were read ahead, the next of them under this name and up to this limit.
-pub(crate) fn has_ahead(
-    ahead: &[ReadAhead],
-    folder: &str,
-    name: &str,
-    limit: usize,
-    count: usize,
-) -> bool {
+/// Whether so many files were read ahead, the next of them under this name and up to this limit.
+pub(crate) fn has_ahead(ahead: &[ReadAhead], name: &str, limit: usize, count: usize) -> bool {
     match ahead.last() {
-        Some(next) => count <= ahead.len() && next.is_of(folder, name, limit),
+        Some(next) => count <= ahead.len() && next.is_of(name, limit),
         None => false,
     }
 }
 
-/// What was read ahead of a folder's file, where it is the next one that was read ahead. A read of another file ends the reading ahead,
-/// since what comes then isn't known.
+/// What was read ahead of a file, where it is the next one that was read ahead. A read of another file ends the reading ahead, since what
+/// comes then isn't known.
 pub(crate) fn take_ahead(
     ahead: &mut Vec<ReadAhead>,
-    folder: &str,
     name: &str,
     limit: usize,
 ) -> Option<Option<Vec<u8>>> {
     let next = ahead.pop()?;
-    if !next.is_of(folder, name, limit) {
+    if !next.is_of(name, limit) {
         ahead.clear();
         return None;
     }
@@ -213,10 +228,4 @@ fn known_of(state: State) -> Option<Option<Vec<u8>>>
         State::Listed(_room) => None,
         State::Unread => None,
     }
-}
-
-// Whether a path in a folder is that of a name there. Takes no memory, as a path that is made to be compared would.
-fn is_path_of(path: &str, folder: &str, name: &str) -> bool {
-    path.len().checked_sub(name.len()) == folder.len().checked_add(1)
-        && path.as_bytes().ends_with(name.as_bytes())
 }

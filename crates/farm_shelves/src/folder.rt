@@ -50,14 +50,19 @@ impl<R: Drop> FolderShelf<R> {
         &self.rt
     }
 
-    /// The path of a file of the folder.
-    pub(crate) fn full_path(&self, alloc: Global, name: &str) -> Result<String, AllocError> {
-        let folder = self.path.as_str();
-        let room = folder.len().saturating_add(name.len()).saturating_add(1);
-        let mut path = String::with_capacity(alloc, room)?;
-        path.push_str(folder)?;
+    /// The path of a file of the folder, in place of what the text had.
+    pub(crate) fn write_path(&self, path: &mut String, name: &str) -> Result<(), AllocError> {
+        path.clear();
+        path.push_str(self.path.as_str())?;
         path.push('/')?;
-        path.push_str(name)?;
+        path.push_str(name)
+    }
+
+    // The path of a file of the folder. Its memory is taken once.
+    fn full_path(&self, alloc: Global, name: &str) -> Result<String, AllocError> {
+        let room = self.path.len().saturating_add(name.len()).saturating_add(1);
+        let mut path = String::with_capacity(alloc, room)?;
+        self.write_path(&mut path, name)?;
         Ok(path)
     }
 

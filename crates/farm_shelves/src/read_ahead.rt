@@ -7,8 +7,8 @@ use crate::ahead::{ReadAhead, has_ahead, read_all, take_ahead};
 use crate::folder::FolderShelf;
 use crate::shelf::{FileRead, Shelf, ShelfFault};
 use std::alloc::{AllocError, Global};
-use std::thread;
 use std::thread::Threads;
+use std::{mem, thread};
 
 // The memory that is held until files are read ahead. The C library gives free memory back to the system after each batch, unless it
 // has seen a block come back that is as large: it then keeps twice as much. It looks at no block of more than 32 MiB.
@@ -24,6 +24,8 @@ pub struct ReadAheadShelf {
     folder: FolderShelf<HostRuntime>,
     // The files that were read ahead, the next one last.
     ahead: Vec<ReadAhead>,
+    // Memory that files were read into before.
+    rooms: Vec<Vec<u8>>,
     // Given back before the first files are read ahead; nothing is ever in it.
     held: Vec<u8>,
 }
@@ -47,6 +49,7 @@ impl ReadAheadShelf {
         Ok(ReadAheadShelf {
             folder,
             ahead: Vec::new(alloc),
+            rooms: Vec::new(alloc),
             held,
         })
     }
@@ -59,20 +62,21 @@ impl ReadAheadShelf {
         }
     }
 
-    // The files that are to be read ahead, the last one first. What was read ahead before is dropped.
+    // The files that are to be read ahead, the last one first. What was read ahead before is dropped, and the memory that none of them is
+    // read into.
     fn list_ahead(
         &mut self,
         alloc: Global,
-        files: &[FileRead],
+        files: Vec<FileRead>,
     ) -> Result<Vec<ReadAhead>, AllocError>
         ensures { read_ahead_failed self.new ≡ read_ahead_failed self.old }
     {
         self.ahead.clear();
         self.held = Vec::new(alloc);
+        let mut rooms = mem::replace(&mut self.rooms, Vec::new(alloc));
         let mut ahead = Vec::with_capacity(alloc, files.len())?;
-        for (name, limit) in files.iter().rev() {
-            let path = self.folder.full_path(alloc, name.as_str())?;
-            ahead.push(ReadAhead::listed(alloc, path, *limit)?)?;
+        for file in files.into_iter().rev() {
+            ahead.push(ReadAhead::listed(alloc, file, &mut rooms)?)?;
         }
         Ok(ahead)
     }
@@ -82,7 +86,7 @@ impl ReadAheadShelf {
         &mut self,
         rt: &H,
         alloc: Global,
-        files: &[FileRead],
+        files: Vec<FileRead>,
         threads: usize,
         work: &F,
     ) -> Result<T, E>
@@ -91,18 +95,18 @@ impl ReadAheadShelf {
         ensures worked { F.post work.now result }
         ensures failure { read_ahead_failed self.new ≡ read_ahead_failed self.old }
     {
-        if self.has_each_ahead(files) {
+        if self.has_each_ahead(files.as_slice()) {
             return work();
         }
         let Ok(listed) = self.list_ahead(alloc, files) else {
             return work();
         };
-        let system = self.folder.system();
+        let folder = &self.folder;
         let (ahead, done) = thread::join(
             rt,
             || -> Vec<ReadAhead>
                 requires { IsSync H.row }
-            { read_all(rt, alloc, system, listed, threads) },
+            { read_all(rt, alloc, folder, listed, threads) },
             work,
         );
         self.ahead = ahead;
@@ -125,34 +129,28 @@ impl Shelf for ReadAheadShelf {
         name: &str,
         limit: usize,
     ) -> Result<Option<Vec<u8>>, ShelfFault> {
-        if let Some(read) = take_ahead(&mut self.ahead, self.folder.path(), name, limit) {
+        if let Some(read) = take_ahead(&mut self.ahead, name, limit) {
             return Ok(read);
         }
         self.folder.read(alloc, name, limit)
     }
 
     fn has_ahead(&self, name: &str, limit: usize, count: usize) -> bool {
-        has_ahead(
-            self.ahead.as_slice(),
-            self.folder.path(),
-            name,
-            limit,
-            count,
-        )
+        has_ahead(self.ahead.as_slice(), name, limit, count)
     }
 
     fn read_ahead<H: Threads + Sync>(
         &mut self,
         rt: &H,
         alloc: Global,
-        files: &[FileRead],
+        files: Vec<FileRead>,
         threads: usize,
     ) {
-        if self.has_each_ahead(files) {
+        if self.has_each_ahead(files.as_slice()) {
             return;
         }
         if let Ok(listed) = self.list_ahead(alloc, files) {
-            self.ahead = read_all(rt, alloc, self.folder.system(), listed, threads);
+            self.ahead = read_all(rt, alloc, &self.folder, listed, threads);
         }
     }
 
@@ -160,7 +158,7 @@ impl Shelf for ReadAheadShelf {
         &mut self,
         rt: &H,
         alloc: Global,
-        files: &[FileRead],
+        files: Vec<FileRead>,
         threads: usize,
         work: F,
     ) -> Result<T, E> {
@@ -170,6 +168,10 @@ impl Shelf for ReadAheadShelf {
         }
         self.ahead.clear();
         work()
+    }
+
+    fn keep_rooms(&mut self, rooms: Vec<Vec<u8>>) {
+        self.rooms = rooms;
     }
 
     fn write(&mut self, alloc: Global, name: &str, bytes: &[u8]) -> Result<(), ShelfFault> {

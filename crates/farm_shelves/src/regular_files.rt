@@ -83,8 +83,8 @@ fn replace_regular<R: Files>(rt: &R, path: &str, bytes: &[u8]) -> Result<(), She
     }
 }
 
-/// The first bytes of a file, as many as the limit at most, in this room. The room for a fragment is taken and cleared once, so
-/// that one of the listed length takes two reads: the first gives its bytes, the second finds its end.
+/// The first bytes of a file, as many as the limit at most, in this room, whose own bytes are read over and not given. What the room lacks
+/// is taken and cleared once, so that a fragment of the listed length takes two reads: the first gives its bytes, the second finds its end.
 pub fn read_front<F: Read + Drop>(
     room: Vec<u8>,
     file: F,
@@ -94,7 +94,7 @@ pub fn read_front<F: Read + Drop>(
 {
     let mut file = file;
     let mut bytes = room;
-    bytes.clear();
+    bytes.truncate(limit);
     let mut got = 0;
     for _turn in 0..READ_TURNS {
         if got == limit {

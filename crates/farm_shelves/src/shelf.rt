@@ -60,7 +60,7 @@ pub trait Shelf {
         &mut self,
         _rt: &H,
         _alloc: Global,
-        _files: &[FileRead],
+        _files: Vec<FileRead>,
         _threads: usize,
     )
         requires { IsSync H.row }
@@ -69,14 +69,15 @@ pub trait Shelf {
     {}
 
     /// Does some work, and gives what it gives. The files are those that are read next, so that the shelf may read them ahead while
-    /// the work is done, in at most so many further threads. Work that fails beside the reading is done once more alone, after what was
-    /// read ahead is dropped, so that it never fails for memory or a thread that the reading took. As `read_ahead`, it answers no read
-    /// and counts no failure. A shelf that doesn't say otherwise does the work once, alone.
+    /// the work is done, in at most so many further threads; none where these were named before, or nothing is read after the work.
+    /// Work that fails beside the reading is done once more alone, after what was read ahead is dropped, so that it never fails for
+    /// memory or a thread that the reading took. As `read_ahead`, it answers no read and counts no failure. A shelf that doesn't say
+    /// otherwise does the work once, alone.
     fn read_beside<H: Threads + Sync, T: Drop, E: Drop, F: Fn() -> Result<T, E>>(
         &mut self,
         _rt: &H,
         _alloc: Global,
-        _files: &[FileRead],
+        _files: Vec<FileRead>,
         _threads: usize,
         work: F,
     ) -> Result<T, E>
@@ -88,6 +89,13 @@ pub trait Shelf {
     {
         work()
     }
+
+    /// Gives the shelf memory that files were read into, so that it may read others into it. What is in it is never given by a read. A shelf
+    /// that doesn't say otherwise drops it.
+    fn keep_rooms(&mut self, _rooms: Vec<Vec<u8>>)
+        ensures same { files self.new ≡ files self.old }
+        ensures failure { failed self.new ≡ failed self.old }
+    {}
 
     /// Replaces a whole file. After a failure of the device nothing is known of this file, and the others are as they
     /// were; if memory is refused no file changes.

@@ -11,21 +11,21 @@ returns-then-len-length-clause-read g c =
       λ there e.
           fragment_read there c.args.listed.now c.args.place c.as_str.result.now c.in-Ok-Some.bytes.items limit
           (omega (arith, c.length-length.ensures.value))
-          (c.as_str.ensures.value ∙ c.in_ok-name.ensures ∙ ap (λ s. s ++ 46 ∷ name_of c.args.place) c.stripe.ensures.value)
+          (c.as_str.ensures.value ∙ c.in_ok-write_fragment_file.ensures ∙ ap (λ s. s ++ 46 ∷ name_of c.args.place) c.stripe.ensures.value)
           (shown_bytes (g.I.Shelf.files c.args.input.now) there (Some c.in-Ok-Some.bytes.items)
           (c.length-length.result + 1) c.as_str.result.now (rw c.in-Ok-Some.field-0-is at c.in-Ok-Some.ensures.bytes) e)
           (omega (arith, c.len.ensures, c.if-len-length.true, c.length-length.ensures.value, c.in-Ok-Some.bytes.ok.0)),
     )
 
-pub returns-clause-read : goal.returns-clause-read
-returns-clause-read g c =
+pub returns-else-len-length-clause-read : goal.returns-else-len-length-clause-read
+returns-else-len-length-clause-read g c =
     let limit = c.length-length.result + 1 in (
       false,
       omega (arith, c.in-Ok-Some.ensures.failure),
       λ there e.
           fragment_other there c.args.listed.now c.args.place c.as_str.result.now c.in-Ok-Some.bytes.items limit
           (omega (arith, c.length-length.ensures.value))
-          (c.as_str.ensures.value ∙ c.in_ok-name.ensures ∙ ap (λ s. s ++ 46 ∷ name_of c.args.place) c.stripe.ensures.value)
+          (c.as_str.ensures.value ∙ c.in_ok-write_fragment_file.ensures ∙ ap (λ s. s ++ 46 ∷ name_of c.args.place) c.stripe.ensures.value)
           (shown_bytes (g.I.Shelf.files c.args.input.now) there (Some c.in-Ok-Some.bytes.items)
           (c.length-length.result + 1) c.as_str.result.now (rw c.in-Ok-Some.field-0-is at c.in-Ok-Some.ensures.bytes) e)
           (λ h. c.if-len-length.false (omega (arith, h, c.len.ensures, c.length-length.ensures.value, c.in-Ok-Some.bytes.ok.0))),
@@ -37,7 +37,7 @@ returns-in-Ok-None-clause-read g c = (
   omega (arith, c.in-Ok-None.ensures.failure),
   λ there e.
       fragment_absent there c.args.listed.now c.args.place c.as_str.result.now (c.length-length.result + 1)
-      (c.as_str.ensures.value ∙ c.in_ok-name.ensures ∙ ap (λ s. s ++ 46 ∷ name_of c.args.place) c.stripe.ensures.value)
+      (c.as_str.ensures.value ∙ c.in_ok-write_fragment_file.ensures ∙ ap (λ s. s ++ 46 ∷ name_of c.args.place) c.stripe.ensures.value)
       (shown_bytes (g.I.Shelf.files c.args.input.now) there None (c.length-length.result + 1) c.as_str.result.now
       (rw c.in-Ok-None.field-0-is at c.in-Ok-None.ensures.bytes) e),
 )
