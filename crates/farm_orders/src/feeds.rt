@@ -75,6 +75,7 @@ impl Feeds {
     pub fn into_racks(self) -> Vec<Vec<RackList>>
         ensures { map (λ rack. rack.items) result.items ≡ self }
     {
-        self.racks
+        let Feeds { racks } = self;
+        racks
     }
 }

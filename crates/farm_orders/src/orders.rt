@@ -72,7 +72,8 @@ impl RackList {
     pub fn into_orders(self) -> Vec<Order>
         ensures { result.items ≡ self }
     {
-        self.orders
+        let RackList { orders } = self;
+        orders
     }
 
     /// The number of requests before the first close, or of all where there is no close. These are served.

@@ -7,6 +7,7 @@ ghost use Rattle.farm_core.specs.Merge.{AreAllMergedAnswers, AreMergedAnswers, A
 ghost use Rattle.farm_serving.specs.AnsweredRacks.{AreAnswered, IsAnsweredOnce, all_answers, all_requests, rack_requests};
 ghost use Rattle.farm_reading.specs.Reading.{Reads, all_failures, rack_failures};
 
+use crate::batch_pause::BatchPause;
 use farm_core::{FarmError, Feeds, Pause, RackList, Settings, run_feeds};
 use farm_lists::{ReadRequest, Record};
 use farm_orders::limits::MOST_ORDERS;
@@ -59,48 +60,6 @@ struct Batch<'b, P> {
 struct RackAnswers {
     answers: Vec<FeedAnswer>,
     ended: bool,
-}
-
-// Gives a pause the numbers that the racks and requests of a batch have among those of all lists: a request's number is drawn within its
-// rack, after those of the batches before, and its position is that in its feed's list.
-#[derive(Drop)]
-struct BatchPause<'p, P> {
-    pause: &'p P,
-    rack: usize,
-    number: usize,
-    position: usize,
-}
-
-impl<'p, P: Pause> Pause for BatchPause<'p, P> {
-    fn before(&self, rack: usize, number: u64) {
-        self.pause.before(
-            self.rack.saturating_add(rack),
-            (self.number as u64).saturating_add(number),
-        );
-    }
-
-    fn after(&self, rack: usize, number: u64) {
-        self.pause.after(
-            self.rack.saturating_add(rack),
-            (self.number as u64).saturating_add(number),
-        );
-    }
-
-    fn ahead(&self, rack: usize, feed: usize, position: usize) {
-        self.pause.ahead(
-            self.rack.saturating_add(rack),
-            feed,
-            self.position.saturating_add(position),
-        );
-    }
-
-    fn behind(&self, rack: usize, feed: usize, position: usize) {
-        self.pause.behind(
-            self.rack.saturating_add(rack),
-            feed,
-            self.position.saturating_add(position),
-        );
-    }
 }
 
 /// The answers to the lists of all racks, and their requests with what was left out of each. A batch is racks whose survivors take at most

@@ -17,6 +17,7 @@
 //! ```
 #![tactic(auto)]
 
+mod batch_pause;
 mod batches;
 mod folders;
 mod serving;

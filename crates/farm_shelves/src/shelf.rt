@@ -90,8 +90,8 @@ pub trait Shelf {
         work()
     }
 
-    /// Gives the shelf memory that files were read into, so that it may read others into it. What is in it is never given by a read. A shelf
-    /// that doesn't say otherwise drops it.
+    /// Gives the shelf memory that files were read into, so that it may read others into it. What is in it is never given by a read.
+    /// A shelf that doesn't say otherwise drops it.
     fn keep_rooms(&mut self, _rooms: Vec<Vec<u8>>)
         ensures same { files self.new ≡ files self.old }
         ensures failure { failed self.new ≡ failed self.old }
