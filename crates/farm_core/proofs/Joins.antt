@@ -14,8 +14,8 @@ use Rattle.farm_core.specs.declared.threads.worker.Worked.{Worked}
 use Rattle.farm_core.specs.Replies.{Replied}
 use Rattle.farm_core.specs.declared.threads.worker.WorkOf.{WorkOf}
 use Rattle.farm_core.specs.Jobs.{HasWorked}
-use Rattle.farm_core.specs.declared.threads.feeder.FeedOf.{FeedOf}
-use Rattle.farm_core.specs.Threads.{WorkersJoined, FeedersJoined, AreOfGate, AreRackFeeders, feeders_of}
+use Rattle.farm_core.specs.declared.threads.feeding.Feeding.{Feeding}
+use Rattle.farm_core.specs.Threads.{WorkersJoined, FeedersJoined, AreOfGate, AreRackFeeders, feeders_of, given_to}
 use Rattle.farm_lanes.specs.GateView.{GateName}
 use Rattle.farm_lanes.proofs.Lists.{at_map, at_front, at_back, sum_map}
 use Rattle.farm_lanes.specs.Lists.{Each}
@@ -80,18 +80,15 @@ answered_all R [] (r ∷ rs) same each = absurd (omega arith)
 answered_all R (j ∷ js) [] same each = absurd (omega arith)
 answered_all R (j ∷ js) (r ∷ rs) same each = (each 0 j r refl refl, answered_all R js rs (omega arith) (λ k. each (suc k)))
 
-abbrev FeederHandle : Type 0
-FeederHandle = PromisedHandle (Option Fed) FeedOf
-
 -- one feeder more is joined
-pub fed_next : (hs : List FeederHandle) (fs : List Fed) (h : FeederHandle) (f : Fed) → FeedersJoined hs fs → LeftBy h.promise.0.value f
+pub fed_next : (hs : List Feeding) (fs : List Fed) (h : Feeding) (f : Fed) → FeedersJoined hs fs → LeftBy (given_to h) f
     → FeedersJoined (hs ++ h ∷ []) (fs ++ f ∷ [])
 fed_next hs fs h f was one = record {
   count = length_push fs f ∙ (ap (λ n. n + 1) was.count ∙ sym (length_push hs h));
   each = λ k h' f' at_h at_f. ⊎_elim
       (λ old. let low = at_below hs k h' old in was.each k h' f' old (snoc_old fs f f' k (let c = was.count in omega arith) at_f))
       (λ (new : (k ≡ length hs) × (h ≡ h')). let c = new.0 in
-      let P : FeederHandle × Fed → Type 0 = λ p. LeftBy p.0.promise.0.value p.1 in
+      let P : Feeding × Fed → Type 0 = λ p. LeftBy (given_to p.0) p.1 in
       subst P (λ i. (new.1 i, snoc_new fs f f' k (let e = was.count in omega arith) at_f i)) one)
       (at_snoc_or hs h h' k at_h);
 }
@@ -110,27 +107,27 @@ left_own gate f fed same left = (
   left.within,
 )
 
-module _ (gate : GateName) (hs : List FeederHandle) (fs : List Fed) (joined : FeedersJoined hs fs) where
+module _ (gate : GateName) (hs : List Feeding) (fs : List Fed) (joined : FeedersJoined hs fs) where
   pub all_own : AreOfGate gate hs → Each (IsOfGate gate.id) fs
   all_own own k fed at =
       let h = there hs k (let a = at_below fs k fed at in let b = joined.count in omega arith) in
-      left_own gate h.0.promise.0.value fed (own k h.0 h.1) (joined.each k h.0 fed h.1 at)
+      left_own gate (given_to h.0) fed (own k h.0 h.1) (joined.each k h.0 fed h.1 at)
 
   -- the feeders of a rack were joined
   pub rack_fed : (rack : ℕ) (lists : List (List Order)) → AreRackFeeders gate rack lists (feeders_of hs) → AreFed gate rack lists fs
   rack_fed rack lists are =
-      let long = map_length (λ (h : FeederHandle). h.promise.0.value) hs in
+      let long = map_length given_to hs in
       record {
         count = joined.count ∙ (sym long ∙ are.count);
         rights = are.rights ∙ (long ∙ sym joined.count);
         shares =
-            two_sums (λ (f : Fed). f.seat.has.share) (λ (h : FeederHandle). h.promise.0.value.seat.has.share) fs hs joined.count
+            two_sums (λ (f : Fed). f.seat.has.share) (λ (h : Feeding). (given_to h).seat.has.share) fs hs joined.count
             (λ k f h at_f at_h. (joined.each k h f at_h at_f).share_is)
-            ∙ (sym (sum_map (λ (f : Feeder). f.seat.has.share) (λ (h : FeederHandle). h.promise.0.value) hs) ∙ are.shares);
+            ∙ (sym (sum_map (λ (f : Feeder). f.seat.has.share) given_to hs) ∙ are.shares);
         each = λ k list fed at_list at.
             let h = there hs k (let a = at_below fs k fed at in let b = joined.count in omega arith) in
-            let f = h.0.promise.0.value in
-            let is = are.each k f (at_map (λ (h : FeederHandle). h.promise.0.value) hs k h.0 h.1) in
+            let f = given_to h.0 in
+            let is = are.each k f (at_map given_to hs k h.0 h.1) in
             let same : f.list.now ≡ list = some-injective _ _ (sym is.2 ∙ at_list) in
             let P : GateName × ℕ × ℕ × List Order → Type 0 =
             λ p. HasFed p.0 f.seat (slot_of p.1 p.2) p.3 f.jobs fed.seat fed.right fed.close fed.jobs in (

@@ -11,7 +11,8 @@ use Rattle.farm_core.specs.declared.jobs.Job.{Job}
 use Rattle.farm_core.specs.declared.threads.given.Feeder.{Feeder}
 use Rattle.farm_core.specs.declared.threads.rack_feeders.RackFeeders.{RackFeeders}
 use Rattle.farm_core.specs.declared.threads.rack_feeders.RackRoom.{RackRoom}
-use Rattle.farm_core.specs.Threads.{AreRackFeeders, feeders_of, AreWorkerEnds, ends_of}
+use Rattle.farm_lanes.specs.Lists.{Each}
+use Rattle.farm_core.specs.Threads.{AreRackFeeders, feeders_of, IsKept, AreWorkerEnds, ends_of}
 use Rattle.farm_core.specs.Settled.{HavePut}
 use Rattle.farm_core.specs.declared.taken.Room.{Room}
 use Rattle.farm_core.specs.declared.threads.all.Started.{Started}
@@ -37,6 +38,10 @@ pub record AreAllFeeders (lists : List (List (List Order))) (racks : List RackFe
   pub count : length racks ≡ length lists
   pub each : (k : ℕ) (feeds : List (List Order)) (r : RackFeeders) → get_elem? lists k ≡ some feeds → get_elem? racks k ≡ some r
       → AreRackFeeders r.gate.now k feeds (feeders_of r.handles.items)
+
+-- what was run of these racks' feeders without a thread is what they left
+abbrev pub AreKept : List RackFeeders → Type 0
+AreKept racks = Each (λ (r : RackFeeders). Each IsKept r.handles.items) racks
 
 -- with whatever lists these were the feeders, their ends put what was drawn
 abbrev pub HavePutRacks : List RackFeeders → List (PutView Job) → Type 0

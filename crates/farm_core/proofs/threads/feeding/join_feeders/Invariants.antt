@@ -1,7 +1,7 @@
 use Rattle.std.proofs.Common.{◌≡◌, ◌+◌, ◌≤◌, ◌++◌, true, vec_items, vec_len, vec_capacity}
 use Rattle.std.specs.Vec.Iter.{into_iter_items, into_iter_len}
 use Rattle.farm_core.specs.Threads.{FeedersJoined}
-use Rattle.farm_core.proofs.threads.feeder.join_feeders.Given as goal
+use Rattle.farm_core.proofs.threads.feeding.join_feeders.Given as goal
 
 -- what those left that were joined so far
 abbrev pub invariant-loop-handle : goal.invariant-loop-handle
