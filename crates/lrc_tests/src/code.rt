@@ -239,7 +239,16 @@ fn has_two_sources(request: &Request) -> bool {
 #[test]
 fn a_request_gives_what_it_was_made_of(rt: HostRuntime) -> Result<(), AllocError> {
     match asked(rt.alloc(), "a-1", Place::P0, 1, &[Y2, X1])? {
-        Ok(request) => assert!(&rt; is_read(&request) && has_two_sources(&request)),
+        Ok(request) => {
+            assert!(&rt; is_read(&request) && has_two_sources(&request));
+            let survivors = request.into_survivors();
+            match survivors.as_slice() {
+                [first, second] => {
+                    assert_eq!(&rt; (first.place, second.place), (Place::Y2, Place::X1))
+                }
+                _ => panic!(&rt; "it has {} survivors", survivors.len()),
+            }
+        }
         Err(_) => panic!(&rt; "it is refused"),
     }
     Ok(())

@@ -29,6 +29,7 @@ fn a_list_has_at_most_4096_orders(rt: HostRuntime) -> Result<(), AllocError> {
         panic!(rt; "4096 orders were refused");
     };
     assert_eq!(rt; (list.orders().len(), list.served()), (4096, 0));
+    assert_eq!(rt; list.into_orders().len(), 4096);
     let Err(fault) = RackList::new(closes(alloc, 4097)?) else {
         panic!(rt; "4097 orders were accepted");
     };
@@ -91,7 +92,10 @@ fn racks_have_one_to_four_feeds(rt: HostRuntime) -> Result<(), AllocError> {
     let alloc = rt.alloc();
     for (racks, each, last) in ACCEPTED {
         match Feeds::new(feeds(&rt, alloc, *racks, *each, *last)?) {
-            Ok(accepted) => assert_eq!(rt; sizes(accepted.racks()), (*racks, *last)),
+            Ok(accepted) => {
+                assert_eq!(rt; sizes(accepted.racks()), (*racks, *last));
+                assert_eq!(rt; sizes(accepted.into_racks().as_slice()), (*racks, *last));
+            }
             Err(_) => panic!(rt; "{racks} racks of {each} feeds, the last of {last}, were refused"),
         }
     }
