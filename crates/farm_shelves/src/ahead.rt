@@ -1,5 +1,6 @@
 //! Files that are read ahead in threads.
-ghost use Rattle.std.specs.Prelude.{◌≡◌, ◌<◌, option_map};
+ghost use Rattle.std.specs.Prelude.{◌≡◌, ◌<◌, ◌*◌, option_map};
+ghost use Rattle.std.specs.Thread.{IsSync};
 ghost use Rattle.farm_shelves.specs.Ahead.{IsKnown, known};
 
 use crate::folder::FolderShelf;
@@ -88,72 +89,127 @@ fn worthwhile(files: &[ReadAhead], threads: usize) -> usize
     parts.min(threads).max(1)
 }
 
-// Reads listed files in at most so many threads. Each takes a part of the files whenever it is free, so that a thread that comes late or
-// shares its processor leaves more to the others. A thread that is refused leaves all to them.
-fn read_listed<R: Threads + Sync>(
-    rt: &R,
+// Files of a folder that are read in parts, each by the thread that takes it.
+#[derive(Drop)]
+struct Parts<'f> {
     alloc: Global,
-    folder: &FolderShelf<HostRuntime>,
-    files: &mut [ReadAhead],
-    threads: usize,
-) -> Result<(), AllocError> {
-    let threads = worthwhile(files, threads);
-    if threads == 1 {
-        return read_each(alloc, folder, files);
-    }
-    let parts = parts_of(alloc, files, threads.saturating_mul(PARTS_PER_THREAD))?;
-    let next = AtomicUsize::new(0);
-    let reader = |_thread: usize| read_parts(alloc, folder, parts.as_slice(), &next);
-    thread::map_indices(rt, alloc, threads, &reader)?;
-    Ok(())
+    folder: &'f FolderShelf<HostRuntime>,
+    parts: Vec<Mutex<&'f mut [ReadAhead]>>,
+    next: AtomicUsize,
 }
 
-/// Listed files, read ahead in at most so many threads; none where memory is refused.
-pub(crate) fn read_all<R: Threads + Sync>(
-    rt: &R,
+// The files in parts for so many threads.
+fn parts_of<'f>(
     alloc: Global,
-    folder: &FolderShelf<HostRuntime>,
-    files: Vec<ReadAhead>,
+    folder: &'f FolderShelf<HostRuntime>,
+    files: &'f mut [ReadAhead],
     threads: usize,
-) -> Vec<ReadAhead> {
-    let mut files = files;
-    if read_listed(rt, alloc, folder, files.as_mut_slice(), threads).is_err() {
-        files.clear();
-    }
-    files
-}
-
-// The files in so many parts at most, each for the thread that takes it.
-fn parts_of(
-    alloc: Global,
-    files: &mut [ReadAhead],
-    count: usize,
-) -> Result<Vec<Mutex<&mut [ReadAhead]>>, AllocError>
-    requires { 0 < count }
+) -> Result<Parts<'f>, AllocError>
+    requires { 0 < threads }
 {
+    let count = threads.saturating_mul(PARTS_PER_THREAD);
     let size = files.len().div_ceil(count).max(1);
     let mut parts = Vec::new(alloc);
     for part in files.chunks_mut(size) {
         parts.push(Mutex::new(part))?;
     }
-    Ok(parts)
+    Ok(Parts {
+        alloc,
+        folder,
+        parts,
+        next: AtomicUsize::new(0),
+    })
 }
 
-// Reads the files of one part after the other, each the next that no thread has taken. Nobody else has a part's lock: if it is refused
-// all the same, its files are read in their turn, as those are whose path was refused memory.
-fn read_parts(
+impl<'f> Parts<'f> {
+    // Reads the files of one part after the other, each the next that no thread has taken, so that a thread that comes late or shares its
+    // processor leaves more to the others. Nobody else has a part's lock: if it is refused all the same, its files are read in their
+    // turn, as those are whose path was refused memory.
+    fn read(&self) {
+        for _turn in 0..self.parts.len() {
+            let Some(part) = self.parts.get(self.next.fetch_add(1, Ordering::SeqCst)) else {
+                return;
+            };
+            if let Some(mut files) = part.try_lock() {
+                let _read = read_each(self.alloc, self.folder, &mut files);
+            }
+        }
+    }
+
+    // Reads files as `read` does, as work that isn't refused.
+    fn read_here(&self) -> Result<(), AllocError> {
+        self.read();
+        Ok(())
+    }
+}
+
+// Does some work in this thread, while so many others read. Each of them is started by this one: beside busy processes a thread waits for
+// its first turn, and one that it starts itself would wait as long once more. A thread that is refused leaves all to the others.
+#[cycle(readers)]
+fn work_beside<H: Threads + Sync, T: Drop, E: Drop, F: Fn() -> Result<T, E>>(
+    rt: &H,
+    readers: usize,
+    files: &Parts<'_>,
+    work: &F,
+) -> Result<T, E>
+    requires sync { IsSync H.row }
+    requires work { F.pre work.now }
+    ensures { F.post work.now result }
+{
+    if readers == 0 {
+        return work();
+    }
+    let (_read, done) = thread::join(
+        rt,
+        || files.read(),
+        || -> Result<T, E>
+            requires { IsSync H.row × F.pre work.now × (0 < readers) }
+            ensures { F.post work.entry.now result }
+        { work_beside(rt, readers - 1, files, work) },
+    );
+    done
+}
+
+/// Some work, which is done while listed files are read in at most so many further threads: the files, and what the work gives. No file is
+/// left where memory is refused.
+pub(crate) fn read_beside<H: Threads + Sync, T: Drop, E: Drop, F: Fn() -> Result<T, E>>(
+    rt: &H,
     alloc: Global,
     folder: &FolderShelf<HostRuntime>,
-    parts: &[Mutex<&mut [ReadAhead]>],
-    next: &AtomicUsize,
-) {
-    for _turn in 0..parts.len() {
-        let Some(part) = parts.get(next.fetch_add(1, Ordering::SeqCst)) else {
-            return;
-        };
-        if let Some(mut files) = part.try_lock() {
-            let _read = read_each(alloc, folder, &mut files);
-        }
+    mut files: Vec<ReadAhead>,
+    threads: usize,
+    work: &F,
+) -> (Vec<ReadAhead>, Result<T, E>)
+    requires sync { IsSync H.row }
+    requires work { F.pre work.now }
+    ensures { F.post work.now result.1 }
+{
+    let threads = worthwhile(files.as_slice(), threads);
+    let done = match parts_of(alloc, folder, files.as_mut_slice(), threads) {
+        Ok(parts) => work_beside(rt, threads, &parts, work),
+        Err(_) => return (Vec::new(alloc), work()),
+    };
+    (files, done)
+}
+
+/// Listed files, read in at most so many threads, of which this one is the last; none where memory is refused.
+pub(crate) fn read_all<R: Threads + Sync>(
+    rt: &R,
+    alloc: Global,
+    folder: &FolderShelf<HostRuntime>,
+    mut files: Vec<ReadAhead>,
+    threads: usize,
+) -> Vec<ReadAhead>
+    requires { IsSync R.row }
+{
+    let threads = worthwhile(files.as_slice(), threads);
+    let read = match parts_of(alloc, folder, files.as_mut_slice(), threads) {
+        Ok(parts) => work_beside(rt, threads - 1, &parts, &|| parts.read_here()),
+        Err(refused) => Err(refused),
+    };
+    match read {
+        Ok(()) => files,
+        Err(_) => Vec::new(alloc),
     }
 }
 

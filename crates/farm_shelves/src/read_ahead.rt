@@ -3,12 +3,12 @@ ghost use Rattle.std.specs.Prelude.{◌≡◌, None, IfOk};
 ghost use Rattle.std.specs.Thread.{IsSync};
 ghost use Rattle.farm_shelves.specs.ReadAhead.{read_ahead_failed, read_ahead_path};
 
-use crate::ahead::{ReadAhead, has_ahead, read_all, take_ahead};
+use crate::ahead::{ReadAhead, has_ahead, read_all, read_beside, take_ahead};
 use crate::folder::FolderShelf;
 use crate::shelf::{FileRead, Shelf, ShelfFault};
 use std::alloc::{AllocError, Global};
+use std::mem;
 use std::thread::Threads;
-use std::{mem, thread};
 
 // The memory that is held until files are read ahead. The C library gives free memory back to the system after each batch, unless it
 // has seen a block come back that is as large: it then keeps twice as much. It looks at no block of more than 32 MiB.
@@ -101,14 +101,7 @@ impl ReadAheadShelf {
         let Ok(listed) = self.list_ahead(alloc, files) else {
             return work();
         };
-        let folder = &self.folder;
-        let (ahead, done) = thread::join(
-            rt,
-            || -> Vec<ReadAhead>
-                requires { IsSync H.row }
-            { read_all(rt, alloc, folder, listed, threads) },
-            work,
-        );
+        let (ahead, done) = read_beside(rt, alloc, &self.folder, listed, threads, work);
         self.ahead = ahead;
         done
     }
