@@ -31,16 +31,16 @@ _rebuild_store() {
     return
   fi
   # What each argument takes: a folder, a file, a name; the last goes on where a + is after it.
-  options='--code --names --layout'
+  options='--code --names --layout --follow-links'
   case ${COMP_WORDS[1]} in
     repair)
       kinds='folder'
-      options+=' --stripes --part --workers --sums --report --json --dry-run --replace-damaged --to --reads'
+      options+=' --stripes --part --workers --sums --report --json --dry-run --replace-damaged --to --reads --trust-writers'
       ;;
     lost) kinds='folder' options+=' --stripes --part --json' ;;
     scrub) kinds='folder' options+=' --stripes --part --workers --sums --report --json' ;;
-    encode) kinds='folder file+' ;;
-    read) kinds='folder name' options='--names --layout' ;;
+    encode) kinds='folder file+' options+=' --trust-writers' ;;
+    read) kinds='folder name' options='--names --layout --follow-links' ;;
     help)
       [ "$COMP_CWORD" != 2 ] || mapfile -t COMPREPLY < <(compgen -W "$commands" -- "$current")
       return

@@ -40,6 +40,9 @@ set -l coded repair lost scrub encode
 complete -c rebuild-store -n "__rebuild_store_command_is $coded" -l code -x -a '6-2-2 12-2-2' -d 'The code of the store'
 complete -c rebuild-store -n "__rebuild_store_command_is $all" -l names -x -d 'How files are named'
 complete -c rebuild-store -n "__rebuild_store_command_is $all" -l layout -x -a 'plain groups' -d 'How shards number the places'
+complete -c rebuild-store -n "__rebuild_store_command_is $all" -l follow-links -d 'Follow links below the store'
+complete -c rebuild-store -n '__rebuild_store_command_is repair encode' -l trust-writers \
+    -d 'As root, work in folders that others may write into'
 set -l over repair lost scrub
 complete -c rebuild-store -n "__rebuild_store_command_is $over" -l stripes -r -F -d 'Names of the stripes that have to be there'
 complete -c rebuild-store -n "__rebuild_store_command_is $over" -l part -x -d 'Work on one part of the stripes, as 1/10'

@@ -224,8 +224,8 @@ def test_names(folder, code, choose):
         check("disk0: No such file or directory" in errors and not list(store.glob("**/*")), errors)
         for number in range(len(order)):
             (store / f"disk{number}").mkdir()
-        (store / "disk1/.rebuild-store-3").write_bytes(b"left")
-        (store / ".rebuild-store-4").write_bytes(b"left")
+        (store / "disk1/.rebuild-store-0123456789abcdef").write_bytes(b"left")
+        (store / ".rebuild-store-fedcba9876543210").write_bytes(b"left")
         run("encode", store, source, "--code", code, *names, status=0)
         wanted = {f"disk{number}/{source.name}": fragments[place] for number, place in enumerate(order)}
         wanted[f"{source.name}.file"] = f"{len(data)} {digest(data)} {code}\n".encode()
@@ -247,9 +247,10 @@ def test_refusals(folder, code, choose):
     other = folder.with_name(folder.name + "-other")
     other.mkdir()
     (other / "good").write_bytes(b"good")
-    (other / ".rebuild-store-7").write_bytes(b"")
+    leftover = other / ".rebuild-store-0123456789abcdef"
+    leftover.write_bytes(b"")
     os.mkfifo(other / "fifo")
-    paths = [other, other / "fifo", other / "none", other / ".rebuild-store-7", f"{other}/", other / "good"]
+    paths = [other, other / "fifo", other / "none", leftover, f"{other}/", other / "good"]
     output, errors = run("encode", folder, *paths, "--code", code, status=3)
     check(output == "encoded 1 file; not encoded: 5\n", output)
     for line in ("is no regular file", "fifo: is no regular file", "No such file", "can't have this name"):

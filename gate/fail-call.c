@@ -3,8 +3,9 @@
  * FAIL_NUMBER=N is the Nth such call, from 1, and FAIL_HOW what becomes of it: the number of an error that it answers; `kill`, which ends
  * the program by SIGKILL; `short`, so that a read or a write takes half of its bytes; or `meanwhile`, so that a file of one byte, which
  * another program might have made, is under the name that a link is about to give. With `unsynced` no sync is made, and each answers that
- * it was. FAIL_REST=kind has all later calls of its kind answer that error too, and FAIL_REST=path those of them at its path. Counting
- * begins with `main`. The file FAIL_RECORD gets what `struct record` has; it is mapped, so it is right however the program ends. */
+ * it was; with `wait` the program makes the file FAIL_REACHED and goes on when FAIL_UNTIL is there, so that others come between.
+ * FAIL_REST=kind has all later calls of its kind answer that error too, and FAIL_REST=path those of them at its path. Counting begins with
+ * `main`. The file FAIL_RECORD gets what `struct record` has; it is mapped, so it is right however the program ends. */
 #define _GNU_SOURCE
 #include <dirent.h>
 #include <dlfcn.h>
@@ -33,7 +34,7 @@ struct record {
     char path[MOST_PATH];
 };
 
-enum how { ERROR, KILL, SHORT, MEANWHILE, UNSYNCED };
+enum how { ERROR, KILL, SHORT, MEANWHILE, UNSYNCED, WAIT };
 
 static struct record unmapped;
 static struct record *record = &unmapped;
@@ -47,6 +48,16 @@ static enum { NONE, ALL_OF_KIND, ALL_AT_PATH } fails_later;
 static void *next(const char *name)
 {
     return dlsym(RTLD_NEXT, name);
+}
+
+/* Says that the call is reached, and waits until it may be made, for a minute at most. */
+static void wait_for_others(void)
+{
+    int reached = SYSTEM(open)(getenv("FAIL_REACHED"), O_CREAT | O_WRONLY | O_CLOEXEC, 0600);
+    if (reached >= 0)
+        close(reached);
+    for (int turn = 0; turn < 6000 && access(getenv("FAIL_UNTIL"), F_OK) != 0; turn++)
+        usleep(10000);
 }
 
 /* Whether a call is the one that is to fail, or a later one of its kind where those fail too. A killed program ends here. */
@@ -68,6 +79,8 @@ static int is_chosen(const char *kind, const char *path, const char *other)
         kill(getpid(), SIGKILL);
         pause();
     }
+    if (how == WAIT)
+        wait_for_others();
     return 1;
 }
 
@@ -295,6 +308,8 @@ static void read_how(const char *text)
         how = MEANWHILE;
     else if (strcmp(text, "unsynced") == 0)
         how = UNSYNCED;
+    else if (strcmp(text, "wait") == 0)
+        how = WAIT;
     else
         error_number = atoi(text);
 }

@@ -31,6 +31,8 @@ from store import combined, stripe  # noqa: E402
 
 PROGRAM = ROOT / "crates/rebuild_store/out/rebuild_store"
 UNFINISHED = ".rebuild-store-"
+# What a run that was killed has left: the digits are at random.
+LEFTOVER = UNFINISHED + "0123456789abcdef"
 SUMS = "SHA256SUMS"
 CODE = "6-2-2"
 DEVICE, NO_MEMORY = 3, 4
@@ -89,7 +91,7 @@ class Files:
         known = dict(line.split("  ")[::-1] for line in sums.decode().splitlines())
         for name, digest in known.items():
             hold(digest == hashlib.sha256(self.after[name]).hexdigest(), f"a digest in {SUMS} is another: {name}: {ran.text()}")
-        hold(set(self.before) - {UNFINISHED + "3"} <= set(known), f"the list of digests is not whole: {ran.text()}")
+        hold(set(self.before) - {LEFTOVER} <= set(known), f"the list of digests is not whole: {ran.text()}")
 
     def hold_whole(self, store, ran):
         there = {path.name: path.read_bytes() for path in store.iterdir()}
@@ -113,6 +115,12 @@ def is_no_fault(kind, how):
     """Whether all may be done in spite of it: the other half is written after a half, fragments of other stripes needn't be looked at, and
     who may not give a file away keeps it."""
     return how in ("short", errno.EINTR) or kind in READ_KINDS or (kind, how) == ("chown", errno.EACCES)
+
+
+def is_of_leftover(ran):
+    """Whether the call that failed was of the file that a killed run left. The store is locked, so it is known to be left where its own
+    lock can't be had."""
+    return any(pathlib.Path(path).name == LEFTOVER for path in ran.paths)
 
 
 class Encoding:
@@ -149,7 +157,7 @@ class Encoding:
             self.files.hold_names(store, ran)
             if how == "kill":
                 hold(ran.status == -signal.SIGKILL, f"it wasn't killed: {ran.text()}")
-            elif ran.status == 0 and is_no_fault(ran.kind, how):
+            elif ran.status == 0 and (is_no_fault(ran.kind, how) or (ran.kind == "lock" and is_of_leftover(ran))):
                 self.files.hold_whole(store, ran)
             else:
                 self.judge_fault(store, ran, how)
@@ -168,7 +176,8 @@ class Encoding:
         hold(any(os.strerror(how) in line for line in ran.err.splitlines()), f"no line says {os.strerror(how)!r}: {ran.text()}")
         left = sorted(path.name for path in store.iterdir() if path.name.startswith(UNFINISHED))
         is_of_folder = any(path.rstrip("/") == str(store) for path in ran.paths) and ran.kind != "sync"
-        hold(not left or ran.kind == "unlink" or is_of_folder, f"a temporary file is left: {left}: {ran.text()}")
+        may_be_left = ran.kind == "unlink" or is_of_folder or (left == [LEFTOVER] and is_of_leftover(ran))
+        hold(not left or may_be_left, f"a temporary file is left: {left}: {ran.text()}")
 
 
 class Reading:
@@ -261,7 +270,7 @@ def main():
     data = {"long": choose.randbytes(400_001), "short": b"12345", "empty": b""}
     other = {f"other.{place}": fragment for place, fragment in stripe(CODE, 40, choose).items()}
     after = other | {name: bytes_ for file, text in data.items() for name, bytes_ in names_of(file, text).items()}
-    files = Files(data, other | {UNFINISHED + "3": b"half"}, after)
+    files = Files(data, other | {LEFTOVER: b"half"}, after)
     encoded = Files(data, after, after)
     shared = pathlib.Path("/dev/shm")
     place = shared if shared.is_dir() and os.access(shared, os.W_OK) else None

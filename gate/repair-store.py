@@ -192,7 +192,7 @@ def test_too_many(folder, code, choose):
 
 def test_odd_files(folder, code, choose):
     """Fragments of another length, folders and FIFOs are lost and named, and stay; a FIFO holds nothing up. A link to nothing is lost too:
-    the fragment is made where the link leads."""
+    where links are followed the fragment is made where the link leads."""
     stripes = make(folder, code, [500] * 5, choose)
     (folder / "s000.x0").write_bytes(b"short")
     (folder / "s001.x1").unlink()
@@ -203,8 +203,10 @@ def test_odd_files(folder, code, choose):
     (folder / "s003.p0").symlink_to("nowhere")
     (folder / "s004.y2").unlink()
     _, errors = run("repair", folder, "--code", code, status=1)
-    for name in ("s000.x0", "s001.x1", "s002.px"):
+    for name in ("s000.x0", "s001.x1", "s002.px", "s003.p0"):
         check(f"{name}: " in errors, errors)
+    check(not (folder / "nowhere").exists(), "a link was followed unasked")
+    run("repair", folder, "--code", code, "--follow-links", status=1)
     check((folder / "s003.p0").is_symlink(), "a link to nothing didn't stay a link")
     check((folder / "nowhere").read_bytes() == stripes["s003"]["p0"], "a fragment wasn't made where its link leads")
     check((folder / "s004.y2").read_bytes() == stripes["s004"]["y2"], "a lost fragment didn't come back beside odd files")
@@ -220,7 +222,7 @@ def test_owner_and_mode(folder, code, choose):
     for path in folder.iterdir():
         path.chmod(0o640)
     (folder / "s000.x0").unlink()
-    (folder / ".rebuild-store-7").write_bytes(b"half")
+    (folder / ".rebuild-store-0123456789abcdef").write_bytes(b"half")
     run("repair", folder, "--code", code, status=0)
     check((folder / "s000.x0").stat().st_mode & 0o777 == 0o640, "the mode isn't the neighbour's")
     check(is_whole(folder, stripes), "something is left")

@@ -133,7 +133,7 @@ def test_read_only(place, choose):
 
 
 def test_links(place, choose):
-    """Where a fragment is a link, what it leads to is replaced, on its own disk, and the link stays."""
+    """Where a fragment is a link and links are followed, what it leads to is replaced, on its own disk, and the link stays."""
     disk = place / "linked"
     mount(disk, 2_000 * KIB)
     stripes = {f"s{k}": stripe("6-2-2", 3_000, choose) for k in range(5)}
@@ -147,7 +147,7 @@ def test_links(place, choose):
             (disk / "there" / name).write_bytes(kept)
     (store / "s4.x0").unlink()
     (store / "s4.x0").symlink_to(disk / "not-there/s4.x0")
-    said = run("repair", store, "--replace-damaged", status=3)
+    said = run("repair", store, "--replace-damaged", "--follow-links", status=3)
     hold_named(said, "s4.x0", "")
     hold((store / "s4.x0").is_symlink() and not (store / "s4.x0").exists(), "a link into a folder that isn't there was changed")
     for name in ("s0.x0", "s1.x1", "s2.y0", "s3.p0"):
@@ -177,12 +177,12 @@ def test_long_names(place, choose):
 
 
 def test_leftover_folder(place, choose):
-    """A folder with the name of a leftover is named, and keeps no repair from its work."""
+    """A folder with the name of a leftover stays, and keeps no repair from its work."""
     store = place / "leftover"
     files = lay(store, {"s": stripe("6-2-2", 50, choose)})
     (store / "s.x0").unlink()
-    (store / ".rebuild-store-3").mkdir()
-    run("repair", store, status=3)
+    (store / ".rebuild-store-0123456789abcdef").mkdir()
+    run("repair", store, status=0)
     hold(bytes_of(store / "s.x0") == files["s.x0"], "nothing was repaired beside a folder with the name of a leftover")
 
 

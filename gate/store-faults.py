@@ -33,10 +33,13 @@ PROGRAM = ROOT / "crates/rebuild_store/out/rebuild_store"
 # The program reads a fragment in windows of so many bytes.
 WINDOW = 65_536
 UNFINISHED = ".rebuild-store-"
+# What a run that was killed has left: the digits are at random.
+LEFTOVER = UNFINISHED + "0123456789abcdef"
 MODE = 0o640
 DEVICE, LEFT, NO_MEMORY = 3, 1, 4
-# Who may not give a file away keeps it, so this is no fault.
+# Who may not give a file away keeps it, for himself alone, so this is no fault.
 ALLOWED = {("chown", errno.EACCES), ("chown", errno.EPERM)}
+PRIVATE = 0o600
 # The kinds of calls of each command; with one that the program stops to make, the preloaded library no longer sees what it should.
 LISTING = {"open", "list", "look", "output"}
 READING = LISTING | {"read"}
@@ -74,7 +77,8 @@ class Store:
             if name.endswith(".damaged"):
                 whole.add(self.before.get(name.removesuffix(".damaged")))
             hold(data in whole, f"a name has bytes that are no fragment's: {name}: {seen.text()}")
-            hold((folder / name).stat().st_mode & 0o777 == MODE, f"a name has another mode: {name}: {seen.text()}")
+            modes = {MODE, PRIVATE if seen.kind == "chown" else MODE}
+            hold((folder / name).stat().st_mode & 0o777 in modes, f"a name has another mode: {name}: {seen.text()}")
         for name in self.before:
             hold(name in there or name.startswith(UNFINISHED), f"a name is gone: {name}: {seen.text()}")
 
@@ -85,7 +89,7 @@ def store_of(code, choose, has_damage):
     stripes = {f"s{k}": stripe(code, length, choose) for k, length in enumerate((WINDOW + 100, 700, 900, 30))}
     after = {f"{name}.{place}": data for name, fragments in stripes.items() for place, data in fragments.items()}
     before = {name: data for name, data in after.items() if name not in ("s0.x0", "s0.y1", "s1.p0", "s2.y0")}
-    before[UNFINISHED + "9"] = b"half"
+    before[LEFTOVER] = b"half"
     if has_damage:
         before["s2.x1"] = bytes([before["s2.x1"][0] ^ 8]) + before["s2.x1"][1:]
         after["s2.x1.damaged"] = before["s2.x1"]
@@ -172,6 +176,10 @@ class Trial:
         second has all."""
         if self.is_repair and ran.kind in READ_KINDS and ran.status == self.status and self.store.is_whole(folder):
             return
+        # The folder is locked, so a leftover whose own lock can't be had is known to be one.
+        is_of_leftover = any(pathlib.Path(path).name == LEFTOVER for path in ran.paths)
+        if self.is_repair and ran.kind == "lock" and is_of_leftover and ran.status == self.status and self.store.is_whole(folder):
+            return
         hold(ran.status == DEVICE, f"another status than {DEVICE}: {ran.text()}")
         if ran.kind == "output":
             return
@@ -187,10 +195,12 @@ class Trial:
         if not self.is_repair or (is_of_folder and ran.kind != "sync") or rest == "kind":
             return
         left = sorted(path.name for path in folder.iterdir() if path.name.startswith(UNFINISHED))
-        hold(not left or ran.kind == "unlink", f"a temporary file is left: {left}: {ran.text()}")
+        hold(not left or ran.kind == "unlink" or left == [LEFTOVER] and is_of_leftover, f"a temporary file is left: {left}: {ran.text()}")
         # The other survivors of its stripe do, but for one of which it can't be told then which is damaged.
         holds_damage = any(name.endswith(".damaged") for name in self.store.after)
-        hold(ran.kind not in READ_KINDS or holds_damage or not unfinished, f"left what the other survivors determine: {ran.text()}")
+        is_of_new = any(pathlib.Path(path).name.startswith(UNFINISHED) for path in ran.paths)
+        is_read = ran.kind in READ_KINDS and not is_of_new
+        hold(not is_read or holds_damage or not unfinished, f"left what the other survivors determine: {ran.text()}")
         stripes = {name.split(".")[0] for name in unfinished}
         hold(len(stripes) <= 1, f"left other stripes: {sorted(unfinished)}: {ran.text()}")
         done = len([name for name in self.store.after if name not in self.store.before and not name.endswith(".damaged")])

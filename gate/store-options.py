@@ -151,8 +151,9 @@ def test_parts(folder, code, choose):
     lay(folder, stripes, plain)
     for name in stripes:
         (folder / f"{name}.x1").unlink()
-    (folder / ".rebuild-store-2-3-0").write_bytes(b"half")
-    (folder / ".rebuild-store-12-3-0").write_bytes(b"half")
+    own, another = (folder / f".rebuild-store-{part}-0123456789abcdef" for part in ("2-3", "12-3"))
+    own.write_bytes(b"half")
+    another.write_bytes(b"half")
     left = dict.fromkeys(stripes)
     for part in (1, 2, 3):
         mine = [name for name in stripes if part_of(name, 3) == part]
@@ -162,9 +163,9 @@ def test_parts(folder, code, choose):
             del left[name]
         for name in stripes:
             check((folder / f"{name}.x1").exists() == (name not in left), f"part {part}: {name}")
-        check((folder / ".rebuild-store-2-3-0").exists() == (part < 2), "a leftover of another part was removed, or the own one wasn't")
-    check((folder / ".rebuild-store-12-3-0").exists(), "a leftover of another part was removed")
-    (folder / ".rebuild-store-12-3-0").unlink()
+        check(own.exists() == (part < 2), "a leftover of another part was removed, or the own one wasn't")
+    check(another.exists(), "a leftover of another part was removed")
+    another.unlink()
     hold_whole(folder, stripes, plain)
     held = os.open(folder, os.O_RDONLY)
     fcntl.flock(held, fcntl.LOCK_EX)

@@ -2,11 +2,12 @@
 use crate::file_arguments::{
     EncodeOptions, ReadOptions, encode_definition, encode_options, read_definition, read_options,
 };
-use crate::naming::{Naming, with_names};
+use crate::naming::{Naming, follow, links_of, trust, with_names};
 use clap::error::ErrorKind;
 use clap::{Arg, ArgAction, ArgMatches, Command as Definition, Error as ParseError};
 use lrc_code::Code;
 use std::alloc::{AllocError, Global};
+use store_folder::Links;
 use store_repair::Reads;
 use thiserror::Error;
 
@@ -106,6 +107,9 @@ pub struct Options {
     pub replace_damaged: bool,
     /// The folder that rebuilt fragments are written to.
     pub to: Option<String>,
+    pub links: Links,
+    /// Whether root works in folders that others may write into.
+    pub trusts_writers: bool,
 }
 
 /// What the arguments ask for.
@@ -149,6 +153,7 @@ fn definition<'a>(alloc: Global) -> Result<Definition<'a>, AllocError> {
         .arg(flag(alloc, "dry-run", DRY_RUN_HELP))?
         .arg(flag(alloc, "replace-damaged", REPLACE_HELP))?
         .arg(text(alloc, "to", "FOLDER", TO_HELP))?
+        .arg(trust(alloc))?
         .arg(
             text(alloc, "reads", "WHICH", READS_HELP)
                 .value_parser(READS)
@@ -190,6 +195,7 @@ fn over_store<'a>(
         .arg(store)?
         .arg(code)?;
     with_names(alloc, definition)?
+        .arg(follow(alloc))?
         .arg(text(alloc, "stripes", "FILE", STRIPES_HELP))?
         .arg(text(alloc, "part", "I/N", PART_HELP))
 }
@@ -275,6 +281,8 @@ fn command_of(
             dry_run: repairs && matches.get_flag("dry-run"),
             replace_damaged: repairs && matches.get_flag("replace-damaged"),
             to: given(alloc, matches, "to", repairs)?,
+            links: links_of(matches),
+            trusts_writers: repairs && matches.get_flag("trust-writers"),
         },
     ))
 }

@@ -1,8 +1,10 @@
 //! The commands `repair` and `scrub` over all stripes of a store.
 use crate::arguments::{Options, Part};
 use crate::fitting::refuse_other_stores;
+use crate::leftovers::remove_leftovers;
 use crate::progress::Progress;
-use crate::reports::{Rows, file_of, line_of, rows_of, write_report};
+use crate::report_files::write_report;
+use crate::reports::{Rows, file_of, line_of, rows_of};
 use crate::statuses::{DEVICE, DONE, LEFT};
 use crate::stores::OpenStore;
 use crate::summaries::{planned, repaired, scrubbed};
@@ -10,16 +12,15 @@ use crate::totals::{Results, Totals};
 use crate::workers::{Work, work_on};
 use lrc_code::Code;
 use std::alloc::{AllocError, Global};
-use std::sync::atomic::AtomicU64;
+use std::io::{self, ErrorKind};
 use std::thread::Threads;
-use std::{fs, io};
-use store_folder::{FolderStore, Pattern, Site, is_leftover_of};
+use store_folder::{FolderStore, Pattern, Site, tag_of_part};
 use store_repair::{Reads, Repair};
 
 // The begin of the names of unfinished files, by the part of the store that a run works on.
 fn tag_of(alloc: Global, part: Option<Part>) -> Result<String, AllocError> {
     match part {
-        Some(part) => format!(in alloc; "{}-{}-", part.index, part.of),
+        Some(part) => tag_of_part(alloc, part.index, part.of),
         None => Ok(String::new(alloc)),
     }
 }
@@ -41,15 +42,16 @@ pub fn repair_all<R: Threads + Sync>(
         code: store.code,
         sums: store.sums.as_ref(),
         tag: tag.as_str(),
+        links: options.links,
     };
     let stripes = store.stripes(system, options.part)?;
-    let numbers = AtomicU64::new(0);
-    let files = FolderStore::new(system, site, &numbers);
+    let files = FolderStore::new(system, site);
     if let Some(fault) = refuse_other_stores(alloc, store, &files, stripes.as_slice())? {
         eprintln!(system; "rebuild-store: {fault}")?;
         return Ok(LEFT);
     }
-    let are_removed = options.dry_run || remove_leftovers(system, store, tag.as_str())?;
+    let target = store.target.as_ref().unwrap_or(&store.listing);
+    let are_removed = options.dry_run || remove_leftovers(system, target, tag.as_str())?;
     let progress = Progress::new(system, alloc, store.code, stripes.as_slice())?;
     let repair = repair_of(store.code, options);
     let work = if options.dry_run {
@@ -61,9 +63,6 @@ pub fn repair_all<R: Threads + Sync>(
     progress.end();
     let results = Results::new(&site, stripes.as_slice(), all.as_slice());
     let status = say_repaired(system, &results, options)?;
-    if let Some(path) = &store.part_lock {
-        fs::remove_file(system, path.as_str())?;
-    }
     if !are_removed {
         return Ok(DEVICE);
     }
@@ -80,28 +79,10 @@ fn repair_of(code: Code, options: &Options) -> Repair {
     }
 }
 
-// Removes unfinished files that a run which was killed has left: those of this part, or all. One that can't be removed is said. Says
-// whether all could be.
-fn remove_leftovers(rt: &HostRuntime, store: &OpenStore, tag: &str) -> io::Result<bool> {
-    let mut are_removed = true;
-    for path in &store.listing.leftovers {
-        let path = path.as_str();
-        let name = path.rsplit('/').next().unwrap_or(path);
-        if !is_leftover_of(name, tag) {
-            continue;
-        }
-        if let Err(error) = fs::remove_file(rt, path) {
-            are_removed = false;
-            eprintln!(rt; "rebuild-store: {path}: is left over, and can't be removed: {error}")?;
-        }
-    }
-    Ok(are_removed)
-}
-
 // Says what became of the stripes, and gives the exit status.
 fn say_repaired(rt: &HostRuntime, results: &Results<'_>, options: &Options) -> io::Result<u8> {
     say_stripes(rt, results, options.reads)?;
-    say_rows(rt, results, options)?;
+    let is_reported = say_rows(rt, results, options)?;
     let summary = if options.dry_run {
         planned(rt.alloc(), results)?
     } else {
@@ -109,15 +90,15 @@ fn say_repaired(rt: &HostRuntime, results: &Results<'_>, options: &Options) -> i
     };
     say_summary(rt, summary.as_str(), options)?;
     let totals = &results.totals;
-    if options.dry_run && totals.rebuilt > 0 && !totals.device {
+    if options.dry_run && totals.rebuilt > 0 && !totals.device && is_reported {
         return Ok(LEFT);
     }
-    Ok(status_of(totals))
+    Ok(status_of(totals, is_reported))
 }
 
-// The exit status of a command by what it left.
-fn status_of(totals: &Totals) -> u8 {
-    if totals.device {
+// The exit status of a command by what it left, and by whether its report could be written.
+fn status_of(totals: &Totals, is_reported: bool) -> u8 {
+    if totals.device || !is_reported {
         DEVICE
     } else if totals.left > 0 {
         LEFT
@@ -158,17 +139,23 @@ fn say_summary(rt: &HostRuntime, summary: &str, options: &Options) -> io::Result
     println!(rt; "{summary}")
 }
 
-// Writes the rows of a report to where they are asked for.
-fn say_rows(rt: &HostRuntime, results: &Results<'_>, options: &Options) -> io::Result<()> {
+// Writes the rows of a report to where they are asked for. Says whether the report could be written.
+fn say_rows(rt: &HostRuntime, results: &Results<'_>, options: &Options) -> io::Result<bool> {
     if options.json {
         let rows = rows_of(rt.alloc(), results.stripes, results.all, Rows::Json)?;
         print!(rt; "{rows}")?;
     }
     if let Some(path) = &options.report {
         let rows = rows_of(rt.alloc(), results.stripes, results.all, Rows::Csv)?;
-        write_report(rt, path.as_str(), rows.as_str())?;
+        if let Err(error) = write_report(rt, path.as_str(), rows.as_str()) {
+            if error.kind() == ErrorKind::OutOfMemory {
+                return Err(error);
+            }
+            eprintln!(rt; "rebuild-store: {path}: the report can't be written: {error}")?;
+            return Ok(false);
+        }
     }
-    Ok(())
+    Ok(true)
 }
 
 /// Tests the stripes, says what isn't as it should be, and gives the exit status.
@@ -188,6 +175,7 @@ pub fn scrub<R: Threads + Sync>(
         code: store.code,
         sums: store.sums.as_ref(),
         tag: "",
+        links: options.links,
     };
     let work = Work::Scrub(store.code);
     let all = work_on(rt, system, &site, work, stripes.as_slice(), options.workers)?;
@@ -214,8 +202,8 @@ fn say_scrubbed(rt: &HostRuntime, results: &Results<'_>, options: &Options) -> i
             println!(rt; "{line}")?;
         }
     }
-    say_rows(rt, results, options)?;
+    let is_reported = say_rows(rt, results, options)?;
     let summary = scrubbed(alloc, results, unchecked)?;
     say_summary(rt, summary.as_str(), options)?;
-    Ok(status_of(&results.totals))
+    Ok(status_of(&results.totals, is_reported))
 }

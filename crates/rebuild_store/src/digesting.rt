@@ -3,7 +3,7 @@ ghost use Rattle.std.specs.Prelude.{None};
 
 use sha2::{Digest as _, Sha256};
 use std::io;
-use store_folder::{Digest, NewFile, digest_of, open_fragment};
+use store_folder::{Digest, Links, NewFile, digest_of, open_fragment};
 use store_repair::NewFragment;
 
 /// A new fragment that is digested as it is written.
@@ -66,10 +66,7 @@ impl NewFragment for DigestAlone {
 }
 
 /// The digest of the regular file at a path, which has to have so many bytes.
-pub fn digest_at(rt: &HostRuntime, path: &str, length: u64) -> io::Result<Digest> {
-    digest_of(
-        rt.alloc(),
-        &open_fragment(rt, path, length)?,
-        length as usize,
-    )
+pub fn digest_at(rt: &HostRuntime, path: &str, length: u64, links: Links) -> io::Result<Digest> {
+    let fragment = open_fragment(rt, path, length, links)?;
+    digest_of(rt.alloc(), &fragment, length as usize)
 }

@@ -5,21 +5,23 @@ ghost use Rattle.lrc_code.specs.Codes.{tables_of};
 use crate::digesting::{DigestedFile, digest_at};
 use crate::file_arguments::EncodeOptions;
 use crate::file_faults::{FileFault, device, encode_fault};
+use crate::leftovers::remove_leftovers;
+use crate::locks::lock_folder;
 use crate::naming::{Naming, fragment_name};
-use crate::sources::{base_name, is_changed, regular};
+use crate::sources::{base_name, is_changed, no_name, regular};
 use crate::statuses::{DEVICE, DONE, LEFT};
 use crate::store_sums::{stored_sums, write_sums};
-use crate::stores::{is_of_another_code, lock_folder};
+use crate::stores::{is_of_another_code, refuse_untrusted, say_links};
 use crate::summaries::counted;
 use crate::targets::{
     Made, Target, discard_all, is_there, is_there_already, place_fragments, place_one,
 };
 use lrc_code::{Code, Place};
 use std::fs;
-use std::io::ErrorKind;
+use std::io::{self, ErrorKind};
 use store_folder::{
-    Described, NewFile, Pattern, description_name, folder_of, list, open_fragment, path_in,
-    read_description, remove_leftovers, sync_folder,
+    Described, KEPT, Links, NewFile, Pattern, Wanted, description_name, folder_of, list,
+    open_fragment, path_in, read_description, refuse_linked_folders, sync_folder,
 };
 use store_repair::{NewFragment, encode, fragment_length};
 
@@ -29,7 +31,7 @@ pub fn encode_all(rt: &HostRuntime, options: &EncodeOptions) -> Result<u8, FileF
     make_folder(rt, options.store.as_str())?;
     let _lock = lock_folder(rt, options.store.as_str())?;
     let mut target = open_target(rt, options)?;
-    let mut status = DONE;
+    let mut status = if target.is_clean { DONE } else { DEVICE };
     let mut encoded = 0u64;
     for path in &options.files {
         match encode_one(rt, &mut target, path.as_str()) {
@@ -59,10 +61,19 @@ fn open_target<'o>(rt: &HostRuntime, options: &'o EncodeOptions) -> Result<Targe
     } else {
         Code::Wide
     };
-    let listing = list(rt, folder, &pattern, read_as).map_err(|error| device(
-        alloc, folder, error,
-    ))?;
-    remove_leftovers(rt, listing.leftovers.as_slice()).map_err(|error| device(
+    let wanted = Wanted {
+        pattern,
+        code: read_as,
+        has_stripes: true,
+        links: options.links,
+        watched: None,
+    };
+    let listing = list(rt, folder, &wanted).map_err(|error| device(alloc, folder, error))?;
+    say_links(rt, &listing);
+    if !options.trusts_writers {
+        refuse_untrusted(rt, &listing)?;
+    }
+    let is_clean = remove_leftovers(rt, &listing, "").map_err(|error| device(
         alloc, folder, error,
     ))?;
     if !pattern.has_shards() && is_of_another_code(&listing, options.code) {
@@ -82,7 +93,8 @@ fn open_target<'o>(rt: &HostRuntime, options: &'o EncodeOptions) -> Result<Targe
         code: options.code,
         sums: stored_sums(rt, folder)?,
         is_changed: false,
-        number: 0,
+        links: options.links,
+        is_clean,
     })
 }
 
@@ -122,11 +134,16 @@ fn encode_one(rt: &HostRuntime, target: &mut Target<'_>, path: &str) -> Result<(
     let length = before.len();
     let described = Described {
         length,
-        digest: digest_at(rt, path, length).map_err(|error| device(alloc, path, error))?,
+        digest: digest_at(rt, path, length, Links::Followed).map_err(|error| device(
+            alloc, path, error,
+        ))?,
         code: target.code,
     };
     refuse_others(rt, target, name, &described)?;
     let names = target.names(alloc, name)?;
+    if names.iter().any(|fragment| fragment.ends_with(KEPT)) {
+        return Err(no_name(rt, path)?);
+    }
     let made = make_fragments(rt, target, name, path, length)?;
     let after = match regular(rt, path) {
         Ok(after) => after,
@@ -156,7 +173,7 @@ fn refuse_others(
     let description = description_name(alloc, name)?;
     let path = path_in(alloc, target.folder, description.as_str())?;
     if is_there(rt, path.as_str())? {
-        match read_description(rt, path.as_str()) {
+        match read_description(rt, path.as_str(), target.links) {
             Ok(Some(there)) if there == *described => {}
             _ => return Err(is_there_already(rt, description.as_str())?),
         }
@@ -185,9 +202,10 @@ fn make_fragments(
     length: u64,
 ) -> Result<Vec<Made>, FileFault> {
     let alloc = rt.alloc();
-    let source = open_fragment(rt, path, length).map_err(|error| device(alloc, path, error))?;
+    let source = open_fragment(rt, path, length, Links::Followed).map_err(|error| device(
+        alloc, path, error,
+    ))?;
     let mut files = new_files(rt, target, name)?;
-    target.number = target.number.saturating_add(16);
     let done = encode(
         alloc,
         target.code,
@@ -226,8 +244,7 @@ fn new_files(
         let name = target.name_of(alloc, stripe, places[files.len()])?;
         let path = target.path(alloc, name.as_str())?;
         let folder = folder_of(path.as_str());
-        let number = target.number.saturating_add(files.len() as u64);
-        match NewFile::create_as_user(rt, alloc, folder, number) {
+        match new_file(rt, target, name.as_str(), folder) {
             Ok(file) => files.push(DigestedFile::new(file))?,
             Err(error) => {
                 for file in files {
@@ -242,6 +259,17 @@ fn new_files(
     Ok(files)
 }
 
+// A new file for the fragment of a name in the store, in the folder that it is to be in.
+fn new_file(
+    rt: &HostRuntime,
+    target: &Target<'_>,
+    name: &str,
+    folder: &str,
+) -> io::Result<NewFile> {
+    refuse_linked_folders(rt, target.folder, name, target.links)?;
+    NewFile::create_as_user(rt, rt.alloc(), folder)
+}
+
 // Writes the description of a file, last of all that is of its stripe.
 fn place_description(
     rt: &HostRuntime,
@@ -251,10 +279,11 @@ fn place_description(
 ) -> Result<(), FileFault> {
     let alloc = rt.alloc();
     let text = described.text(alloc)?;
-    let file = NewFile::create_as_user(rt, alloc, target.folder, target.number).map_err(
-        |error| device(alloc, target.folder, error),
-    )?;
-    target.number = target.number.saturating_add(1);
+    let file = NewFile::create_as_user(rt, alloc, target.folder).map_err(|error| device(
+        alloc,
+        target.folder,
+        error,
+    ))?;
     let mut file = DigestedFile::new(file);
     let written = file.append(text.as_bytes());
     let (file, digest) = file.finish();
@@ -274,5 +303,5 @@ fn write_new_sums(rt: &HostRuntime, target: &Target<'_>) -> Result<(), FileFault
     if !target.is_changed {
         return Ok(());
     }
-    write_sums(rt, target.folder, &target.sums, target.number)
+    write_sums(rt, target.folder, &target.sums)
 }

@@ -1,8 +1,9 @@
 //! The arguments of the commands that encode and read files.
-use crate::naming::{Naming, with_names};
+use crate::naming::{Naming, follow, links_of, trust, with_names};
 use clap::{Arg, ArgAction, ArgMatches, Command as Definition};
 use lrc_code::Code;
 use std::alloc::{AllocError, Global};
+use store_folder::Links;
 
 const ENCODE_ABOUT: &str = "Makes the fragments of files, each file a stripe that is named for it";
 
@@ -25,6 +26,9 @@ pub struct EncodeOptions {
     pub files: Vec<String>,
     pub code: Code,
     pub naming: Naming,
+    pub links: Links,
+    /// Whether root works in folders that others may write into.
+    pub trusts_writers: bool,
 }
 
 /// Which file is read, and from which store.
@@ -33,6 +37,7 @@ pub struct ReadOptions {
     pub store: String,
     pub name: String,
     pub naming: Naming,
+    pub links: Links,
 }
 
 /// The definition of the command that encodes.
@@ -53,7 +58,9 @@ pub fn encode_definition<'a>(alloc: Global) -> Result<Definition<'a>, AllocError
         .arg(store(alloc))?
         .arg(files)?
         .arg(code)?;
-    with_names(alloc, definition)
+    with_names(alloc, definition)?
+        .arg(follow(alloc))?
+        .arg(trust(alloc))
 }
 
 /// The definition of the command that reads.
@@ -66,7 +73,7 @@ pub fn read_definition<'a>(alloc: Global) -> Result<Definition<'a>, AllocError> 
         .about(READ_ABOUT)
         .arg(store(alloc))?
         .arg(name)?;
-    with_names(alloc, definition)
+    with_names(alloc, definition)?.arg(follow(alloc))
 }
 
 fn store<'a>(alloc: Global) -> Arg<'a> {
@@ -93,6 +100,8 @@ pub fn encode_options(
             .and_then(|name| Code::parse(name.as_bytes()))
             .unwrap_or(Code::Narrow),
         naming: Naming::of(alloc, matches)?,
+        links: links_of(matches),
+        trusts_writers: matches.get_flag("trust-writers"),
     })
 }
 
@@ -102,5 +111,6 @@ pub fn read_options(alloc: Global, matches: &ArgMatches<'_>) -> Result<ReadOptio
         store: String::from_str(alloc, matches.get_str("store").unwrap_or("."))?,
         name: String::from_str(alloc, matches.get_str("name").unwrap_or(""))?,
         naming: Naming::of(alloc, matches)?,
+        links: links_of(matches),
     })
 }

@@ -1,5 +1,5 @@
 //! Why a file isn't encoded or read.
-use crate::stores::StoreFault;
+use crate::store_faults::StoreFault;
 use std::alloc::{AllocError, AllocFailed, Global};
 use std::io::{self, ErrorKind};
 use store_repair::MendFault;

@@ -1,7 +1,8 @@
 //! Whether a folder is a store of the code that it is taken for.
 ghost use Rattle.std.specs.Prelude.{◌≡◌, length, vec_len, IfOk};
 
-use crate::stores::{OpenStore, StoreFault};
+use crate::store_faults::StoreFault;
+use crate::stores::OpenStore;
 use lrc_code::Code;
 use std::alloc::{AllocError, Global};
 use store_folder::{FileFragment, FolderStore};

@@ -1,8 +1,8 @@
-//! How the fragments of a store are named.
-use clap::{Arg, ArgMatches, Command as Definition};
+//! How the fragments of a store are named, and which files are taken for them.
+use clap::{Arg, ArgAction, ArgMatches, Command as Definition};
 use lrc_code::{Code, Place};
 use std::alloc::{AllocError, Global};
-use store_folder::{Layout, Pattern, PatternFault};
+use store_folder::{Layout, Links, Pattern, PatternFault};
 
 const NAMES_HELP: &str =
     "How the files are named: {stripe} and {place}, or {shard} [default: {stripe}.{place}]";
@@ -10,6 +10,10 @@ const NAMES_HELP: &str =
 const LAYOUT_HELP: &str = "The order of the shards: plain (data, then px py p0 p1) or groups";
 
 const LAYOUTS: &[&str] = &["plain", "groups"];
+
+const FOLLOW_HELP: &str = "Follow links below STORE, also to other folders";
+
+const TRUST_HELP: &str = "As root, work in folders that other users may write into";
 
 /// The pattern of names that a store has if no other is given.
 const DEFAULT_NAMES: &str = "{stripe}.{place}";
@@ -38,6 +42,30 @@ pub fn with_names<'a>(
         .value_parser(LAYOUTS)
         .default_value("plain");
     definition.arg(names)?.arg(layout)
+}
+
+/// The option by which links are followed.
+pub fn follow<'a>(alloc: Global) -> Arg<'a> {
+    Arg::new(alloc, "follow-links")
+        .long("follow-links")
+        .action(ArgAction::SetTrue)
+        .help(FOLLOW_HELP)
+}
+
+/// The option by which root works in folders that others may write into.
+pub fn trust<'a>(alloc: Global) -> Arg<'a> {
+    Arg::new(alloc, "trust-writers")
+        .long("trust-writers")
+        .action(ArgAction::SetTrue)
+        .help(TRUST_HELP)
+}
+
+/// What matches say of links.
+pub fn links_of(matches: &ArgMatches<'_>) -> Links {
+    if matches.get_flag("follow-links") {
+        return Links::Followed;
+    }
+    Links::NotFollowed
 }
 
 impl Naming {

@@ -9,24 +9,27 @@ use crate::file_faults::{FileFault, device};
 use crate::naming::fragment_name;
 use crate::statuses::DONE;
 use lrc_code::{Place, PlaceSet};
-use std::alloc::AllocError;
+use sha2::{Digest as _, Sha256};
+use std::alloc::{AllocError, Global};
 use std::io::{self, BufWriter, ErrorKind, Write};
 use store_folder::{
-    Described, FileFragment, Pattern, SUMS_NAME, description_name, digests_of, open_fragment,
-    path_in, read_description, read_sums,
+    Described, FileFragment, Links, Pattern, SUMS_NAME, description_name, digests_of,
+    open_fragment, path_in, read_description, read_sums, refuse_linked_folders,
 };
 use store_repair::{MendFault, NewFragment, Survivors, fragment_length, read_file, without};
 
-// What writes to standard output.
+// What writes to standard output, and the digest of what was written.
 #[derive(Drop)]
 struct Output<W> {
     writer: W,
+    digest: Sha256,
 }
 
 impl<W: Write> NewFragment for Output<W> {
     ghost shown = { λ _. None };
 
     fn append(&mut self, bytes: &[u8]) -> io::Result<()> {
+        self.digest.update(bytes);
         self.writer.write_all(bytes)
     }
 }
@@ -47,6 +50,7 @@ struct Wanted<'a> {
     described: Described,
     // How many bytes each fragment has.
     length: usize,
+    links: Links,
 }
 
 /// Writes a file to standard output, says what was left out, and gives the exit status.
@@ -54,13 +58,14 @@ pub fn read_one(rt: &HostRuntime, options: &ReadOptions) -> Result<u8, FileFault
     let alloc = rt.alloc();
     let folder = options.store.as_str();
     let name = options.name.as_str();
-    let described = description_of(rt, folder, name)?;
+    let described = description_of(rt, folder, name, options.links)?;
     let wanted = Wanted {
         folder,
         pattern: pattern_of(rt, &options.naming)?,
         name,
         described,
         length: fragment_length(described.code, described.length as usize),
+        links: options.links,
     };
     let fragments = open_fragments(rt, &wanted)?;
     let Some(set) = set_that_fits(rt, &wanted, &fragments)? else {
@@ -74,11 +79,16 @@ pub fn read_one(rt: &HostRuntime, options: &ReadOptions) -> Result<u8, FileFault
 }
 
 // The description of a file.
-fn description_of(rt: &HostRuntime, folder: &str, name: &str) -> Result<Described, FileFault> {
+fn description_of(
+    rt: &HostRuntime,
+    folder: &str,
+    name: &str,
+    links: Links,
+) -> Result<Described, FileFault> {
     let alloc = rt.alloc();
     let description = description_name(alloc, name)?;
     let path = path_in(alloc, folder, description.as_str())?;
-    match read_description(rt, path.as_str()) {
+    match read_description(rt, path.as_str(), links) {
         Ok(Some(described)) => Ok(described),
         Ok(None) => Err(FileFault::Refused {
             what: format!(in alloc; "{path}: isn't a line with a length, a digest and a code")?,
@@ -121,7 +131,7 @@ fn open_at(
     let alloc = rt.alloc();
     let name = name_of(rt, wanted, place)?;
     let path = path_in(alloc, wanted.folder, name.as_str())?;
-    match open_fragment(rt, path.as_str(), wanted.length as u64) {
+    match open_below(rt, wanted, name.as_str(), path.as_str()) {
         Ok(fragment) => Ok(Some(fragment)),
         Err(error) if error.kind() == ErrorKind::OutOfMemory => Err(FileFault::OutOfMemory),
         Err(error) => {
@@ -129,6 +139,17 @@ fn open_at(
             Ok(None)
         }
     }
+}
+
+// Opens the fragment of a name in the store.
+fn open_below(
+    rt: &HostRuntime,
+    wanted: &Wanted<'_>,
+    name: &str,
+    path: &str,
+) -> io::Result<FileFragment> {
+    refuse_linked_folders(rt, wanted.folder, name, wanted.links)?;
+    open_fragment(rt, path, wanted.length as u64, wanted.links)
 }
 
 // The name in the store of the fragment at a place.
@@ -196,7 +217,7 @@ fn with_digests(
 ) -> Result<PlaceSet, FileFault> {
     let alloc = rt.alloc();
     let path = path_in(alloc, wanted.folder, SUMS_NAME)?;
-    let Ok(sums) = read_sums(rt, path.as_str()) else {
+    let Ok(sums) = read_sums(rt, path.as_str(), wanted.links) else {
         return Ok(fragments.set);
     };
     let mut opened = Vec::with_capacity(alloc, fragments.opened.len())?;
@@ -254,18 +275,39 @@ fn write_out(
         "standard output",
         error,
     ))?;
-    let mut output = Output { writer };
+    let mut output = Output {
+        writer,
+        digest: Sha256::new(),
+    };
     let survivors = survivors_of(wanted, fragments, set);
     let file_bytes = wanted.described.length as usize;
     match read_file(alloc, &survivors, file_bytes, &mut output) {
-        Ok(()) => output
-            .writer
-            .flush()
-            .map_err(|error| device(alloc, "standard output", error)),
+        Ok(()) => ended(alloc, wanted, output),
         Err(MendFault::Unwritten { error, .. }) => Err(device(alloc, "standard output", error)),
         Err(MendFault::Unread { error, .. }) => Err(device(alloc, wanted.name, error)),
         Err(_) => Err(FileFault::OutOfMemory),
     }
+}
+
+// Ends the output, which is the file that is described unless a fragment has changed since it was tested.
+fn ended<W: Write + Drop>(
+    alloc: Global,
+    wanted: &Wanted<'_>,
+    output: Output<W>,
+) -> Result<(), FileFault> {
+    let Output { writer, digest } = output;
+    let mut writer = writer;
+    writer
+        .flush()
+        .map_err(|error| device(alloc, "standard output", error))?;
+    let written = digest.finalize();
+    if written != wanted.described.digest {
+        let error = io::Error::other(
+            "a fragment changed meanwhile: what was written isn't the file",
+        );
+        return Err(device(alloc, wanted.name, error));
+    }
+    Ok(())
 }
 
 // Some of the fragments, as survivors.

@@ -6,7 +6,7 @@ use lrc_code::Place;
 use serde_json::Value;
 use std::alloc::{AllocError, Global};
 use std::io::{self, ErrorKind};
-use store_folder::{NewFile, Site, folder_of, place_again};
+use store_folder::Site;
 use store_repair::{Finding, Outcome, Stripe};
 
 /// The form of a report's rows.
@@ -158,11 +158,4 @@ fn add_object(alloc: Global, row: &Row<'_>, text: &mut String) -> io::Result<()>
 /// A text as JSON has it.
 pub fn quoted(alloc: Global, text: &str) -> Result<String, AllocError> {
     Value::String(String::from_str(alloc, text)?).to_string(alloc)
-}
-
-/// Writes a report to the file at a path, which has the whole report or is as it was.
-pub fn write_report(rt: &HostRuntime, path: &str, rows: &str) -> io::Result<()> {
-    let mut file = NewFile::create_as_user(rt, rt.alloc(), folder_of(path), 0)?;
-    store_repair::NewFragment::append(&mut file, rows.as_bytes())?;
-    place_again(rt, file, path)
 }

@@ -1,8 +1,9 @@
 //! The files that are encoded.
 use crate::file_faults::{FileFault, device};
+use std::alloc::AllocError;
 use std::fs::{self, Metadata};
 use std::os::unix::fs::MetadataExt;
-use store_folder::is_leftover;
+use store_folder::is_of_runs;
 
 /// The name of the file at a path, which its stripe gets.
 pub fn base_name<'a>(rt: &HostRuntime, path: &'a str) -> Result<&'a str, FileFault> {
@@ -10,11 +11,16 @@ pub fn base_name<'a>(rt: &HostRuntime, path: &'a str) -> Result<&'a str, FileFau
         Some((_, name)) => name,
         None => path,
     };
-    if name.is_empty() || name == "." || name == ".." || is_leftover(name) {
-        let what = format!(in rt.alloc(); "{path}: a stripe can't have this name")?;
-        return Err(FileFault::Refused { what });
+    if name.is_empty() || name == "." || name == ".." || is_of_runs(name) {
+        return Err(no_name(rt, path)?);
     }
     Ok(name)
+}
+
+/// That the name of the file at a path is none for a stripe.
+pub fn no_name(rt: &HostRuntime, path: &str) -> Result<FileFault, AllocError> {
+    let what = format!(in rt.alloc(); "{path}: a stripe can't have this name")?;
+    Ok(FileFault::Refused { what })
 }
 
 /// What is said of the regular file at a path.

@@ -3,7 +3,7 @@ use crate::file_faults::{FileFault, device};
 use std::fs;
 use std::io::{self, ErrorKind};
 use store_folder::{
-    NewFile, SUMS_NAME, Sums, SumsFault, path_in, place_again, read_sums, sync_folder,
+    Links, NewFile, SUMS_NAME, Sums, SumsFault, path_in, place_again, read_sums, sync_folder,
 };
 use store_repair::NewFragment;
 
@@ -11,7 +11,7 @@ use store_repair::NewFragment;
 pub fn stored_sums(rt: &HostRuntime, folder: &str) -> Result<Sums, FileFault> {
     let alloc = rt.alloc();
     let path = path_in(alloc, folder, SUMS_NAME)?;
-    match read_sums(rt, path.as_str()) {
+    match read_sums(rt, path.as_str(), Links::NotFollowed) {
         Ok(sums) => Ok(sums),
         Err(SumsFault::OutOfMemory) => Err(FileFault::OutOfMemory),
         Err(SumsFault::Unread { error }) if error.kind() == ErrorKind::NotFound => {
@@ -24,30 +24,19 @@ pub fn stored_sums(rt: &HostRuntime, folder: &str) -> Result<Sums, FileFault> {
     }
 }
 
-/// Writes the digests of a store, in place of those that are there. The number is one that no other new file of the run has.
-pub fn write_sums(
-    rt: &HostRuntime,
-    folder: &str,
-    sums: &Sums,
-    number: u64,
-) -> Result<(), FileFault> {
+/// Writes the digests of a store, in place of those that are there.
+pub fn write_sums(rt: &HostRuntime, folder: &str, sums: &Sums) -> Result<(), FileFault> {
     let alloc = rt.alloc();
     let path = path_in(alloc, folder, SUMS_NAME)?;
     let text = sums.text(alloc)?;
-    match write_over(rt, folder, path.as_str(), text.as_slice(), number) {
+    match write_over(rt, folder, path.as_str(), text.as_slice()) {
         Ok(()) => Ok(()),
         Err(error) => Err(device(alloc, path.as_str(), error)),
     }
 }
 
-fn write_over(
-    rt: &HostRuntime,
-    folder: &str,
-    path: &str,
-    text: &[u8],
-    number: u64,
-) -> io::Result<()> {
-    let mut file = NewFile::create_as_user(rt, rt.alloc(), folder, number)?;
+fn write_over(rt: &HostRuntime, folder: &str, path: &str, text: &[u8]) -> io::Result<()> {
+    let mut file = NewFile::create_as_user(rt, rt.alloc(), folder)?;
     if let Err(error) = fill(rt, &mut file, path, text) {
         file.discard(rt)?;
         return Err(error);
@@ -56,10 +45,14 @@ fn write_over(
     sync_folder(rt, folder)
 }
 
-// Writes a text into a new file, which gets the owner and the mode of the one at a path, if there is one.
+// Writes a text into a new file, which gets the owner and the rights of the one at a path, if there is one.
 fn fill(rt: &HostRuntime, file: &mut NewFile, path: &str, text: &[u8]) -> io::Result<()> {
-    if fs::exists(rt, path)? {
-        file.take_after(rt, path)?;
+    match fs::symlink_metadata(rt, path) {
+        Ok(there) => {
+            file.take_after(&there)?;
+        }
+        Err(error) if error.kind() == ErrorKind::NotFound => {}
+        Err(error) => return Err(error),
     }
     file.append(text)
 }

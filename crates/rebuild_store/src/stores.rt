@@ -1,15 +1,18 @@
 //! Stores: a folder, its code, and what is in it.
 use crate::arguments::{Options, Part};
+use crate::locks::Locks;
+use crate::store_faults::{StoreFault, device_fault};
 use lrc_code::{Code, Place};
 use sha2::{Digest, Sha256};
-use std::alloc::{AllocError, AllocFailed, Global};
-use std::fs::{self, File, TryLockError};
+use std::alloc::{AllocError, Global};
+use std::fs;
 use std::io::{self, BufRead, BufReader, ErrorKind};
+use std::os::unix::fs::MetadataExt;
 use store_folder::{
-    Found, Listing, Pattern, SUMS_NAME, StripeFiles, Sums, SumsFault, list, path_in, read_sums,
+    Found, Links, Listing, Pattern, SUMS_NAME, StripeFiles, Sums, SumsFault, Wanted, Watched, list,
+    look_at, path_in, read_sums,
 };
 use store_repair::Stripe;
-use thiserror::Error;
 
 /// A store that is open.
 #[derive(Drop)]
@@ -20,43 +23,9 @@ pub struct OpenStore {
     /// The digests that fragments have to have.
     pub sums: Option<Sums>,
     /// Keep other repairs out for as long as the store is open for one.
-    pub locks: Vec<File>,
-    /// The path of the lock of a part.
-    pub part_lock: Option<String>,
-}
-
-/// Why a store is refused.
-#[derive(Debug, Drop, Error)]
-pub enum StoreFault {
-    #[error("out of memory")]
-    OutOfMemory,
-    /// The system refused to read the folder, or another file.
-    #[error("{folder}: {error}")]
-    Device { folder: String, error: io::Error },
-    /// Another run works in the store.
-    #[error("{folder}: another run works in this store")]
-    InUse { folder: String },
-    /// No file in the folder is named as a fragment.
-    #[error("{folder}: no file is named as a fragment, {names}: is this the store?")]
-    NoFragments { folder: String, names: String },
-    /// No stripe whose fragments can be checked is one of the code.
-    #[error("{folder}: no stripe fits the code {code}: is this the store?")]
-    FitsNot { folder: String, code: &'static str },
-    /// A file of checksums isn't one.
-    #[error("{path}: {fault}")]
-    BadSums { path: String, fault: SumsFault },
-}
-
-impl From<AllocError> for StoreFault {
-    fn from(_error: AllocError) -> StoreFault {
-        StoreFault::OutOfMemory
-    }
-}
-
-impl<T: Drop> From<AllocFailed<T>> for StoreFault {
-    fn from(_failed: AllocFailed<T>) -> StoreFault {
-        StoreFault::OutOfMemory
-    }
+    pub locks: Locks,
+    /// What is in the folder that rebuilt fragments are written to, if that isn't the store's.
+    pub target: Option<Listing>,
 }
 
 /// Opens the store that the options name; for a repair no other repair works in it meanwhile. Its code is the one that they name, or else
@@ -68,22 +37,86 @@ pub fn open_store(
     writes: bool,
 ) -> Result<OpenStore, StoreFault> {
     let alloc = rt.alloc();
-    let folder = String::from_str(alloc, options.store.as_str())?;
-    let Locks { files, part_lock } = if writes {
+    let locks = if writes {
         let target = options.to.as_ref().unwrap_or(&options.store);
-        locks_of(rt, target.as_str(), options.part)?
+        Locks::take(rt, target.as_str(), options.part)?
     } else {
         Locks::none(alloc)
     };
-    let mut listing = match list(
-        rt,
-        folder.as_str(),
-        pattern,
-        options.code.unwrap_or(Code::Wide),
-    ) {
-        Ok(listing) => listing,
-        Err(error) => return Err(device_fault(folder, error)),
+    match open_locked(rt, options, pattern, writes) {
+        Ok(opened) => Ok(opened.with(locks)),
+        Err(fault) => {
+            let _ = locks.release(rt);
+            Err(fault)
+        }
+    }
+}
+
+// A store that is open, but for its locks.
+#[derive(Drop)]
+struct Unlocked {
+    folder: String,
+    code: Code,
+    listing: Listing,
+    target: Option<Listing>,
+    sums: Option<Sums>,
+}
+
+impl Unlocked {
+    fn with(self, locks: Locks) -> OpenStore {
+        let Unlocked {
+            folder,
+            code,
+            listing,
+            target,
+            sums,
+        } = self;
+        OpenStore {
+            folder,
+            code,
+            listing,
+            sums,
+            locks,
+            target,
+        }
+    }
+}
+
+// Opens a store whose locks are taken.
+fn open_locked(
+    rt: &HostRuntime,
+    options: &Options,
+    pattern: &Pattern<'_>,
+    writes: bool,
+) -> Result<Unlocked, StoreFault> {
+    let alloc = rt.alloc();
+    let folder = String::from_str(alloc, options.store.as_str())?;
+    let watched = match &options.report {
+        Some(path) => Watched::at(rt, path.as_str()),
+        None => None,
     };
+    let wanted = Wanted {
+        pattern: *pattern,
+        code: options.code.unwrap_or(Code::Wide),
+        has_stripes: true,
+        links: options.links,
+        watched: watched.as_ref(),
+    };
+    let mut listing = listed(rt, folder.as_str(), &wanted)?;
+    let target = match &options.to {
+        Some(to) => {
+            let left = Wanted {
+                has_stripes: false,
+                ..wanted
+            };
+            Some(listed(rt, to.as_str(), &left)?)
+        }
+        None => None,
+    };
+    refuse_report(rt, options, &listing, target.as_ref())?;
+    if writes && !options.trusts_writers {
+        refuse_untrusted(rt, target.as_ref().unwrap_or(&listing))?;
+    }
     if let Some(path) = &options.stripes {
         expect_stripes(rt, &mut listing, path.as_str())?;
     }
@@ -100,105 +133,71 @@ pub fn open_store(
     } else {
         None
     };
-    Ok(OpenStore {
+    Ok(Unlocked {
         folder,
         code,
         listing,
+        target,
         sums,
-        locks: files,
-        part_lock,
     })
 }
 
-// The locks of a run that writes: their files, and the path of the lock of a part.
-#[derive(Drop)]
-struct Locks {
-    files: Vec<File>,
-    part_lock: Option<String>,
-}
-
-impl Locks {
-    fn none(alloc: Global) -> Locks {
-        Locks {
-            files: Vec::new(alloc),
-            part_lock: None,
+// Lists a folder, and says which links weren't followed.
+fn listed(rt: &HostRuntime, folder: &str, wanted: &Wanted<'_>) -> Result<Listing, StoreFault> {
+    match list(rt, folder, wanted) {
+        Ok(listing) => {
+            say_links(rt, &listing);
+            Ok(listing)
         }
+        Err(error) => Err(device_fault(String::from_str(rt.alloc(), folder)?, error)),
     }
 }
 
-// Keeps other runs that write out of a folder, or out of a part of it.
-fn locks_of(rt: &HostRuntime, folder: &str, part: Option<Part>) -> Result<Locks, StoreFault> {
-    let mut locks = Locks::none(rt.alloc());
-    match part {
-        None => locks.files.push(lock_folder(rt, folder)?)?,
-        Some(part) => {
-            locks.files.push(share_folder(rt, folder)?)?;
-            let path = part_path(rt.alloc(), folder, part)?;
-            locks.files.push(lock_part(rt, path.as_str())?)?;
-            locks.part_lock = Some(path);
-        }
-    }
-    Ok(locks)
-}
-
-// The path of the lock of a part of a store.
-fn part_path(alloc: Global, folder: &str, part: Part) -> Result<String, AllocError> {
-    let Part { index, of } = part;
-    format!(in alloc; "{folder}/.rebuild-store-part-{index}-of-{of}")
-}
-
-/// Keeps other runs that write out of a folder until the file is closed.
-pub fn lock_folder(rt: &HostRuntime, folder: &str) -> Result<File, StoreFault> {
-    let name = String::from_str(rt.alloc(), folder)?;
-    match fs::open(rt, folder) {
-        Ok(file) => {
-            let lock = file.try_lock();
-            locked(file, lock, name)
-        }
-        Err(error) => Err(device_fault(name, error)),
+/// Says how many links of a store weren't followed.
+pub fn say_links(rt: &HostRuntime, listing: &Listing) {
+    if let Some(path) = &listing.link {
+        let links = listing.links;
+        let _ = match links {
+            1 => eprintln!(rt;
+                "rebuild-store: {path}: is a link, and isn't followed without --follow-links"
+            ),
+            _ => eprintln!(rt;
+                "rebuild-store: {path} and others are links, {links} in all, and aren't followed without --follow-links"
+            ),
+        };
     }
 }
 
-// Keeps runs that write to all of a folder out of it, and none that write to a part.
-fn share_folder(rt: &HostRuntime, folder: &str) -> Result<File, StoreFault> {
-    let name = String::from_str(rt.alloc(), folder)?;
-    match fs::open(rt, folder) {
-        Ok(file) => {
-            let lock = file.try_lock_shared();
-            locked(file, lock, name)
-        }
-        Err(error) => Err(device_fault(name, error)),
+// Refuses a report that would be written over a file of the store.
+fn refuse_report(
+    rt: &HostRuntime,
+    options: &Options,
+    listing: &Listing,
+    target: Option<&Listing>,
+) -> Result<(), StoreFault> {
+    let is_there = listing.is_watched || target.is_some_and(|target| target.is_watched);
+    match &options.report {
+        Some(path) if is_there => Err(StoreFault::ReportInStore {
+            path: String::from_str(rt.alloc(), path.as_str())?,
+        }),
+        _ => Ok(()),
     }
 }
 
-// Keeps other runs out of a part.
-fn lock_part(rt: &HostRuntime, path: &str) -> Result<File, StoreFault> {
-    let name = String::from_str(rt.alloc(), path)?;
-    let mut options = File::options();
-    options.write(true).create(true);
-    match options.open(rt, path) {
-        Ok(file) => {
-            let lock = file.try_lock();
-            locked(file, lock, name)
-        }
-        Err(error) => Err(device_fault(name, error)),
+/// Refuses a folder that others than root may write into, where root runs this.
+pub fn refuse_untrusted(rt: &HostRuntime, listing: &Listing) -> Result<(), StoreFault> {
+    let Some(foreign) = &listing.foreign else {
+        return Ok(());
+    };
+    // Who runs this owns what the system says of the process. Where that can't be seen it may be root.
+    let is_root = fs::metadata(rt, "/proc/self").map_or(true, |process| process.uid() == 0);
+    if !is_root {
+        return Ok(());
     }
-}
-
-// A file that is locked.
-fn locked(file: File, lock: Result<(), TryLockError>, folder: String) -> Result<File, StoreFault> {
-    match lock {
-        Ok(()) => Ok(file),
-        Err(TryLockError::WouldBlock) => Err(StoreFault::InUse { folder }),
-        Err(TryLockError::Error(error)) => Err(device_fault(folder, error)),
-    }
-}
-
-fn device_fault(folder: String, error: io::Error) -> StoreFault {
-    if error.kind() == ErrorKind::OutOfMemory {
-        return StoreFault::OutOfMemory;
-    }
-    StoreFault::Device { folder, error }
+    Err(StoreFault::Untrusted {
+        folder: String::from_str(rt.alloc(), foreign.folder.as_str())?,
+        user: foreign.user,
+    })
 }
 
 // Adds the stripes that a file names, one on each line.
@@ -224,19 +223,22 @@ fn read_names(rt: &HostRuntime, listing: &mut Listing, path: &str) -> io::Result
 // The checksums that the options name, or those in the store.
 fn sums_of(rt: &HostRuntime, options: &Options) -> Result<Option<Sums>, StoreFault> {
     let alloc = rt.alloc();
-    let path = match &options.sums {
-        Some(path) => String::from_str(alloc, path.as_str())?,
+    let (path, links) = match &options.sums {
+        Some(path) => (String::from_str(alloc, path.as_str())?, Links::Followed),
         None => {
             let path = path_in(alloc, options.store.as_str(), SUMS_NAME)?;
-            match fs::metadata(rt, path.as_str()) {
-                Ok(metadata) if metadata.is_file() => path,
+            match look_at(rt, path.as_str(), options.links) {
+                Ok(metadata) if metadata.is_file() || metadata.is_symlink() => (
+                    path,
+                    options.links,
+                ),
                 Ok(_) => return Ok(None),
                 Err(error) if error.kind() == ErrorKind::NotFound => return Ok(None),
                 Err(error) => return Err(device_fault(path, error)),
             }
         }
     };
-    match read_sums(rt, path.as_str()) {
+    match read_sums(rt, path.as_str(), links) {
         Ok(sums) => Ok(Some(sums)),
         Err(SumsFault::OutOfMemory) => Err(StoreFault::OutOfMemory),
         Err(fault) => Err(StoreFault::BadSums { path, fault }),

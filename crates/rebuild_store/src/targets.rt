@@ -7,7 +7,7 @@ use std::alloc::{AllocError, Global};
 use std::fs;
 use std::io::ErrorKind;
 use store_folder::{
-    Digest, NewFile, Pattern, Placed, Sums, folder_of, path_in, place_new, sync_folder,
+    Digest, Links, NewFile, Pattern, Placed, Sums, folder_of, path_in, place_new, sync_folder,
 };
 
 /// A store that files are encoded into, and the digests of what is in it.
@@ -19,8 +19,9 @@ pub struct Target<'a> {
     pub sums: Sums,
     /// Whether the digests are others than those in the store's file of them.
     pub is_changed: bool,
-    /// The number of the next new file.
-    pub number: u64,
+    pub links: Links,
+    /// Whether all that a killed run had left could be removed.
+    pub is_clean: bool,
 }
 
 impl Target<'_> {
@@ -89,11 +90,12 @@ fn what_is_there(
     path: &str,
     length: u64,
     digest: &Digest,
+    links: Links,
 ) -> Result<There, FileFault> {
     if !is_there(rt, path)? {
         return Ok(There::Nothing);
     }
-    match digest_at(rt, path, length) {
+    match digest_at(rt, path, length, links) {
         Ok(found) if found == *digest => Ok(There::TheSame),
         Err(error) if error.kind() == ErrorKind::OutOfMemory => Err(FileFault::OutOfMemory),
         _ => Ok(There::Another),
@@ -148,7 +150,7 @@ fn first_taken<'n>(
     for (name, made_file) in names.iter().zip(made.iter()) {
         let path = target.path(rt.alloc(), name.as_str())?;
         let digest = made_file.digest;
-        let there = what_is_there(rt, path.as_str(), length as u64, &digest)?;
+        let there = what_is_there(rt, path.as_str(), length as u64, &digest, target.links)?;
         if there == There::Another {
             return Ok(Some(name.as_str()));
         }
@@ -185,7 +187,8 @@ pub fn place_one(
     match place_new(rt, made.file, path.as_str()) {
         Ok(Placed::Placed) => {}
         Ok(Placed::IsThere) => {
-            if what_is_there(rt, path.as_str(), length, &digest)? != There::TheSame {
+            let there = what_is_there(rt, path.as_str(), length, &digest, target.links)?;
+            if there != There::TheSame {
                 return Err(is_there_already(rt, name)?);
             }
         }

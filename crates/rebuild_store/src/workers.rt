@@ -2,7 +2,7 @@
 use crate::progress::Progress;
 use lrc_code::Code;
 use std::alloc::AllocError;
-use std::sync::atomic::{AtomicU64, AtomicUsize, Ordering};
+use std::sync::atomic::{AtomicUsize, Ordering};
 use std::thread;
 use std::thread::Threads;
 use store_folder::{FolderStore, Site};
@@ -33,8 +33,7 @@ pub fn work_on<R: Threads + Sync>(
     workers: usize,
 ) -> Result<Vec<Done>, AllocError> {
     let next = AtomicUsize::new(0);
-    let numbers = AtomicU64::new(0);
-    let worker = |_worker: usize| { take_stripes(system, site, work, stripes, &next, &numbers) };
+    let worker = |_worker: usize| { take_stripes(system, site, work, stripes, &next) };
     let parts = thread::map_indices(rt, system.alloc(), workers, &worker)?;
     let mut all = Vec::with_capacity(system.alloc(), stripes.len())?;
     for part in parts {
@@ -53,10 +52,9 @@ fn take_stripes(
     work: Work<'_, '_>,
     stripes: &[Stripe<'_>],
     next: &AtomicUsize,
-    numbers: &AtomicU64,
 ) -> Result<Vec<Done>, AllocError> {
     let mut all = Vec::new(system.alloc());
-    let mut store = FolderStore::new(system, *site, numbers);
+    let mut store = FolderStore::new(system, *site);
     for _turn in 0..stripes.len() {
         let index = next.fetch_add(1, Ordering::SeqCst);
         let Some(stripe) = stripes.get(index) else {

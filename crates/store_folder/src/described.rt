@@ -1,10 +1,12 @@
 //! What is kept of a file beside the fragments of its stripe, in `<name>.file`: a line with its length, its SHA-256 digest and the code.
+use crate::links::Links;
+use crate::regular::open_regular;
 use crate::sums::digits_of;
 use hex::FromHex;
 use lrc_code::Code;
 use std::alloc::{AllocError, Global};
-use std::io::{self, ErrorKind};
-use std::{fs, str};
+use std::os::unix::fs::FileExt;
+use std::{io, str};
 
 // No description has more bytes: 20 digits, 64 digits, the longest name of a code, two spaces and a line feed.
 const MOST_BYTES: u64 = 93;
@@ -60,14 +62,16 @@ pub fn description_name(alloc: Global, stripe: &str) -> Result<String, AllocErro
 }
 
 /// Reads the description in the regular file at a path; none where it has another form.
-pub fn read_description(rt: &HostRuntime, path: &str) -> io::Result<Option<Described>> {
-    let metadata = fs::metadata(rt, path)?;
-    if !metadata.is_file() {
-        return Err(io::Error::from(ErrorKind::InvalidInput));
-    }
-    if metadata.len() > MOST_BYTES {
+pub fn read_description(
+    rt: &HostRuntime,
+    path: &str,
+    links: Links,
+) -> io::Result<Option<Described>> {
+    let opened = open_regular(rt, path, links)?;
+    if opened.metadata.len() > MOST_BYTES {
         return Ok(None);
     }
-    let text = fs::read(rt, path)?;
+    let mut text = Vec::from_elem(rt.alloc(), 0u8, opened.metadata.len() as usize)?;
+    opened.file.read_exact_at(text.as_mut_slice(), 0)?;
     Ok(Described::parse(rt.alloc(), text.as_slice())?)
 }

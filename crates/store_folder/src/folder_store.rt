@@ -2,23 +2,21 @@
 ghost use Rattle.std.specs.Prelude.{None};
 ghost use Rattle.store_repair.specs.Store.{never};
 
-use crate::digesting::{Digest, digests_of};
+use crate::digesting::{Digest, digest_of, digests_of};
+use crate::links::{Links, followed, look_at, refuse_linked_folders};
 use crate::names::{folder_of, path_in};
-use crate::patterns::Pattern;
-use crate::placing::{UNFINISHED, sync_folder, take_after};
+use crate::patterns::{KEPT, Pattern};
+use crate::placing::{PRIVATE, sync_folder, take_after};
+use crate::regular::Identity;
 use crate::sums::Sums;
 use crate::surviving::{FileFragment, open_fragment};
+use crate::unfinished::Unfinished;
 use lrc_code::{Code, Place};
 use sha2::{Digest as _, Sha256};
 use std::alloc::{AllocError, Global};
-use std::fs::{self, File, Metadata};
+use std::fs::{self, Metadata};
 use std::io::{self, ErrorKind, Write};
-use std::os::unix::fs::{MetadataExt, OpenOptionsExt};
-use std::sync::atomic::{AtomicU64, Ordering};
 use store_repair::{NameFault, NewFragment, Placed, Refused, Store};
-
-/// How many links to links are followed.
-const MOST_LINKS: usize = 16;
 
 /// Where a store is, and how its fragments are named.
 #[derive(Clone, Copy)]
@@ -30,8 +28,9 @@ pub struct Site<'a> {
     pub code: Code,
     /// The digests that fragments have to have, by their names in the store.
     pub sums: Option<&'a Sums>,
-    /// What the names of unfinished files have after their beginning, so that those of one part of a store are known.
+    /// What the names of unfinished files have before their digits, so that those of one part of a store are known.
     pub tag: &'a str,
+    pub links: Links,
 }
 
 /// A store in a folder, as one thread works in it.
@@ -39,8 +38,6 @@ pub struct Site<'a> {
 pub struct FolderStore<'a> {
     rt: &'a HostRuntime,
     site: Site<'a>,
-    // The number of the next unfinished file of all threads.
-    next: &'a AtomicU64,
     // The folders in which names were given since the last time that these were written to the disk.
     touched: Vec<String>,
     // An unfinished file that could not be removed, and why.
@@ -50,9 +47,8 @@ pub struct FolderStore<'a> {
 /// A fragment that has no name yet.
 #[derive(Drop)]
 pub struct UnfinishedFile {
-    file: File,
-    // Its path, the folder that it is in, and the path that it is to have.
-    unfinished: String,
+    unfinished: Unfinished,
+    // The folder that it is in, and the path that it is to have.
     folder: String,
     path: String,
     held: Option<Held>,
@@ -80,17 +76,16 @@ impl NewFragment for UnfinishedFile {
         if let Some(held) = &mut self.held {
             held.digest.update(bytes);
         }
-        self.file.write_all(bytes)
+        self.unfinished.file.write_all(bytes)
     }
 }
 
 impl<'a> FolderStore<'a> {
-    /// A store at a site. The number is that of the next unfinished file, of all stores at this site that are open at once.
-    pub fn new(rt: &'a HostRuntime, site: Site<'a>, next: &'a AtomicU64) -> FolderStore<'a> {
+    /// A store at a site.
+    pub fn new(rt: &'a HostRuntime, site: Site<'a>) -> FolderStore<'a> {
         FolderStore {
             rt,
             site,
-            next,
             touched: Vec::new(rt.alloc()),
             leftover: None,
         }
@@ -137,12 +132,12 @@ impl<'a> FolderStore<'a> {
         Ok(sums)
     }
 
-    // What is said of a file of the stripe, whose owner and mode its rebuilt fragments get.
+    // What is said of a file of the stripe, whose owner and rights its rebuilt fragments get.
     fn neighbour_of(&self, stripe: &str) -> io::Result<Option<Metadata>> {
         let mut refused = None;
         for place in self.site.code.places() {
             let path = self.path_of(self.site.folder, stripe, *place)?;
-            match fs::metadata(self.rt, path.as_str()) {
+            match look_at(self.rt, path.as_str(), self.site.links) {
                 Ok(metadata) if metadata.is_file() => return Ok(Some(metadata)),
                 Ok(_) => {}
                 Err(error) if error.kind() == ErrorKind::NotFound => {}
@@ -155,7 +150,7 @@ impl<'a> FolderStore<'a> {
         }
     }
 
-    // Writes a whole file to the disk, with the owner and mode of a neighbour, if it has the bytes that it has to have.
+    // Writes a whole file to the disk, with the owner and rights of a neighbour, if it has the bytes that it has to have.
     fn finish(&self, file: &mut UnfinishedFile, stripe: &str) -> io::Result<()> {
         if let Some(held) = file.held.take() {
             if !held.is_as_wanted() {
@@ -163,27 +158,46 @@ impl<'a> FolderStore<'a> {
             }
         }
         if let Some(neighbour) = self.neighbour_of(stripe)? {
-            take_after(&file.file, &neighbour)?;
+            take_after(&file.unfinished.file, &neighbour)?;
         }
-        file.file.sync_all()
+        file.unfinished.file.sync_all()
     }
 
     // Gives a whole file its name, if nothing is there.
     fn link(&mut self, file: &UnfinishedFile) -> io::Result<Placed> {
-        match fs::hard_link(self.rt, file.unfinished.as_str(), file.path.as_str()) {
+        let unfinished = file.unfinished.path.as_str();
+        match fs::hard_link(self.rt, unfinished, file.path.as_str()) {
             Ok(()) => {
                 self.touch(file.folder.as_str())?;
                 Ok(Placed::Placed)
             }
-            Err(error) if error.kind() == ErrorKind::AlreadyExists => Ok(Placed::IsThere),
+            Err(error) if error.kind() == ErrorKind::AlreadyExists => self.beside(file),
             Err(error) => Err(error),
         }
+    }
+
+    // What became of a file under whose name something is. A run that was killed may have given the name to a file with the same bytes.
+    fn beside(&mut self, file: &UnfinishedFile) -> io::Result<Placed> {
+        let alloc = self.rt.alloc();
+        let length = file.unfinished.file.metadata()?.len();
+        let links = Links::NotFollowed;
+        let unfinished = file.unfinished.path.as_str();
+        let made = open_fragment(self.rt, unfinished, length, links)?;
+        let Ok(there) = open_fragment(self.rt, file.path.as_str(), length, links) else {
+            return Ok(Placed::IsThere);
+        };
+        let digest = digest_of(alloc, &made, length as usize)?;
+        if digest_of(alloc, &there, length as usize)? != digest {
+            return Ok(Placed::IsThere);
+        }
+        self.touch(file.folder.as_str())?;
+        Ok(Placed::Placed)
     }
 
     // Gives a whole file the name of another one, which is kept.
     fn exchange(&mut self, file: &UnfinishedFile) -> io::Result<Placed> {
         let mut kept = String::from_str(self.rt.alloc(), file.path.as_str())?;
-        kept.push_str(".damaged")?;
+        kept.push_str(KEPT)?;
         match fs::hard_link(self.rt, file.path.as_str(), kept.as_str()) {
             Ok(()) => {}
             Err(error) if error.kind() == ErrorKind::AlreadyExists => {
@@ -194,16 +208,16 @@ impl<'a> FolderStore<'a> {
             }
             Err(error) => return Err(error),
         }
-        fs::rename(self.rt, file.unfinished.as_str(), file.path.as_str())?;
+        fs::rename(self.rt, file.unfinished.path.as_str(), file.path.as_str())?;
         self.touch(file.folder.as_str())?;
         Ok(Placed::Placed)
     }
 
     // Whether two names are of one file.
     fn are_one(&self, one: &str, other: &str) -> io::Result<bool> {
-        let one = fs::metadata(self.rt, one)?;
-        let other = fs::metadata(self.rt, other)?;
-        Ok(one.dev() == other.dev() && one.ino() == other.ino())
+        let one = fs::symlink_metadata(self.rt, one)?;
+        let other = fs::symlink_metadata(self.rt, other)?;
+        Ok(Identity::of(&one) == Identity::of(&other))
     }
 
     // Notes that a name was given in a folder.
@@ -221,7 +235,10 @@ impl<'a> FolderStore<'a> {
 
     // Removes an unfinished file. What could not be removed is said when names are written to the disk.
     fn remove(&mut self, file: UnfinishedFile) {
-        let name = file.unfinished;
+        let Unfinished {
+            file: _file,
+            path: name,
+        } = file.unfinished;
         if let Err(error) = fs::remove_file(self.rt, name.as_str()) {
             self.leftover = Some(NameFault { name, error });
         }
@@ -237,7 +254,7 @@ impl Store for FolderStore<'_> {
 
     fn open(&self, stripe: &str, place: Place, length: usize) -> io::Result<FileFragment> {
         let path = self.path_of(self.site.folder, stripe, place)?;
-        open_fragment(self.rt, path.as_str(), length as u64)
+        open_fragment(self.rt, path.as_str(), length as u64, self.site.links)
     }
 
     fn refused(
@@ -269,16 +286,16 @@ impl Store for FolderStore<'_> {
     fn create(&mut self, stripe: &str, place: Place) -> io::Result<UnfinishedFile> {
         let alloc = self.rt.alloc();
         let sum = self.sum_of(stripe, place)?;
-        let named = self.path_of(self.site.target, stripe, place)?;
-        let path = followed(self.rt, named)?;
+        let site = self.site;
+        let name = self.name_of(stripe, place)?;
+        refuse_linked_folders(self.rt, site.target, name.as_str(), site.links)?;
+        let named = path_in(alloc, site.target, name.as_str())?;
+        let path = match site.links {
+            Links::NotFollowed => named,
+            Links::Followed => followed(self.rt, named)?,
+        };
         let folder = String::from_str(alloc, folder_of(path.as_str()))?;
-        let number = self.next.fetch_add(1, Ordering::SeqCst);
-        let tag = self.site.tag;
-        let name = format!(in alloc; "{UNFINISHED}{tag}{number}")?;
-        let unfinished = path_in(alloc, folder.as_str(), name.as_str())?;
-        let mut options = File::options();
-        options.write(true).create_new(true).mode(0o600);
-        let file = options.open(self.rt, unfinished.as_str())?;
+        let unfinished = Unfinished::create(self.rt, alloc, folder.as_str(), site.tag, PRIVATE)?;
         let held = match sum {
             Some(wanted) => Some(Held {
                 digest: Sha256::new(),
@@ -287,7 +304,6 @@ impl Store for FolderStore<'_> {
             None => None,
         };
         Ok(UnfinishedFile {
-            file,
             unfinished,
             folder,
             path,
@@ -348,26 +364,4 @@ fn refusal_of(digest: Option<io::Result<Digest>>, sum: &Option<Digest>) -> Optio
         (Some(Err(error)), _) => Some(error),
         _ => None,
     }
-}
-
-// The path that a path's links lead to, as far as there are links.
-fn followed(rt: &HostRuntime, path: String) -> io::Result<String> {
-    let alloc = rt.alloc();
-    let mut path = path;
-    for _link in 0..MOST_LINKS {
-        let is_link = fs::symlink_metadata(rt, path.as_str()).is_ok_and(|metadata| metadata
-            .file_type()
-            .is_symlink());
-        if !is_link {
-            return Ok(path);
-        }
-        let link = fs::read_link(rt, path.as_str())?;
-        let text = link.as_str();
-        path = if text.starts_with('/') {
-            String::from_str(alloc, text)?
-        } else {
-            path_in(alloc, folder_of(path.as_str()), text)?
-        };
-    }
-    Err(io::Error::from(ErrorKind::InvalidInput))
 }

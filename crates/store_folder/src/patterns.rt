@@ -39,6 +39,8 @@ pub enum PatternFault {
     NotOnce,
     #[error("the pattern of names is no name below the store's folder")]
     NotBelow,
+    #[error("the pattern of names needs something between {{stripe}} and {{shard}}")]
+    Adjoining,
 }
 
 const STRIPE: &str = "{stripe}";
@@ -46,6 +48,9 @@ const STRIPE: &str = "{stripe}";
 const PLACE: &str = "{place}";
 
 const SHARD: &str = "{shard}";
+
+/// How the second name of a fragment ends that was replaced and is kept.
+pub const KEPT: &str = ".damaged";
 
 // How many times a text goes into a folder.
 fn slashes(text: &str) -> usize {
@@ -154,6 +159,10 @@ impl<'a> Pattern<'a> {
         {
             return Err(PatternFault::NotBelow);
         }
+        // The digits of a number and of a stripe's name could be taken for each other's.
+        if naming == Naming::Shard && between.is_empty() {
+            return Err(PatternFault::Adjoining);
+        }
         Ok(Pattern {
             before,
             between,
@@ -208,8 +217,12 @@ impl<'a> Pattern<'a> {
         }
     }
 
-    /// The stripe and the place that a name says; of places whose names both fit, the longer one's.
+    /// The stripe and the place that a name says; of places whose names both fit, the longer one's. The second name of a fragment that was
+    /// replaced says none.
     pub fn read<'n>(&self, code: Code, name: &'n str) -> Option<(&'n str, Place)> {
+        if name.ends_with(KEPT) {
+            return None;
+        }
         let middle = name.strip_prefix(self.before)?.strip_suffix(self.after)?;
         let mut best = None;
         let mut longest = 0;

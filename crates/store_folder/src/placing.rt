@@ -1,88 +1,83 @@
-//! Putting rebuilt fragments in their places. A file has no name that a fragment can have until it is whole and on the disk.
+//! Putting new files in their places. A file has no name that a fragment can have until it is whole and on the disk.
 ghost use Rattle.std.specs.Prelude.{None};
 
-use crate::names::path_in;
+use crate::unfinished::Unfinished;
 use std::alloc::Global;
-use std::fs::{self, File, Metadata};
+use std::fs::{self, File, Metadata, Permissions};
 use std::io::{self, ErrorKind, Write};
-use std::os::unix::fs::{MetadataExt, OpenOptionsExt, fchown};
+use std::os::unix::fs::{MetadataExt, PermissionsExt, fchown};
 use store_repair::{NewFragment, Placed};
 
-// How the name of a file begins that isn't whole yet.
-pub(crate) const UNFINISHED: &str = ".rebuild-store-";
+/// The rights of a new file that nobody but its user may read.
+pub(crate) const PRIVATE: u32 = 0o600;
 
-/// Whether a name is that of a file that a run which was killed has left.
-pub fn is_leftover(name: &str) -> bool {
-    name.starts_with(UNFINISHED)
-}
+// The rights of a new file where the user's mask takes none.
+const OPEN: u32 = 0o666;
 
-/// Whether a name is that of such a file of a part of a store, by the tag of its names; without a tag, of any.
-pub fn is_leftover_of(name: &str, tag: &str) -> bool {
-    name.strip_prefix(UNFINISHED)
-        .is_some_and(|rest| rest.starts_with(tag))
-}
+// A file gets no rights but these: none to run it, and none that its owner's or group's identity would go with.
+const MOST_RIGHTS: u32 = 0o666;
 
-/// A rebuilt fragment that is being written.
+/// A new file that gets a name in a store, or beside one.
 #[derive(Drop)]
 pub struct NewFile {
-    file: File,
-    path: String,
+    unfinished: Unfinished,
 }
 
-/// Gives a file the owner and the mode of another one, by what is said of that. Who isn't allowed to give it away keeps it.
-pub(crate) fn take_after(file: &File, metadata: &Metadata) -> io::Result<()> {
-    let given = fchown(file, Some(metadata.uid()), Some(metadata.gid()));
-    if let Err(error) = given {
-        if error.kind() != ErrorKind::PermissionDenied {
-            return Err(error);
-        }
+/// Gives a file the owner and the group of another one, by what is said of that, and then its rights to read and write. Who may not give it
+/// away keeps it, with the rights that it was made with. Says whether it was given.
+pub(crate) fn take_after(file: &File, metadata: &Metadata) -> io::Result<bool> {
+    match fchown(file, Some(metadata.uid()), Some(metadata.gid())) {
+        Ok(()) => {}
+        Err(error) if error.kind() == ErrorKind::PermissionDenied => return Ok(false),
+        Err(error) => return Err(error),
     }
-    file.set_permissions(metadata.permissions())
+    let rights = metadata.mode() & MOST_RIGHTS;
+    file.set_permissions(Permissions::from_mode(rights))?;
+    Ok(true)
 }
 
 impl NewFragment for NewFile {
     ghost shown = { λ _. None };
 
     fn append(&mut self, bytes: &[u8]) -> io::Result<()> {
-        self.file.write_all(bytes)
+        self.unfinished.file.write_all(bytes)
     }
 }
 
 impl NewFile {
-    /// A new file in a folder, whose name has a number that no other of this run has, with the rights that the user's mask leaves it.
-    pub fn create_as_user(
-        rt: &HostRuntime,
-        alloc: Global,
-        folder: &str,
-        number: u64,
-    ) -> io::Result<NewFile> {
-        let name = format!(in alloc; "{UNFINISHED}{number}")?;
-        let path = path_in(alloc, folder, name.as_str())?;
-        let mut options = File::options();
-        options.write(true).create_new(true).mode(0o666);
-        let file = options.open(rt, path.as_str())?;
-        Ok(NewFile { file, path })
+    /// A new file in a folder, with the rights that the user's mask leaves it.
+    pub fn create_as_user(rt: &HostRuntime, alloc: Global, folder: &str) -> io::Result<NewFile> {
+        Ok(NewFile {
+            unfinished: Unfinished::create(rt, alloc, folder, "", OPEN)?,
+        })
     }
 
-    /// Gives the file the owner and the mode of another one. Who isn't allowed to give it away keeps it.
-    pub fn take_after(&self, rt: &HostRuntime, neighbour: &str) -> io::Result<()> {
-        take_after(&self.file, &fs::metadata(rt, neighbour)?)
+    /// A new file in a folder, which nobody but its user may read.
+    pub fn create_private(rt: &HostRuntime, alloc: Global, folder: &str) -> io::Result<NewFile> {
+        Ok(NewFile {
+            unfinished: Unfinished::create(rt, alloc, folder, "", PRIVATE)?,
+        })
+    }
+
+    /// Gives the file the owner, the group and the rights to read and write of another one. Who may not give it away keeps it as it is.
+    /// Says whether it was given.
+    pub fn take_after(&self, other: &Metadata) -> io::Result<bool> {
+        take_after(&self.unfinished.file, other)
     }
 
     /// Removes the file.
     pub fn discard(self, rt: &HostRuntime) -> io::Result<()> {
-        let NewFile { file: _file, path } = self;
-        fs::remove_file(rt, path.as_str())
+        self.unfinished.discard(rt)
     }
 }
 
 /// Writes a file to the disk and gives it the name at a path, under which nothing may be.
-pub fn place_new(rt: &HostRuntime, file: NewFile, path: &str) -> io::Result<Placed> {
-    let placed = match file.file.sync_all() {
-        Ok(()) => fs::hard_link(rt, file.path.as_str(), path),
+pub fn place_new(rt: &HostRuntime, new: NewFile, path: &str) -> io::Result<Placed> {
+    let placed = match new.unfinished.file.sync_all() {
+        Ok(()) => fs::hard_link(rt, new.unfinished.path.as_str(), path),
         Err(error) => Err(error),
     };
-    file.discard(rt)?;
+    new.discard(rt)?;
     match placed {
         Ok(()) => Ok(Placed::Placed),
         Err(error) if error.kind() == ErrorKind::AlreadyExists => Ok(Placed::IsThere),
@@ -91,23 +86,15 @@ pub fn place_new(rt: &HostRuntime, file: NewFile, path: &str) -> io::Result<Plac
 }
 
 /// Writes a file to the disk and gives it the name at a path, in place of the file that has it, if one does.
-pub fn place_again(rt: &HostRuntime, file: NewFile, path: &str) -> io::Result<()> {
-    let placed = match file.file.sync_all() {
-        Ok(()) => fs::rename(rt, file.path.as_str(), path),
+pub fn place_again(rt: &HostRuntime, new: NewFile, path: &str) -> io::Result<()> {
+    let placed = match new.unfinished.file.sync_all() {
+        Ok(()) => fs::rename(rt, new.unfinished.path.as_str(), path),
         Err(error) => Err(error),
     };
     if placed.is_err() {
-        file.discard(rt)?;
+        new.discard(rt)?;
     }
     placed
-}
-
-/// Removes files that a run which was killed has left, by their paths.
-pub fn remove_leftovers(rt: &HostRuntime, paths: &[String]) -> io::Result<()> {
-    for path in paths {
-        fs::remove_file(rt, path.as_str())?;
-    }
-    Ok(())
 }
 
 /// Writes the names of a folder to the disk.

@@ -1,9 +1,10 @@
 //! Sums: the SHA-256 digests of files, listed by names in a file as `sha256sum` writes it. Lines end in a line feed, also after a carriage
 //! return. Empty lines and those that begin with `#` say nothing.
+use crate::links::Links;
+use crate::regular::open_regular;
 use hex::FromHex;
 use std::alloc::{AllocError, AllocFailed, Global};
 use std::collections::BTreeMap;
-use std::fs;
 use std::io::{self, BufRead, BufReader, ErrorKind};
 use thiserror::Error;
 
@@ -64,14 +65,12 @@ struct Sum {
 }
 
 /// Reads the sums in the regular file at a path.
-pub fn read_sums(rt: &HostRuntime, path: &str) -> Result<Sums, SumsFault> {
-    if !fs::metadata(rt, path)?.is_file() {
-        return Err(SumsFault::from(io::Error::from(ErrorKind::InvalidInput)));
-    }
+pub fn read_sums(rt: &HostRuntime, path: &str, links: Links) -> Result<Sums, SumsFault> {
     let alloc = rt.alloc();
+    let opened = open_regular(rt, path, links)?;
     let mut sums = Sums::new(alloc);
     let mut number = 0u64;
-    for line in BufReader::new(alloc, fs::open(rt, path)?)?.split(alloc, b'\n') {
+    for line in BufReader::new(alloc, opened.file)?.split(alloc, b'\n') {
         number = number.saturating_add(1);
         sums.read_line(alloc, line?.as_slice(), number)?;
     }

@@ -1,7 +1,9 @@
 //! Fragments that survive as files.
 ghost use Rattle.std.specs.Prelude.{None};
 
-use std::fs::{self, File};
+use crate::links::Links;
+use crate::regular::open_regular;
+use std::fs::File;
 use std::io::{self, ErrorKind};
 use std::os::unix::fs::FileExt;
 use store_repair::Fragment;
@@ -20,14 +22,16 @@ impl Fragment for FileFragment {
     }
 }
 
-/// Opens the regular file at a path, which has to have so many bytes. What is at the path is asked before it is opened, since opening a
-/// FIFO waits for a writer.
-pub fn open_fragment(rt: &HostRuntime, path: &str, length: u64) -> io::Result<FileFragment> {
-    let metadata = fs::metadata(rt, path)?;
-    if !metadata.is_file() || metadata.len() != length {
+/// Opens the regular file at a path, which has to have so many bytes.
+pub fn open_fragment(
+    rt: &HostRuntime,
+    path: &str,
+    length: u64,
+    links: Links,
+) -> io::Result<FileFragment> {
+    let opened = open_regular(rt, path, links)?;
+    if opened.metadata.len() != length {
         return Err(io::Error::from(ErrorKind::UnexpectedEof));
     }
-    Ok(FileFragment {
-        file: fs::open(rt, path)?,
-    })
+    Ok(FileFragment { file: opened.file })
 }

@@ -1,0 +1,76 @@
+//! Regular files. What is under a name is asked before it is opened, since opening a FIFO waits for a writer and opening a device may do
+//! something, and once more when it is open, since a name may be given to something else meanwhile.
+use crate::links::{Links, look_at};
+use std::fs::{self, File, Metadata, OpenOptions};
+use std::io::{self, ErrorKind};
+use std::os::unix::fs::MetadataExt;
+
+/// Which file of which file system something is.
+#[derive(Clone, Copy, Debug, PartialEq, Eq)]
+pub struct Identity {
+    device: u64,
+    node: u64,
+}
+
+impl Identity {
+    pub fn of(metadata: &Metadata) -> Identity {
+        Identity {
+            device: metadata.dev(),
+            node: metadata.ino(),
+        }
+    }
+}
+
+/// A regular file that is open, and what was said of it then.
+#[derive(Drop)]
+pub struct RegularFile {
+    pub file: File,
+    pub metadata: Metadata,
+}
+
+/// Opens the regular file at a path for reading. An error of the kind `InvalidInput` says that something else is there.
+pub fn open_regular(rt: &HostRuntime, path: &str, links: Links) -> io::Result<RegularFile> {
+    let mut options = File::options();
+    options.read(true);
+    open_as(rt, path, links, &options)
+}
+
+/// Opens the regular file at a path as the options say, which must not change it. An error of the kind `InvalidInput` says that something
+/// else is there.
+pub fn open_as(
+    rt: &HostRuntime,
+    path: &str,
+    links: Links,
+    options: &OpenOptions,
+) -> io::Result<RegularFile> {
+    let asked = look_at(rt, path, links)?;
+    if !asked.is_file() {
+        return Err(no_regular_file(&asked));
+    }
+    let file = options.open(rt, path)?;
+    let metadata = file.metadata()?;
+    if !metadata.is_file() || Identity::of(&metadata) != Identity::of(&asked) {
+        return Err(io::Error::other("another file came under the name while it was opened"));
+    }
+    Ok(RegularFile { file, metadata })
+}
+
+// That something is no regular file.
+fn no_regular_file(metadata: &Metadata) -> io::Error {
+    let words = if metadata.is_symlink() {
+        "is a link, and links aren't followed"
+    } else {
+        "is no regular file"
+    };
+    io::Error::new(ErrorKind::InvalidInput, words)
+}
+
+/// Whether the file that is open is the one at a path.
+pub fn is_named(rt: &HostRuntime, file: &File, path: &str) -> io::Result<bool> {
+    let open = file.metadata()?;
+    match fs::symlink_metadata(rt, path) {
+        Ok(there) => Ok(Identity::of(&there) == Identity::of(&open)),
+        Err(error) if error.kind() == ErrorKind::NotFound => Ok(false),
+        Err(error) => Err(error),
+    }
+}

@@ -1,0 +1,589 @@
+#!/usr/bin/env python3
+"""Tries what rebuild-store may never do to a store, or beside it, with what a stranger may have put there: links, FIFOs, devices, odd
+rights, names like the program's own, other runs at the wrong moment.
+
+    store-strangers.py [PROGRAM]
+
+Each expected byte, mode and name is worked out here. What root alone can try is said to be skipped where this isn't root."""
+
+import contextlib
+import fcntl
+import os
+import pathlib
+import random
+import shutil
+import stat
+import subprocess
+import sys
+import tempfile
+import threading
+import time
+
+# No compiled copy of the modules is left beside them.
+sys.dont_write_bytecode = True
+ROOT = pathlib.Path(__file__).resolve().parent.parent
+sys.path.append(str(ROOT / "tools"))
+from faults import RECORD, Calls  # noqa: E402
+from store import stripe  # noqa: E402
+
+PROGRAM = ROOT / "crates/rebuild_store/out/rebuild_store"
+# What a run names its unfinished files: the digits are at random.
+LEFTOVER = ".rebuild-store-0123456789abcdef"
+LEFTOVER_OF_PART = ".rebuild-store-2-3-0123456789abcdef"
+LOCK_OF_PART = ".rebuild-store-part-1-of-2"
+HEADER = "stripe,place,outcome,detail\n"
+USER, OTHER = 65_534, 1_234
+SECONDS = 60
+passed, skipped, faults = 0, [], []
+
+
+class Fault(Exception):
+    """A run that did what none may do."""
+
+
+class Skipped(Exception):
+    """What can't be tried here."""
+
+
+def hold(holds, what):
+    global passed
+    if not holds:
+        raise Fault(what)
+    passed += 1
+
+
+def run(*words, status, **how):
+    """Runs the program, holds its status to this one, and gives all that it says."""
+    how.setdefault("program", PROGRAM)
+    program = how.pop("program")
+    try:
+        ended = subprocess.run([program, *map(str, words)], stdin=subprocess.DEVNULL, capture_output=True, timeout=SECONDS, **how)
+    except subprocess.TimeoutExpired:
+        raise Fault(f"{' '.join(map(str, words))} had not ended after {SECONDS} seconds") from None
+    said = (ended.stdout + ended.stderr).decode(errors="replace")
+    hold(ended.returncode == status, f"{' '.join(map(str, words))}: status {ended.returncode}, not {status}: {said}")
+    return said
+
+
+def lay(folder, choose, names=("s",), length=600, mode=0o644):
+    """Makes a store of stripes, and gives the bytes of its files by their names."""
+    files = {}
+    folder.mkdir()
+    for name in names:
+        for place, data in stripe("6-2-2", length, choose).items():
+            files[f"{name}.{place}"] = data
+            (folder / f"{name}.{place}").write_bytes(data)
+            (folder / f"{name}.{place}").chmod(mode)
+    return files
+
+
+def there(folder):
+    """The bytes of a folder's regular files, by their names."""
+    return {path.name: path.read_bytes() for path in folder.iterdir() if path.is_file() and not path.is_symlink()}
+
+
+def is_root():
+    return os.geteuid() == 0
+
+
+def needs_root():
+    if not is_root():
+        raise Skipped("only root can try it")
+
+
+def as_user(place):
+    """A copy of the program that each user can run, and how a process becomes such a user."""
+    needs_root()
+    program = place / "program"
+    if not program.exists():
+        shutil.copy(PROGRAM, program)
+        program.chmod(0o755)
+    return {"program": program, "user": USER, "group": USER, "extra_groups": []}
+
+
+def test_report_on_odd_files(place, choose):
+    """A report is written into a device, a FIFO or what a link leads to, and these stay what they are."""
+    store = place / "odd"
+    lay(store, choose)
+    for name, kind in (("x0", "fifo"), ("x1", "link"), ("x2", "loose link"), ("y0", "device")):
+        report = place / f"report-{kind}"
+        (store / f"s.{name}").unlink()
+        row = f"s,{name},rebuilt,\n"
+        got = []
+        if kind == "device":
+            if not is_root():
+                continue
+            try:
+                os.mknod(report, stat.S_IFCHR | 0o600, os.makedev(1, 3))
+                report.write_bytes(b"")
+            except OSError:
+                skipped.append("test_report_on_odd_files: no device can be made here")
+                run("repair", store, status=0)
+                continue
+            run("repair", store, "--report", report, status=0)
+            hold(stat.S_ISCHR(report.lstat().st_mode), "a device is one no longer")
+            continue
+        if kind == "fifo":
+            os.mkfifo(report)
+            reader = threading.Thread(target=lambda: got.append(report.read_text()), daemon=True)
+            reader.start()
+            run("repair", store, "--report", report, status=0)
+            reader.join(SECONDS)
+            hold(stat.S_ISFIFO(report.lstat().st_mode), "a FIFO is one no longer")
+        else:
+            behind = place / f"behind-{kind.replace(' ', '-')}"
+            if kind == "link":
+                behind.write_bytes(b"x" * 10_000)
+            report.symlink_to(behind)
+            run("repair", store, "--report", report, status=0)
+            hold(report.is_symlink(), "a link is one no longer")
+            got.append(behind.read_text())
+        hold(got == [HEADER + row], f"the report on a {kind} is {got}")
+
+
+def test_report_keeps_rights(place, choose):
+    """A report that is there is replaced by one with its owner and its rights."""
+    store = place / "rights"
+    lay(store, choose)
+    report = place / "kept.csv"
+    report.write_text("old")
+    report.chmod(0o600)
+    if is_root():
+        os.chown(report, OTHER, OTHER)
+    run("scrub", store, "--report", report, status=0, umask=0o022)
+    about = report.stat()
+    hold(about.st_mode & 0o7777 == 0o600, f"a report of mode 600 has now {about.st_mode & 0o7777:o}")
+    hold(not is_root() or about.st_uid == OTHER, "a report has another owner now")
+    hold(report.read_text() == HEADER, report.read_text())
+
+
+def test_report_in_the_store(place, choose):
+    """A report is never written over a file of the store, or of the folder that fragments are written to, however that is named."""
+    store, disks, to = place / "in-store", place / "in-disks", place / "in-to"
+    files = lay(store, choose)
+    (store / "s.x0").unlink()
+    (store / "SHA256SUMS").write_bytes(b"")
+    del files["s.x0"]
+    files["SHA256SUMS"] = b""
+    to.mkdir()
+    behind = place / "in-link"
+    behind.symlink_to(store)
+    for report in ("s.x0", "s.x1", "t.p1", "SHA256SUMS", "s.file", "s.x1.damaged", LEFTOVER):
+        for path in (store / report, behind / report, f"{store}/../{store.name}/{report}"):
+            said = run("repair", store, "--report", path, status=2)
+            hold(report in said, f"no line names {report}: {said}")
+        run("scrub", store, "--report", store / report, status=2)
+        hold(there(store) == files, f"--report {report} changed the store")
+    run("repair", store, "--to", to, "--report", to / "s.x0", status=2)
+    hold(not there(to), "a report was written in place of a fragment")
+    run("repair", store, "--report", store / "report.csv", status=0)
+    disks.mkdir()
+    for number, data in enumerate(stripe("6-2-2", 50, choose).values()):
+        (disks / f"disk{number}").mkdir()
+        (disks / f"disk{number}/note").write_bytes(data)
+    names = ["--code", "6-2-2", "--names", "disk{shard}/{stripe}"]
+    kept = (disks / "disk3/note").read_bytes()
+    run("repair", disks, *names, "--report", disks / "disk3/note", status=2)
+    hold((disks / "disk3/note").read_bytes() == kept, "a fragment was replaced by a report")
+    run("repair", disks, *names, "--report", disks / "report.csv", status=0)
+
+
+def test_reports_beside_each_other(place, choose):
+    """Eight runs that write reports into one folder don't meet, and what others have there is in nobody's way."""
+    reports = place / "reports"
+    reports.mkdir()
+    (reports / ".rebuild-store-0").mkdir()
+    stores = []
+    for number in range(8):
+        stores.append(place / f"beside-{number}")
+        lay(stores[-1], choose, length=10)
+    for turn in range(6):
+        runs = [subprocess.Popen([PROGRAM, "scrub", store, "--report", reports / f"{turn}-{store.name}"], stdout=subprocess.DEVNULL,
+                                 stderr=subprocess.PIPE) for store in stores]
+        for each in runs:
+            _, said = each.communicate(timeout=SECONDS)
+            hold(each.returncode == 0, f"a report beside others: status {each.returncode}: {said.decode()}")
+    left = [path.name for path in reports.iterdir() if path.name.startswith(".rebuild-store-")]
+    hold(left == [".rebuild-store-0"], f"left {left}")
+
+
+def test_report_that_fails(place, choose):
+    """Where a report can't be written, what it was stays, nothing is left beside it, and the repair is done and says so."""
+    store, reports = place / "fails", place / "fails-reports"
+    files = lay(store, choose)
+    reports.mkdir()
+    report = reports / "report.csv"
+    report.write_text("old")
+    calls = Calls(place)
+    command = [PROGRAM, "repair", store, "--report", report]
+    ran = calls.run(command)
+    hold(ran.status == 0, ran.text())
+    last = max(number for number, kind in enumerate(ran.kinds, 1) if kind == "write")
+    report.write_text("old")
+    ran = calls.run(command, last, 28)
+    hold(ran.status == 3 and "No space left on device" in ran.err and str(report) in ran.err, ran.text())
+    hold("repaired 0 fragments" in ran.out, f"no summary: {ran.text()}")
+    hold(there(reports) == {"report.csv": b"old"}, f"left {sorted(there(reports))}")
+    run(*command[1:], status=0)
+    hold(there(store) == files, "the store was changed")
+
+
+def test_rights(place, choose):
+    """A rebuilt fragment has no right to be run, and none of its owner's or group's identity, whatever the others have."""
+    store = place / "set-id"
+    files = lay(store, choose, mode=0o6755)
+    (store / "s.px").unlink()
+    run("repair", store, status=0)
+    mode = (store / "s.px").stat().st_mode & 0o7777
+    hold(mode == 0o644, f"a fragment beside others of mode 6755 has {mode:o}")
+    hold((store / "s.px").read_bytes() == files["s.px"], "the fragment isn't what it was")
+
+
+def test_owner_that_cannot_be_given(place, choose):
+    """Who may not give a fragment away keeps it for himself alone."""
+    how = as_user(place)
+    for mode in (0o6755, 0o644):
+        store = place / f"not-given-{mode:o}"
+        files = lay(store, choose)
+        store.chmod(0o777)
+        for name in files:
+            (store / name).chmod(mode)
+        (store / "s.px").unlink()
+        run("repair", store, status=0, umask=0, **how)
+        about = (store / "s.px").stat()
+        hold(about.st_uid == USER and about.st_mode & 0o7777 == 0o600, f"mode {about.st_mode & 0o7777:o} of user {about.st_uid}")
+        hold((store / "s.px").read_bytes() == files["s.px"], "the fragment isn't what it was")
+
+
+def test_links(place, choose):
+    """A link in a store is neither read nor written through, unless that is asked for."""
+    store, outside = place / "linked", place / "outside"
+    outside.mkdir()
+    secret = outside / "secret"
+    secret.write_bytes(b"p" * 600)
+    secret.chmod(0o4755)
+    files = lay(store, choose, names=("a", "b"))
+    for name, to in (("a.x0", secret), ("b.p0", outside / "made")):
+        (store / name).unlink()
+        (store / name).symlink_to(to)
+    (store / "a.px").unlink()
+    said = run("repair", store, "--replace-damaged", status=1)
+    hold((store / "a.px").read_bytes() == files["a.px"], f"a fragment isn't what it was: {said}")
+    hold((store / "a.px").stat().st_mode & 0o7777 == 0o644, "a fragment has the rights of what a link leads to")
+    hold((store / "a.x0").is_symlink() and (store / "b.p0").is_symlink(), f"a link was replaced: {said}")
+    hold(there(outside) == {"secret": b"p" * 600}, f"a file was made outside the store: {sorted(there(outside))}")
+    hold("--follow-links" in said and "a.x0: is no regular file" in said, said)
+    run("scrub", store, status=1)
+    run("lost", store, status=1)
+    secret.write_bytes(files["a.x0"])
+    run("repair", store, "--follow-links", status=0)
+    hold((store / "b.p0").is_symlink() and (outside / "made").read_bytes() == files["b.p0"], "a link wasn't followed")
+    hold((outside / "made").stat().st_mode & 0o7000 == 0, "a fragment has the identity of its owner")
+
+
+def test_linked_folders(place, choose):
+    """A disk's folder that is a link leads nowhere, unless links are followed."""
+    store, outside = place / "linked-disks", place / "outside-disk"
+    names = ["--code", "6-2-2", "--names", "disk{shard}/{stripe}"]
+    store.mkdir()
+    outside.mkdir()
+    data = stripe("6-2-2", 80, choose)
+    for number, fragment in enumerate(data.values()):
+        if number == 3:
+            (store / "disk3").symlink_to(outside)
+        else:
+            (store / f"disk{number}").mkdir()
+            (store / f"disk{number}/note").write_bytes(fragment)
+    said = run("repair", store, *names, status=3)
+    hold(not there(outside), "a file was made outside the store")
+    hold(str(store / "disk3") in said and "--follow-links" in said, said)
+    source = place / "source"
+    source.write_bytes(b"source")
+    said = run("encode", store, source, *names, status=3)
+    hold(not there(outside) and "link" in said, f"a file was encoded outside the store: {said}")
+    run("repair", store, *names, "--follow-links", status=0)
+    hold(there(outside) == {"note": list(data.values())[3]}, "a link wasn't followed")
+    run("scrub", store, *names, status=1)
+    run("scrub", store, *names, "--follow-links", status=0)
+
+
+def test_linked_digests(place, choose):
+    """Digests that are a link are neither passed over in silence nor replaced."""
+    store, outside = place / "linked-sums", place / "sums-outside"
+    files = lay(store, choose)
+    outside.write_text("")
+    outside.chmod(0o4711)
+    (store / "SHA256SUMS").symlink_to(outside)
+    (store / "s.x0").unlink()
+    said = run("repair", store, status=3)
+    hold("SHA256SUMS: is a link" in said and not (store / "s.x0").exists(), said)
+    source = place / "summed"
+    source.write_bytes(b"summed")
+    run("encode", store, source, status=3)
+    hold((store / "SHA256SUMS").is_symlink() and outside.read_text() == "", "digests were written through a link")
+    run("repair", store, "--follow-links", status=0)
+    hold((store / "s.x0").read_bytes() == files["s.x0"], "the fragment isn't what it was")
+
+
+def test_locks(place, choose):
+    """A part's lock that is a link makes no file elsewhere, and one that is a FIFO or a folder holds nobody up."""
+    outside = place / "lock-outside"
+    for kind in ("link", "fifo", "folder"):
+        store = place / f"lock-{kind}"
+        files = lay(store, choose)
+        (store / "s.x0").unlink()
+        lock = store / LOCK_OF_PART
+        {"link": lambda: lock.symlink_to(outside), "fifo": lambda: os.mkfifo(lock), "folder": lock.mkdir}[kind]()
+        said = run("repair", store, "--part", "1/2", status=3)
+        hold(LOCK_OF_PART in said, f"no line names the lock that is a {kind}: {said}")
+        hold(not outside.exists(), "a lock made a file outside the store")
+        hold(os.path.lexists(lock), f"a {kind} with the name of a lock was removed")
+        for part in ("1/3", "2/3", "3/3"):
+            run("repair", store, "--part", part, status=0)
+        hold((store / "s.x0").read_bytes() == files["s.x0"], "the fragment isn't what it was")
+
+
+@contextlib.contextmanager
+def waiting(calls, place, words, number):
+    """A run that waits before the call of this number: gives a function that lets it go on and gives its status and what it says."""
+    with tempfile.NamedTemporaryFile(dir=place) as record:
+        record.truncate(RECORD.size)
+        reached, until = pathlib.Path(f"{record.name}-reached"), pathlib.Path(f"{record.name}-until")
+        environment = {"LD_PRELOAD": str(calls.file), "FAIL_RECORD": record.name, "FAIL_NUMBER": str(number), "FAIL_HOW": "wait",
+                       "FAIL_REACHED": str(reached), "FAIL_UNTIL": str(until)}
+        held = subprocess.Popen([str(it) for it in words], stdin=subprocess.DEVNULL, stdout=subprocess.PIPE, stderr=subprocess.STDOUT,
+                                env=environment)
+        for _ in range(SECONDS * 100):
+            if reached.exists() or held.poll() is not None:
+                break
+            time.sleep(0.01)
+        hold(reached.exists(), f"{words} didn't come to call {number}")
+
+        def go_on():
+            until.touch()
+            said, _ = held.communicate(timeout=SECONDS)
+            return held.returncode, said.decode(errors="replace")
+
+        try:
+            yield go_on
+        finally:
+            until.touch()
+            held.kill()
+            held.wait()
+
+
+def test_runs_of_one_part(place, choose):
+    """A run that opened a part's lock which another then gave back doesn't work on beside a third run."""
+    store = place / "one-part"
+    files = lay(store, choose)
+    lost = store / "s.x0"
+    lost.unlink()
+    calls = Calls(place)
+    part = next(part for part in ("1/2", "2/2") if has_lost(store, part))
+    command = [PROGRAM, "repair", store, "--part", part]
+    lock = store / f".rebuild-store-part-{part.replace('/', '-of-')}"
+    ran = calls.run(command)
+    hold(ran.status == 0 and lost.read_bytes() == files["s.x0"], ran.text())
+    locks = [number for number, kind in enumerate(ran.kinds, 1) if kind == "lock"]
+    links = [number for number, kind in enumerate(ran.kinds, 1) if kind == "link"]
+    hold(len(locks) >= 2 and links, f"no lock of a part: {ran.kinds}")
+    # The first run has the lock, which a second opens; the first gives it back; a third takes a new one; the second goes on.
+    lost.unlink()
+    first = os.open(lock, os.O_CREAT | os.O_RDWR)
+    with waiting(calls, place, command, locks[1]) as go_on:
+        lock.unlink()
+        os.close(first)
+        third = os.open(lock, os.O_CREAT | os.O_EXCL | os.O_RDWR)
+        fcntl.flock(third, fcntl.LOCK_EX | fcntl.LOCK_NB)
+        status, said = go_on()
+        hold(status == 1 and "another run works in this store" in said, f"two runs worked on one part: status {status}: {said}")
+        hold(lock.exists(), "the lock of another run was removed")
+        os.close(third)
+    lock.unlink()
+    run(*command[1:], status=0)
+    hold(there(store) == files, "the store isn't what it was")
+
+
+def has_lost(store, part):
+    """Whether a dry run of a part has something to do."""
+    done = subprocess.run([PROGRAM, "repair", store, "--part", part, "--dry-run"], capture_output=True, text=True)
+    return "; 1 lost in 1; " in done.stdout
+
+
+def test_names_like_ours(place, choose):
+    """Only regular files whose names have exactly the form of unfinished ones are removed, and each is named."""
+    store = place / "names"
+    files = lay(store, choose, names=(".rebuild-store-old", "s"))
+    (store / ".rebuild-store-old.y1").unlink()
+    kept = {name: b"mine" for name in (".rebuild-store-notes", ".rebuild-store-", ".rebuild-store-7", f"{LEFTOVER}0", f"{LEFTOVER}.x",
+                                       LEFTOVER.upper(), ".rebuild-store-0-3-0123456789abcdef", ".rebuild-store-part-1-of-two")}
+    for name, data in kept.items():
+        (store / name).write_bytes(data)
+    odd = [store / f".rebuild-store-{digit * 16}" for digit in "abc"]
+    odd[0].mkdir()
+    os.mkfifo(odd[1])
+    odd[2].symlink_to(store / ".rebuild-store-notes")
+    for name in (LEFTOVER, LEFTOVER_OF_PART):
+        (store / name).write_bytes(b"half")
+    at_work = store / ".rebuild-store-ffffffffffffffff"
+    at_work.write_bytes(b"half")
+    held = os.open(at_work, os.O_RDWR)
+    fcntl.flock(held, fcntl.LOCK_EX)
+    said = run("repair", store, "--replace-damaged", status=0)
+    hold(there(store) == files | kept | {at_work.name: b"half"}, f"{sorted(there(store).keys() ^ (files | kept).keys())}: {said}")
+    hold(all(os.path.lexists(path) for path in odd), "what is no regular file was removed")
+    for name in (LEFTOVER, LEFTOVER_OF_PART):
+        hold(any(name in line and "removed" in line for line in said.splitlines()), f"no line says that {name} was removed: {said}")
+    os.close(held)
+    source = place / LEFTOVER
+    source.write_bytes(b"source")
+    hold("can't have this name" in run("encode", store, source, status=1), "a file of such a name was encoded")
+    hold(not at_work.exists(), "what was left isn't removed by encode")
+
+
+def test_leftovers_of_another_folder(place, choose):
+    """With --to what was left in that folder is removed, and nothing in the store, where another run may be at work."""
+    store, to = place / "from", place / "to"
+    files = lay(store, choose)
+    lost = files.pop("s.x0")
+    (store / "s.x0").unlink()
+    to.mkdir()
+    for folder in (store, to):
+        (folder / LEFTOVER).write_bytes(b"half")
+        (folder / ".rebuild-store-0").write_bytes(b"older")
+    said = run("repair", store, "--to", to, status=0)
+    hold(there(store) == files | {LEFTOVER: b"half", ".rebuild-store-0": b"older"}, f"the store was changed: {said}")
+    hold(there(to) == {"s.x0": lost, ".rebuild-store-0": b"older"}, f"{sorted(there(to))}: {said}")
+
+
+def test_kills_elsewhere(place, choose):
+    """A run that is killed leaves nothing that stays in the way, also where it writes to another folder or to another disk by links."""
+    calls = Calls(place)
+    for kind in ("to", "links"):
+        store, other = place / f"killed-{kind}", place / f"killed-{kind}-other"
+        files = lay(store, choose)
+        other.mkdir()
+        (store / "s.x0").unlink()
+        words = ["--to", other] if kind == "to" else ["--follow-links"]
+        if kind == "links":
+            (store / "s.x0").symlink_to(other / "s.x0")
+        command = [PROGRAM, "repair", store, "--workers", "1", *words]
+        ran = calls.run(command)
+        hold(ran.status == 0 and (other / "s.x0").read_bytes() == files["s.x0"], ran.text())
+        for number in [number for number, kind in enumerate(ran.kinds, 1) if kind in ("write", "sync", "link", "unlink")]:
+            (other / "s.x0").unlink(missing_ok=True)
+            killed = calls.run(command, number, "kill")
+            hold(killed.status == -9, killed.text())
+            run(*command[1:], status=0)
+            hold(there(other) == {"s.x0": files["s.x0"]}, f"killed before call {number}, left {sorted(there(other))}")
+        # What earlier runs named otherwise, or a folder of such a name, is in nobody's way.
+        (other / "s.x0").unlink()
+        for number in range(4):
+            (other / f".rebuild-store-{number}").mkdir() if number % 2 else (other / f".rebuild-store-{number}").write_bytes(b"half")
+        run(*command[1:], status=0)
+        hold((other / "s.x0").read_bytes() == files["s.x0"], "a name like ours is in the way")
+
+
+def test_root_in_others_folders(place, choose):
+    """Root writes into folders that others may write into only if told to."""
+    needs_root()
+    source = place / "root-source"
+    source.write_bytes(b"source")
+    names = ["--code", "6-2-2", "--names", "{place}/{stripe}"]
+    for kind in ("owner", "mode", "group", "disk"):
+        store = place / f"others-{kind}"
+        if kind == "disk":
+            store.mkdir()
+            files = stripe("6-2-2", 40, choose)
+            for name, data in files.items():
+                (store / name).mkdir()
+                (store / name / "s").write_bytes(data)
+            (store / "p1").chmod(0o777)
+            lost, words, folder = store / "x0/s", names, store / "p1"
+        else:
+            lay(store, choose)
+            lost, words, folder = store / "s.x0", [], store
+            if kind == "owner":
+                os.chown(store, OTHER, 0)
+            elif kind == "group":
+                os.chown(store, 0, OTHER)
+            store.chmod({"owner": 0o755, "mode": 0o777, "group": 0o775}[kind])
+        data = lost.read_bytes()
+        lost.unlink()
+        for command in (["repair", store, *words], ["repair", store, *words, "--part", "1/1"], ["encode", store, source, *words]):
+            said = run(*command, status=2)
+            hold(str(folder) in said and "--trust-writers" in said, said)
+        hold(not lost.exists() and not list(store.glob(".rebuild-store-*")), "something was written where others may write")
+        run("repair", store, *words, "--dry-run", status=1)
+        run("scrub", store, *words, status=1)
+        run("repair", store, *words, "--trust-writers", status=0)
+        hold(lost.read_bytes() == data, "the fragment isn't what it was")
+
+
+def test_kept_fragments(place, choose):
+    """A fragment that was replaced and is kept is none of another stripe, and no pattern is taken that can't tell names apart."""
+    store = place / "kept"
+    names = ["--code", "6-2-2", "--names", "disk{shard}/{stripe}"]
+    store.mkdir()
+    data = list(stripe("6-2-2", 90, choose).values())
+    for number, fragment in enumerate(data):
+        (store / f"disk{number}").mkdir()
+        (store / f"disk{number}/note").write_bytes(fragment if number != 4 else bytes(90))
+    run("repair", store, *names, "--replace-damaged", status=0)
+    for command in ("repair", "scrub"):
+        run(command, store, *names, status=0)
+    for number in (1, 2, 3):
+        os.link(store / f"disk{number}/note", store / f"disk{number}/note.damaged")
+    run("repair", store, *names, status=0)
+    hold(sorted(path.name for path in store.glob("disk*/*")) == ["note"] * 10 + ["note.damaged"] * 4, "fragments were made of kept ones")
+    source = place / "file.damaged"
+    source.write_bytes(b"source")
+    hold("can't have this name" in run("encode", store, source, *names, status=1), "a file was encoded under names of kept fragments")
+    for pattern in ("{stripe}{shard}", "{shard}{stripe}"):
+        run("encode", store, source, "--names", pattern, status=2)
+
+
+def test_file_that_changes_while_it_is_read(place, choose):
+    """What is written of a file whose fragment changes after it was tested isn't said to be the file."""
+    store, source = place / "changing", place / "changing-file"
+    data = choose.randbytes(400_000)
+    source.write_bytes(data)
+    run("encode", store, source, status=0)
+    calls = Calls(place)
+    command = [PROGRAM, "read", store, source.name]
+    ran = calls.run(command)
+    first = next(number for number, kind in enumerate(ran.kinds, 1) if kind == "output")
+    with waiting(calls, place, command, first) as go_on:
+        with open(store / f"{source.name}.y1", "r+b") as fragment:
+            fragment.write(bytes(1_000))
+        status, said = go_on()
+        hold(status == 3 and "changed meanwhile" in said[-200:], f"status {status}: {said[-200:]!r}")
+
+
+def main(program):
+    global PROGRAM
+    PROGRAM = pathlib.Path(program or PROGRAM).resolve()
+    choose = random.Random(2026)
+    tests = [value for name, value in globals().items() if name.startswith("test_")]
+    with tempfile.TemporaryDirectory() as scratch:
+        place = pathlib.Path(scratch)
+        place.chmod(0o755)
+        for test in tests:
+            folder = place / test.__name__
+            folder.mkdir()
+            try:
+                test(folder, choose)
+            except Fault as fault:
+                faults.append(f"{test.__name__}: {fault}")
+            except Skipped as why:
+                skipped.append(f"{test.__name__}: {why}")
+    for why in skipped:
+        print(f"store-strangers skipped: {why}")
+    for fault in faults:
+        print(f"store-strangers: {fault}", file=sys.stderr)
+    print(f"store-strangers: {passed} passed, {len(faults)} failed, {len(skipped)} skipped")
+    sys.exit(1 if faults else 0)
+
+
+if __name__ == "__main__":
+    main(*sys.argv[1:2] or [None])
