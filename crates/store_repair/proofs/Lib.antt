@@ -1,6 +1,7 @@
 pub mod WindowLemmas
 pub mod MendLemmas
 pub mod DamageLemmas
+pub mod SuspectLemmas
 pub mod LossLemmas
 pub mod OpenedLemmas
 pub mod RepairLemmas

@@ -27,7 +27,7 @@ mod stripes;
 mod windows;
 
 pub use consistency::are_consistent;
-pub use damage::{find_damaged, without};
+pub use damage::{Damage, Suspects, find_damaged, without};
 pub use encoding::encode;
 pub use file_reading::read_file;
 pub use losses::{LostPlaces, have_checks, lost_places};

@@ -1,6 +1,7 @@
 //! What becomes of a stripe.
 ghost use Rattle.std.specs.Prelude.{◌≡◌, []};
 
+use crate::damage::Suspects;
 use crate::store::NameFault;
 use crate::stripes::{Found, Stripe};
 use lrc_code::{Code, Place, PlaceSet};
@@ -27,10 +28,18 @@ pub enum Reason {
     /// The survivors don't determine the fragment.
     #[error("can't be rebuilt: the fragments that survive don't determine it")]
     Several,
-    /// Without the fragment the others belong together, and without no other.
+    /// Without the fragment the others belong together, and each stripe of the code that differs from the survivors in at most two places
+    /// differs at it.
     #[error("is damaged: only without it the others belong together")]
     Damaged,
-    /// Of a stripe: its survivors don't belong together, and no single one is known to be damaged.
+    /// Without the fragment the others belong together, and without no other; two others that are damaged may make it look so. It was taken
+    /// for the damaged one since the repair was to assume that only one is.
+    #[error("is taken for the damaged one, which is a guess: only without it the others belong together")]
+    TakenForDamaged,
+    /// Of a stripe: its survivors don't belong together, and at least one of the suspects is damaged.
+    #[error("contradiction: one of these is damaged: {0}")]
+    Suspected(Suspects),
+    /// Of a stripe: its survivors don't belong together, and no single one of them explains it.
     #[error("contradiction, and which fragment is damaged can't be told")]
     Contradiction,
     /// The fragment doesn't have the bytes that the store's checksums say.
@@ -89,7 +98,8 @@ pub struct Outcome {
     pub length: usize,
     /// The survivors that were used.
     pub survivors: PlaceSet,
-    /// Whether these are more than the stripe is determined by, so that damage among them shows.
+    /// Whether these are more than the stripe is determined by, so that damage among them shows, and have bytes, and none was left out by a
+    /// guess.
     pub is_checked: bool,
     /// The places whose fragments were rebuilt and have their names; of a plan, those that would be.
     pub rebuilt: Vec<Place>,

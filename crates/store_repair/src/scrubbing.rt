@@ -1,8 +1,7 @@
 //! Scrubbing a stripe of a store: whether its fragments belong together, and which one is damaged where that can be told.
 ghost use Rattle.std.specs.Prelude.{◌≡◌, length};
 
-use crate::consistency::are_consistent;
-use crate::damage::find_damaged;
+use crate::damage::{Damage, find_damaged};
 use crate::losses::have_checks;
 use crate::mending::{MendFault, Survivors};
 use crate::opening::open_survivors;
@@ -67,13 +66,11 @@ fn test<F: Fragment>(
 ) -> Result<(), AllocError>
     requires { length survivors.now.fragments.now ≡ 16 }
 {
-    match are_consistent(alloc, survivors) {
-        Ok(true) => Ok(()),
-        Ok(false) => match find_damaged(alloc, survivors) {
-            Ok(Some(place)) => note(findings, Some(place), Reason::Damaged),
-            Ok(None) => note(findings, None, Reason::Contradiction),
-            Err(fault) => note_fault(fault, findings),
-        },
+    match find_damaged(alloc, survivors) {
+        Ok(Damage::Nowhere) => Ok(()),
+        Ok(Damage::At(place)) => note(findings, Some(place), Reason::Damaged),
+        Ok(Damage::Among(suspects)) => note(findings, None, Reason::Suspected(suspects)),
+        Ok(Damage::Unknown) => note(findings, None, Reason::Contradiction),
         Err(fault) => note_fault(fault, findings),
     }
 }
