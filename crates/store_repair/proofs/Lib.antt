@@ -5,6 +5,7 @@ pub mod SuspectLemmas
 pub mod LossLemmas
 pub mod OpenedLemmas
 pub mod RepairLemmas
+pub mod ScrubLemmas
 pub mod CombiningLemmas
 pub mod FileLemmas
 pub mod ReadingLemmas

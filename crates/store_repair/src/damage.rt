@@ -43,18 +43,23 @@ pub struct Suspects {
 
 impl Display for Suspects {
     fn fmt<W: Write>(&self, f: &mut Formatter<W>) -> fmt::Result {
-        let mut is_first = true;
-        for place in &Place::ALL {
-            if self.places.has(*place) {
-                if !is_first {
-                    f.write_str(" ")?;
-                }
-                f.write_str(place.name())?;
-                is_first = false;
-            }
-        }
-        Ok(())
+        write_places(f, self.places)
     }
+}
+
+/// Writes the names of places with a space between them.
+pub(crate) fn write_places<W: Write>(f: &mut Formatter<W>, places: PlaceSet) -> fmt::Result {
+    let mut is_first = true;
+    for place in &Place::ALL {
+        if places.has(*place) {
+            if !is_first {
+                f.write_str(" ")?;
+            }
+            f.write_str(place.name())?;
+            is_first = false;
+        }
+    }
+    Ok(())
 }
 
 // Without which survivors the others belong together.

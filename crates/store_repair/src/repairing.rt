@@ -5,9 +5,10 @@ ghost use Rattle.store_repair.specs.Opened.{AreMade, AreRebuilt};
 ghost use Rattle.store_repair.specs.Store.{AreUntouched};
 
 use crate::fewest::make_from_fewest;
+use crate::lengths::length_or_note;
 use crate::making::{Made, make};
 use crate::opening::open_survivors;
-use crate::outcomes::{Finding, Outcome, note_no_survivor};
+use crate::outcomes::{Finding, Outcome};
 use crate::putting::{put_all, settle};
 use crate::settings::{Reads, Repair};
 use crate::store::Store;
@@ -27,8 +28,8 @@ pub fn repair_stripe<S: Store>(
         (S.files store.new) o.rebuilt.items) }
 {
     let mut findings = Vec::new(alloc);
-    let Some(length) = stripe.length() else {
-        note_no_survivor(repair.code, stripe, &mut findings)?;
+    let known = length_or_note(alloc, &*store, repair.code, stripe, &mut findings)?;
+    let Some(length) = known else {
         return Ok(Outcome::of(alloc, findings));
     };
     let made = make_lost(alloc, store, repair, stripe, length, &mut findings)?;
