@@ -1,9 +1,11 @@
 pub mod WindowLemmas
 pub mod MendLemmas
 pub mod DamageLemmas
+pub mod SuspectLemmas
 pub mod LossLemmas
 pub mod OpenedLemmas
 pub mod RepairLemmas
+pub mod ScrubLemmas
 pub mod CombiningLemmas
 pub mod FileLemmas
 pub mod ReadingLemmas

@@ -3,7 +3,7 @@ use Rattle.std.proofs.Common.{◌≡◌, ◌∙◌, ◌<◌, ◌≤◌, ◌+◌,
 use Rattle.std.proofs.Common.{inl, inr, take}
 use Rattle.std.proofs.Common.{All, get_or, length, length-append, filter}
 use Rattle.std.proofs.lemmas.List.{get_or-append_right, get_or_append_left}
-use Rattle.std.specs.Prelude.{◌&&◌, ◌||◌, ◌==◌, ltb}
+use Rattle.std.specs.Prelude.{◌&&◌, ◌||◌, ltb}
 use Rattle.std.proofs.Math.Seq.{take-suc}
 use Rattle.std.proofs.Common.{append-nil}
 use Rattle.std.proofs.lemmas.Bool.{cases_lt, eq-eqb, le-ltb, lt-ltb, ne_eqb}

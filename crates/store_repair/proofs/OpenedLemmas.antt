@@ -1,5 +1,5 @@
 -- Fragments that are opened one after the other, and the bytes that they show.
-use Rattle.std.proofs.Common.{◌≡◌, ◌∙◌, ◌<◌, ◌≤◌, ◌+◌, ◌-◌, ℕ, zero, suc, List, [], ◌∷◌, ◌++◌, Bool, true, false, refl, sym, ap, ap₂}
+use Rattle.std.proofs.Common.{◌≡◌, ◌∙◌, ◌<◌, ◌≤◌, ◌-◌, ℕ, zero, suc, List, [], ◌∷◌, ◌++◌, Bool, true, false, refl, sym, ap, ap₂}
 use Rattle.std.proofs.Common.{subst, arith, inl, inr}
 use Rattle.std.proofs.Common.{get_or, length, map, cond, Option, Some, None, All, length-append}
 use Rattle.std.specs.Prelude.{◌&&◌, ◌||◌, ◌==◌, not, is_some, unwrap_or}
@@ -12,7 +12,7 @@ use Rattle.lrc_code.specs.Code.{AreBytes, has_place}
 use Rattle.lrc_code.specs.Codes.{tables_of}
 use Rattle.lrc_code.specs.Places.{index_of, same_place}
 use Rattle.lrc_code.specs.Sets.{is_in}
-use Rattle.lrc_code.proofs.PlaceSums.{index_of-eq, index_of-lt, place_at}
+use Rattle.lrc_code.proofs.PlaceSums.{index_of-lt, place_at}
 use Rattle.lrc_plan.specs.Stripes.{at_place, AreWhole}
 use Rattle.store_repair.specs.Opened.{AreOpened, IsOpenedAt, nth_place}
 use Rattle.store_repair.specs.Shown.{AreShown, shown_of}

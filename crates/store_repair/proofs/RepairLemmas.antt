@@ -1,8 +1,8 @@
 -- What a repair leaves, step by step.
-use Rattle.std.proofs.Common.{◌≡◌, ◌∙◌, ◌<◌, ◌≤◌, ◌+◌, ◌-◌, ℕ, List, [], ◌∷◌, ◌++◌, Bool, true, false, refl, sym, ap, subst, arith, inl}
+use Rattle.std.proofs.Common.{◌≡◌, ◌∙◌, ◌<◌, ◌+◌, ℕ, List, [], ◌∷◌, ◌++◌, Bool, true, false, refl, sym, ap, subst, arith, inl}
 use Rattle.std.proofs.Common.{inr}
 use Rattle.std.proofs.Common.{get_or, length, set, Option, Some, None, All, IfSome}
-use Rattle.std.specs.Prelude.{◌⊎◌, ◌&&◌, not, is_some, bytes_eq, IsSome}
+use Rattle.std.specs.Prelude.{◌⊎◌, ◌&&◌, not, is_some, IsSome}
 use Rattle.std.proofs.lemmas.Bool.{cases_Bool, cases_lt, eq-eqb, eqb-true}
 use Rattle.std.proofs.lemmas.List.{get_or-set_other, get_or_append_left, get_or_push, length-set}
 use Rattle.std.proofs.lemmas.List.Elements.{All-push}
@@ -13,7 +13,7 @@ use Rattle.lrc_code.specs.Code.{has_place}
 use Rattle.lrc_code.specs.Codes.{tables_of}
 use Rattle.lrc_code.specs.Places.{index_of, same_place}
 use Rattle.lrc_code.specs.Sets.{is_in}
-use Rattle.lrc_code.proofs.PlaceSums.{index_of-lt, place_at, same_place-eq}
+use Rattle.lrc_code.proofs.PlaceSums.{index_of-lt, place_at}
 use Rattle.lrc_plan.specs.Stripes.{AreWhole}
 use Rattle.store_repair.specs.Damage.{all_but}
 use Rattle.store_repair.specs.Mended.{IsMended, IsMendedStripe}

@@ -6,5 +6,6 @@ pub mod Store
 pub mod Losses
 pub mod Opened
 pub mod Repaired
+pub mod Scrubbed
 pub mod Files
 pub mod Memory

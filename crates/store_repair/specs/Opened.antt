@@ -1,5 +1,5 @@
 -- The fragments of a stripe that were opened, by the places' indexes.
-use Rattle.std.specs.Prelude.{◌≡◌, ◌<◌, ℕ, List, Bool, true, is_some, slice_index_or, Option, Some, None, All, ◌&&◌, AllPairs, false}
+use Rattle.std.specs.Prelude.{◌≡◌, ◌<◌, ℕ, List, Bool, true, is_some, slice_index_or, Option, Some, None, All, AllPairs, false}
 use Rattle.std.specs.Prelude.{length, IfSome}
 use Rattle.lrc_code.specs.declared.places.Place.{Place}
 use Rattle.lrc_code.specs.declared.places.Place.TheVariants.{X0}

@@ -12,13 +12,13 @@ use Rattle.std.specs.Prelude.{Bool, true, false, Result, Ok, Err}
 -- what holds of the files, where some were made
 abbrev pub IfMade : {N : Type 0} → (Made N → Type 0) → Attempt N → Type 0
 IfMade P (attempt.Made made) = P made
-IfMade P (attempt.LeaveOut place) = Unit {0}
+IfMade P (attempt.LeaveOut place guess) = Unit {0}
 IfMade P attempt.GivenUp = Unit {0}
 
 -- none were made
 abbrev pub IsNotMade : {N : Type 0} → Attempt N → Type 0
 IsNotMade (attempt.Made made) = ⊥
-IsNotMade (attempt.LeaveOut place) = Unit {0}
+IsNotMade (attempt.LeaveOut place guess) = Unit {0}
 IsNotMade attempt.GivenUp = Unit {0}
 
 -- whether a fragment is to replace one that is there

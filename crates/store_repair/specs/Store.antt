@@ -1,7 +1,6 @@
 -- A store: the bytes under the names of its fragments, and what its calls do to them.
-use Rattle.std.specs.Prelude.{◌≡◌, ◌⊎◌, ℕ, List, length, Bool, true, false, ◌&&◌, Option, Some, None, Result, Ok, Err}
+use Rattle.std.specs.Prelude.{◌≡◌, ◌⊎◌, ℕ, List, length, Bool, true, false, Option, Some, None}
 use Rattle.std.specs.Prelude.{bytes_eq}
-use Rattle.std.specs.declared.io.Error.{Error}
 use Rattle.lrc_code.specs.declared.places.Place.{Place}
 use Rattle.lrc_code.specs.Code.{AreBytes}
 use Rattle.lrc_code.specs.Places.{same_place}

@@ -42,7 +42,7 @@ pub(crate) fn make_from_fewest<S: Store>(
             }
             Ok(Some(made))
         }
-        Attempt::LeaveOut(_) | Attempt::GivenUp => Ok(None),
+        Attempt::LeaveOut { .. } | Attempt::GivenUp => Ok(None),
     }
 }
 

@@ -1,12 +1,12 @@
 //! Making files for the lost fragments of a stripe, from all survivors that belong together.
-ghost use Rattle.std.specs.Prelude.{◌≡◌, IfOk, IfSome, length};
+ghost use Rattle.std.specs.Prelude.{◌≡◌, ◌&&◌, not, IfOk, IfSome, length};
 ghost use Rattle.lrc_code.specs.Sets.{is_in};
 ghost use Rattle.store_repair.specs.Mended.{AreEmpty};
 ghost use Rattle.store_repair.specs.Opened.{AreMade, AreOpened};
 ghost use Rattle.store_repair.specs.Repaired.{IfMade, IsNotMade};
 
-use crate::damage::find_damaged;
-use crate::losses::lost_places;
+use crate::damage::{Damage, Suspects, find_damaged};
+use crate::losses::{have_checks, lost_places};
 use crate::mending::{MendFault, Survivors, mend};
 use crate::opening::{Opened, leave_out};
 use crate::outcomes::{Finding, Reason, note, read_fault, write_fault};
@@ -16,10 +16,11 @@ use crate::stripes::Stripe;
 use lrc_code::{Place, PlaceSet};
 use std::alloc::{AllocError, Global};
 
-// Rebuilt fragments that have no names yet: the survivors that they are made from, and a file for each place.
+// Rebuilt fragments that have no names yet: the survivors that they are made from, whether these are checked, and a file for each place.
 #[derive(Drop)]
 pub(crate) struct Made<N> {
     pub(crate) set: PlaceSet,
+    pub(crate) is_checked: bool,
     pub(crate) places: Vec<Place>,
     pub(crate) files: Vec<N>,
 }
@@ -28,8 +29,8 @@ pub(crate) struct Made<N> {
 #[derive(Drop)]
 pub(crate) enum Attempt<N> {
     Made(Made<N>),
-    // A survivor is to be left out.
-    LeaveOut(Place),
+    // A survivor is to be left out, by a guess or not.
+    LeaveOut { place: Place, is_guess: bool },
     GivenUp,
 }
 
@@ -50,14 +51,33 @@ pub(crate) fn make<S: Store>(
         stripe.now.name.now (S.files store.old) made.places.items made.files.items)) }
 {
     let mut left = opened;
+    let mut has_guessed = false;
     'attempts: for _attempt in 0..16 {
         match make_from(alloc, store, repair, stripe, &left, findings)? {
-            Attempt::Made(made) => return Ok(Some(made)),
-            Attempt::LeaveOut(place) => leave_out(repair.code, &mut left, place),
+            Attempt::Made(made) => return Ok(Some(held(made, has_guessed))),
+            Attempt::LeaveOut { place, is_guess } => {
+                has_guessed = has_guessed || is_guess;
+                leave_out(repair.code, &mut left, place);
+            }
             Attempt::GivenUp => return Ok(None),
         }
     }
     Ok(None)
+}
+
+// What was made, which isn't checked where a survivor was left out by a guess.
+fn held<N>(made: Made<N>, has_guessed: bool) -> Made<N>
+    ensures set { result.set ≡ made.set }
+    ensures places { result.places ≡ made.places }
+    ensures files { result.files ≡ made.files }
+    ensures checked { result.is_checked ≡ (made.is_checked && not has_guessed) }
+{
+    Made {
+        set: made.set,
+        is_checked: made.is_checked && !has_guessed,
+        places: made.places,
+        files: made.files,
+    }
 }
 
 /// Makes files for the lost fragments from these survivors.
@@ -94,11 +114,17 @@ pub(crate) fn make_from<S: Store>(
         Ok(true) => {
             note_all(lost.several.as_slice(), findings)?;
             let set = opened.set;
-            Ok(Attempt::Made(Made { set, places, files }))
+            let is_checked = opened.length > 0 && have_checks(code, set);
+            Ok(Attempt::Made(Made {
+                set,
+                is_checked,
+                places,
+                files,
+            }))
         }
         Ok(false) => {
             discard_all(store, files, findings)?;
-            after_contradiction(alloc, &survivors, findings)
+            after_contradiction(alloc, repair, &survivors, findings)
         }
         Err(fault) => {
             discard_all(store, files, findings)?;
@@ -187,6 +213,7 @@ pub(crate) fn discard<S: Store>(
 // Notes which survivor of a contradiction is damaged, which then is left out, or that it can't be told.
 fn after_contradiction<F: Fragment, N>(
     alloc: Global,
+    repair: &Repair,
     survivors: &Survivors<'_, F>,
     findings: &mut Vec<Finding>,
 ) -> Result<Attempt<N>, AllocError>
@@ -194,16 +221,41 @@ fn after_contradiction<F: Fragment, N>(
     ensures { IfOk result IsNotMade }
 {
     match find_damaged(alloc, survivors) {
-        Ok(Some(place)) => {
+        Ok(Damage::At(place)) => {
             note(findings, Some(place), Reason::Damaged)?;
-            Ok(Attempt::LeaveOut(place))
+            Ok(Attempt::LeaveOut {
+                place,
+                is_guess: false,
+            })
         }
-        Ok(None) => {
+        Ok(Damage::Among(suspects)) => after_suspicion(repair, suspects, findings),
+        Ok(Damage::Nowhere | Damage::Unknown) => {
             note(findings, None, Reason::Contradiction)?;
             Ok(Attempt::GivenUp)
         }
         Err(fault) => after_fault(fault, &[], findings),
     }
+}
+
+// Notes the suspects of a contradiction, or the one that is taken for the damaged one, which then is left out.
+fn after_suspicion<N>(
+    repair: &Repair,
+    suspects: Suspects,
+    findings: &mut Vec<Finding>,
+) -> Result<Attempt<N>, AllocError>
+    ensures { IfOk result IsNotMade }
+{
+    if repair.assume_one_damaged {
+        if let Some(place) = suspects.single {
+            note(findings, Some(place), Reason::TakenForDamaged)?;
+            return Ok(Attempt::LeaveOut {
+                place,
+                is_guess: true,
+            });
+        }
+    }
+    note(findings, None, Reason::Suspected(suspects))?;
+    Ok(Attempt::GivenUp)
 }
 
 // Notes why fragments at these places couldn't be rebuilt. A survivor that can't be read is left out.
@@ -224,7 +276,10 @@ fn after_fault<N>(
             let place = Place::from_index(index);
             note(findings, place, read_fault(error)?)?;
             match place {
-                Some(place) => Ok(Attempt::LeaveOut(place)),
+                Some(place) => Ok(Attempt::LeaveOut {
+                    place,
+                    is_guess: false,
+                }),
                 None => Ok(Attempt::GivenUp),
             }
         }

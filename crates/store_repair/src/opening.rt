@@ -1,11 +1,12 @@
 //! The surviving fragments of a stripe, open for reading.
-ghost use Rattle.std.specs.Prelude.{◌≡◌, ◌&&◌, IfOk, None, length, set, vec_len};
+ghost use Rattle.std.specs.Prelude.{◌≡◌, ◌&&◌, IfOk, OnOk, None, length, set, vec_len};
 ghost use Rattle.lrc_code.specs.Code.{has_place};
 ghost use Rattle.lrc_code.specs.Codes.{tables_of};
 ghost use Rattle.lrc_code.specs.Places.{index_of};
 ghost use Rattle.lrc_code.specs.Sets.{is_in};
 ghost use Rattle.store_repair.specs.Damage.{all_but};
 ghost use Rattle.store_repair.specs.Opened.{AreOpened, IsOpenedAt};
+ghost use Rattle.store_repair.specs.Scrubbed.{said_damaged};
 
 use crate::damage::without;
 use crate::outcomes::{Finding, note, read_fault};
@@ -38,6 +39,7 @@ pub fn open_survivors<S: Store>(
     ensures length { IfOk result (λ opened. opened.length ≡ length) }
     ensures opened { IfOk result (λ opened. AreOpened S.Survivor.shown code stripe.now.name.now length (S.files store.now) opened.set
         opened.fragments.items) }
+    ensures said { OnOk result (said_damaged findings.new.items ≡ said_damaged findings.old.items) }
 {
     let mut opened = open_all(alloc, store, code, stripe, length, findings)?;
     let mut refused = store.refused(alloc, stripe.name, length, opened.fragments.as_slice())?;
@@ -73,6 +75,7 @@ fn open_all<S: Store>(
     ensures length { IfOk result (λ opened. opened.length ≡ length) }
     ensures opened { IfOk result (λ opened. AreOpened S.Survivor.shown code stripe.now.name.now length (S.files store.now) opened.set
         opened.fragments.items) }
+    ensures said { OnOk result (said_damaged findings.new.items ≡ said_damaged findings.old.items) }
 {
     let mut set = PlaceSet::empty();
     let mut fragments = Vec::with_capacity(alloc, 16)?;
@@ -100,7 +103,8 @@ fn open_at<S: Store>(
     length: usize,
     findings: &mut Vec<Finding>,
 ) -> Result<Option<S::Survivor>, AllocError>
-    ensures { IfOk result (IsOpenedAt S.Survivor.shown code stripe.now.name.now length (S.files store.now) place) }
+    ensures opened { IfOk result (IsOpenedAt S.Survivor.shown code stripe.now.name.now length (S.files store.now) place) }
+    ensures said { OnOk result (said_damaged findings.new.items ≡ said_damaged findings.old.items) }
 {
     if !code.has(place) {
         return Ok(None);

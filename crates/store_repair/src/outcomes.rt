@@ -1,6 +1,10 @@
 //! What becomes of a stripe.
-ghost use Rattle.std.specs.Prelude.{◌≡◌, []};
+ghost use Rattle.std.specs.Prelude.{◌≡◌, ◌≢◌, ◌++◌, [], false, Option, IfOk, OnOk};
+ghost use Rattle.lrc_code.specs.declared.places.Place.{Place};
+ghost use Rattle.store_repair.specs.Scrubbed.{damaged_by, said_damaged};
 
+use crate::damage::Suspects;
+use crate::lengths::Lengths;
 use crate::store::NameFault;
 use crate::stripes::{Found, Stripe};
 use lrc_code::{Code, Place, PlaceSet};
@@ -24,13 +28,24 @@ pub enum Reason {
     /// Of a stripe: none of its fragments can be read.
     #[error("no fragment can be read")]
     NoSurvivor,
+    /// Of a stripe: its files have several lengths, and checks confirm none of these, or more than one.
+    #[error("its fragments have different lengths, and no check says which is right: {0}")]
+    LengthsDiffer(Lengths),
     /// The survivors don't determine the fragment.
     #[error("can't be rebuilt: the fragments that survive don't determine it")]
     Several,
-    /// Without the fragment the others belong together, and without no other.
+    /// Without the fragment the others belong together, and each stripe of the code that differs from the survivors in at most two places
+    /// differs at it.
     #[error("is damaged: only without it the others belong together")]
     Damaged,
-    /// Of a stripe: its survivors don't belong together, and no single one is known to be damaged.
+    /// Without the fragment the others belong together, and without no other; two others that are damaged may make it look so. It was taken
+    /// for the damaged one since the repair was to assume that only one is.
+    #[error("is taken for the damaged one, which is a guess: only without it the others belong together")]
+    TakenForDamaged,
+    /// Of a stripe: its survivors don't belong together, and at least one of the suspects is damaged.
+    #[error("contradiction: one of these is damaged: {0}")]
+    Suspected(Suspects),
+    /// Of a stripe: its survivors don't belong together, and no single one of them explains it.
     #[error("contradiction, and which fragment is damaged can't be told")]
     Contradiction,
     /// The fragment doesn't have the bytes that the store's checksums say.
@@ -56,7 +71,9 @@ pub enum Reason {
 
 impl Reason {
     /// Why a fragment isn't among the survivors of a stripe, by what is under its name; a file has another length.
-    pub fn of(found: Found) -> Reason {
+    pub fn of(found: Found) -> Reason
+        ensures { (place : Option Place) → damaged_by result place ≡ [] }
+    {
         match found {
             Found::Absent => Reason::Absent,
             Found::File { .. } => Reason::OtherLength,
@@ -89,7 +106,8 @@ pub struct Outcome {
     pub length: usize,
     /// The survivors that were used.
     pub survivors: PlaceSet,
-    /// Whether these are more than the stripe is determined by, so that damage among them shows.
+    /// Whether these are more than the stripe is determined by, so that damage among them shows, and have bytes, and none was left out by a
+    /// guess.
     pub is_checked: bool,
     /// The places whose fragments were rebuilt and have their names; of a plan, those that would be.
     pub rebuilt: Vec<Place>,
@@ -99,7 +117,9 @@ pub struct Outcome {
 impl Outcome {
     /// A stripe of which nothing was rebuilt.
     pub fn of(alloc: Global, findings: Vec<Finding>) -> Outcome
-        ensures { result.rebuilt.items ≡ [] }
+        ensures rebuilt { result.rebuilt.items ≡ [] }
+        ensures findings { result.findings.items ≡ findings.items }
+        ensures checked { result.is_checked ≡ false }
     {
         Outcome {
             length: 0,
@@ -124,7 +144,10 @@ pub(crate) fn note(
     findings: &mut Vec<Finding>,
     place: Option<Place>,
     reason: Reason,
-) -> Result<(), AllocError> {
+) -> Result<(), AllocError>
+    ensures said { OnOk result (said_damaged findings.new.items ≡ said_damaged findings.old.items ++ damaged_by reason place) }
+    ensures some { OnOk result (findings.new.items ≢ []) }
+{
     findings.push(Finding { place, reason })?;
     Ok(())
 }
@@ -134,7 +157,9 @@ pub(crate) fn note_no_survivor(
     code: Code,
     stripe: &Stripe<'_>,
     findings: &mut Vec<Finding>,
-) -> Result<(), AllocError> {
+) -> Result<(), AllocError>
+    ensures { OnOk result (said_damaged findings.new.items ≡ said_damaged findings.old.items) }
+{
     note(findings, None, Reason::NoSurvivor)?;
     for place in code.places() {
         let found = stripe.files.at(*place);
@@ -146,7 +171,9 @@ pub(crate) fn note_no_survivor(
 }
 
 /// Why a fragment can't be read. An error of the kind `InvalidData` says that it differs from the store's checksums.
-pub(crate) fn read_fault(error: io::Error) -> Result<Reason, AllocError> {
+pub(crate) fn read_fault(error: io::Error) -> Result<Reason, AllocError>
+    ensures { IfOk result (λ reason. (place : Option Place) → damaged_by reason place ≡ []) }
+{
     match error.kind() {
         ErrorKind::OutOfMemory => Err(AllocError),
         ErrorKind::InvalidData => Ok(Reason::Differs),

@@ -1,16 +1,17 @@
 //! What a repair of a stripe would do.
 use crate::fewest::to_be_read;
+use crate::lengths::length_or_note;
 use crate::losses::{have_checks, lost_places};
 use crate::making::to_be_rebuilt;
 use crate::opening::open_survivors;
-use crate::outcomes::{Outcome, Reason, note, note_no_survivor};
+use crate::outcomes::{Outcome, Reason, note};
 use crate::settings::Repair;
 use crate::store::Store;
 use crate::stripes::Stripe;
 use std::alloc::{AllocError, Global};
 
 /// What a repair of a stripe would do: the places whose fragments it would rebuild, if the survivors that can be opened don't contradict
-/// each other, and what it couldn't. No fragment is read.
+/// each other, and what it couldn't. No fragment is read, but where the files' lengths differ.
 pub fn plan_stripe<S: Store>(
     alloc: Global,
     store: &S,
@@ -19,8 +20,8 @@ pub fn plan_stripe<S: Store>(
 ) -> Result<Outcome, AllocError> {
     let code = repair.code;
     let mut findings = Vec::new(alloc);
-    let Some(length) = stripe.length() else {
-        note_no_survivor(code, stripe, &mut findings)?;
+    let known = length_or_note(alloc, store, code, stripe, &mut findings)?;
+    let Some(length) = known else {
         return Ok(Outcome::of(alloc, findings));
     };
     let read = to_be_read(alloc, repair, stripe, length)?;
@@ -33,7 +34,7 @@ pub fn plan_stripe<S: Store>(
     Ok(Outcome {
         length,
         survivors: opened.set,
-        is_checked: have_checks(code, opened.set),
+        is_checked: length > 0 && have_checks(code, opened.set),
         rebuilt: lost.determined,
         findings,
     })

@@ -5,7 +5,6 @@ ghost use Rattle.store_repair.specs.Repaired.{IsPlaced, replaces};
 ghost use Rattle.store_repair.specs.Store.{AreUntouched, HasName, SameElsewhere};
 ghost use Rattle.store_repair.specs.declared.store.Placed.TheVariants as placed;
 
-use crate::losses::have_checks;
 use crate::making::{Made, discard};
 use crate::outcomes::{Finding, Reason, note, write_fault};
 use crate::settings::Repair;
@@ -39,7 +38,7 @@ pub(crate) fn put_all<S: Store>(
     ensures put { IfOk result (λ v. All (IsPutOf S.New.shown made.places.items made.files.items stripe.now.name.now (S.files store.new))
         v.items) }
 {
-    let is_checked = have_checks(repair.code, made.set);
+    let is_checked = made.is_checked;
     let places = made.places;
     let mut left = made.files;
     let mut put = Vec::new(alloc);

@@ -5,17 +5,18 @@ ghost use Rattle.store_repair.specs.Opened.{AreMade, AreRebuilt};
 ghost use Rattle.store_repair.specs.Store.{AreUntouched};
 
 use crate::fewest::make_from_fewest;
-use crate::losses::have_checks;
+use crate::lengths::length_or_note;
 use crate::making::{Made, make};
 use crate::opening::open_survivors;
-use crate::outcomes::{Finding, Outcome, note_no_survivor};
+use crate::outcomes::{Finding, Outcome};
 use crate::putting::{put_all, settle};
 use crate::settings::{Reads, Repair};
 use crate::store::Store;
 use crate::stripes::Stripe;
 use std::alloc::{AllocError, Global};
 
-/// Repairs a stripe. A survivor that is damaged or can't be read is left out, and the others are tried again.
+/// Repairs a stripe. A survivor that is known to be damaged or can't be read is left out, and the others are tried again. Where survivors
+/// contradict each other and it isn't known which are damaged, nothing is rebuilt.
 pub fn repair_stripe<S: Store>(
     alloc: Global,
     store: &mut S,
@@ -27,8 +28,8 @@ pub fn repair_stripe<S: Store>(
         (S.files store.new) o.rebuilt.items) }
 {
     let mut findings = Vec::new(alloc);
-    let Some(length) = stripe.length() else {
-        note_no_survivor(repair.code, stripe, &mut findings)?;
+    let known = length_or_note(alloc, &*store, repair.code, stripe, &mut findings)?;
+    let Some(length) = known else {
         return Ok(Outcome::of(alloc, findings));
     };
     let made = make_lost(alloc, store, repair, stripe, length, &mut findings)?;
@@ -37,11 +38,12 @@ pub fn repair_stripe<S: Store>(
         return Ok(Outcome::of(alloc, findings));
     };
     let survivors = made.set;
+    let is_checked = made.is_checked;
     let rebuilt = put_all(alloc, store, repair, stripe, made, &mut findings)?;
     Ok(Outcome {
         length,
         survivors,
-        is_checked: have_checks(repair.code, survivors),
+        is_checked,
         rebuilt,
         findings,
     })

@@ -1,27 +1,40 @@
 //! Scrubbing a stripe of a store: whether its fragments belong together, and which one is damaged where that can be told.
-ghost use Rattle.std.specs.Prelude.{◌≡◌, length};
+ghost use Rattle.std.specs.Prelude.{◌≡◌, ◌≢◌, ◌++◌, ℕ, List, [], length, All, IfOk, IfSome, OnOk, true};
+ghost use Rattle.lrc_code.specs.Codes.{tables_of};
+ghost use Rattle.lrc_code.specs.Sets.{is_in};
+ghost use Rattle.lrc_plan.specs.Stripes.{AreWhole, IsPossible, at_place};
+ghost use Rattle.store_repair.specs.declared.damage.Damage.TheVariants.{Nowhere};
+ghost use Rattle.store_repair.specs.Damage.{IsLocated};
+ghost use Rattle.store_repair.specs.Scrubbed.{AreOfOneStripe, IsDamagedFragment, damaged_at, said_damaged};
+ghost use Rattle.store_repair.specs.Shown.{AreShown};
 
-use crate::consistency::are_consistent;
-use crate::damage::find_damaged;
+use crate::damage::{Damage, find_damaged};
+use crate::lengths::length_or_note;
 use crate::losses::have_checks;
 use crate::mending::{MendFault, Survivors};
 use crate::opening::open_survivors;
-use crate::outcomes::{Finding, Outcome, Reason, note, note_no_survivor, read_fault};
+use crate::outcomes::{Finding, Outcome, Reason, note, read_fault};
 use crate::store::{Fragment, Store};
 use crate::stripes::Stripe;
 use lrc_code::{Code, Place};
 use std::alloc::{AllocError, Global};
 
-/// Tests a stripe. What is damaged is named only where [`find_damaged`] names it.
+/// Tests a stripe. A fragment is said to be damaged only where it is so whatever at most two of those that were opened hold; and where
+/// nothing is said, and the stripe is checked, those that were opened are of one stripe of the code.
 pub fn scrub_stripe<S: Store>(
     alloc: Global,
     store: &S,
     code: Code,
     stripe: &Stripe<'_>,
-) -> Result<Outcome, AllocError> {
+) -> Result<Outcome, AllocError>
+    ensures damaged { IfOk result (λ o. IfSome (S.files store.now) (λ files.
+        All (IsDamagedFragment code (is_in o.survivors) o.length stripe.now.name.now files) (said_damaged o.findings.items))) }
+    ensures silent { IfOk result (λ o. o.findings.items ≡ [] → o.is_checked ≡ true → IfSome (S.files store.now)
+        (AreOfOneStripe code (is_in o.survivors) o.length stripe.now.name.now)) }
+{
     let mut findings = Vec::new(alloc);
-    let Some(length) = stripe.length() else {
-        note_no_survivor(code, stripe, &mut findings)?;
+    let known = length_or_note(alloc, store, code, stripe, &mut findings)?;
+    let Some(length) = known else {
         return Ok(Outcome::of(alloc, findings));
     };
     note_lost(alloc, code, stripe, length, &mut findings)?;
@@ -33,9 +46,7 @@ pub fn scrub_stripe<S: Store>(
         fragments: opened.fragments.as_slice(),
     };
     let is_checked = have_checks(code, opened.set);
-    if is_checked {
-        test(alloc, &survivors, &mut findings)?;
-    }
+    test(alloc, &survivors, is_checked, &mut findings)?;
     Ok(Outcome {
         length,
         survivors: opened.set,
@@ -52,39 +63,65 @@ fn note_lost(
     stripe: &Stripe<'_>,
     length: usize,
     findings: &mut Vec<Finding>,
-) -> Result<(), AllocError> {
+) -> Result<(), AllocError>
+    ensures { OnOk result (said_damaged findings.new.items ≡ said_damaged findings.old.items) }
+{
     for place in stripe.files.lost(alloc, code, length as u64)? {
         note(findings, Some(place), Reason::of(stripe.files.at(place)))?;
     }
     Ok(())
 }
 
-// Tests whether the survivors belong together.
+// Tests whether the survivors belong together, if there are checks.
 fn test<F: Fragment>(
     alloc: Global,
     survivors: &Survivors<'_, F>,
+    is_checked: bool,
     findings: &mut Vec<Finding>,
 ) -> Result<(), AllocError>
     requires { length survivors.now.fragments.now ≡ 16 }
+    ensures damaged { (at : List (List ℕ)) → AreShown F.shown survivors.now.fragments.now at
+        → AreWhole survivors.now.code (is_in survivors.now.set) at survivors.now.length → said_damaged findings.old.items ≡ []
+        → OnOk result (All (IsLocated survivors.now.code (is_in survivors.now.set) at survivors.now.length)
+        (said_damaged findings.new.items)) }
+    ensures silent { (at : List (List ℕ)) → AreShown F.shown survivors.now.fragments.now at
+        → AreWhole survivors.now.code (is_in survivors.now.set) at survivors.now.length → is_checked ≡ true
+        → OnOk result (findings.new.items ≡ [] → IsPossible (tables_of survivors.now.code) (is_in survivors.now.set) (at_place at)
+        survivors.now.length) }
 {
-    match are_consistent(alloc, survivors) {
-        Ok(true) => Ok(()),
-        Ok(false) => match find_damaged(alloc, survivors) {
-            Ok(Some(place)) => note(findings, Some(place), Reason::Damaged),
-            Ok(None) => note(findings, None, Reason::Contradiction),
-            Err(fault) => note_fault(fault, findings),
-        },
+    if !is_checked {
+        return Ok(());
+    }
+    match find_damaged(alloc, survivors) {
+        Ok(damage) => note_damage(damage, findings),
         Err(fault) => note_fault(fault, findings),
     }
 }
 
+// Notes where survivors are damaged.
+fn note_damage(damage: Damage, findings: &mut Vec<Finding>) -> Result<(), AllocError>
+    ensures said { OnOk result (said_damaged findings.new.items ≡ said_damaged findings.old.items ++ damaged_at damage) }
+    ensures silent { OnOk result (findings.new.items ≡ [] → damage ≡ Nowhere) }
+{
+    match damage {
+        Damage::Nowhere => Ok(()),
+        Damage::At(place) => note(findings, Some(place), Reason::Damaged),
+        Damage::Among(suspects) => note(findings, None, Reason::Suspected(suspects)),
+        Damage::Unknown => note(findings, None, Reason::Contradiction),
+    }
+}
+
 // Notes why survivors couldn't be tested.
-fn note_fault(fault: MendFault, findings: &mut Vec<Finding>) -> Result<(), AllocError> {
+fn note_fault(fault: MendFault, findings: &mut Vec<Finding>) -> Result<(), AllocError>
+    ensures said { OnOk result (said_damaged findings.new.items ≡ said_damaged findings.old.items) }
+    ensures some { OnOk result (findings.new.items ≢ []) }
+{
     match fault {
         MendFault::OutOfMemory => Err(AllocError),
         MendFault::Unread { index, error } => {
             note(findings, Place::from_index(index), read_fault(error)?)
         }
-        MendFault::Several { .. } | MendFault::Unwritten { .. } => Ok(()),
+        MendFault::Several { .. } => note(findings, None, Reason::Several),
+        MendFault::Unwritten { error, .. } => note(findings, None, read_fault(error)?),
     }
 }

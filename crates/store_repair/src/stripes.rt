@@ -50,7 +50,7 @@ pub(crate) fn nth_place(index: usize) -> Place
 }
 
 impl Stripe<'_> {
-    /// How many bytes the stripe's fragments have, if there are any and memory can be as long.
+    /// How many bytes each of the stripe's files has, as [`StripeFiles::length`], if memory can be as long.
     pub fn length(&self) -> Option<usize> {
         usize::try_from(self.files.length()?).ok()
     }
@@ -80,29 +80,19 @@ impl StripeFiles {
         self.found[place.index()]
     }
 
-    /// How many bytes the stripe's fragments have: as many as most of its files, and of two such numbers the greater; none where it has no
-    /// files.
+    /// How many bytes each of the stripe's files has; none where it has no files, or where these differ in length. How many bytes the
+    /// stripe's fragments have then, [`stripe_length`](crate::stripe_length) says.
     pub fn length(&self) -> Option<u64> {
-        let mut best = None;
-        let mut most = 0;
+        let mut common = None;
         for found in &self.found {
             if let Found::File { length } = *found {
-                let count = self.files_of(length);
-                if count > most || (count == most && best < Some(length)) {
-                    most = count;
-                    best = Some(length);
+                if common.is_some_and(|other| other != length) {
+                    return None;
                 }
+                common = Some(length);
             }
         }
-        best
-    }
-
-    // How many of the stripe's files have so many bytes.
-    fn files_of(&self, length: u64) -> usize {
-        self.found
-            .iter()
-            .filter(|found| **found == Found::File { length })
-            .count()
+        common
     }
 
     /// Whether there is a file of so many bytes at a place.

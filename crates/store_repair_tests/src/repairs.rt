@@ -108,27 +108,27 @@ fn is_damaged(outcome: &Outcome, place: Place) -> bool {
         && matches!(finding.reason, Reason::Damaged))
 }
 
-// A stripe without x0, whose px is 01 in place of 00.
+// A stripe without x0, whose py is 01 in place of 07.
 fn damaged_store(alloc: Global) -> Result<MemoryStore, AllocError> {
     let mut store = MemoryStore::new(alloc);
     put_without(&mut store, &SHORT, &[Place::X0])?;
-    store.put(SHORT.name, Place::Px, b"\x01")?;
+    store.put(SHORT.name, Place::Py, b"\x01")?;
     Ok(store)
 }
 
-// Asserts that px is as it was, or was replaced and is kept under its second name.
+// Asserts that py is as it was, or was replaced and is kept under its second name.
 fn assert_damaged_or_replaced(rt: &impl Abort, store: &MemoryStore) {
-    let Some(px) = store.fragment(SHORT.name, Place::Px) else {
-        panic!(rt; "there is no px");
+    let Some(py) = store.fragment(SHORT.name, Place::Py) else {
+        panic!(rt; "there is no py");
     };
-    match store.kept(SHORT.name, Place::Px) {
+    match store.kept(SHORT.name, Place::Py) {
         Some(kept) => {
             assert!(rt; kept == b"\x01".as_slice(), "{kept:?} is kept");
-            assert!(rt; px == b"\x00".as_slice(), "px is {px:?} and was replaced");
+            assert!(rt; py == b"\x07".as_slice(), "py is {py:?} and was replaced");
         }
         None => assert!(rt;
-            px == b"\x01".as_slice(),
-            "px is {px:?} and wasn't replaced"
+            py == b"\x01".as_slice(),
+            "py is {py:?} and wasn't replaced"
         ),
     }
 }
@@ -137,11 +137,11 @@ fn assert_damaged_or_replaced(rt: &impl Abort, store: &MemoryStore) {
 fn damaged_fragment_is_replaced_and_kept(rt: HostRuntime) -> Result<(), AllocError> {
     let mut store = damaged_store(rt.alloc())?;
     let outcome = repair(rt.alloc(), &mut store, &SHORT, true)?;
-    assert!(&rt; is_damaged(&outcome, Place::Px), "{:?}", outcome.findings);
+    assert!(&rt; is_damaged(&outcome, Place::Py), "{:?}", outcome.findings);
     assert!(&rt; outcome.is_checked);
     assert_eq!(&rt; outcome.rebuilt.len(), 2);
     assert_there(&rt, &store, &SHORT, &[]);
-    assert!(&rt; store.kept(SHORT.name, Place::Px) == Some(b"\x01".as_slice()));
+    assert!(&rt; store.kept(SHORT.name, Place::Py) == Some(b"\x01".as_slice()));
     Ok(())
 }
 
@@ -149,11 +149,11 @@ fn damaged_fragment_is_replaced_and_kept(rt: HostRuntime) -> Result<(), AllocErr
 fn damaged_fragment_stays_where_none_is_to_be_replaced(rt: HostRuntime) -> Result<(), AllocError> {
     let mut store = damaged_store(rt.alloc())?;
     let outcome = repair(rt.alloc(), &mut store, &SHORT, false)?;
-    assert!(&rt; is_damaged(&outcome, Place::Px), "{:?}", outcome.findings);
+    assert!(&rt; is_damaged(&outcome, Place::Py), "{:?}", outcome.findings);
     assert_eq!(&rt; outcome.rebuilt.as_slice(), [Place::X0].as_slice());
-    assert_there(&rt, &store, &SHORT, &[Place::Px]);
-    assert!(&rt; is_there(&store, SHORT.name, Place::Px, b"\x01"));
-    assert!(&rt; store.kept(SHORT.name, Place::Px).is_none());
+    assert_there(&rt, &store, &SHORT, &[Place::Py]);
+    assert!(&rt; is_there(&store, SHORT.name, Place::Py, b"\x01"));
+    assert!(&rt; store.kept(SHORT.name, Place::Py).is_none());
     Ok(())
 }
 
@@ -162,11 +162,11 @@ fn damaged_fragment_stays_where_none_is_to_be_replaced(rt: HostRuntime) -> Resul
 fn second_damaged_fragment_of_a_place_stays(rt: HostRuntime) -> Result<(), AllocError> {
     let mut store = damaged_store(rt.alloc())?;
     repair(rt.alloc(), &mut store, &SHORT, true)?;
-    store.put(SHORT.name, Place::Px, b"\x02")?;
+    store.put(SHORT.name, Place::Py, b"\x02")?;
     let outcome = repair(rt.alloc(), &mut store, &SHORT, true)?;
     assert_eq!(&rt; outcome.rebuilt.len(), 0);
-    assert!(&rt; is_there(&store, SHORT.name, Place::Px, b"\x02"));
-    assert!(&rt; store.kept(SHORT.name, Place::Px) == Some(b"\x01".as_slice()));
+    assert!(&rt; is_there(&store, SHORT.name, Place::Py, b"\x02"));
+    assert!(&rt; store.kept(SHORT.name, Place::Py) == Some(b"\x01".as_slice()));
     Ok(())
 }
 
@@ -198,10 +198,10 @@ fn other_stripes_are_as_they_were(rt: HostRuntime) -> Result<(), AllocError> {
     assert_there(&rt, &store, &WIDE, &[]);
     assert_there(&rt, &store, &NARROW, &[Place::X0]);
     assert!(&rt; store.fragment(NARROW.name, Place::X0).is_none());
-    assert_there(&rt, &store, &SHORT, &[Place::X0, Place::Px]);
+    assert_there(&rt, &store, &SHORT, &[Place::X0, Place::Py]);
     assert!(&rt; store.fragment(SHORT.name, Place::X0).is_none());
-    assert!(&rt; is_there(&store, SHORT.name, Place::Px, b"\x01"));
-    assert!(&rt; store.kept(SHORT.name, Place::Px).is_none());
+    assert!(&rt; is_there(&store, SHORT.name, Place::Py, b"\x01"));
+    assert!(&rt; store.kept(SHORT.name, Place::Py).is_none());
     Ok(())
 }
 
@@ -229,14 +229,14 @@ fn long_fragments_come_back(rt: HostRuntime) -> Result<(), AllocError> {
 fn each_name_is_as_it_was_or_rebuilt(rt: HostRuntime) -> Result<(), AllocError> {
     let mut store = damaged_store(rt.alloc())?;
     let repaired = repair(rt.alloc(), &mut store, &SHORT, true);
-    assert_there(&rt, &store, &SHORT, &[Place::X0, Place::Px]);
+    assert_there(&rt, &store, &SHORT, &[Place::X0, Place::Py]);
     assert_damaged_or_replaced(&rt, &store);
     match store.fragment(SHORT.name, Place::X0) {
         Some(bytes) => assert!(&rt; bytes == b"\x01".as_slice(), "{bytes:?}"),
         None => assert!(&rt; repaired.is_err(), "x0 is not rebuilt"),
     }
-    let kept = store.kept(SHORT.name, Place::Px);
-    assert!(&rt; repaired.is_err() || kept.is_some(), "px is not replaced");
+    let kept = store.kept(SHORT.name, Place::Py);
+    assert!(&rt; repaired.is_err() || kept.is_some(), "py is not replaced");
     repaired?;
     Ok(())
 }

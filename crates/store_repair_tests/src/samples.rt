@@ -99,6 +99,7 @@ pub(crate) fn repair(
         code: sample.code,
         reads: Reads::All,
         replace_damaged,
+        assume_one_damaged: false,
         elsewhere: false,
     };
     repair_as(alloc, store, sample, &repair)
@@ -114,12 +115,14 @@ pub(crate) fn repair_from_few(
         code: sample.code,
         reads: Reads::Few,
         replace_damaged: false,
+        assume_one_damaged: false,
         elsewhere: false,
     };
     repair_as(alloc, store, sample, &repair)
 }
 
-fn repair_as(
+/// Repairs a stripe of a store.
+pub(crate) fn repair_as(
     alloc: Global,
     store: &mut MemoryStore,
     sample: &Sample,

@@ -1,33 +1,30 @@
-use Rattle.std.proofs.Common.{◌+◌, ◌∙◌, subst, sym, arith}
+use Rattle.std.proofs.Common.{◌∙◌, subst, sym}
 use Rattle.lrc_code.specs.Sets.{is_in}
-use Rattle.store_repair.specs.Damage.{IsDamagedBefore, IsFit}
-use Rattle.store_repair.proofs.DamageLemmas.{at_end, next_absent, next_clash, next_fit, none_of}
+use Rattle.store_repair.specs.Damage.{AreFits}
+use Rattle.store_repair.specs.Mended.{IsConsistency}
+use Rattle.store_repair.proofs.SuspectLemmas.{are_suspects}
+use Rattle.store_repair.proofs.WindowLemmas.{shown_length}
 use Rattle.store_repair.proofs.damage.find_damaged.Goals as goal
-use Rattle.store_repair.proofs.damage.find_damaged.Goals.{then-has+in_ok-fit_without+then-branch+else-is_some, else-has}
-use Rattle.store_repair.proofs.damage.find_damaged.Goals.{then-has+in_ok-fit_without+else-branch}
 
-pub loop-index-preserved : goal.loop-index-preserved
-loop-index-preserved g c = λ at are whole.
-    let s = c.args.survivors.now in
-    let p = c.in-Some.place in
-    let n = c.loop-index.index in
-    let before = c.loop-index.invariant at are whole in
-    let after = IsDamagedBefore s.code (is_in s.set) at s.length (n + 1) in
-    elim c.if-has.branch [
-      | then-has+in_ok-fit_without+then-branch+else-is_some w ↦ subst after (sym w.damaged-is)
-          (next_fit s.code (is_in s.set) at s.length n p c.in-Some.ensures (sym c.has.ensures ∙ w.if-has.true)
-          (subst (IsFit s.code (is_in s.set) at s.length p) w.if-branch.true (w.in_ok-fit_without.ensures at are whole))
-          (subst (IsDamagedBefore s.code (is_in s.set) at s.length n)
-          (none_of c.loop-index.damaged (sym w.is_some.ensures ∙ w.if-is_some.false)) before))
-      | then-has+in_ok-fit_without+else-branch w ↦ subst after (sym w.damaged-is)
-          (next_clash s.code (is_in s.set) at s.length n p c.in-Some.ensures c.loop-index.damaged
-          (subst (IsFit s.code (is_in s.set) at s.length p) w.if-branch.false (w.in_ok-fit_without.ensures at are whole)) before)
-      | else-has w ↦ subst after (sym w.damaged-is)
-          (next_absent s.code (is_in s.set) at s.length n p c.in-Some.ensures c.loop-index.damaged
-          (sym c.has.ensures ∙ w.if-has.false) before)
-    ]
+pub returns-in-Nowhere : goal.returns-in-Nowhere
+returns-in-Nowhere g c = λ at are whole.
+    let s = c.args.survivors.now in (
+      subst (IsConsistency s.code (is_in s.set) at s.length) c.if-branch.false (c.in_ok-are_consistent.ensures at are whole),
+      subst (AreFits s.code (is_in s.set) at s.length) c.in-Nowhere.is (c.in_ok-fits_without_one.ensures at are whole),
+    )
 
-pub returns : goal.returns
-returns g c = λ at are whole.
+pub returns-in-Only : goal.returns-in-Only
+returns-in-Only g c = λ at are whole.
     let s = c.args.survivors.now in
-    at_end s.code (is_in s.set) at s.length c.loop-index.index c.loop-index.damaged (omega arith) (c.loop-index.invariant at are whole)
+    c.damage_beside.ensures at s.length whole are.bytes (sym (shown_length g.F.Fragment.shown s.fragments.now at are) ∙ c.requires)
+    (subst (IsConsistency s.code (is_in s.set) at s.length) c.if-branch.false (c.in_ok-are_consistent.ensures at are whole))
+    (subst (AreFits s.code (is_in s.set) at s.length) c.in-Only.is (c.in_ok-fits_without_one.ensures at are whole))
+
+pub returns-in-Several : goal.returns-in-Several
+returns-in-Several g c = λ at are whole.
+    let s = c.args.survivors.now in
+    let fits = subst (AreFits s.code (is_in s.set) at s.length) c.in-Several.is (c.in_ok-fits_without_one.ensures at are whole) in
+    are_suspects s.code (is_in s.set) at s.length whole are.bytes
+    (sym (shown_length g.F.Fragment.shown s.fragments.now at are) ∙ c.requires)
+    (subst (IsConsistency s.code (is_in s.set) at s.length) c.if-branch.false (c.in_ok-are_consistent.ensures at are whole))
+    c.in-Several.place fits.0 fits.1.0 fits.1.1 c.other_suspects.result _ c.with.ensures c.other_suspects.ensures tt

@@ -21,10 +21,11 @@ places-preserved g c =
     ] in
     record {
       bound = omega (arith, c.places-test.true, c.in_ok-push.ensures.len);
+      said = c.in_ok-fragment.ensures.said ∙ c.places.invariant.said;
       opened = subst (AreOpened g.S.Survivor.Fragment.shown c.args.code c.args.stripe.now.name.now c.args.length
           (g.S.Store.files c.args.store.now) c.if-is_some.set) (sym c.in_ok-push.ensures.items)
           (opened_more g.S.Survivor.Fragment.shown c.args.code c.args.stripe.now.name.now c.args.length
           (g.S.Store.files c.args.store.now) set c.if-is_some.set c.places.fragments.items x p
-          (c.nth_place-place.ensures ∙ c.len-in-places.ensures ∙ c.places.fragments.ok.0) c.in_ok-fragment.ensures step
+          (c.nth_place-place.ensures ∙ c.len-in-places.ensures ∙ c.places.fragments.ok.0) c.in_ok-fragment.ensures.opened step
           c.places.invariant.opened);
     }

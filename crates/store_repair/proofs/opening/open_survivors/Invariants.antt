@@ -1,5 +1,6 @@
 use Rattle.std.proofs.Common.{◌≡◌, length, vec_len}
 use Rattle.store_repair.specs.Opened.{AreOpened}
+use Rattle.store_repair.specs.Scrubbed.{said_damaged}
 use Rattle.store_repair.proofs.opening.open_survivors.Given as goal
 
 abbrev pub invariant-refused : goal.invariant-refused
@@ -7,6 +8,7 @@ invariant-refused g l =
     record {
       sixteen : length l.opened.fragments.items ≡ 16;
       long : l.opened.length ≡ l.fn.length;
+      said : said_damaged l.findings.items ≡ said_damaged l.fn.findings.items;
       opened : AreOpened g.S.Survivor.Fragment.shown l.fn.code l.fn.stripe.name.now l.fn.length (g.S.Store.files l.fn.store)
           l.opened.set l.opened.fragments.items;
     }

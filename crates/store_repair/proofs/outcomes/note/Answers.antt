@@ -1,0 +1,12 @@
+use Rattle.std.proofs.Common.{◌∙◌, ap, sym}
+use Rattle.store_repair.specs.Scrubbed.{said_damaged}
+use Rattle.store_repair.proofs.ScrubLemmas.{push_some, said_push}
+use Rattle.store_repair.proofs.outcomes.note.Goals as goal
+
+pub returns-clause-said : goal.returns-clause-said
+returns-clause-said c =
+    ap said_damaged c.in_ok-push.ensures.items
+    ∙ said_push c.args.findings.now.items (record { place = c.args.place; reason = c.args.reason })
+
+pub returns-clause-some : goal.returns-clause-some
+returns-clause-some c = λ none. push_some c.args.findings.now.items _ (sym c.in_ok-push.ensures.items ∙ none)

@@ -1,0 +1,179 @@
+//! How many bytes the fragments of a stripe have. Where its files don't agree their checks decide, and never their number.
+ghost use Rattle.std.specs.Prelude.{◌≡◌, OnOk};
+ghost use Rattle.store_repair.specs.Scrubbed.{said_damaged};
+
+use crate::consistency::are_consistent;
+use crate::damage::write_places;
+use crate::losses::have_checks;
+use crate::mending::{MendFault, Survivors};
+use crate::opening::open_survivors;
+use crate::outcomes::{Finding, Reason, note, note_no_survivor};
+use crate::store::Store;
+use crate::stripes::{Found, Stripe, StripeFiles, nth_place};
+use lrc_code::{Code, PlaceSet};
+use std::alloc::{AllocError, Global};
+use std::fmt::{self, Display, Formatter, Write};
+
+/// How many bytes each fragment of a stripe has.
+#[derive(Debug, Drop)]
+pub enum StripeLength {
+    /// There is no file at the code's places, or memory can't be as long as those that are there.
+    NoFiles,
+    /// So many.
+    Known(usize),
+    /// The files have several lengths, and checks confirm none of these, or more than one.
+    Undecided(Lengths),
+}
+
+/// The lengths of a stripe's files, each listed once.
+#[derive(Debug, Drop)]
+pub struct Lengths {
+    pub groups: Vec<LengthGroup>,
+}
+
+/// The files of a length.
+#[derive(Clone, Copy, Debug, PartialEq, Eq)]
+pub struct LengthGroup {
+    /// How many bytes each has.
+    pub length: u64,
+    /// Their places.
+    pub places: PlaceSet,
+}
+
+impl Display for Lengths {
+    fn fmt<W: Write>(&self, f: &mut Formatter<W>) -> fmt::Result {
+        let mut is_first = true;
+        for group in &self.groups {
+            if !is_first {
+                f.write_str(", ")?;
+            }
+            write!(f, "{group}")?;
+            is_first = false;
+        }
+        Ok(())
+    }
+}
+
+impl Display for LengthGroup {
+    fn fmt<W: Write>(&self, f: &mut Formatter<W>) -> fmt::Result {
+        write_places(f, self.places)?;
+        let length = self.length;
+        let noun = if length == 1 { "byte" } else { "bytes" };
+        write!(f, " with {length} {noun}")
+    }
+}
+
+/// How many bytes each fragment of a stripe has: as many as each of its files, if these have one length, and else the length whose
+/// fragments have checks and belong together, if there is only one. Fragments without bytes prove nothing. Fragments are read only where
+/// the lengths differ. No clause says which length it is.
+pub fn stripe_length<S: Store>(
+    alloc: Global,
+    store: &S,
+    code: Code,
+    stripe: &Stripe<'_>,
+) -> Result<StripeLength, AllocError> {
+    let lengths = lengths_of(alloc, code, &stripe.files)?;
+    let Some(first) = lengths.groups.first() else {
+        return Ok(StripeLength::NoFiles);
+    };
+    if lengths.groups.len() == 1 {
+        return Ok(match usize::try_from(first.length) {
+            Ok(length) => StripeLength::Known(length),
+            Err(_) => StripeLength::NoFiles,
+        });
+    }
+    Ok(
+        match confirmed_length(alloc, store, code, stripe, lengths.groups.as_slice())? {
+            Some(length) => StripeLength::Known(length),
+            None => StripeLength::Undecided(lengths),
+        },
+    )
+}
+
+/// How many bytes each fragment of a stripe has; where that isn't known, why is noted.
+pub(crate) fn length_or_note<S: Store>(
+    alloc: Global,
+    store: &S,
+    code: Code,
+    stripe: &Stripe<'_>,
+    findings: &mut Vec<Finding>,
+) -> Result<Option<usize>, AllocError>
+    ensures { OnOk result (said_damaged findings.new.items ≡ said_damaged findings.old.items) }
+{
+    match stripe_length(alloc, store, code, stripe)? {
+        StripeLength::Known(length) => return Ok(Some(length)),
+        StripeLength::NoFiles => note_no_survivor(code, stripe, findings)?,
+        StripeLength::Undecided(lengths) => {
+            note(findings, None, Reason::LengthsDiffer(lengths))?;
+        }
+    }
+    Ok(None)
+}
+
+// The lengths of the files at a code's places, in the order of the first file of each.
+fn lengths_of(alloc: Global, code: Code, files: &StripeFiles) -> Result<Lengths, AllocError> {
+    let mut groups: Vec<LengthGroup> = Vec::new(alloc);
+    for index in 0..16 {
+        let place = nth_place(index);
+        if let Found::File { length } = files.at(place) {
+            let is_new = !groups.iter().any(|group| group.length == length);
+            if code.has(place) && is_new {
+                let places = files.survivors(code, length);
+                groups.push(LengthGroup { length, places })?;
+            }
+        }
+    }
+    Ok(Lengths { groups })
+}
+
+// The only one of several lengths whose fragments have checks and belong together.
+fn confirmed_length<S: Store>(
+    alloc: Global,
+    store: &S,
+    code: Code,
+    stripe: &Stripe<'_>,
+    groups: &[LengthGroup],
+) -> Result<Option<usize>, AllocError> {
+    let mut confirmed = None;
+    for group in groups {
+        let Ok(length) = usize::try_from(group.length) else {
+            return Ok(None);
+        };
+        if is_confirmed(alloc, store, code, stripe, length)? {
+            if confirmed.is_some() {
+                return Ok(None);
+            }
+            confirmed = Some(length);
+        }
+    }
+    Ok(confirmed)
+}
+
+// Whether a stripe's fragments of a length have bytes and checks, and belong together.
+fn is_confirmed<S: Store>(
+    alloc: Global,
+    store: &S,
+    code: Code,
+    stripe: &Stripe<'_>,
+    length: usize,
+) -> Result<bool, AllocError> {
+    if length == 0 {
+        return Ok(false);
+    }
+    let mut noted_later = Vec::new(alloc);
+    let opened = open_survivors(alloc, store, code, stripe, length, &mut noted_later)?;
+    if !have_checks(code, opened.set) {
+        return Ok(false);
+    }
+    let survivors = Survivors {
+        code,
+        length,
+        set: opened.set,
+        fragments: opened.fragments.as_slice(),
+    };
+    match are_consistent(alloc, &survivors) {
+        Ok(belong_together) => Ok(belong_together),
+        Err(MendFault::OutOfMemory) => Err(AllocError),
+        Err(_) => Ok(false),
+    }
+}
