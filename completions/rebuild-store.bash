@@ -35,7 +35,7 @@ _rebuild_store() {
   case ${COMP_WORDS[1]} in
     repair)
       kinds='folder'
-      options+=' --stripes --part --workers --sums --report --json --dry-run --replace-damaged --to --reads --trust-writers'
+      options+=' --stripes --part --workers --sums --report --json --dry-run --replace-damaged --assume-one-damaged --to --reads --trust-writers'
       ;;
     lost) kinds='folder' options+=' --stripes --part --json' ;;
     scrub) kinds='folder' options+=' --stripes --part --workers --sums --report --json' ;;

@@ -53,6 +53,7 @@ complete -c rebuild-store -n "__rebuild_store_command_is $held" -l sums -r -F -d
 complete -c rebuild-store -n "__rebuild_store_command_is $held" -l report -r -F -d 'Write what became of each fragment'
 complete -c rebuild-store -n '__rebuild_store_command_is repair' -l dry-run -d 'Only say what would be done'
 complete -c rebuild-store -n '__rebuild_store_command_is repair' -l replace-damaged -d 'Replace damaged fragments, and keep them'
+complete -c rebuild-store -n '__rebuild_store_command_is repair' -l assume-one-damaged -d 'Guess which fragment is damaged'
 complete -c rebuild-store -n '__rebuild_store_command_is repair' -l to -x -a '(__fish_complete_directories (commandline -ct) "Folder")' \
     -d 'Folder for rebuilt fragments'
 complete -c rebuild-store -n '__rebuild_store_command_is repair' -l reads -x -a 'all few' -d 'Survivors that are read'

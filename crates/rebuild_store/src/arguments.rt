@@ -39,6 +39,9 @@ const DRY_RUN_HELP: &str = "Only say what would be done";
 const REPLACE_HELP: &str =
     "Replace fragments that are damaged or have another length; keep them as <name>.damaged";
 
+const ASSUME_HELP: &str =
+    "Take a fragment for the damaged one if it alone may be, a guess that no check covers";
+
 const STRIPES_HELP: &str = "File of the stripes that should be there, a name on each line";
 
 const PART_HELP: &str = "Only the stripes of part I of N, as 3/10";
@@ -105,6 +108,8 @@ pub struct Options {
     pub reads: Reads,
     pub dry_run: bool,
     pub replace_damaged: bool,
+    /// Whether the only survivor without which the others belong together is taken for the damaged one.
+    pub assume_one_damaged: bool,
     /// The folder that rebuilt fragments are written to.
     pub to: Option<String>,
     pub links: Links,
@@ -152,6 +157,7 @@ fn definition<'a>(alloc: Global) -> Result<Definition<'a>, AllocError> {
         .arg(workers(alloc))?
         .arg(flag(alloc, "dry-run", DRY_RUN_HELP))?
         .arg(flag(alloc, "replace-damaged", REPLACE_HELP))?
+        .arg(flag(alloc, "assume-one-damaged", ASSUME_HELP))?
         .arg(text(alloc, "to", "FOLDER", TO_HELP))?
         .arg(trust(alloc))?
         .arg(
@@ -280,6 +286,7 @@ fn command_of(
             reads: reads_of(matches, repairs),
             dry_run: repairs && matches.get_flag("dry-run"),
             replace_damaged: repairs && matches.get_flag("replace-damaged"),
+            assume_one_damaged: repairs && matches.get_flag("assume-one-damaged"),
             to: given(alloc, matches, "to", repairs)?,
             links: links_of(matches),
             trusts_writers: repairs && matches.get_flag("trust-writers"),

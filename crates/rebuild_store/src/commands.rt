@@ -15,7 +15,7 @@ use std::alloc::{AllocError, Global};
 use std::io::{self, ErrorKind};
 use std::thread::Threads;
 use store_folder::{FolderStore, Pattern, Site, tag_of_part};
-use store_repair::{Reads, Repair};
+use store_repair::{Finding, Outcome, Reads, Reason, Repair};
 
 // The begin of the names of unfinished files, by the part of the store that a run works on.
 fn tag_of(alloc: Global, part: Option<Part>) -> Result<String, AllocError> {
@@ -26,24 +26,16 @@ fn tag_of(alloc: Global, part: Option<Part>) -> Result<String, AllocError> {
 }
 
 /// Repairs the stripes, says what was done and what is left, and gives the exit status.
-pub fn repair_all<R: Threads + Sync>(
+pub fn repair_all<'a, R: Threads + Sync>(
     rt: &R,
     system: &HostRuntime,
-    store: &OpenStore,
-    pattern: &Pattern<'_>,
-    options: &Options,
+    store: &'a OpenStore,
+    pattern: &Pattern<'a>,
+    options: &'a Options,
 ) -> io::Result<u8> {
     let alloc = system.alloc();
     let tag = tag_of(alloc, options.part)?;
-    let site = Site {
-        folder: store.folder.as_str(),
-        target: options.to.as_ref().unwrap_or(&store.folder).as_str(),
-        pattern: *pattern,
-        code: store.code,
-        sums: store.sums.as_ref(),
-        tag: tag.as_str(),
-        links: options.links,
-    };
+    let site = site_of(store, pattern, options, tag.as_str());
     let stripes = store.stripes(system, options.part)?;
     let files = FolderStore::new(system, site);
     if let Some(fault) = refuse_other_stores(alloc, store, &files, stripes.as_slice())? {
@@ -69,12 +61,31 @@ pub fn repair_all<R: Threads + Sync>(
     Ok(status)
 }
 
+/// Where the store is and where new fragments go, by the options; with what the names of unfinished files have before their digits.
+pub fn site_of<'a>(
+    store: &'a OpenStore,
+    pattern: &Pattern<'a>,
+    options: &'a Options,
+    tag: &'a str,
+) -> Site<'a> {
+    Site {
+        folder: store.folder.as_str(),
+        target: options.to.as_ref().unwrap_or(&store.folder).as_str(),
+        pattern: *pattern,
+        code: store.code,
+        sums: store.sums.as_ref(),
+        tag,
+        links: options.links,
+    }
+}
+
 // How stripes are repaired, by the options.
 fn repair_of(code: Code, options: &Options) -> Repair {
     Repair {
         code,
         reads: options.reads,
         replace_damaged: options.replace_damaged,
+        assume_one_damaged: options.assume_one_damaged,
         elsewhere: options.to.is_some(),
     }
 }
@@ -121,14 +132,25 @@ fn say_stripes(rt: &HostRuntime, results: &Results<'_>, reads: Reads) -> io::Res
         if done.outcome.is_checked || reads == Reads::Few {
             continue;
         }
+        let why = why_unchecked(&done.outcome);
         for place in &done.outcome.rebuilt {
             let name = file_of(alloc, results.site, stripe, *place)?;
-            eprintln!(rt;
-                "{name}: rebuilt without any check: as many fragments survive as it takes, so damage among them can't show"
-            )?;
+            eprintln!(rt; "{name}: rebuilt without any check: {why}")?;
         }
     }
     Ok(())
+}
+
+// Why no check covers what was rebuilt of a stripe.
+fn why_unchecked(outcome: &Outcome) -> &'static str {
+    let is_guess = |finding: &Finding| { matches!(finding.reason, Reason::TakenForDamaged) };
+    if outcome.findings.iter().any(is_guess) {
+        "which fragment is damaged was a guess"
+    } else if outcome.length == 0 {
+        "fragments without bytes show nothing"
+    } else {
+        "as many fragments survive as it takes, so damage among them can't show"
+    }
 }
 
 // The summary is on standard output, but where rows are there.
@@ -159,24 +181,15 @@ fn say_rows(rt: &HostRuntime, results: &Results<'_>, options: &Options) -> io::R
 }
 
 /// Tests the stripes, says what isn't as it should be, and gives the exit status.
-pub fn scrub<R: Threads + Sync>(
+pub fn scrub<'a, R: Threads + Sync>(
     rt: &R,
     system: &HostRuntime,
-    store: &OpenStore,
-    pattern: &Pattern<'_>,
-    options: &Options,
+    store: &'a OpenStore,
+    pattern: &Pattern<'a>,
+    options: &'a Options,
 ) -> io::Result<u8> {
     let stripes = store.stripes(system, options.part)?;
-    let folder = store.folder.as_str();
-    let site = Site {
-        folder,
-        target: folder,
-        pattern: *pattern,
-        code: store.code,
-        sums: store.sums.as_ref(),
-        tag: "",
-        links: options.links,
-    };
+    let site = site_of(store, pattern, options, "");
     let work = Work::Scrub(store.code);
     let all = work_on(rt, system, &site, work, stripes.as_slice(), options.workers)?;
     let results = Results::new(&site, stripes.as_slice(), all.as_slice());

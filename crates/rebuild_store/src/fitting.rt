@@ -7,7 +7,7 @@ use lrc_code::Code;
 use std::alloc::{AllocError, Global};
 use store_folder::{FileFragment, FolderStore};
 use store_repair::{
-    MendFault, Opened, Stripe, Survivors, are_consistent, find_damaged, have_checks, open_survivors,
+    Damage, MendFault, Opened, Stripe, Survivors, find_damaged, have_checks, open_survivors,
 };
 
 /// As many bytes of each fragment are looked at.
@@ -93,13 +93,9 @@ fn fit_of_opened(
     if !have_checks(code, opened.set) {
         return Ok(Fit::Unknown);
     }
-    match are_consistent(alloc, &survivors) {
-        Ok(true) => Ok(Fit::Fits),
-        Ok(false) => match find_damaged(alloc, &survivors) {
-            Ok(Some(_)) => Ok(Fit::Fits),
-            Ok(None) => Ok(Fit::Clashes),
-            Err(fault) => unknown(fault),
-        },
+    match find_damaged(alloc, &survivors) {
+        Ok(Damage::Nowhere | Damage::At(_) | Damage::Among(_)) => Ok(Fit::Fits),
+        Ok(Damage::Unknown) => Ok(Fit::Clashes),
         Err(fault) => unknown(fault),
     }
 }

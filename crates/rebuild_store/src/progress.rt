@@ -36,7 +36,9 @@ impl<'a> Progress<'a> {
         let mut fragments = 0u64;
         let mut bytes = 0u64;
         for stripe in stripes {
-            let length = stripe.files.length().unwrap_or(0);
+            let Some(length) = stripe.files.length() else {
+                continue;
+            };
             let lost = stripe.files.lost(alloc, code, length)?.len() as u64;
             fragments = fragments.saturating_add(lost);
             bytes = bytes.saturating_add(lost.saturating_mul(length));
@@ -66,7 +68,7 @@ impl<'a> Progress<'a> {
             Ordering::SeqCst,
         );
         for finding in &outcome.findings {
-            if matches!(finding.reason, Reason::Damaged | Reason::Differs) {
+            if finding.reason.is_damage() {
                 self.damaged.fetch_add(1, Ordering::SeqCst);
             } else if !outcome.is_mended(finding) {
                 self.given_up.fetch_add(1, Ordering::SeqCst);

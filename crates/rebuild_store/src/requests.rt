@@ -1,5 +1,6 @@
 //! The command `lost`: the request list of what is lost.
 use crate::arguments::Options;
+use crate::commands::site_of;
 use crate::reports::{Rows, quoted};
 use crate::statuses::{DEVICE, DONE, LEFT};
 use crate::stores::OpenStore;
@@ -7,8 +8,8 @@ use crate::summaries::counted;
 use lrc_code::{Code, Place, PlaceSet};
 use std::alloc::{AllocError, Global};
 use std::io::{self, BufWriter, Write};
-use store_folder::Pattern;
-use store_repair::{Found, Reason, Stripe};
+use store_folder::{FolderStore, Pattern};
+use store_repair::{Found, Reason, Stripe, StripeLength, stripe_length};
 
 /// The longest fragment that a list can ask for.
 const MOST_BYTES: u64 = 65_536;
@@ -17,11 +18,11 @@ const MOST_BYTES: u64 = 65_536;
 const MOST_NAME: usize = 32;
 
 /// Writes the request list of what is lost to standard output, and counts to standard error; gives the exit status.
-pub fn write_requests(
-    rt: &HostRuntime,
-    store: &OpenStore,
-    pattern: &Pattern<'_>,
-    options: &Options,
+pub fn write_requests<'a>(
+    rt: &'a HostRuntime,
+    store: &'a OpenStore,
+    pattern: &Pattern<'a>,
+    options: &'a Options,
 ) -> io::Result<u8> {
     let alloc = rt.alloc();
     let mut output = BufWriter::new(alloc, io::writer(rt))?;
@@ -29,21 +30,27 @@ pub fn write_requests(
         output.write_all(header_of(store.code).as_bytes())?;
     }
     let stripes = store.stripes(rt, options.part)?;
+    let files = FolderStore::new(rt, site_of(store, pattern, options, ""));
     let mut is_device = false;
+    let mut is_left = false;
     let mut lost = 0u64;
     let mut unlisted = 0u64;
     for stripe in &stripes {
-        let places = lost_of(alloc, store.code, stripe)?;
+        let Some(length) = length_of(rt, &files, store.code, stripe)? else {
+            is_left = true;
+            continue;
+        };
+        let places = stripe.files.lost(alloc, store.code, length)?;
         lost = lost.saturating_add(places.len() as u64);
         is_device |= say_unknown(rt, pattern, store.code, stripe, places.as_slice())?;
         let form = if options.json { Rows::Json } else { Rows::Csv };
-        let listed = request_lines(alloc, store.code, stripe, places.as_slice(), form)?;
+        let listed = request_lines(alloc, store.code, stripe, length, places.as_slice(), form)?;
         if let Some(lines) = listed {
             output.write_all(lines.as_bytes())?;
             continue;
         }
         unlisted = unlisted.saturating_add(places.len() as u64);
-        say_unlisted(rt, pattern, store.code, stripe, places.as_slice())?;
+        say_unlisted(rt, pattern, store.code, stripe, length, places.as_slice())?;
     }
     output.flush()?;
     let stripes = counted(alloc, stripes.len() as u64, "stripe")?;
@@ -52,7 +59,31 @@ pub fn write_requests(
     if is_device {
         return Ok(DEVICE);
     }
-    if lost > 0 { Ok(LEFT) } else { Ok(DONE) }
+    if lost > 0 || is_left {
+        Ok(LEFT)
+    } else {
+        Ok(DONE)
+    }
+}
+
+// How many bytes each fragment of a stripe has, 0 where none is there; none where the files' lengths differ and no check says which is
+// right, which is said.
+fn length_of(
+    rt: &HostRuntime,
+    files: &FolderStore<'_>,
+    code: Code,
+    stripe: &Stripe<'_>,
+) -> io::Result<Option<u64>> {
+    match stripe_length(rt.alloc(), files, code, stripe)? {
+        StripeLength::Known(length) => Ok(Some(length as u64)),
+        StripeLength::NoFiles => Ok(Some(0)),
+        StripeLength::Undecided(lengths) => {
+            let name = stripe.name;
+            let reason = Reason::LengthsDiffer(lengths);
+            eprintln!(rt; "rebuild-store: {name}: {reason}")?;
+            Ok(None)
+        }
+    }
 }
 
 // Says of lost fragments that a list can't ask for them.
@@ -61,10 +92,10 @@ fn say_unlisted(
     pattern: &Pattern<'_>,
     code: Code,
     stripe: &Stripe<'_>,
+    length: u64,
     places: &[Place],
 ) -> io::Result<()> {
     let alloc = rt.alloc();
-    let length = stripe.files.length().unwrap_or(0);
     for place in places {
         let name = pattern.name_of(alloc, code, stripe.name, *place)?;
         let name = name.unwrap_or(String::new(alloc));
@@ -98,13 +129,6 @@ fn say_unknown(
     Ok(is_said)
 }
 
-// The places of a stripe at which there is no fragment of its length; of a stripe without files, all.
-fn lost_of(alloc: Global, code: Code, stripe: &Stripe<'_>) -> Result<Vec<Place>, AllocError> {
-    stripe
-        .files
-        .lost(alloc, code, stripe.files.length().unwrap_or(0))
-}
-
 // The first line of a list.
 fn header_of(code: Code) -> &'static str {
     match code {
@@ -118,10 +142,10 @@ fn request_lines(
     alloc: Global,
     code: Code,
     stripe: &Stripe<'_>,
+    length: u64,
     places: &[Place],
     form: Rows,
 ) -> Result<Option<String>, AllocError> {
-    let length = stripe.files.length().unwrap_or(0);
     if form == Rows::Csv && !can_be_asked(stripe.name, length) {
         return Ok(None);
     }

@@ -4,7 +4,7 @@ use crate::totals::{Results, Totals};
 use lrc_code::Place;
 use std::alloc::{AllocError, Global};
 use store_folder::Site;
-use store_repair::{Reason, Stripe};
+use store_repair::{Finding, Reason, Stripe};
 
 /// As many names are in a summary; rows and lines have all.
 const MOST_NAMES: usize = 3;
@@ -67,10 +67,7 @@ pub fn repaired(alloc: Global, results: &Results<'_>) -> Result<String, AllocErr
             }
         }
         for finding in &done.outcome.findings {
-            if let (Some(place), Reason::Damaged | Reason::Differs) = (
-                finding.place,
-                &finding.reason,
-            ) {
+            if let (Some(place), true) = (finding.place, finding.reason.is_damage()) {
                 damaged.add(alloc, site, stripe, place)?;
             }
         }
@@ -113,7 +110,13 @@ fn sizes_of(alloc: Global, results: &Results<'_>) -> Result<Sizes, AllocError> {
         let Some(stripe) = results.stripes.get(done.index) else {
             continue;
         };
-        let length = stripe.files.length().unwrap_or(0);
+        let has_length = |finding: &Finding| {
+            !matches!(finding.reason, Reason::LengthsDiffer(_))
+        };
+        if !done.outcome.findings.iter().all(has_length) {
+            continue;
+        }
+        let length = done.outcome.length as u64;
         let lost = stripe.files.lost(alloc, results.site.code, length)?;
         let survivors = done.outcome.survivors.len() as u64;
         sizes.lost = sizes.lost.saturating_add(lost.len() as u64);

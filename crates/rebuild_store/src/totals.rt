@@ -1,7 +1,7 @@
 //! What became of all stripes.
 use crate::workers::Done;
 use store_folder::Site;
-use store_repair::{Reason, Stripe};
+use store_repair::Stripe;
 
 /// What a command did with the stripes of a store: of each stripe what became of it, and the counts over all.
 #[derive(Drop)]
@@ -54,7 +54,7 @@ fn totals_of(all: &[Done]) -> Totals {
             totals.unchecked = totals.unchecked.saturating_add(rebuilt);
         }
         for finding in &outcome.findings {
-            if matches!(finding.reason, Reason::Damaged | Reason::Differs) {
+            if finding.reason.is_damage() {
                 totals.damaged = totals.damaged.saturating_add(1);
             }
             if !outcome.is_mended(finding) {

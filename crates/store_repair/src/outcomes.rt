@@ -83,6 +83,14 @@ impl Reason {
         }
     }
 
+    /// Whether the fragment is damaged, is taken for damaged, or differs from the checksums.
+    pub fn is_damage(&self) -> bool {
+        matches!(
+            self,
+            Reason::Damaged | Reason::TakenForDamaged | Reason::Differs
+        )
+    }
+
     /// Whether the system refused to read or write something.
     pub fn is_of_device(&self) -> bool {
         matches!(
