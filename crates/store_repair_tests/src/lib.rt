@@ -3,6 +3,12 @@
 #![tactic(auto)]
 
 #[cfg(test)]
+mod damages;
+#[cfg(test)]
+mod lengths;
+#[cfg(test)]
+mod ranks;
+#[cfg(test)]
 mod repairs;
 #[cfg(test)]
 mod samples;

@@ -3,7 +3,8 @@ use lrc_code::{Code, Place};
 use std::alloc::{AllocError, Global};
 use std::process::Abort;
 use store_repair::{
-    Found, MemoryStore, Outcome, Reads, Repair, Stripe, StripeFiles, repair_stripe,
+    Found, MemoryStore, Outcome, Reads, Repair, Stripe, StripeFiles, plan_stripe, repair_stripe,
+    scrub_stripe,
 };
 
 /// A whole stripe.
@@ -128,6 +129,31 @@ pub(crate) fn repair_as(
     sample: &Sample,
     repair: &Repair,
 ) -> Result<Outcome, AllocError> {
+    let stripe = stripe_of(store, sample);
+    repair_stripe(alloc, store, repair, &stripe)
+}
+
+/// What a repair of a stripe of a store would do.
+pub(crate) fn plan(
+    alloc: Global,
+    store: &MemoryStore,
+    sample: &Sample,
+    repair: &Repair,
+) -> Result<Outcome, AllocError> {
+    plan_stripe(alloc, store, repair, &stripe_of(store, sample))
+}
+
+/// Scrubs a stripe of a store.
+pub(crate) fn scrub(
+    alloc: Global,
+    store: &MemoryStore,
+    sample: &Sample,
+) -> Result<Outcome, AllocError> {
+    scrub_stripe(alloc, store, sample.code, &stripe_of(store, sample))
+}
+
+// What a store has under a stripe's names.
+fn stripe_of(store: &MemoryStore, sample: &Sample) -> Stripe<'static> {
     let mut files = StripeFiles::new();
     for place in Place::ALL {
         if let Some(bytes) = store.fragment(sample.name, place) {
@@ -136,11 +162,20 @@ pub(crate) fn repair_as(
             };
         }
     }
-    let stripe = Stripe {
+    Stripe {
         name: sample.name,
         files,
-    };
-    repair_stripe(alloc, store, repair, &stripe)
+    }
+}
+
+/// A sample's fragment at a place; none of its bytes, if it has none there.
+pub(crate) fn fragment_of(sample: &Sample, place: Place) -> &'static [u8] {
+    for (at, bytes) in sample.fragments {
+        if *at == place {
+            return bytes;
+        }
+    }
+    b""
 }
 
 /// Whether a fragment is there with these bytes.

@@ -1,0 +1,182 @@
+//! What is made of a stripe whose files differ in length.
+use crate::samples::{NARROW, Sample, assert_there, plan, put_without, repair_as, scrub};
+use lrc_code::{Code, Place};
+use std::alloc::{AllocError, Global};
+use std::process::Abort;
+use store_repair::{MemoryStore, Outcome, Reads, Reason, Repair};
+
+// How the stripe is repaired here.
+const REPAIR: Repair = Repair {
+    code: Code::Narrow,
+    reads: Reads::All,
+    replace_damaged: true,
+    assume_one_damaged: false,
+    elsewhere: false,
+};
+
+// Files of a stripe that are cut to a length, or lost, and what a repair says of the stripe's length: how many bytes, or the line.
+struct Case {
+    cut: &'static [Place],
+    to: usize,
+    lost: &'static [Place],
+    says: Result<usize, &'static str>,
+}
+
+const CASES: [Case; 7] = [
+    // One of another length: the nine others belong together.
+    Case {
+        cut: &[Place::X0],
+        to: 3,
+        lost: &[],
+        says: Ok(5),
+    },
+    // Three without bytes: the seven others belong together.
+    Case {
+        cut: &[Place::X0, Place::Y0, Place::P0],
+        to: 0,
+        lost: &[],
+        says: Ok(5),
+    },
+    // A group that belongs together, whatever the number of the others that prove nothing.
+    Case {
+        cut: &[
+            Place::Y0,
+            Place::Y1,
+            Place::Y2,
+            Place::Py,
+            Place::P0,
+            Place::P1,
+        ],
+        to: 0,
+        lost: &[],
+        says: Ok(5),
+    },
+    // Two groups that belong together each.
+    Case {
+        cut: &[Place::Y0, Place::Y1, Place::Y2, Place::Py],
+        to: 4,
+        lost: &[Place::P0, Place::P1],
+        says: Err("x0 x1 x2 px with 5 bytes, y0 y1 y2 py with 4 bytes"),
+    },
+    // Most of them empty: the others have no checks.
+    Case {
+        cut: &[
+            Place::X1,
+            Place::X2,
+            Place::Y1,
+            Place::Y2,
+            Place::Px,
+            Place::P0,
+            Place::P1,
+        ],
+        to: 0,
+        lost: &[],
+        says: Err("x0 y0 py with 5 bytes, x1 x2 y1 y2 px p0 p1 with 0 bytes"),
+    },
+    // None with checks.
+    Case {
+        cut: &[Place::X0, Place::X1],
+        to: 1,
+        lost: &[Place::X2, Place::Y0, Place::Y1],
+        says: Err("x0 x1 with 1 byte, y2 px py p0 p1 with 5 bytes"),
+    },
+    // All empty: one length.
+    Case {
+        cut: &[
+            Place::X0,
+            Place::X1,
+            Place::X2,
+            Place::Y0,
+            Place::Y1,
+            Place::Y2,
+            Place::Px,
+            Place::Py,
+            Place::P0,
+        ],
+        to: 0,
+        lost: &[Place::P1],
+        says: Ok(0),
+    },
+];
+
+// A store with the stripe's files as a case has them.
+fn cut_store(alloc: Global, sample: &Sample, case: &Case) -> Result<MemoryStore, AllocError> {
+    let mut store = MemoryStore::new(alloc);
+    put_without(&mut store, sample, case.lost)?;
+    for (place, bytes) in sample.fragments {
+        if case.cut.iter().any(|cut| cut == place) {
+            store.put(sample.name, *place, bytes.get(..case.to).unwrap_or(b""))?;
+        }
+    }
+    Ok(store)
+}
+
+// Asserts that an outcome says of the stripe's length what a case says.
+fn assert_says(
+    rt: &impl Abort,
+    alloc: Global,
+    outcome: &Outcome,
+    case: &Case,
+) -> Result<(), AllocError> {
+    let differ = outcome.findings.iter().find(|finding| matches!(
+        finding.reason,
+        Reason::LengthsDiffer(_)
+    ));
+    match (differ, case.says) {
+        (None, Ok(length)) => assert_eq!(rt; outcome.length, length),
+        (Some(finding), Err(groups)) => {
+            let reason = &finding.reason;
+            let said = format!(in alloc; "{reason}")?;
+            let wanted = format!(in alloc;
+                "its fragments have different lengths, and no check says which is right: {groups}"
+            )?;
+            assert_eq!(rt; said.as_str(), wanted.as_str());
+            assert_eq!(rt; outcome.rebuilt.len(), 0);
+            assert_eq!(rt; outcome.findings.len(), 1);
+        }
+        _ => panic!(rt; "{:?} where {:?} is wanted", outcome, case.says),
+    }
+    Ok(())
+}
+
+// A scrub, a plan and a repair say the same of the length, and the checks decide it and not the files' number. Where they don't, nothing is
+// written; a fragment without bytes is made where all are empty, and isn't checked.
+#[test]
+fn checks_decide_between_lengths(rt: HostRuntime) -> Result<(), AllocError> {
+    for case in &CASES {
+        let mut store = cut_store(rt.alloc(), &NARROW, case)?;
+        assert_says(&rt, rt.alloc(), &scrub(rt.alloc(), &store, &NARROW)?, case)?;
+        assert_says(
+            &rt,
+            rt.alloc(),
+            &plan(rt.alloc(), &store, &NARROW, &REPAIR)?,
+            case,
+        )?;
+        let outcome = repair_as(rt.alloc(), &mut store, &NARROW, &REPAIR)?;
+        assert_says(&rt, rt.alloc(), &outcome, case)?;
+        match case.says {
+            Ok(0) => {
+                assert_eq!(&rt; outcome.rebuilt.as_slice(), case.lost);
+                assert!(&rt; !outcome.is_checked);
+            }
+            Ok(_) => assert_there(&rt, &store, &NARROW, left_of(&outcome, case)),
+            Err(_) => {
+                let untouched = cut_store(rt.alloc(), &NARROW, case)?;
+                for place in Place::ALL {
+                    let is = store.fragment(NARROW.name, place);
+                    assert!(&rt; is == untouched.fragment(NARROW.name, place));
+                    assert!(&rt; store.kept(NARROW.name, place).is_none());
+                }
+            }
+        }
+    }
+    Ok(())
+}
+
+// The places at which a repair couldn't mend what a case has cut.
+fn left_of(outcome: &Outcome, case: &Case) -> &'static [Place] {
+    if outcome.rebuilt.len() == case.cut.len() {
+        return &[];
+    }
+    case.cut
+}
