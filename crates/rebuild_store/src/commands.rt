@@ -26,16 +26,24 @@ fn tag_of(alloc: Global, part: Option<Part>) -> Result<String, AllocError> {
 }
 
 /// Repairs the stripes, says what was done and what is left, and gives the exit status.
-pub fn repair_all<'a, R: Threads + Sync>(
+pub fn repair_all<R: Threads + Sync>(
     rt: &R,
     system: &HostRuntime,
-    store: &'a OpenStore,
-    pattern: &Pattern<'a>,
-    options: &'a Options,
+    store: &OpenStore,
+    pattern: &Pattern<'_>,
+    options: &Options,
 ) -> io::Result<u8> {
     let alloc = system.alloc();
     let tag = tag_of(alloc, options.part)?;
-    let site = site_of(store, pattern, options, tag.as_str());
+    let site = Site {
+        folder: store.folder.as_str(),
+        target: options.to.as_ref().unwrap_or(&store.folder).as_str(),
+        pattern: *pattern,
+        code: store.code,
+        sums: store.sums.as_ref(),
+        tag: tag.as_str(),
+        links: options.links,
+    };
     let stripes = store.stripes(system, options.part)?;
     let files = FolderStore::new(system, site);
     if let Some(fault) = refuse_other_stores(alloc, store, &files, stripes.as_slice())? {
@@ -61,20 +69,16 @@ pub fn repair_all<'a, R: Threads + Sync>(
     Ok(status)
 }
 
-/// Where the store is and where new fragments go, by the options; with what the names of unfinished files have before their digits.
-pub fn site_of<'a>(
-    store: &'a OpenStore,
-    pattern: &Pattern<'a>,
-    options: &'a Options,
-    tag: &'a str,
-) -> Site<'a> {
+/// Where the store is of a command that writes nothing into it.
+pub fn site_of<'a>(store: &'a OpenStore, pattern: &Pattern<'a>, options: &Options) -> Site<'a> {
+    let folder = store.folder.as_str();
     Site {
-        folder: store.folder.as_str(),
-        target: options.to.as_ref().unwrap_or(&store.folder).as_str(),
+        folder,
+        target: folder,
         pattern: *pattern,
         code: store.code,
         sums: store.sums.as_ref(),
-        tag,
+        tag: "",
         links: options.links,
     }
 }
@@ -189,7 +193,7 @@ pub fn scrub<'a, R: Threads + Sync>(
     options: &'a Options,
 ) -> io::Result<u8> {
     let stripes = store.stripes(system, options.part)?;
-    let site = site_of(store, pattern, options, "");
+    let site = site_of(store, pattern, options);
     let work = Work::Scrub(store.code);
     let all = work_on(rt, system, &site, work, stripes.as_slice(), options.workers)?;
     let results = Results::new(&site, stripes.as_slice(), all.as_slice());

@@ -22,7 +22,7 @@ pub fn write_requests<'a>(
     rt: &'a HostRuntime,
     store: &'a OpenStore,
     pattern: &Pattern<'a>,
-    options: &'a Options,
+    options: &Options,
 ) -> io::Result<u8> {
     let alloc = rt.alloc();
     let mut output = BufWriter::new(alloc, io::writer(rt))?;
@@ -30,7 +30,7 @@ pub fn write_requests<'a>(
         output.write_all(header_of(store.code).as_bytes())?;
     }
     let stripes = store.stripes(rt, options.part)?;
-    let files = FolderStore::new(rt, site_of(store, pattern, options, ""));
+    let files = FolderStore::new(rt, site_of(store, pattern, options));
     let mut is_device = false;
     let mut is_left = false;
     let mut lost = 0u64;

@@ -152,8 +152,8 @@ module _ (code : CodeName) (survives : Place → Bool) (at : List (List ℕ)) (l
     -- where it isn't
     same_at : (r : Place) → has_place (tables_of code) r ≡ true → IsDetermined code three r → s r ≡ t r
     same_at r of_code determined =
-        agree code three at len (whole_fewer code survives three at len (λ x h. (in_two x (in_three x h).0).0) whole) small sixteen r of_code
-        determined s t
+        agree code three at len (whole_fewer code survives three at len (λ x h. (in_two x (in_three x h).0).0) whole) small sixteen r
+        of_code determined s t
         (keeps_fewer code (all_but (all_but survives q) o) three at len
         (λ x h. kept_but_two x (in_three x h).0 (in_three x h).1) s keeps)
         (keeps_fewer code (all_but survives p) three at len (λ x h. kept_but_one x (in_three x h).0) t own)

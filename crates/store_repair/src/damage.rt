@@ -71,9 +71,9 @@ enum Fits {
     Several(Place),
 }
 
-/// Where survivors are damaged. A fragment is named only where it is damaged whatever at most two of the survivors hold; no clause says that
-/// each such fragment is named. Where nothing is lost any two stripes differ in four places, so that a single damaged fragment is named
-/// then. Each survivor in turn is left out, and the others are read.
+/// Where survivors are damaged. A fragment is named only where it is damaged whatever at most two of the survivors hold; no clause says
+/// that each such fragment is named. Where nothing is lost any two stripes differ in four places, so that a single damaged fragment is
+/// named then. Each survivor in turn is left out, and the others are read.
 pub fn find_damaged<F: Fragment>(
     alloc: Global,
     survivors: &Survivors<'_, F>,

@@ -3,16 +3,15 @@ ghost use Rattle.std.specs.Prelude.{◌≡◌, OnOk};
 ghost use Rattle.store_repair.specs.Scrubbed.{said_damaged};
 
 use crate::consistency::are_consistent;
-use crate::damage::write_places;
+use crate::length_groups::{LengthGroup, Lengths};
 use crate::losses::have_checks;
 use crate::mending::{MendFault, Survivors};
 use crate::opening::open_survivors;
 use crate::outcomes::{Finding, Reason, note, note_no_survivor};
 use crate::store::Store;
 use crate::stripes::{Found, Stripe, StripeFiles, nth_place};
-use lrc_code::{Code, PlaceSet};
+use lrc_code::Code;
 use std::alloc::{AllocError, Global};
-use std::fmt::{self, Display, Formatter, Write};
 
 /// How many bytes each fragment of a stripe has.
 #[derive(Debug, Drop)]
@@ -23,44 +22,6 @@ pub enum StripeLength {
     Known(usize),
     /// The files have several lengths, and checks confirm none of these, or more than one.
     Undecided(Lengths),
-}
-
-/// The lengths of a stripe's files, each listed once.
-#[derive(Debug, Drop)]
-pub struct Lengths {
-    pub groups: Vec<LengthGroup>,
-}
-
-/// The files of a length.
-#[derive(Clone, Copy, Debug, PartialEq, Eq)]
-pub struct LengthGroup {
-    /// How many bytes each has.
-    pub length: u64,
-    /// Their places.
-    pub places: PlaceSet,
-}
-
-impl Display for Lengths {
-    fn fmt<W: Write>(&self, f: &mut Formatter<W>) -> fmt::Result {
-        let mut is_first = true;
-        for group in &self.groups {
-            if !is_first {
-                f.write_str(", ")?;
-            }
-            write!(f, "{group}")?;
-            is_first = false;
-        }
-        Ok(())
-    }
-}
-
-impl Display for LengthGroup {
-    fn fmt<W: Write>(&self, f: &mut Formatter<W>) -> fmt::Result {
-        write_places(f, self.places)?;
-        let length = self.length;
-        let noun = if length == 1 { "byte" } else { "bytes" };
-        write!(f, " with {length} {noun}")
-    }
 }
 
 /// How many bytes each fragment of a stripe has: as many as each of its files, if these have one length, and else the length whose

@@ -4,7 +4,7 @@ ghost use Rattle.lrc_code.specs.declared.places.Place.{Place};
 ghost use Rattle.store_repair.specs.Scrubbed.{damaged_by, said_damaged};
 
 use crate::damage::Suspects;
-use crate::lengths::Lengths;
+use crate::length_groups::Lengths;
 use crate::store::NameFault;
 use crate::stripes::{Found, Stripe};
 use lrc_code::{Code, Place, PlaceSet};

@@ -17,8 +17,8 @@ pub struct Repair {
     pub reads: Reads,
     /// Whether fragments that are damaged or of another length are replaced by rebuilt ones that a check covers. What was there is kept.
     pub replace_damaged: bool,
-    /// Whether, of survivors that contradict each other, the only one without which the others belong together is taken for the damaged one,
-    /// also where two damaged ones may make it look so. What is rebuilt from such a guess isn't checked.
+    /// Whether, of survivors that contradict each other, the only one without which the others belong together is taken for the damaged
+    /// one, also where two damaged ones may make it look so. What is rebuilt from such a guess isn't checked.
     pub assume_one_damaged: bool,
     /// Whether rebuilt fragments go elsewhere than to the store's own, so that nothing of these is in their way.
     pub elsewhere: bool,

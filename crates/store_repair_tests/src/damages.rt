@@ -174,8 +174,8 @@ fn assert_suspected(rt: &impl Abort, outcome: &Outcome, damaged: Place, expected
     assert_eq!(rt; times, 1);
 }
 
-// Asserts what a scrub says of a damaged fragment of a stripe of which these are lost, and, where fewer than two are, what a repair makes of
-// it: it is replaced if it is named, and else nothing is written.
+// Asserts what a scrub says of a damaged fragment of a stripe of which these are lost, and, where fewer than two are, what a repair makes
+// of it: it is replaced if it is named, and else nothing is written.
 fn assert_scrubbed_and_repaired(
     rt: &impl Abort,
     alloc: Global,

@@ -32,4 +32,5 @@ returns-clause-silent g c = λ none checked.
     let sixteen : length opened.fragments.items ≡ 16 = omega (arith, c.in_ok-opened.ensures.sixteen) in
     of_one_stripe shown c.args.code c.args.stripe.now.name.now c.in-Some.length opened.set opened.fragments.items sixteen
     (g.S.Store.files c.args.store.now) c.in_ok-opened.ensures.opened
-    (λ xs are whole. c.in_ok-test.ensures.silent xs (subst (λ fs. AreShown shown fs xs) (sym c.as_slice.ensures.value) are) whole checked none)
+    (λ xs are whole.
+    c.in_ok-test.ensures.silent xs (subst (λ fs. AreShown shown fs xs) (sym c.as_slice.ensures.value) are) whole checked none)
