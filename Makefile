@@ -94,8 +94,10 @@ uninstall:
 	done
 
 # Proves the C library and the crates that it uses, and builds it: crates/lrc_c/out/liblrc_c.a and the shared object. JOBS=N as above.
+# BELOW=by-ci takes the crates that it uses as `rt ci` proves them.
+BELOW :=
 library:
-	@tools/build.py lrc_c $(or $(TARGET),$(CPU)) $(JOBS)
+	@tools/build.py lrc_c $(or $(TARGET),$(CPU)) $(JOBS) $(BELOW)
 	@$(MAKE) --no-print-directory link-library notices
 
 # The shared object is linked each time, which takes no second, so that it never is of other flags or another archive.

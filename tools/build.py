@@ -3,6 +3,9 @@
 
     build.py NAME.. LEVEL [JOBS]    for a level of the processor, as x86-64-v3, with JOBS processors (all that there are); the library
                                     also for another kind of processor, as aarch64-unknown-linux-gnu
+    build.py lrc_c LEVEL [JOBS] by-ci
+                                    builds the library over crates as `rt ci` proves them, as the gate does: what that has proved of the
+                                    same files on this machine is taken, and what it is proving is waited for
     build.py settle                 puts back what a build that was killed has left
 
 What is built is in the crate's out/LEVEL, with the record of its build; what was built last for a level of this processor is in its out/
@@ -26,6 +29,7 @@ import shutil
 import signal
 import subprocess
 import sys
+import tempfile
 import time
 
 ROOT = pathlib.Path(__file__).resolve().parent.parent
@@ -33,6 +37,9 @@ ROOMS = ROOT / "out" / "rooms"
 # How many seconds whole builds took here, each on a line after the names of what was built.
 TIMES = ROOT / "out" / "build-times"
 PARTS = ("src", "specs", "proofs")
+# The word by which the crates below the library are taken as `rt ci` proves them. It also stands in place of their stamps, by which
+# `rt lib` knows its own work.
+BY_CI = "by-ci"
 # What is in a crate's out/ beside the record of the build: the prover's work, the library, and what is built.
 WORK = ("incremental", "rlib")
 # The memory of a proof with one job, and of each further job, about: the most that was seen is 1.4 GB, and 10 with four (farm_core), of
@@ -92,13 +99,35 @@ class Crate:
         """Where what was built last is found: for another kind of processor in the place of its own."""
         return self.built(level) if is_target(level) else self.folder / "out" / self.made()
 
+    def is_by_ci(self):
+        """Whether the library that is built of it is one that `rt ci` made."""
+        stamp = self.folder / "out/rlib/stamp"
+        return stamp.is_file() and stamp.read_text() == BY_CI
+
+    def option(self, level):
+        return f"--target={level}" if is_target(level) else f"--cpu={level}"
+
     def command(self, level, jobs):
+        if self.is_static and any(it.is_by_ci() for it in self.below):
+            return self.command_by_ci(level, jobs)
         verb = "run" if self.is_program else "lib"
-        option = f"--target={level}" if is_target(level) else f"--cpu={level}"
         # A program is run once it is built, with the arguments that the gate runs it with.
         words = self.folder / "args"
         given = ["--", *words.read_text().splitlines()] if self.is_program and words.is_file() else []
-        return ["rt", verb, "--jobs", str(jobs), *([option] if self.has_levels() else []), *given]
+        return ["rt", verb, "--jobs", str(jobs), *([self.option(level)] if self.has_levels() else []), *given]
+
+    def command_by_ci(self, level, jobs):
+        """The same of a static library over crates that `rt ci` built: the prover's own words, since `rt lib` would prove those again."""
+        kit = pathlib.Path(subprocess.run(["rt", "doc"], check=True, capture_output=True, text=True).stdout.strip()).parent
+        own = {it.name: f"../{it.name}/out/rlib" for it in self.all_below()}
+        words = [kit / "bin/rattle", "build", "--crate-name", self.name, "src/lib.rt", "--crate-type", "staticlib"]
+        for name in ["std", *self.line.partition(":")[2].split()]:
+            words += ["--extern", f"{name}={own.get(name, kit / 'rlibs')}/{name}.rlib"]
+        for folder in [kit / "rlibs", *own.values()]:
+            words += ["-L", f"dependency={folder}"]
+        words += ["--antt-project", kit / "rattle/logic/antt-project.json", "--logic-built", kit / "logic_built"]
+        words += ["--toolchain", kit / "toolchain", "--backend", "llvm", self.option(level), "--jobs", str(jobs)]
+        return [*words, "--incremental", "out/incremental", "-o", f"out/{self.made()}"]
 
     @functools.lru_cache(maxsize=None)
     def inputs(self, root, level, kit):
@@ -228,6 +257,15 @@ def lock_of(folder):
     return held
 
 
+def copy_sources(crate, room):
+    """Copies a crate's sources into a room, and gives its folder there."""
+    to = room / "crates" / crate.name
+    for part in PARTS:
+        if (crate.folder / part).is_dir():
+            shutil.copytree(crate.folder / part, to / part)
+    return to
+
+
 def make_room(crate, room, level):
     """Makes a room for the proof of a crate, and moves into it what earlier proofs have left."""
     leave_room(crate, room)
@@ -235,10 +273,7 @@ def make_room(crate, room, level):
     those = [*crate.all_below(), crate]
     (room / "crates.txt").write_text("".join(f"{it.line}\n" for it in those))
     for it in those:
-        to = room / "crates" / it.name
-        for part in PARTS:
-            if (it.folder / part).is_dir():
-                shutil.copytree(it.folder / part, to / part)
+        to = copy_sources(it, room)
         if it is not crate and (it.folder / "out/rlib").is_dir():
             shutil.copytree(it.folder / "out/rlib", to / "out/rlib", copy_function=os.link)
     out = room / "crates" / crate.name / "out"
@@ -283,6 +318,34 @@ def settle(crates):
     for it in (ROOMS, ROOMS.parent):
         if it.is_dir() and not os.listdir(it):
             it.rmdir()
+
+
+def take_from_ci(crates, level, jobs, kit):
+    """Has `rt ci` give the libraries of these crates, and puts them where a build looks for them, with records. It is run in a folder that
+    has these crates alone and none of their wrong bodies, so that it tries none."""
+    locks = [lock_of(it.folder) for it in crates]
+    if None in locks:
+        stop("another run works in these crates: wait for its end")
+    with tempfile.TemporaryDirectory() as room:
+        room = pathlib.Path(room)
+        (room / "crates.txt").write_text("".join(f"{it.line}\n" for it in crates))
+        shutil.copy(ROOT / "HANDLES", room)
+        for it in crates:
+            copy_sources(it, room)
+        print(f"Taken as rt ci proves them: {', '.join(it.name for it in crates)}", flush=True)
+        how = {"stdin": subprocess.DEVNULL, "stdout": subprocess.PIPE, "stderr": subprocess.STDOUT, "text": True, "errors": "replace"}
+        ran = subprocess.run(["rt", "ci"], cwd=room, env={**os.environ, "RT_JOBS": str(jobs)}, **how)
+        if ran.returncode:
+            stop("\n".join(["rt ci has not proved them; what it said last:", *ran.stdout.splitlines()[-SHOWN:]]))
+        for it in crates:
+            library = it.folder / "out/rlib"
+            remove(library)
+            library.parent.mkdir(exist_ok=True)
+            shutil.move(room / "crates" / it.name / "out/rlib", library)
+            (library / "stamp").write_text(BY_CI)
+            it.write_record(it.inputs(room / "crates", level, kit), level)
+    for lock in locks:
+        os.close(lock)
 
 
 class Build:
@@ -402,15 +465,23 @@ def show(tops, level):
     return " and ".join(str(top.last_built(level).relative_to(ROOT)) for top in tops)
 
 
-def main(names, level, jobs):
+def main(names, level, jobs, is_by_ci):
     start = time.monotonic()
     crates = read_crates()
     tops = [crates[name] for name in names]
+    if is_by_ci and not all(it.is_static for it in tops):
+        stop(f"{BY_CI} is for the library alone")
     lock = lock_of(ROOT / "crates")
     if lock is None:
         stop("another build runs here: wait for its end")
     settle(crates)
     kit = subprocess.run(["rt", "version"], check=True, capture_output=True, text=True).stdout
+    if is_by_ci:
+        # What is built over such libraries is no other build's.
+        kit += BY_CI
+        below = [it for it in with_all_below(tops) if it not in tops]
+        if not all(it.is_built(it.inputs(ROOT / "crates", level, kit), level) for it in below):
+            take_from_ci(below, level, jobs, kit)
     build = Build(with_all_below(tops), level, jobs, kit)
     if not build.left:
         print(f"Nothing has changed since this was built for {level}: {show(tops, level)}")
@@ -440,11 +511,11 @@ if __name__ == "__main__":
     if sys.argv[1:] == ["settle"]:
         settle(read_crates())
         sys.exit()
-    words = sys.argv[1:]
+    words = [it for it in sys.argv[1:] if it != BY_CI]
     jobs = int(words.pop()) if words and words[-1].isdecimal() else processors()
     if len(words) > 1 and all(it in read_crates() for it in words[:-1]):
         try:
-            main(words[:-1], words[-1], jobs)
+            main(words[:-1], words[-1], jobs, BY_CI in sys.argv)
         except KeyboardInterrupt:
             print("\nbuild: stopped; what is proved stays, and the next build goes on from there", file=sys.stderr)
             sys.exit(130)
