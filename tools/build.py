@@ -11,10 +11,12 @@
 What is built is in the crate's out/LEVEL, with the record of its build; what was built last for a level of this processor is in its out/
 too. So a level that was built before isn't built again.
 
-Crates are proved beside each other, each as soon as those that it uses are there. The crate with the longest way to the end has all
-processors, the next half of them at a lower priority, and the others one each at lower ones still. A few more are proved than there are
-processors, so that a crate on a long way doesn't wait for one on a short way. A crate whose sources, and those of the crates below it, are
-as they were when it was proved is not proved again, and a build that was interrupted goes on where it was.
+Crates are proved beside each other, each as soon as those that it uses are there. The two with the longest ways to the end, by the time
+that their lines take, have half of the processors each, and the others one each at a lower priority: with more jobs a proof takes more of
+the processors in all (lrc_field 138 s with one, 152 with two, 202 with four), and at much lower priorities what a crate of the longest way
+uses too is late. Where no more than two can be proved, the first has all. One more is proved than there are processors, so that a crate on
+a long way doesn't wait for one on a short way. A crate whose sources, and those of the crates below it, are as they were when it was proved
+is not proved again, and a build that was interrupted goes on where it was.
 
 `rt` locks every crate that it reads, so two crates above a third can't be proved at once in one place. So each is proved in a room
 of its own below out/: a copy of its sources and of those below it, with the libraries below it as hard links."""
@@ -47,10 +49,14 @@ WORK = ("incremental", "rlib")
 FIRST, FURTHER = 1_400_000_000, 2_000_000_000
 # More jobs than this a proof doesn't use.
 MOST_JOBS = 8
-# The crate with the longest way has rank 0, the next 1 and so on; all after them have this rank.
-MOST_RANK = 3
-# How many more crates are proved at once than there are processors: they take what is left by those of lower rank.
-MORE = 2
+# The crate with the longest way has rank 0, the next 1, and all after them this rank; by how much each rank's priority is lower.
+MOST_RANK = 2
+NICER = 2
+# The seconds that a proof with one job takes for a line of src, about, and those for loading what a crate uses; a program, which uses more,
+# is built too. Lines of proofs say less: a proof that the prover finds has none.
+FOR_A_LINE, FOR_A_LIBRARY, FOR_A_PROGRAM = 0.2, 15, 250
+# How many more crates are proved at once than there are processors: that takes what is left by those of lower rank.
+MORE = 1
 # How many lines of what rt said are shown where it fails.
 SHOWN = 40
 
@@ -75,9 +81,10 @@ class Crate:
             found += [one for one in [*it.all_below(), it] if one not in found]
         return found
 
-    def lines(self):
-        """How long its proof is, about."""
-        return sum(file.read_bytes().count(b"\n") for part in PARTS for file in (self.folder / part).rglob("*.*t"))
+    def proof_seconds(self):
+        """How many seconds its proof takes with one job, about."""
+        lines = sum(file.read_bytes().count(b"\n") for file in (self.folder / "src").rglob("*.rt"))
+        return FOR_A_LINE * lines + (FOR_A_PROGRAM if self.is_program else FOR_A_LIBRARY)
 
     def has_levels(self):
         """Whether what is built depends on the level; a library of Rattle's doesn't."""
@@ -217,7 +224,7 @@ class Run:
         # The lock goes to what is started too, so that it is held until that ends, however this process ends.
         how = {"cwd": self.room / "crates" / crate.name, "stdin": subprocess.DEVNULL, "pass_fds": [lock]}
         with open(self.said, "w") as said:
-            how["preexec_fn"] = functools.partial(os.nice, 5 * rank)
+            how["preexec_fn"] = functools.partial(os.nice, NICER * rank)
             self.process = subprocess.Popen(crate.command(level, jobs), stdout=said, stderr=subprocess.STDOUT, **how)
 
     def need(self):
@@ -357,20 +364,23 @@ class Build:
         self.left = [it for it in crates if not it.is_built(self.inputs[it], level)]
         self.done = [it for it in crates if it not in self.left]
         self.running, self.memory, self.shown, self.waits = [], memory(), "", set()
-        # The lines from a crate to the end of the build.
+        # The seconds from a crate to the end of the build, about.
         self.way = {}
         for it in reversed(crates):
-            self.way[it] = it.lines() + max((self.way[above] for above in crates if it in above.below), default=0)
+            self.way[it] = it.proof_seconds() + max((self.way[above] for above in crates if it in above.below), default=0)
 
     def start_all(self):
         """Starts each crate whose libraries are there, as far as processors and memory go."""
         ready = [it for it in self.left if all(below in self.done for below in it.below)]
+        are_many = len(ready) + len(self.running) > 2
         for crate in sorted(ready, key=lambda it: -self.way[it]):
             rank = min(sum(self.way[it.crate] >= self.way[crate] for it in self.running), MOST_RANK)
             free = self.memory - sum(it.need() for it in self.running)
             if self.running and (free < FIRST or len(self.running) >= self.jobs + MORE):
                 return
-            jobs = min(max(self.jobs // 2**rank, 1), MOST_JOBS, 1 + int(max(free - FIRST, 0) // FURTHER)) if rank < 2 else 1
+            # On two processors the first has both, as it has all where few are left.
+            share = max(self.jobs // 2, 2 - rank) if are_many else self.jobs // 2**rank
+            jobs = min(max(share, 1) if rank < MOST_RANK else 1, self.jobs, MOST_JOBS, 1 + int(max(free - FIRST, 0) // FURTHER))
             lock = lock_of(crate.folder)
             if lock is None:
                 if crate not in self.waits:
