@@ -181,9 +181,11 @@ proofs:
 $(BEFORE) $(AFTER):
 	tools/timed.py script $@
 
+# CRATES='NAME ..' tries those of these crates alone. What was refused and hasn't changed isn't tried again.
+CRATES :=
 wrong-bodies:
-	tools/try-wrong-bodies.sh
-	tools/tested-wrong-bodies.py
+	tools/try-wrong-bodies.py $(CPU) $(CRATES)
+	$(if $(CRATES),,tools/tested-wrong-bodies.py)
 
 # Builds the program for each level that the processor has, and runs the gate's scripts over each. It is no part of the gate.
 levels:
