@@ -37,10 +37,13 @@ KNOWN = re.compile(r"rt: (\w+) is kept: ")
 PROVED = r"rt: {} (?:proved$|is kept: )"
 PARTS = ("proof", "tests", "seed", "edits")
 HEAD = """
-What the gate took. First rt ci, by crates. Seconds of a processor that went into: proof, the crate's proof, and building it if it is a
-program; tests, the proof of its tests, and building them; seed, its proof once more, over which its wrong bodies are tried; edits, the
-wrong bodies, and how many of them were tried. A dash: none were seen. From and to, minutes and seconds after rt ci began: when it was first
-and last at work on the crate, which may have waited in between, since several are worked on at once."""
+What the gate took. First rt ci, by crates, in seconds that one of its processes had a processor, as seen once a second:
+  proof       the crate's proof, and building it if it is a program
+  tests       the proof of its tests, and building them
+  seed        its proof once more, over which its wrong bodies are tried
+  edits       its wrong bodies, and how many they are
+  from, to    minutes and seconds after rt ci began, when it was first and last at work on the crate, which may have waited in between
+"""
 
 
 def keep(**what):
