@@ -28,7 +28,7 @@ ROOT = pathlib.Path(__file__).resolve().parent.parent
 RECORDS = ROOT / "out" / "wrong-bodies"
 # How many edits of a crate are tried in turn. Before the first one the crate is checked over what was kept, and after the last once more,
 # so fewer take longer; what a run that is stopped loses are those that are being tried.
-IN_TURN = 5
+IN_TURN = 3
 # The memory that a trial takes at most, about.
 MEMORY = 3_000_000_000
 # What can become of an edit.
