@@ -37,7 +37,7 @@ KNOWN = re.compile(r"rt: (\w+) is kept: ")
 PROVED = r"rt: {} (?:proved$|is kept: )"
 PARTS = ("proof", "tests", "seed", "edits")
 HEAD = """
-What the gate took. First rt ci, by crates, in seconds that one of its processes had a processor, as seen once a second:
+What the gate took. First rt ci, by crates, in seconds of its processes' processor time, which is looked at once a second:
   proof       the crate's proof, and building it if it is a program
   tests       the proof of its tests, and building them
   seed        its proof once more, over which its wrong bodies are tried

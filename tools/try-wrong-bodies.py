@@ -78,12 +78,10 @@ def make_room(crate, edits, room):
     (room / "crates.txt").write_text("".join(f"{it.line}\n" for it in those))
     shutil.copy(ROOT / "HANDLES", room / "HANDLES")
     for it in those:
-        for part in build.PARTS:
-            if (it.folder / part).is_dir():
-                shutil.copytree(it.folder / part, room / "crates" / it.name / part)
+        to = build.copy_sources(it, room)
         kept = "incremental" if it is crate else "rlib"
         if (it.folder / "out" / kept).is_dir():
-            shutil.copytree(it.folder / "out" / kept, room / "crates" / it.name / "out" / kept, copy_function=link_or_copy)
+            shutil.copytree(it.folder / "out" / kept, to / "out" / kept, copy_function=link_or_copy)
     folder = room / "crates" / crate.name / "must-fail"
     folder.mkdir()
     for it in edits:
