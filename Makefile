@@ -94,8 +94,10 @@ uninstall:
 	done
 
 # Proves the C library and the crates that it uses, and builds it: crates/lrc_c/out/liblrc_c.a and the shared object. JOBS=N as above.
+# BELOW=by-ci takes the crates that it uses as `rt ci` proves them.
+BELOW :=
 library:
-	@tools/build.py lrc_c $(or $(TARGET),$(CPU)) $(JOBS)
+	@tools/build.py lrc_c $(or $(TARGET),$(CPU)) $(JOBS) $(BELOW)
 	@$(MAKE) --no-print-directory link-library notices
 
 # The shared object is linked each time, which takes no second, so that it never is of other flags or another archive.
@@ -158,30 +160,32 @@ AFTER := $(addprefix gate/,refusals.py no-compile.sh reference-lines.sh ends.sh 
   version.sh numbers.py tables.py growth.py memory.py companion.py repair-store.py encode-store.py store-options.py store-disks.py \
   store-strangers.py store-damage.py store-faults.py file-faults.py packages.sh) tools/try.sh tools/demo.sh ceph/test.sh
 
-# gate/library.sh builds in a copy of its own, so it runs beside the proofs.
-test:
-	gate/formatted.sh
-	gate/wrong-bodies.sh
-	gate/architecture.py
-	gate/sweep.py
-	gate/documented.py
-	gate/pages.py
-	tools/format-page.py
-	@$(MAKE) --no-print-directory -j2 proofs gate/library.sh
-	@$(MAKE) --no-print-directory --output-sync=target -j$(shell nproc) $(AFTER)
+# What it runs before them, of sources and pages.
+BEFORE := $(addprefix gate/,formatted.sh wrong-bodies.sh architecture.py sweep.py documented.py pages.py) tools/format-page.py
 
-# A proof was seen to take 3 GB at most, less than rt allows for, so RT_JOBS has it run one on each processor.
+# Last comes a table of the time that all of it took.
+test:
+	@tools/timed.py anew
+	@$(MAKE) --no-print-directory $(BEFORE)
+	@$(MAKE) --no-print-directory proofs
+	@$(MAKE) --no-print-directory --output-sync=target -j$(shell nproc) $(AFTER)
+	@tools/timed.py table
+
+# A proof was seen to take 3 GB at most, less than rt allows for, so RT_JOBS has it run one on each processor. gate/library.sh builds in
+# a copy of its own, over crates of which lrc_plan is proved last, so it runs beside the proofs from then on.
 proofs:
 	tools/build.py settle
-	RT_JOBS=$(shell nproc) tools/timed.sh rt ci
+	RT_JOBS=$(shell nproc) tools/timed.py proofs --beside lrc_plan gate/library.sh rt ci
 
-.PHONY: proofs gate/library.sh $(AFTER)
-gate/library.sh $(AFTER):
-	$@
+.PHONY: proofs $(BEFORE) $(AFTER)
+$(BEFORE) $(AFTER):
+	tools/timed.py script $@
 
+# CRATES='NAME ..' tries those of these crates alone. What was refused and hasn't changed isn't tried again.
+CRATES :=
 wrong-bodies:
-	tools/try-wrong-bodies.sh
-	tools/tested-wrong-bodies.py
+	tools/try-wrong-bodies.py $(CPU) $(CRATES)
+	$(if $(CRATES),,tools/tested-wrong-bodies.py)
 
 # Builds the program for each level that the processor has, and runs the gate's scripts over each. It is no part of the gate.
 levels:

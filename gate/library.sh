@@ -3,7 +3,9 @@
 # compilers and standards, its inline calls, the tests in C, `make install-library`, the shared object, the commands of docs/LIBRARY.md as
 # a user runs them, the examples in C, Python, Go and Rust, and the library for ARM under qemu. All this is done with the build for
 # x86-64-v2, and the tests again with that for x86-64-v3 where the processor has AVX2. What isn't installed is named and left out. All
-# this is done in a copy of the repository, since the gate runs it beside `rt ci`, which holds the crates.
+# this is done in a copy of the repository, since the gate runs it beside `rt ci`, which holds the crates. Those below the library are
+# taken as `rt ci` proves them, by its sums of their files, and proved here only where it hasn't proved these. The library is proved here
+# once, since `rt ci` proves it and builds none, and for the other processors over what that kept.
 set -euo pipefail
 cd "$(dirname "$0")/.."
 scratch=$(mktemp -d)
@@ -39,7 +41,7 @@ quietly() {
   "$@" > "$scratch/said" 2>&1 || { cat "$scratch/said"; fail "$what"; }
 }
 
-quietly 'make library' make -s library CPU=x86-64-v2 JOBS=1
+quietly 'make library' make -s library CPU=x86-64-v2 JOBS=1 BELOW=by-ci
 asked=$(nm -u "$archive" | awk 'NF == 2 && $2 != "memcpy" && $2 != "memset" { print $2 }')
 [ -z "$asked" ] || fail "the archive asks for $asked"
 exports='lrc_add lrc_apply lrc_cheapest_reads_into lrc_combine lrc_encode_into lrc_plan_into lrc_reads_into lrc_rebuild_into '
@@ -191,7 +193,7 @@ fi
 # ---- ARM
 target=aarch64-unknown-linux-gnu
 if has aarch64-linux-gnu-gcc 'the library for ARM' && has qemu-aarch64 'the library for ARM'; then
-  quietly 'make library for ARM' make -s library TARGET=$target JOBS=1
+  quietly 'make library for ARM' make -s library TARGET=$target JOBS=1 BELOW=by-ci
   for test in test-stores test; do
     # The questions what to read take minutes under qemu.
     short=()
@@ -215,7 +217,7 @@ quietly 'make uninstall-library' make -s uninstall-library "PREFIX=$here"
 
 # ---- the level that `make library` takes by itself where the processor has AVX2
 if grep -q avx2 /proc/cpuinfo; then
-  quietly 'make library for x86-64-v3' make -s library CPU=x86-64-v3 JOBS=1
+  quietly 'make library for x86-64-v3' make -s library CPU=x86-64-v3 JOBS=1 BELOW=by-ci
   tests x86-64-v3
 else
   left_out+=('the tests for x86-64-v3 (the processor has no AVX2)')

@@ -1,7 +1,7 @@
 #!/usr/bin/env bash
 # Tests the edits in must-fail, wrong-bodies and no-compile of crates/*, and in wrong-bodies of library/ and companion/: the text that an
-# edit replaces is in its file once, and each edit that CONTRIBUTING.md names in quotes is there. With the argument `rows` it prints
-# them all, each with its kind and its file.
+# edit replaces is in its file once, each edit that CONTRIBUTING.md names in quotes is there, and no must-fail has a single edit. With the
+# argument `rows` it prints them all, each with its kind and its file.
 set -euo pipefail
 cd "$(dirname "$0")/.."
 scratch=$(mktemp -d)
@@ -26,6 +26,11 @@ if [ "${1:-}" = rows ]; then
 fi
 shopt -s nullglob
 tools/edits.py crates/*/{must-fail,wrong-bodies,no-compile}/*.edit {library,companion}/wrong-bodies/*.edit
+
+for folder in crates/*/must-fail; do
+  own=("$folder"/*.edit)
+  [ ${#own[@]} != 1 ] || { echo "$folder: a single edit costs a whole proof of the crate: two or more belong here, or none"; exit 1; }
+done
 
 while read -r name; do
   grep -qF " $name  " "$scratch/edits" || { echo "CONTRIBUTING.md: there is no edit \"$name\""; exit 1; }

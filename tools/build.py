@@ -3,15 +3,20 @@
 
     build.py NAME.. LEVEL [JOBS]    for a level of the processor, as x86-64-v3, with JOBS processors (all that there are); the library
                                     also for another kind of processor, as aarch64-unknown-linux-gnu
+    build.py lrc_c LEVEL [JOBS] by-ci
+                                    builds the library over crates as `rt ci` proves them, as the gate does: what that has proved of the
+                                    same files on this machine is taken, and what it is proving is waited for
     build.py settle                 puts back what a build that was killed has left
 
 What is built is in the crate's out/LEVEL, with the record of its build; what was built last for a level of this processor is in its out/
 too. So a level that was built before isn't built again.
 
-Crates are proved beside each other, each as soon as those that it uses are there. The crate with the longest way to the end has all
-processors, the next half of them at a lower priority, and the others one each at lower ones still. A few more are proved than there are
-processors, so that a crate on a long way doesn't wait for one on a short way. A crate whose sources, and those of the crates below it, are
-as they were when it was proved is not proved again, and a build that was interrupted goes on where it was.
+Crates are proved beside each other, each as soon as those that it uses are there. The two with the longest ways to the end, by the time
+that their lines take, have half of the processors each, and the others one each at a lower priority: with more jobs a proof takes more of
+the processors in all (lrc_field 138 s with one, 152 with two, 202 with four), and at much lower priorities what a crate of the longest way
+uses too is late. Where no more than two can be proved, the first has all. One more is proved than there are processors, so that a crate on
+a long way doesn't wait for one on a short way. A crate whose sources, and those of the crates below it, are as they were when it was proved
+is not proved again, and a build that was interrupted goes on where it was.
 
 `rt` locks every crate that it reads, so two crates above a third can't be proved at once in one place. So each is proved in a room
 of its own below out/: a copy of its sources and of those below it, with the libraries below it as hard links."""
@@ -26,6 +31,7 @@ import shutil
 import signal
 import subprocess
 import sys
+import tempfile
 import time
 
 ROOT = pathlib.Path(__file__).resolve().parent.parent
@@ -33,6 +39,9 @@ ROOMS = ROOT / "out" / "rooms"
 # How many seconds whole builds took here, each on a line after the names of what was built.
 TIMES = ROOT / "out" / "build-times"
 PARTS = ("src", "specs", "proofs")
+# The word by which the crates below the library are taken as `rt ci` proves them. It also stands in place of their stamps, by which
+# `rt lib` knows its own work.
+BY_CI = "by-ci"
 # What is in a crate's out/ beside the record of the build: the prover's work, the library, and what is built.
 WORK = ("incremental", "rlib")
 # The memory of a proof with one job, and of each further job, about: the most that was seen is 1.4 GB, and 10 with four (farm_core), of
@@ -40,10 +49,14 @@ WORK = ("incremental", "rlib")
 FIRST, FURTHER = 1_400_000_000, 2_000_000_000
 # More jobs than this a proof doesn't use.
 MOST_JOBS = 8
-# The crate with the longest way has rank 0, the next 1 and so on; all after them have this rank.
-MOST_RANK = 3
-# How many more crates are proved at once than there are processors: they take what is left by those of lower rank.
-MORE = 2
+# The crate with the longest way has rank 0, the next 1, and all after them this rank; by how much each rank's priority is lower.
+MOST_RANK = 2
+NICER = 2
+# The seconds that a proof with one job takes for a line of src, about, and those for loading what a crate uses; a program, which uses more,
+# is built too. Lines of proofs say less: a proof that the prover finds has none.
+FOR_A_LINE, FOR_A_LIBRARY, FOR_A_PROGRAM = 0.2, 15, 250
+# How many more crates are proved at once than there are processors: that takes what is left by those of lower rank.
+MORE = 1
 # How many lines of what rt said are shown where it fails.
 SHOWN = 40
 
@@ -68,9 +81,10 @@ class Crate:
             found += [one for one in [*it.all_below(), it] if one not in found]
         return found
 
-    def lines(self):
-        """How long its proof is, about."""
-        return sum(file.read_bytes().count(b"\n") for part in PARTS for file in (self.folder / part).rglob("*.*t"))
+    def proof_seconds(self):
+        """How many seconds its proof takes with one job, about."""
+        lines = sum(file.read_bytes().count(b"\n") for file in (self.folder / "src").rglob("*.rt"))
+        return FOR_A_LINE * lines + (FOR_A_PROGRAM if self.is_program else FOR_A_LIBRARY)
 
     def has_levels(self):
         """Whether what is built depends on the level; a library of Rattle's doesn't."""
@@ -92,13 +106,35 @@ class Crate:
         """Where what was built last is found: for another kind of processor in the place of its own."""
         return self.built(level) if is_target(level) else self.folder / "out" / self.made()
 
+    def is_by_ci(self):
+        """Whether the library that is built of it is one that `rt ci` made."""
+        stamp = self.folder / "out/rlib/stamp"
+        return stamp.is_file() and stamp.read_text() == BY_CI
+
+    def option(self, level):
+        return f"--target={level}" if is_target(level) else f"--cpu={level}"
+
     def command(self, level, jobs):
+        if self.is_static and any(it.is_by_ci() for it in self.below):
+            return self.command_by_ci(level, jobs)
         verb = "run" if self.is_program else "lib"
-        option = f"--target={level}" if is_target(level) else f"--cpu={level}"
         # A program is run once it is built, with the arguments that the gate runs it with.
         words = self.folder / "args"
         given = ["--", *words.read_text().splitlines()] if self.is_program and words.is_file() else []
-        return ["rt", verb, "--jobs", str(jobs), *([option] if self.has_levels() else []), *given]
+        return ["rt", verb, "--jobs", str(jobs), *([self.option(level)] if self.has_levels() else []), *given]
+
+    def command_by_ci(self, level, jobs):
+        """The same of a static library over crates that `rt ci` built: the prover's own words, since `rt lib` would prove those again."""
+        kit = pathlib.Path(subprocess.run(["rt", "doc"], check=True, capture_output=True, text=True).stdout.strip()).parent
+        own = {it.name: f"../{it.name}/out/rlib" for it in self.all_below()}
+        words = [kit / "bin/rattle", "build", "--crate-name", self.name, "src/lib.rt", "--crate-type", "staticlib"]
+        for name in ["std", *self.line.partition(":")[2].split()]:
+            words += ["--extern", f"{name}={own.get(name, kit / 'rlibs')}/{name}.rlib"]
+        for folder in [kit / "rlibs", *own.values()]:
+            words += ["-L", f"dependency={folder}"]
+        words += ["--antt-project", kit / "rattle/logic/antt-project.json", "--logic-built", kit / "logic_built"]
+        words += ["--toolchain", kit / "toolchain", "--backend", "llvm", self.option(level), "--jobs", str(jobs)]
+        return [*words, "--incremental", "out/incremental", "-o", f"out/{self.made()}"]
 
     @functools.lru_cache(maxsize=None)
     def inputs(self, root, level, kit):
@@ -188,7 +224,7 @@ class Run:
         # The lock goes to what is started too, so that it is held until that ends, however this process ends.
         how = {"cwd": self.room / "crates" / crate.name, "stdin": subprocess.DEVNULL, "pass_fds": [lock]}
         with open(self.said, "w") as said:
-            how["preexec_fn"] = functools.partial(os.nice, 5 * rank)
+            how["preexec_fn"] = functools.partial(os.nice, NICER * rank)
             self.process = subprocess.Popen(crate.command(level, jobs), stdout=said, stderr=subprocess.STDOUT, **how)
 
     def need(self):
@@ -228,6 +264,15 @@ def lock_of(folder):
     return held
 
 
+def copy_sources(crate, room):
+    """Copies a crate's sources into a room, and gives its folder there."""
+    to = room / "crates" / crate.name
+    for part in PARTS:
+        if (crate.folder / part).is_dir():
+            shutil.copytree(crate.folder / part, to / part)
+    return to
+
+
 def make_room(crate, room, level):
     """Makes a room for the proof of a crate, and moves into it what earlier proofs have left."""
     leave_room(crate, room)
@@ -235,10 +280,7 @@ def make_room(crate, room, level):
     those = [*crate.all_below(), crate]
     (room / "crates.txt").write_text("".join(f"{it.line}\n" for it in those))
     for it in those:
-        to = room / "crates" / it.name
-        for part in PARTS:
-            if (it.folder / part).is_dir():
-                shutil.copytree(it.folder / part, to / part)
+        to = copy_sources(it, room)
         if it is not crate and (it.folder / "out/rlib").is_dir():
             shutil.copytree(it.folder / "out/rlib", to / "out/rlib", copy_function=os.link)
     out = room / "crates" / crate.name / "out"
@@ -285,6 +327,34 @@ def settle(crates):
             it.rmdir()
 
 
+def take_from_ci(crates, level, jobs, kit):
+    """Has `rt ci` give the libraries of these crates, and puts them where a build looks for them, with records. It is run in a folder that
+    has these crates alone and none of their wrong bodies, so that it tries none."""
+    locks = [lock_of(it.folder) for it in crates]
+    if None in locks:
+        stop("another run works in these crates: wait for its end")
+    with tempfile.TemporaryDirectory() as room:
+        room = pathlib.Path(room)
+        (room / "crates.txt").write_text("".join(f"{it.line}\n" for it in crates))
+        shutil.copy(ROOT / "HANDLES", room)
+        for it in crates:
+            copy_sources(it, room)
+        print(f"Taken as rt ci proves them: {', '.join(it.name for it in crates)}", flush=True)
+        how = {"stdin": subprocess.DEVNULL, "stdout": subprocess.PIPE, "stderr": subprocess.STDOUT, "text": True, "errors": "replace"}
+        ran = subprocess.run(["rt", "ci"], cwd=room, env={**os.environ, "RT_JOBS": str(jobs)}, **how)
+        if ran.returncode:
+            stop("\n".join(["rt ci has not proved them; what it said last:", *ran.stdout.splitlines()[-SHOWN:]]))
+        for it in crates:
+            library = it.folder / "out/rlib"
+            remove(library)
+            library.parent.mkdir(exist_ok=True)
+            shutil.move(room / "crates" / it.name / "out/rlib", library)
+            (library / "stamp").write_text(BY_CI)
+            it.write_record(it.inputs(room / "crates", level, kit), level)
+    for lock in locks:
+        os.close(lock)
+
+
 class Build:
     """The crates that are to be proved, and those that are being proved."""
 
@@ -294,20 +364,23 @@ class Build:
         self.left = [it for it in crates if not it.is_built(self.inputs[it], level)]
         self.done = [it for it in crates if it not in self.left]
         self.running, self.memory, self.shown, self.waits = [], memory(), "", set()
-        # The lines from a crate to the end of the build.
+        # The seconds from a crate to the end of the build, about.
         self.way = {}
         for it in reversed(crates):
-            self.way[it] = it.lines() + max((self.way[above] for above in crates if it in above.below), default=0)
+            self.way[it] = it.proof_seconds() + max((self.way[above] for above in crates if it in above.below), default=0)
 
     def start_all(self):
         """Starts each crate whose libraries are there, as far as processors and memory go."""
         ready = [it for it in self.left if all(below in self.done for below in it.below)]
+        are_many = len(ready) + len(self.running) > 2
         for crate in sorted(ready, key=lambda it: -self.way[it]):
             rank = min(sum(self.way[it.crate] >= self.way[crate] for it in self.running), MOST_RANK)
             free = self.memory - sum(it.need() for it in self.running)
             if self.running and (free < FIRST or len(self.running) >= self.jobs + MORE):
                 return
-            jobs = min(max(self.jobs // 2**rank, 1), MOST_JOBS, 1 + int(max(free - FIRST, 0) // FURTHER)) if rank < 2 else 1
+            # On two processors the first has both, as it has all where few are left.
+            share = max(self.jobs // 2, 2 - rank) if are_many else self.jobs // 2**rank
+            jobs = min(max(share, 1) if rank < MOST_RANK else 1, self.jobs, MOST_JOBS, 1 + int(max(free - FIRST, 0) // FURTHER))
             lock = lock_of(crate.folder)
             if lock is None:
                 if crate not in self.waits:
@@ -402,15 +475,23 @@ def show(tops, level):
     return " and ".join(str(top.last_built(level).relative_to(ROOT)) for top in tops)
 
 
-def main(names, level, jobs):
+def main(names, level, jobs, is_by_ci):
     start = time.monotonic()
     crates = read_crates()
     tops = [crates[name] for name in names]
+    if is_by_ci and not all(it.is_static for it in tops):
+        stop(f"{BY_CI} is for the library alone")
     lock = lock_of(ROOT / "crates")
     if lock is None:
         stop("another build runs here: wait for its end")
     settle(crates)
     kit = subprocess.run(["rt", "version"], check=True, capture_output=True, text=True).stdout
+    if is_by_ci:
+        # What is built over such libraries is no other build's.
+        kit += BY_CI
+        below = [it for it in with_all_below(tops) if it not in tops]
+        if not all(it.is_built(it.inputs(ROOT / "crates", level, kit), level) for it in below):
+            take_from_ci(below, level, jobs, kit)
     build = Build(with_all_below(tops), level, jobs, kit)
     if not build.left:
         print(f"Nothing has changed since this was built for {level}: {show(tops, level)}")
@@ -440,11 +521,11 @@ if __name__ == "__main__":
     if sys.argv[1:] == ["settle"]:
         settle(read_crates())
         sys.exit()
-    words = sys.argv[1:]
+    words = [it for it in sys.argv[1:] if it != BY_CI]
     jobs = int(words.pop()) if words and words[-1].isdecimal() else processors()
     if len(words) > 1 and all(it in read_crates() for it in words[:-1]):
         try:
-            main(words[:-1], words[-1], jobs)
+            main(words[:-1], words[-1], jobs, BY_CI in sys.argv)
         except KeyboardInterrupt:
             print("\nbuild: stopped; what is proved stays, and the next build goes on from there", file=sys.stderr)
             sys.exit(130)

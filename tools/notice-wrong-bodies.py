@@ -66,7 +66,7 @@ def ended(folders, without):
 
 
 def main():
-    crates = sys.argv[1:] or sorted(it.parent.name for it in ROOT.glob("crates/*/must-fail"))
+    crates = sys.argv[1:] or sorted({it.parent.name for it in [*ROOT.glob("crates/*/must-fail"), *ROOT.glob("crates/*/wrong-bodies")]})
     with tempfile.TemporaryDirectory() as copy:
         copy = pathlib.Path(copy)
         subprocess.run([ROOT / "tools/copy-tree.sh", copy], check=True)

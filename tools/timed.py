@@ -1,0 +1,236 @@
+#!/usr/bin/env python3
+"""Times what the gate runs, and prints at its end what each crate and each script took.
+
+    timed.py anew                                  forgets what was timed before
+    timed.py script COMMAND..                      runs a script
+    timed.py proofs [--beside CRATE SCRIPT] rt ci  runs the proofs, and a script beside them as soon as they have proved this crate
+    timed.py table                                 prints what was timed since `anew`
+
+The status is that of what was run. `rt ci` says when a crate is proved, but not when its proof began nor what it took, and nothing of what
+edits take. So its processes are looked at once a second: how many seconds of a processor each has had, for which crate and which part of
+its proof. Left out are processes of another form, and of each what it had after the last look."""
+
+import collections
+import concurrent.futures
+import json
+import os
+import pathlib
+import re
+import signal
+import subprocess
+import sys
+import threading
+import time
+
+ROOT = pathlib.Path(__file__).resolve().parent.parent
+# What was timed, one thing on a line.
+TIMES = ROOT / "out" / "gate-times"
+# Seconds between two looks at the processes.
+BETWEEN = 1
+TICKS = os.sysconf("SC_CLK_TCK")
+# The lines by which `rt ci` says how far it is, after which it is said how much time has passed.
+MARKS = re.compile(r"rt: .* (?:proved|NOT PROVED|trying its must-fail edits \(\d+\))$")
+# Those that say how many edits of a crate are tried, and that it was proved by an earlier run.
+EDITS = re.compile(r"rt: (\w+): trying its must-fail edits \((\d+)\)$")
+KNOWN = re.compile(r"rt: (\w+) is kept: ")
+# Those from which on what was proved of a crate is there for others.
+PROVED = r"rt: {} (?:proved$|is kept: )"
+PARTS = ("proof", "tests", "seed", "edits")
+HEAD = """
+What the gate took. First rt ci, by crates, in seconds of its processes' processor time, which is looked at once a second:
+  proof       the crate's proof, and building it if it is a program
+  tests       the proof of its tests, and building them
+  seed        its proof once more, over which its wrong bodies are tried
+  edits       its wrong bodies, and how many they are
+  from, to    minutes and seconds after rt ci began, when it was first and last at work on the crate, which may have waited in between
+"""
+
+
+def keep(**what):
+    """Keeps what was timed; the line is written at once, since several scripts do so side by side."""
+    TIMES.parent.mkdir(exist_ok=True)
+    with open(TIMES, "a") as file:
+        file.write(json.dumps(what) + "\n")
+
+
+def kept(key):
+    """What was timed that has this key, in order."""
+    lines = [json.loads(line) for line in TIMES.read_text().splitlines()] if TIMES.is_file() else []
+    return [line for line in lines if key in line]
+
+
+def end(command, process, start):
+    """Waits for the end of what was started and keeps how long it took; gives its status, as a shell has it for what a signal ended."""
+    status = process.wait()
+    keep(script=" ".join(command), seconds=time.monotonic() - start)
+    return status if status >= 0 else 128 - status
+
+
+def script(command):
+    """Runs a script; gives its status."""
+    start, process = time.monotonic(), subprocess.Popen(command)
+    try:
+        return end(command, process, start)
+    finally:
+        process.terminate()
+
+
+def work_of(words, folder):
+    """For which crate and which part of its proof a process with these words works in this folder, or None where it isn't the prover's.
+    Edits are tried in folders of their own, over what the seed holds."""
+    if "--crate-name" not in words[:-1]:
+        return None
+    name = words[words.index("--crate-name") + 1]
+    if folder.parent.name == "crates" and folder.name == name:
+        return name, "tests" if "--test" in words else "proof"
+    over = words[words.index("--incremental") + 1] if "--incremental" in words[:-1] else ""
+    return name, "seed" if pathlib.Path(over).name == "seed" else "edits"
+
+
+class Seen:
+    """What the processes below one have had of the processors."""
+
+    def __init__(self, top):
+        self.top, self.start = top, time.monotonic()
+        # By processes, each with its start, since numbers come again: whose work it is, and its seconds until now.
+        self.work, self.seconds = {}, {}
+        # By works: when it was first and last seen.
+        self.first, self.last = {}, {}
+
+    def look(self):
+        """Looks at all processes once."""
+        now, below, found = time.monotonic() - self.start, collections.defaultdict(list), {}
+        for folder in pathlib.Path("/proc").iterdir():
+            if not folder.name.isdigit():
+                continue
+            try:
+                # After the name, which may have spaces: the state, the parent and so on.
+                fields = (folder / "stat").read_text(errors="replace").rpartition(")")[2].split()
+                found[int(folder.name)] = fields[19], (int(fields[11]) + int(fields[12])) / TICKS
+                below[int(fields[1])].append(int(folder.name))
+            except (OSError, IndexError, ValueError):
+                # It has ended.
+                continue
+        left = [(it, None) for it in below[self.top]]
+        while left:
+            number, work = left.pop()
+            start, seconds = found[number]
+            # What it starts, as a compiler, works for the same, and so do its copies.
+            work = self.work_of(number, start) or work
+            left += [(it, work) for it in below[number]]
+            if work:
+                self.seconds[number, start] = work, seconds
+                self.first.setdefault(work, now)
+                self.last[work] = now
+
+    def work_of(self, number, start):
+        """Whose work a process does. One that has only just begun may not yet have the words that say so, so it is looked at again."""
+        if (number, start) not in self.work:
+            try:
+                words = pathlib.Path(f"/proc/{number}/cmdline").read_text(errors="replace").split("\0")
+                found = work_of(words, pathlib.Path(os.readlink(f"/proc/{number}/cwd")))
+            except OSError:
+                return None
+            if found is None:
+                return None
+            self.work[number, start] = found
+        return self.work[number, start]
+
+    def keep(self):
+        for work in self.first:
+            seconds = sum(had for its, had in self.seconds.values() if its == work)
+            keep(crate=work[0], part=work[1], seconds=seconds, first=self.first[work], last=self.last[work])
+
+
+def proofs(crate, beside, command):
+    """Runs `rt ci`, says after some of its lines how much time has passed, and starts the script beside it; gives the status of the first
+    that failed."""
+    start, scripts, waits = time.monotonic(), [], []
+    ran = subprocess.Popen(command, stdout=subprocess.PIPE, text=True, errors="replace")
+    seen, ended = Seen(ran.pid), threading.Event()
+
+    def watch():
+        while not ended.wait(BETWEEN):
+            seen.look()
+
+    with concurrent.futures.ThreadPoolExecutor() as pool:
+
+        def start_beside():
+            if beside and not scripts:
+                scripts.append(subprocess.Popen([beside]))
+                waits.append(pool.submit(end, [beside], scripts[0], time.monotonic()))
+
+        try:
+            pool.submit(watch)
+            for line in ran.stdout:
+                print(line, end="", flush=True)
+                if MARKS.match(line):
+                    passed = int(time.monotonic() - start)
+                    print(f"timed: {passed // 60} min {passed % 60} s", flush=True)
+                if found := EDITS.match(line):
+                    keep(edits=found[1], count=int(found[2]))
+                if found := KNOWN.match(line):
+                    keep(known=found[1])
+                if crate and re.match(PROVED.format(crate), line):
+                    start_beside()
+            statuses = [end(command, ran, start)]
+            if statuses == [0]:
+                start_beside()
+            statuses += [it.result() for it in waits]
+        finally:
+            ended.set()
+            for it in [ran, *scripts]:
+                it.terminate()
+    seen.keep()
+    return next((it for it in statuses if it), 0)
+
+
+def clock(seconds):
+    return f"{int(seconds) // 60}:{int(seconds) % 60:02}"
+
+
+def table():
+    """Prints what was timed."""
+    crates, counts = collections.defaultdict(dict), {it["edits"]: it["count"] for it in kept("edits")}
+    for it in kept("crate"):
+        crates[it["crate"]][it["part"]] = it
+    print(HEAD)
+    rows = [("crate", *PARTS, "", "from", "to")]
+    for name, parts in sorted(crates.items(), key=lambda it: min(part["first"] for part in it[1].values())):
+        had = [f"{parts[it]['seconds']:.0f}" if it in parts else "-" for it in PARTS]
+        count = f"({counts[name]})" if name in counts else ""
+        rows.append((name, *had, count, clock(min(it["first"] for it in parts.values())), clock(max(it["last"] for it in parts.values()))))
+    sums = [sum(parts[it]["seconds"] for parts in crates.values() if it in parts) for it in PARTS]
+    rows.append(("all", *[f"{it:.0f}" for it in sums], f"({sum(counts.values())})", "", ""))
+    for name, *others in rows:
+        print(f"{name:<20}" + "".join(f"{it:>8}" for it in others).rstrip())
+    known = [it["known"] for it in kept("known")]
+    if known:
+        print(f"Proved by an earlier run, and kept: {', '.join(known)}")
+    print("\nThen the seconds from the start to the end of each script, several of which run side by side.")
+    for it in sorted(kept("script"), key=lambda it: -it["seconds"]):
+        print(f"{it['script']:<36}{it['seconds']:>8.0f}")
+
+
+def main(words):
+    if words[:1] == ["anew"] and len(words) == 1:
+        TIMES.unlink(missing_ok=True)
+    elif words[:1] == ["table"] and len(words) == 1:
+        table()
+    elif words[:1] == ["script"] and words[1:]:
+        sys.exit(script(words[1:]))
+    elif words[:2] == ["proofs", "--beside"] and words[4:]:
+        sys.exit(proofs(words[2], words[3], words[4:]))
+    elif words[:1] == ["proofs"] and words[1:]:
+        sys.exit(proofs(None, None, words[1:]))
+    else:
+        sys.exit(__doc__)
+
+
+if __name__ == "__main__":
+    # What runs is then ended too.
+    signal.signal(signal.SIGTERM, lambda *_: sys.exit(143))
+    try:
+        main(sys.argv[1:])
+    except KeyboardInterrupt:
+        sys.exit(130)
