@@ -8,7 +8,6 @@ and runs that are killed. ceph/test.sh runs it; ceph/tests/store.sh tries the co
 
 REBUILD_CEPH names another program to try."""
 
-import json
 import os
 import pathlib
 import random
@@ -460,9 +459,10 @@ def stores(place):
         check(fragments(store) == {"o.x0": b"whatever"} and "into an empty folder" in said, said)
     store = place / "torn"
     run("export", store, osds, status=0)
-    (store / ".rebuild-ceph.json").write_text('{"form"')
-    run("put", store, osds, status=3)
-    run("export", store, osds, status=3)
+    for record, status in (('{"form"', 3), ("[]", 1)):
+        (store / ".rebuild-ceph.json").write_text(record)
+        run("put", store, osds, status=status)
+        run("export", store, osds, status=status)
     store = place / "later"
     run("export", store, osds, status=0)
     (store / "other.x0").write_bytes(b"of nobody knows which write")
