@@ -294,6 +294,21 @@ def between(place):
         check(osds[0].bytes_of(line) == b"100'3 rebuilt", "what wasn't written to is put")
 
 
+def removed(place):
+    """An object that was removed between export and put, but for the shard of an OSD that missed it."""
+    osds, store = some(place, 4), place / "store"
+    lines = write(osds, range(4), "o", "10'1")
+    run("export", store, osds, status=0)
+    for number in range(3):
+        osds[number].drop(lines[number])
+        osds[number].group(f"2.5s{number}", started=12, last="12'2")
+    (store / "o.y0").write_bytes(b"10'1 rebuilt")
+    said = run("put", store, osds, status=1)
+    check(osds[3].bytes_of(lines[3]) == b"10'1 o 3" and named(said, "there is no such object any more: export again") == {"o.y0"}, said)
+    said = run("export", store, osds, status=1)
+    check(not fragments(store) and named(said, "is of another write, 10'1, than any that counts") == {"o.y0"}, said)
+
+
 def counting(place):
     """Which write counts: that of the last epoch in which the group was active, however few shards are of it; in one epoch the oldest last
     write, which all shards have; of whole copies alone; and by a log the write that an OSD hasn't got yet."""
@@ -493,8 +508,8 @@ def killed(place):
     check(osds[0].bytes_of(lines[0]) == b"10'1 rebuilt", "the shard was not put")
 
 
-TESTS = (names, odd_names, changed, unusable, full, hosts, together, old_store, between, counting, untold, again, recorded, generations,
-         stores, killed)
+TESTS = (names, odd_names, changed, unusable, full, hosts, together, old_store, between, removed, counting, untold, again, recorded,
+         generations, stores, killed)
 
 
 def main():
