@@ -42,10 +42,11 @@ def words_of(command, store, osds, *more):
 
 
 def run(command, store, osds, *more, status):
-    """What it says; it has to end with this status, and never with a traceback."""
+    """What it says; it has to end with this status, never with a traceback, and to wait for another run where one is at work alone."""
     ended = subprocess.run(words_of(command, store, osds, *more), capture_output=True, text=True, env=ENVIRONMENT)
     said = ended.stdout + ended.stderr
     check(ended.returncode == status and "Traceback" not in said, f"{command} {more}: status {ended.returncode}, not {status}: {said}")
+    check("waits for" not in said or osds[0].has("slow"), f"{command} {more} waits: {said}")
     return said
 
 
