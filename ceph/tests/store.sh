@@ -38,7 +38,7 @@ miss() {
 }
 
 # fragments STORE: how many it has.
-fragments() { find "$1" -type f ! -name '.*' | wc -l; }
+fragments() { find "$1" -maxdepth 1 -type f ! -name '.*' | wc -l; }
 
 # Overwrites one byte of the shards of an object on a stopped OSD.
 damage() {
