@@ -3,6 +3,7 @@ pub mod MendLemmas
 pub mod DamageLemmas
 pub mod SuspectLemmas
 pub mod LossLemmas
+pub mod CheckLemmas
 pub mod OpenedLemmas
 pub mod RepairLemmas
 pub mod ScrubLemmas

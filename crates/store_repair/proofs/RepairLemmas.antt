@@ -3,7 +3,7 @@ use Rattle.std.proofs.Common.{◌≡◌, ◌∙◌, ◌<◌, ◌+◌, ℕ, List,
 use Rattle.std.proofs.Common.{inr}
 use Rattle.std.proofs.Common.{get_or, length, set, Option, Some, None, All, IfSome}
 use Rattle.std.specs.Prelude.{◌⊎◌, ◌&&◌, not, is_some, IsSome}
-use Rattle.std.proofs.lemmas.Bool.{cases_Bool, cases_lt, eq-eqb, eqb-true}
+use Rattle.std.proofs.lemmas.Bool.{and_parts, cases_Bool, cases_lt, eq-eqb, eqb-true}
 use Rattle.std.proofs.lemmas.List.{get_or-set_other, get_or_append_left, get_or_push, length-set}
 use Rattle.std.proofs.lemmas.List.Elements.{All-push}
 use Rattle.std.proofs.lemmas.Grind.{get_or-set_at}
@@ -60,6 +60,14 @@ untouched_weaker w r s (Some a) (Some b) implies x = record {
   stays = λ off. x.stays (off_too w r implies off);
   replaced = x.replaced;
 }
+
+-- where only what is checked replaces, nothing is replaced by what isn't
+pub untouched_if : (r c : Bool) (s : List ℕ) (a b : ShownFiles) → AreUntouched (r && c) s a b → AreUntouched r s a b
+untouched_if r c s a b x = untouched_weaker (r && c) r s a b (λ on. (and_parts r c on).0) x
+
+pub untouched_unless : (r c : Bool) (s : List ℕ) (a b : ShownFiles) → c ≡ false → AreUntouched (r && c) s a b → AreUntouched false s a b
+untouched_unless r c s a b off x =
+    untouched_weaker (r && c) false s a b (λ on. absurd (let checked = (and_parts r c on).1 in cc)) x
 
 -- ---- names that were given stay
 

@@ -1,5 +1,6 @@
 //! Repairing a stripe from as few of its survivors as determine what is lost.
-ghost use Rattle.std.specs.Prelude.{◌≡◌, IfOk, IfSome};
+ghost use Rattle.std.specs.Prelude.{◌≡◌, IfOk, IfSome, true};
+ghost use Rattle.store_repair.specs.Losses.{AreChecked};
 ghost use Rattle.lrc_code.specs.Sets.{is_in};
 ghost use Rattle.store_repair.specs.Opened.{AreMade};
 
@@ -28,6 +29,7 @@ pub(crate) fn make_from_fewest<S: Store>(
     ensures same { S.files store.new ≡ S.files store.old }
     ensures made { IfOk result (λ o. IfSome o (λ made. AreMade S.New.shown repair.now.code (is_in made.set) length stripe.now.name.now
         (S.files store.old) made.places.items made.files.items)) }
+    ensures checked { IfOk result (λ o. IfSome o (λ made. made.is_checked ≡ true → AreChecked repair.now.code (is_in made.set) length)) }
 {
     let read = to_be_read(alloc, repair, stripe, length)?;
     let mut noted = Vec::new(alloc);

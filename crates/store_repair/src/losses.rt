@@ -4,11 +4,13 @@ ghost use Rattle.lrc_code.specs.Code.{has_place};
 ghost use Rattle.lrc_code.specs.Codes.{tables_of};
 ghost use Rattle.lrc_code.specs.Reduction.{IsReduction};
 ghost use Rattle.lrc_code.specs.Sets.{is_in};
+ghost use Rattle.store_repair.specs.Losses.{AreChecked, CanContradict, HasTerm};
 ghost use Rattle.store_repair.specs.Mended.{AreLost};
 ghost use Rattle.store_repair.specs.Opened.{AreApart};
 
 use crate::stripes::nth_place;
 use lrc_code::{Code, Place, PlaceSet, Reduced};
+use lrc_field::Gf;
 use lrc_plan::{check_rows, reduce_by_lost, value_from};
 use std::alloc::{AllocError, Global};
 
@@ -79,8 +81,33 @@ pub(crate) fn is_lost_and(
 }
 
 /// Whether survivors are more than a stripe is determined by, so that some contradict each other if one is damaged.
-pub fn have_checks(code: Code, survivors: PlaceSet) -> bool {
-    check_rows(code, survivors).iter().any(|row| row
-        .iter()
-        .any(|coefficient| coefficient.byte() != 0))
+pub fn have_checks(code: Code, survivors: PlaceSet) -> bool
+    ensures { result ≡ true → CanContradict code (is_in survivors) }
+{
+    let rows = check_rows(code, survivors);
+    for index in 0..4 {
+        if has_term(&rows[index]) {
+            return true;
+        }
+    }
+    false
+}
+
+/// Whether survivors of so many bytes have checks; those without bytes show nothing.
+pub(crate) fn are_checked(code: Code, survivors: PlaceSet, length: usize) -> bool
+    ensures { result ≡ true → AreChecked code (is_in survivors) length }
+{
+    length > 0 && have_checks(code, survivors)
+}
+
+// Whether a row has a coefficient that isn't 00.
+fn has_term(row: &[Gf; 16]) -> bool
+    ensures { result ≡ true → HasTerm row.now }
+{
+    for index in 0..16 {
+        if row[index].byte() != 0 {
+            return true;
+        }
+    }
+    false
 }

@@ -1,12 +1,13 @@
 //! Making files for the lost fragments of a stripe, from all survivors that belong together.
-ghost use Rattle.std.specs.Prelude.{◌≡◌, ◌&&◌, not, IfOk, IfSome, length};
+ghost use Rattle.std.specs.Prelude.{◌≡◌, ◌&&◌, not, IfOk, IfSome, length, true};
+ghost use Rattle.store_repair.specs.Losses.{AreChecked};
 ghost use Rattle.lrc_code.specs.Sets.{is_in};
 ghost use Rattle.store_repair.specs.Mended.{AreEmpty};
 ghost use Rattle.store_repair.specs.Opened.{AreMade, AreOpened};
 ghost use Rattle.store_repair.specs.Repaired.{IfMade, IsNotMade};
 
 use crate::damage::{Damage, Suspects, find_damaged};
-use crate::losses::{have_checks, lost_places};
+use crate::losses::{are_checked, lost_places};
 use crate::mending::{MendFault, Survivors, mend};
 use crate::opening::{Opened, leave_out};
 use crate::outcomes::{Finding, Reason, note, read_fault, write_fault};
@@ -49,6 +50,7 @@ pub(crate) fn make<S: Store>(
     ensures same { S.files store.new ≡ S.files store.old }
     ensures made { IfOk result (λ o. IfSome o (λ made. AreMade S.New.shown repair.now.code (is_in made.set) opened.length
         stripe.now.name.now (S.files store.old) made.places.items made.files.items)) }
+    ensures checked { IfOk result (λ o. IfSome o (λ made. made.is_checked ≡ true → AreChecked repair.now.code (is_in made.set) opened.length)) }
 {
     let mut left = opened;
     let mut has_guessed = false;
@@ -95,6 +97,8 @@ pub(crate) fn make_from<S: Store>(
     ensures same { S.files store.new ≡ S.files store.old }
     ensures made { IfOk result (IfMade (λ made. AreMade S.New.shown repair.now.code (is_in made.set) opened.now.length stripe.now.name.now
         (S.files store.old) made.places.items made.files.items)) }
+    ensures checked { IfOk result (IfMade (λ made. made.is_checked ≡ true → AreChecked repair.now.code (is_in made.set)
+        opened.now.length)) }
 {
     let code = repair.code;
     let survivors = Survivors {
@@ -114,7 +118,7 @@ pub(crate) fn make_from<S: Store>(
         Ok(true) => {
             note_all(lost.several.as_slice(), findings)?;
             let set = opened.set;
-            let is_checked = opened.length > 0 && have_checks(code, set);
+            let is_checked = are_checked(code, set, opened.length);
             Ok(Attempt::Made(Made {
                 set,
                 is_checked,

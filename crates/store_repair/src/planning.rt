@@ -1,7 +1,7 @@
 //! What a repair of a stripe would do.
 use crate::fewest::to_be_read;
 use crate::lengths::length_or_note;
-use crate::losses::{have_checks, lost_places};
+use crate::losses::{are_checked, lost_places};
 use crate::making::to_be_rebuilt;
 use crate::opening::open_survivors;
 use crate::outcomes::{Outcome, Reason, note};
@@ -34,7 +34,7 @@ pub fn plan_stripe<S: Store>(
     Ok(Outcome {
         length,
         survivors: opened.set,
-        is_checked: length > 0 && have_checks(code, opened.set),
+        is_checked: are_checked(code, opened.set, length),
         rebuilt: lost.determined,
         findings,
     })

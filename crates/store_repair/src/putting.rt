@@ -1,5 +1,5 @@
 //! Giving rebuilt fragments of a stripe their names.
-ghost use Rattle.std.specs.Prelude.{◌≡◌, IfOk, All, true, length};
+ghost use Rattle.std.specs.Prelude.{◌≡◌, ◌&&◌, IfOk, All, true, length};
 ghost use Rattle.store_repair.specs.Opened.{AreApart, IsPutOf};
 ghost use Rattle.store_repair.specs.Repaired.{IsPlaced, replaces};
 ghost use Rattle.store_repair.specs.Store.{AreUntouched, HasName, SameElsewhere};
@@ -34,7 +34,8 @@ pub(crate) fn put_all<S: Store>(
 ) -> Result<Vec<Place>, AllocError>
     requires lengths { length made.files.items ≡ length made.places.items }
     requires apart { AreApart made.places.items }
-    ensures untouched { AreUntouched repair.now.replace_damaged stripe.now.name.now (S.files store.old) (S.files store.new) }
+    ensures untouched { AreUntouched (repair.now.replace_damaged && made.is_checked) stripe.now.name.now (S.files store.old)
+        (S.files store.new) }
     ensures put { IfOk result (λ v. All (IsPutOf S.New.shown made.places.items made.files.items stripe.now.name.now (S.files store.new))
         v.items) }
 {
@@ -78,7 +79,7 @@ fn way_of(
     is_checked: bool,
     findings: &[Finding],
 ) -> Way
-    ensures { replaces result ≡ true → repair.now.replace_damaged ≡ true }
+    ensures { replaces result ≡ true → (repair.now.replace_damaged && is_checked) ≡ true }
 {
     if repair.elsewhere || found == Found::Absent || found == Found::Dangling {
         return Way::Place;

@@ -1,5 +1,6 @@
 //! Repairing a stripe of a store: each lost fragment is rebuilt, with all checks that the survivors allow, and gets its name.
-ghost use Rattle.std.specs.Prelude.{◌≡◌, IfOk, IfSome};
+ghost use Rattle.std.specs.Prelude.{◌≡◌, IfOk, IfSome, false, true};
+ghost use Rattle.store_repair.specs.Losses.{AreChecked};
 ghost use Rattle.lrc_code.specs.Sets.{is_in};
 ghost use Rattle.store_repair.specs.Opened.{AreMade, AreRebuilt};
 ghost use Rattle.store_repair.specs.Store.{AreUntouched};
@@ -24,6 +25,9 @@ pub fn repair_stripe<S: Store>(
     stripe: &Stripe<'_>,
 ) -> Result<Outcome, AllocError>
     ensures untouched { AreUntouched repair.now.replace_damaged stripe.now.name.now (S.files store.old) (S.files store.new) }
+    ensures unchecked { IfOk result (λ o. o.is_checked ≡ false → AreUntouched false stripe.now.name.now (S.files store.old)
+        (S.files store.new)) }
+    ensures checked { IfOk result (λ o. o.is_checked ≡ true → AreChecked repair.now.code (is_in o.survivors) o.length) }
     ensures rebuilt { IfOk result (λ o. AreRebuilt repair.now.code (is_in o.survivors) o.length stripe.now.name.now (S.files store.old)
         (S.files store.new) o.rebuilt.items) }
 {
@@ -61,6 +65,7 @@ fn make_lost<S: Store>(
     ensures same { S.files store.new ≡ S.files store.old }
     ensures made { IfOk result (λ o. IfSome o (λ made. AreMade S.New.shown repair.now.code (is_in made.set) length stripe.now.name.now
         (S.files store.old) made.places.items made.files.items)) }
+    ensures checked { IfOk result (λ o. IfSome o (λ made. made.is_checked ≡ true → AreChecked repair.now.code (is_in made.set) length)) }
 {
     if repair.reads == Reads::Few {
         if let Some(made) = make_from_fewest(alloc, store, repair, stripe, length, findings)? {

@@ -5,6 +5,7 @@ ghost use Rattle.lrc_code.specs.Sets.{is_in};
 ghost use Rattle.lrc_plan.specs.Stripes.{AreWhole, IsPossible, at_place};
 ghost use Rattle.store_repair.specs.declared.damage.Damage.TheVariants.{Nowhere};
 ghost use Rattle.store_repair.specs.Damage.{IsLocated};
+ghost use Rattle.store_repair.specs.Losses.{CanContradict};
 ghost use Rattle.store_repair.specs.Scrubbed.{AreOfOneStripe, IsDamagedFragment, damaged_at, said_damaged};
 ghost use Rattle.store_repair.specs.Shown.{AreShown};
 
@@ -31,6 +32,7 @@ pub fn scrub_stripe<S: Store>(
         All (IsDamagedFragment code (is_in o.survivors) o.length stripe.now.name.now files) (said_damaged o.findings.items))) }
     ensures silent { IfOk result (λ o. o.findings.items ≡ [] → o.is_checked ≡ true → IfSome (S.files store.now)
         (AreOfOneStripe code (is_in o.survivors) o.length stripe.now.name.now)) }
+    ensures checked { IfOk result (λ o. o.is_checked ≡ true → CanContradict code (is_in o.survivors)) }
 {
     let mut findings = Vec::new(alloc);
     let known = length_or_note(alloc, store, code, stripe, &mut findings)?;

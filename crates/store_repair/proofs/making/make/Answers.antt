@@ -1,7 +1,11 @@
-use Rattle.std.proofs.Common.{◌∙◌, ap, length, subst, sym}
+use Rattle.std.proofs.Common.{◌≡◌, ◌∙◌, ap, length, subst, sym, true, not}
+use Rattle.std.proofs.lemmas.Bool.{and_parts}
 use Rattle.std.proofs.lemmas.List.{length-set}
 use Rattle.lrc_code.specs.Places.{index_of}
+use Rattle.lrc_code.specs.Sets.{is_in}
+use Rattle.store_repair.specs.Losses.{AreChecked}
 use Rattle.store_repair.specs.Opened.{AreOpened}
+use Rattle.store_repair.specs.Repaired.{IfMade}
 use Rattle.store_repair.proofs.RepairLemmas.{opened_less}
 use Rattle.store_repair.proofs.making.make.Goals as goal
 
@@ -23,3 +27,13 @@ attempts-preserved g c =
           (opened_less shown code stripe old.length (files c.attempts.store) old.set new.set old.fragments.items c.in-LeaveOut.place
           so.sixteen c.leave_out.ensures.set so.opened));
     }
+
+pub returns-in-Made-clause-checked : goal.returns-in-Made-clause-checked
+returns-in-Made-clause-checked g c = λ on.
+    let made = c.in-Made.made in
+    let code = c.args.repair.now.code in
+    let len = c.attempts.left.length in
+    let own = (and_parts made.is_checked (not c.attempts.has_guessed) (sym c.held.ensures.checked ∙ on)).0 in
+    let of = subst (IfMade (λ m. m.is_checked ≡ true → AreChecked code (is_in m.set) len)) c.in-Made.is c.in_ok-made.ensures.checked in
+    subst (λ set. AreChecked code (is_in set) c.args.opened.length) (sym c.held.ensures.set)
+    (subst (AreChecked code (is_in made.set)) c.attempts.invariant.long (of own))

@@ -1,3 +1,4 @@
+use Rattle.std.specs.Prelude.{◌&&◌}
 use Rattle.std.proofs.Common.{◌≡◌, ◌∙◌, ◌<◌, ◌+◌, ℕ, All, false, ap, arith, get_or, length, refl, subst, sym, vec_len}
 use Rattle.std.proofs.lemmas.List.{get_or_default}
 use Rattle.lrc_code.specs.declared.places.Place.{Place}
@@ -10,7 +11,7 @@ use Rattle.store_repair.proofs.putting.put_all.Goals as goal
 
 pub returns-in_err-put_one-clause-untouched : goal.returns-in_err-put_one-clause-untouched
 returns-in_err-put_one-clause-untouched g c =
-    let r = c.args.repair.now.replace_damaged in
+    let r = c.args.repair.now.replace_damaged && c.args.made.is_checked in
     let s = c.args.stripe.now.name.now in
     let files = g.S.Store.files in
     let now = c.files.store in
@@ -20,7 +21,7 @@ returns-in_err-put_one-clause-untouched g c =
 
 pub returns-in_err-push-clause-untouched : goal.returns-in_err-push-clause-untouched
 returns-in_err-push-clause-untouched g c =
-    let r = c.args.repair.now.replace_damaged in
+    let r = c.args.repair.now.replace_damaged && c.args.made.is_checked in
     let s = c.args.stripe.now.name.now in
     let files = g.S.Store.files in
     let now = c.files.store in
@@ -53,8 +54,9 @@ files-preserved-in-Continue-branch-2 g c =
     let far = λ (i : ℕ) (d : Place) (lt : i < length c.files.put.items) (k : ℕ) (d2 : Place) (small : k < n + 1).
     c.files.invariant.far i d lt k d2 (omega (arith, small, more)) in
     record {
-      untouched = untouched_trans c.args.repair.now.replace_damaged s (files c.args.store.now) (files now) (files next)
-          c.files.invariant.untouched (untouched_weaker (replaces c.way_of-way.result) c.args.repair.now.replace_damaged s (files now)
+      untouched = untouched_trans (c.args.repair.now.replace_damaged && c.args.made.is_checked) s (files c.args.store.now) (files now) (files next)
+          c.files.invariant.untouched (untouched_weaker (replaces c.way_of-way.result)
+          (c.args.repair.now.replace_damaged && c.args.made.is_checked) s (files now)
           (files next) c.way_of-way.ensures c.put_one.ensures.untouched);
       places = refl;
       few = omega (arith, more, few);
@@ -94,8 +96,9 @@ files-preserved g c =
     let far = λ (i : ℕ) (d : Place) (lt : i < length c.files.put.items) (k : ℕ) (d2 : Place) (small : k < n + 1).
     c.files.invariant.far i d lt k d2 (omega (arith, small, more)) in
     record {
-      untouched = untouched_trans c.args.repair.now.replace_damaged s (files c.args.store.now) (files now) (files next)
-          c.files.invariant.untouched (untouched_weaker (replaces c.way_of-way.result) c.args.repair.now.replace_damaged s (files now)
+      untouched = untouched_trans (c.args.repair.now.replace_damaged && c.args.made.is_checked) s (files c.args.store.now) (files now) (files next)
+          c.files.invariant.untouched (untouched_weaker (replaces c.way_of-way.result)
+          (c.args.repair.now.replace_damaged && c.args.made.is_checked) s (files now)
           (files next) c.way_of-way.ensures c.put_one.ensures.untouched);
       places = refl;
       few = omega (arith, more, few);
