@@ -152,11 +152,11 @@ def test_fewest(folder, code, choose):
 
 
 def test_damage(folder, code, choose):
-    """One survivor of a stripe is changed at one byte: it is named, stays, and the lost ones come back; with --replace-damaged it is
-    replaced, and kept."""
+    """One survivor of a stripe is changed at one byte, and one of the other group is lost: it is named, stays, and the lost one comes back;
+    with --replace-damaged it is replaced, and kept."""
     stripes = make(folder, code, [3 * WINDOW] * 3, choose)
     name, fragments = "s001", stripes["s001"]
-    damaged, lost = choose.sample([place for place in fragments if place[0] in "xy"], 2)
+    damaged, lost = (choose.choice([place for place in fragments if place[0] == group]) for group in choose.sample("xy", 2))
     path = folder / f"{name}.{damaged}"
     wrong = bytearray(fragments[damaged])
     wrong[choose.randrange(len(wrong))] ^= 1 << choose.randrange(8)
@@ -172,6 +172,33 @@ def test_damage(folder, code, choose):
     kept = folder / f"{name}.{damaged}.damaged"
     check(kept.read_bytes() == wrong, "the damaged fragment wasn't kept")
     kept.unlink()
+    check(is_whole(folder, stripes), "the damaged fragment wasn't replaced")
+
+
+def test_suspects(folder, code, choose):
+    """One survivor is changed, and one of its group is lost, so that two others might be instead: those that may be are named, and nothing
+    is rebuilt or replaced but by a guess that is asked for, which replaces nothing and is said to be unchecked."""
+    stripes = make(folder, code, [WINDOW + 9] * 3, choose)
+    name, fragments = "s001", stripes["s001"]
+    group = choose.choice("xy")
+    damaged, lost = choose.sample([place for place in fragments if place[0] == group], 2)
+    path = folder / f"{name}.{damaged}"
+    wrong = bytearray(fragments[damaged])
+    wrong[choose.randrange(len(wrong))] ^= 1
+    path.write_bytes(wrong)
+    (folder / f"{name}.{lost}").unlink()
+    for options in ((), ("--replace-damaged",)):
+        _, errors = run("repair", folder, "--code", code, *options, status=1)
+        named = re.search(rf"^{name}: contradiction: one of these is damaged: (.*)$", errors, re.M)
+        check(named and damaged in named[1].split(), errors)
+        check(path.read_bytes() == wrong and not (folder / f"{name}.{lost}").exists(), "something was made of a contradiction")
+    output, errors = run("repair", folder, "--code", code, "--assume-one-damaged", "--replace-damaged", status=1)
+    check(f"(1 unchecked: {name}.{lost}); damaged: 1: {name}.{damaged}; " in output, output)
+    check(f"{name}.{damaged}: is taken for the damaged one" in errors and "was a guess" in errors, errors)
+    check((folder / f"{name}.{lost}").read_bytes() == fragments[lost], "the guess was right, and the lost fragment isn't")
+    check(path.read_bytes() == wrong, "a fragment was replaced by a guess")
+    run("repair", folder, "--code", code, "--replace-damaged", status=0)
+    (folder / f"{name}.{damaged}.damaged").unlink()
     check(is_whole(folder, stripes), "the damaged fragment wasn't replaced")
 
 
@@ -322,8 +349,8 @@ def test_refusals(folder):
 
 def main():
     choose = random.Random(2026)
-    tests = (test_losses, test_fewest, test_damage, test_too_many, test_odd_files, test_owner_and_mode, test_requests, test_odd_names,
-             test_two_at_once, test_kills, test_other_stores)
+    tests = (test_losses, test_fewest, test_damage, test_suspects, test_too_many, test_odd_files, test_owner_and_mode, test_requests,
+             test_odd_names, test_two_at_once, test_kills, test_other_stores)
     with tempfile.TemporaryDirectory() as scratch:
         place = pathlib.Path(scratch)
         for code in CODES:

@@ -20,8 +20,8 @@ import tempfile
 sys.dont_write_bytecode = True
 ROOT = pathlib.Path(__file__).resolve().parent.parent
 sys.path.append(str(ROOT / "tools"))
-from reference import CODES  # noqa: E402
-from store import combined, product, stripe  # noqa: E402
+from reference import CODES, code_of, eliminated, product  # noqa: E402
+from store import combined, stripe  # noqa: E402
 
 PROGRAM = ROOT / "crates/rebuild_store/out/rebuild_store"
 LENGTH = 24
@@ -40,10 +40,25 @@ def hold(holds, what):
 
 
 class Trial:
-    """A stripe with some fragments lost and others wrong: the bytes that are there by their places, and those that are right."""
+    """A stripe with some fragments lost and others wrong: the bytes that are there by their places, and the states of the stripe that are
+    right."""
 
-    def __init__(self, name, there, right):
-        self.name, self.there, self.right = name, there, right
+    def __init__(self, code, name, there, states):
+        self.code, self.name, self.there, self.states = code, name, there, states
+        self.right = {place: {state[place] for state in states} for place in states[0]}
+
+    def is_hidden(self):
+        """Whether what is there is wrong and of one stripe, worked out by the code's equations: then nothing shows, as where two are lost
+        of a group and two others of it are wrong in the same way."""
+        is_right = any(all(state[place] == data for place, data in self.there.items()) for state in self.states)
+        if is_right or len({len(data) for data in self.there.values()}) > 1:
+            return False
+        places, equations = code_of(self.code)
+        lost = [k for k, place in enumerate(places) if place not in self.there]
+        rows, _ = eliminated(equations, lost)
+        checks = [row for row in rows if not any(row[k] for k in lost)]
+        data = [self.there.get(place, b"") for place in places]
+        return not any(any(combined(row, data, LENGTH)) for row in checks)
 
 
 def some(sets, choose):
@@ -64,7 +79,7 @@ def exchanged(code, many, choose):
     for (a, b), lost in some(sets, choose):
         right = stripe(code, LENGTH, choose)
         there = {**right, a: right[b], b: right[a]}
-        yield f"exchanged-{a}-{b}", there, {place: {right[place]} for place in right}, lost
+        yield f"exchanged-{a}-{b}", there, [right], lost
 
 
 def changed(code, many, choose):
@@ -79,7 +94,7 @@ def changed(code, many, choose):
             wrong = bytearray(right[place])
             wrong[at if choose.random() < 0.7 else choose.randrange(LENGTH)] ^= choose.randrange(1, 256)
             there[place] = bytes(wrong)
-        yield f"changed-{a}-{b}", there, {place: {right[place]} for place in right}, lost
+        yield f"changed-{a}-{b}", there, [right], lost
 
 
 def updated(code, old, place, data):
@@ -104,7 +119,7 @@ def torn(code, many, choose):
         old = stripe(code, LENGTH, choose)
         after = updated(code, old, place, choose.randbytes(LENGTH))
         there = {name: after[name] if name in new else old[name] for name in old}
-        yield f"torn-{'-'.join(new)}", there, {name: {old[name], after[name]} for name in old}, lost
+        yield f"torn-{'-'.join(new)}", there, [old, after], lost
 
 
 def cut(code, many, choose):
@@ -117,7 +132,7 @@ def cut(code, many, choose):
                 right = stripe(code, LENGTH, choose)
                 there = {place: data[:length] if place in short else data for place, data in right.items()}
                 lost = choose.sample(places, many)
-                yield f"cut-{size}-{length}", there, {place: {right[place]} for place in right}, lost
+                yield f"cut-{size}-{length}", there, [right], lost
 
 
 def lay(folder, code, kind, many, choose):
@@ -126,9 +141,9 @@ def lay(folder, code, kind, many, choose):
     for place, data in stripe(code, LENGTH, choose).items():
         (folder / f"a-sound-one.{place}").write_bytes(data)
     trials = []
-    for number, (name, there, right, lost) in enumerate(kind(code, many, choose)):
+    for number, (name, there, states, lost) in enumerate(kind(code, many, choose)):
         kept = {place: data for place, data in there.items() if place not in lost}
-        trials.append(Trial(f"{name}-without-{'-'.join(lost)}-{number}", kept, right))
+        trials.append(Trial(code, f"{name}-without-{'-'.join(lost)}-{number}", kept, states))
         for place, data in kept.items():
             (folder / f"{trials[-1].name}.{place}").write_bytes(data)
     return trials
@@ -145,8 +160,13 @@ def repair(folder, code, report, *options):
 
 
 def judge(folder, trials, rows):
-    """Holds what a repair left: each fragment is as it was or one of the right ones, and was not replaced if it was right."""
+    """Holds what a repair left: each fragment is as it was or one of the right ones, and was not replaced if it was right. Gives how many
+    stripes had two lost fragments and nothing by which damage of two others could show."""
+    hidden = 0
     for trial in trials:
+        if len(trial.right) - len(trial.there) == 2 and trial.is_hidden():
+            hidden += 1
+            continue
         for place, right in trial.right.items():
             path = folder / f"{trial.name}.{place}"
             now = path.read_bytes() if path.exists() else None
@@ -160,6 +180,7 @@ def judge(folder, trials, rows):
             hold(before is None or (before not in right and not is_guess), f"{path.name} was replaced, though it was right or by a guess")
             kept = path.with_name(f"{path.name}.damaged")
             hold(before is None or kept.read_bytes() == before, f"{path.name} was replaced and isn't kept")
+    return hidden
 
 
 def main(program):
@@ -168,12 +189,14 @@ def main(program):
     choose = random.Random(2026)
     shared = pathlib.Path("/dev/shm")
     place = shared if shared.is_dir() and os.access(shared, os.W_OK) else None
+    hidden = 0
     for code, kind, many in itertools.product(CODES, (exchanged, changed, torn, cut), (0, 1, 2)):
         for options in ((), ("--replace-damaged",)):
             with tempfile.TemporaryDirectory(dir=place) as scratch:
                 folder = pathlib.Path(scratch) / "store"
                 trials = lay(folder, code, kind, many, choose)
-                judge(folder, trials, repair(folder, code, pathlib.Path(scratch) / "report.csv", *options))
+                hidden += judge(folder, trials, repair(folder, code, pathlib.Path(scratch) / "report.csv", *options))
+    print(f"store-damage: of stripes that had lost two, {hidden} had nothing by which two damaged ones could show")
     print(f"store-damage: {passed} passed, 0 failed")
 
 

@@ -1,5 +1,6 @@
 -- What the rows of checks say of bytes.
-use Rattle.std.proofs.Common.{◌≡◌, ◌∙◌, ◌<◌, ◌^◌, ℕ, List, Bool, true, false, ap, arith, cond, get_or, inl, inr, length, map, refl, subst, sym}
+use Rattle.std.proofs.Common.{◌≡◌, ◌∙◌, ◌<◌, ◌^◌, ℕ, List, Bool, true, false, ap, arith, cond, get_or, inl, inr, length, map, refl}
+use Rattle.std.proofs.Common.{subst, sym}
 use Rattle.std.proofs.lemmas.Bool.{cases_Bool}
 use Rattle.lrc_field.specs.Field.{times}
 use Rattle.lrc_field.specs.Sums.{combination}

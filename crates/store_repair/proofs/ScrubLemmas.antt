@@ -30,15 +30,6 @@ push_some xs x e = absurd (let long = length-append xs (x ∷ []) in let none = 
 pub same_said : (old new more : List Place) → new ≡ old ++ more → more ≡ [] → new ≡ old
 same_said old new more e none = e ∙ ap (λ ps. old ++ ps) none ∙ append-nil old
 
--- what is noted of damage is so
-pub located : (code : CodeName) (survives : Place → Bool) (xs : List (List ℕ)) (len : ℕ) (d : Damage) → IsDamage code survives xs len d
-    → All (IsLocated code survives xs len) (damaged_at d)
-located code survives xs len damage.Nowhere is k e lt = absurd (omega (arith, lt))
-located code survives xs len (damage.At p) is zero e lt = is
-located code survives xs len (damage.At p) is (suc k) e lt = absurd (omega (arith, lt))
-located code survives xs len (damage.Among suspects) is k e lt = absurd (omega (arith, lt))
-located code survives xs len damage.Unknown is k e lt = absurd (omega (arith, lt))
-
 module _ {F : Type 0} (shown : F → Option (List ℕ)) (code : CodeName) (stripe : List ℕ) (len : ℕ) (set : List Bool)
     (fragments : List (Option F)) (sixteen : length fragments ≡ 16) where
   -- what is said of fragments that were opened is said of those under their names

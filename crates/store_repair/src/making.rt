@@ -50,7 +50,8 @@ pub(crate) fn make<S: Store>(
     ensures same { S.files store.new ≡ S.files store.old }
     ensures made { IfOk result (λ o. IfSome o (λ made. AreMade S.New.shown repair.now.code (is_in made.set) opened.length
         stripe.now.name.now (S.files store.old) made.places.items made.files.items)) }
-    ensures checked { IfOk result (λ o. IfSome o (λ made. made.is_checked ≡ true → AreChecked repair.now.code (is_in made.set) opened.length)) }
+    ensures checked { IfOk result (λ o. IfSome o (λ made. made.is_checked ≡ true
+        → AreChecked repair.now.code (is_in made.set) opened.length)) }
 {
     let mut left = opened;
     let mut has_guessed = false;

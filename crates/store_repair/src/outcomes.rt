@@ -169,6 +169,17 @@ pub(crate) fn note_no_survivor(
     ensures { OnOk result (said_damaged findings.new.items ≡ said_damaged findings.old.items) }
 {
     note(findings, None, Reason::NoSurvivor)?;
+    note_unknown(code, stripe, findings)
+}
+
+/// Notes which of a stripe's fragments can't be looked at.
+pub(crate) fn note_unknown(
+    code: Code,
+    stripe: &Stripe<'_>,
+    findings: &mut Vec<Finding>,
+) -> Result<(), AllocError>
+    ensures { OnOk result (said_damaged findings.new.items ≡ said_damaged findings.old.items) }
+{
     for place in code.places() {
         let found = stripe.files.at(*place);
         if matches!(found, Found::Unknown { .. }) {

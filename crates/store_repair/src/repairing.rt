@@ -9,7 +9,7 @@ use crate::fewest::make_from_fewest;
 use crate::lengths::length_or_note;
 use crate::making::{Made, make};
 use crate::opening::open_survivors;
-use crate::outcomes::{Finding, Outcome};
+use crate::outcomes::{Finding, Outcome, note_unknown};
 use crate::putting::{put_all, settle};
 use crate::settings::{Reads, Repair};
 use crate::store::Store;
@@ -38,6 +38,7 @@ pub fn repair_stripe<S: Store>(
     };
     let made = make_lost(alloc, store, repair, stripe, length, &mut findings)?;
     let Some(made) = made else {
+        note_unknown(repair.code, stripe, &mut findings)?;
         settle(store, &mut findings)?;
         return Ok(Outcome::of(alloc, findings));
     };

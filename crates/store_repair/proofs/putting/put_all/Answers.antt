@@ -54,7 +54,8 @@ files-preserved-in-Continue-branch-2 g c =
     let far = λ (i : ℕ) (d : Place) (lt : i < length c.files.put.items) (k : ℕ) (d2 : Place) (small : k < n + 1).
     c.files.invariant.far i d lt k d2 (omega (arith, small, more)) in
     record {
-      untouched = untouched_trans (c.args.repair.now.replace_damaged && c.args.made.is_checked) s (files c.args.store.now) (files now) (files next)
+      untouched = untouched_trans (c.args.repair.now.replace_damaged && c.args.made.is_checked) s (files c.args.store.now) (files now)
+          (files next)
           c.files.invariant.untouched (untouched_weaker (replaces c.way_of-way.result)
           (c.args.repair.now.replace_damaged && c.args.made.is_checked) s (files now)
           (files next) c.way_of-way.ensures c.put_one.ensures.untouched);
@@ -96,7 +97,8 @@ files-preserved g c =
     let far = λ (i : ℕ) (d : Place) (lt : i < length c.files.put.items) (k : ℕ) (d2 : Place) (small : k < n + 1).
     c.files.invariant.far i d lt k d2 (omega (arith, small, more)) in
     record {
-      untouched = untouched_trans (c.args.repair.now.replace_damaged && c.args.made.is_checked) s (files c.args.store.now) (files now) (files next)
+      untouched = untouched_trans (c.args.repair.now.replace_damaged && c.args.made.is_checked) s (files c.args.store.now) (files now)
+          (files next)
           c.files.invariant.untouched (untouched_weaker (replaces c.way_of-way.result)
           (c.args.repair.now.replace_damaged && c.args.made.is_checked) s (files now)
           (files next) c.way_of-way.ensures c.put_one.ensures.untouched);

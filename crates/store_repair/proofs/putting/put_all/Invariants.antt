@@ -11,7 +11,8 @@ invariant-files g l =
     let files = g.S.Store.files in
     let made = l.fn.made.files.items in
     record {
-      untouched : AreUntouched (l.fn.repair.replace_damaged && l.fn.made.is_checked) l.fn.stripe.name.now (files l.fn.store) (files l.store);
+      untouched : AreUntouched (l.fn.repair.replace_damaged && l.fn.made.is_checked) l.fn.stripe.name.now (files l.fn.store)
+          (files l.store);
       places : l.places.items ≡ l.fn.made.places.items;
       few : vec_len l.left ≤ length made;
       same : (k : ℕ) (e : _) → k < vec_len l.left → get_or l.left.items k e ≡ get_or made k e;
