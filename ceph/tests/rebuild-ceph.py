@@ -138,7 +138,7 @@ def changed(place):
     check("exported 0 shards" in said and "8 were there already, 1 of them with other bytes" in said, said)
     (store / "gone.x0").write_bytes(b"no object")
     said = run("put", store, osds, status=1)
-    check(named(said, "no OSD has an object for it") == {"gone.x0"}, said)
+    check(named(said, "was exported has an object for it") == {"gone.x0"}, said)
     check("put 1 shards, each read back; 7 were the same, 1 have no object" in said, said)
     check(osds[1].bytes_of(lines[1]) == b"changed", "the shard was not put")
     (store / "gone.x0").unlink()
@@ -456,7 +456,7 @@ def generations(place):
     check(versions(store) == {"39'359", "39'30"} and len(fragments(store)) == 6, f"{sorted(fragments(store))}: {said}")
     (store / "removed.x0").write_bytes(b"39'20 before")
     said = run("put", store, osds, status=1)
-    check(named(said, "no OSD has an object for it") == {"removed.x0"} and "put 0 shards" in said, said)
+    check(named(said, "was exported has an object for it") == {"removed.x0"} and "put 0 shards" in said, said)
 
 
 def stores(place):

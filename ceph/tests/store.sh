@@ -1,7 +1,8 @@
 #!/usr/bin/env bash
 # Shards of a pool as the fragments of a store: objects are written, some once more and one removed while an OSD is stopped, all OSDs
 # stopped, the shards of all but two of them taken out by rebuild-ceph, the others' rebuilt by rebuild-store and compared with what these
-# two hold; then shards are damaged in the OSDs and put back, and the OSDs started.
+# two hold; then shards are damaged in the OSDs and put back, and the OSDs started. At last objects are written over, and what the store has
+# of them isn't put.
 #   store.sh <program rebuild-store> <rebuild-ceph>
 . "$(dirname "$0")/cluster.sh"
 program=$1
@@ -80,14 +81,35 @@ lost=$(fragments "$RUN/dead")
 [ "$(fragments "$RUN/store")" = $((before + lost + over)) ] || fail 'the store has other fragments than those of the OSDs'
 step "$lost shards of two OSDs came back as Ceph holds them"
 
+# give: puts the store's fragments into all OSDs, which are stopped.
+give() {
+  mapfile -t words < <(folders $(seq 0 $((osds - 1))))
+  "$taking" put "$RUN/store" --pool "$pool" "${words[@]}" > "$RUN/said" 2> "$RUN/why" || true
+}
+
+# start WHEN: starts all OSDs, and compares all objects once they are whole.
+start() {
+  for i in $(seq 0 $((osds - 1))); do osd "$i"; done
+  wait_for "$osds up"
+  wait_clean 240
+  said=$(objects compare coded "$RUN/files") || fail "$said"
+  step "$1: $said"
+}
+
 count=0
 for osd in "${dead[@]}"; do for object in o3 o4 o5; do if damage "$object" "$osd"; then count=$((count + 1)); fi; done; done
-mapfile -t words < <(folders $(seq 0 $((osds - 1))))
-"$taking" put "$RUN/store" --pool "$pool" "${words[@]}" > "$RUN/said" 2> "$RUN/why" || true
+give
 step "$count shards damaged; $(cat "$RUN/said")"
 grep -q "^put $count shards" "$RUN/said" || fail "not $count shards were put back: $(cat "$RUN/why")"
-for i in $(seq 0 $((osds - 1))); do osd "$i"; done
-wait_for "$osds up"
-wait_clean 240
-said=$(objects compare coded "$RUN/files") || fail "$said"
-step "with all OSDs again: $said"
+start 'with all OSDs again'
+
+for object in o4 o5; do head -c 234567 /dev/urandom > "$RUN/late/$object"; done
+objects write coded "$RUN/late"
+cp "$RUN/late"/* "$RUN/files"
+# shellcheck disable=SC2046
+halt $(names | grep '^osd')
+give
+step "written over since: $(cat "$RUN/said")"
+grep -q '^put 0 shards' "$RUN/said" || fail "what was written since was written over: $(cat "$RUN/why")"
+[ "$(grep -cE '^o[45]\..*: it is left alone$' "$RUN/why")" = 20 ] || fail "not all shards of o4 and o5 are left alone: $(cat "$RUN/why")"
+start 'started again'
