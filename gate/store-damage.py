@@ -177,7 +177,9 @@ def judge(folder, trials, rows):
             is_guess = row["outcome"] == "rebuilt" and row["detail"] == "unchecked"
             hold(now is not None, f"{path.name} is gone")
             hold(is_guess or now in right, f"{path.name} got bytes that aren't the stripe's, and no row says that they are unchecked")
-            hold(before is None or (before not in right and not is_guess), f"{path.name} was replaced, though it was right or by a guess")
+            # Of a torn stripe either state may be restored.
+            may_be_replaced = not is_guess and (before not in right or len(trial.states) > 1)
+            hold(before is None or may_be_replaced, f"{path.name} was replaced, though it was right or by a guess")
             kept = path.with_name(f"{path.name}.damaged")
             hold(before is None or kept.read_bytes() == before, f"{path.name} was replaced and isn't kept")
     return hidden
