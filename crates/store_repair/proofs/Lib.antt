@@ -7,6 +7,7 @@ pub mod CheckLemmas
 pub mod OpenedLemmas
 pub mod RepairLemmas
 pub mod ScrubLemmas
+pub mod LengthLemmas
 pub mod CombiningLemmas
 pub mod FileLemmas
 pub mod ReadingLemmas

@@ -7,5 +7,6 @@ pub mod Losses
 pub mod Opened
 pub mod Repaired
 pub mod Scrubbed
+pub mod Lengths
 pub mod Files
 pub mod Memory

@@ -18,6 +18,15 @@ pub struct LengthGroup {
     pub places: PlaceSet,
 }
 
+impl Lengths {
+    /// Whether none is greater than this.
+    pub(crate) fn are_at_most(&self, length: usize) -> bool {
+        self.groups
+            .iter()
+            .all(|group| group.length <= length as u64)
+    }
+}
+
 impl Display for Lengths {
     fn fmt<W: Write>(&self, f: &mut Formatter<W>) -> fmt::Result {
         let mut is_first = true;

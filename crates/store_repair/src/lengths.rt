@@ -1,16 +1,17 @@
 //! How many bytes the fragments of a stripe have. Where its files don't agree their checks decide, and never their number.
-ghost use Rattle.std.specs.Prelude.{◌≡◌, OnOk};
+ghost use Rattle.std.specs.Prelude.{◌≡◌, ℕ, true, IfOk, IfSome, MatchOption, OnOk};
+ghost use Rattle.store_repair.specs.Lengths.{HasLengthAt, HaveOneLength, IfKnown, IsConfirmed, IsStripeLength};
 ghost use Rattle.store_repair.specs.Scrubbed.{said_damaged};
 
 use crate::consistency::are_consistent;
 use crate::length_groups::{LengthGroup, Lengths};
-use crate::losses::have_checks;
+use crate::losses::are_checked;
 use crate::mending::{MendFault, Survivors};
 use crate::opening::open_survivors;
 use crate::outcomes::{Finding, Reason, note, note_no_survivor};
 use crate::store::Store;
 use crate::stripes::{Found, Stripe, StripeFiles, nth_place};
-use lrc_code::Code;
+use lrc_code::{Code, Place};
 use std::alloc::{AllocError, Global};
 
 /// How many bytes each fragment of a stripe has.
@@ -20,35 +21,83 @@ pub enum StripeLength {
     NoFiles,
     /// So many.
     Known(usize),
-    /// The files have several lengths, and checks confirm none of these, or more than one.
+    /// The files have several lengths, and checks confirm none of these, or more than one, or one that isn't the greatest.
     Undecided(Lengths),
 }
 
 /// How many bytes each fragment of a stripe has: as many as each of its files, if these have one length, and else the length whose
-/// fragments have checks and belong together, if there is only one. Fragments without bytes prove nothing. Fragments are read only where
-/// the lengths differ. No clause says which length it is.
+/// fragments have checks and belong together, if there is only one and no file is longer: the beginnings of a stripe's fragments are those
+/// of a stripe too. Fragments without bytes prove nothing. Fragments are read only where the lengths differ. No clause says that a length
+/// is known, or that checks confirm no other.
 pub fn stripe_length<S: Store>(
     alloc: Global,
     store: &S,
     code: Code,
     stripe: &Stripe<'_>,
-) -> Result<StripeLength, AllocError> {
-    let lengths = lengths_of(alloc, code, &stripe.files)?;
-    let Some(first) = lengths.groups.first() else {
-        return Ok(StripeLength::NoFiles);
-    };
-    if lengths.groups.len() == 1 {
-        return Ok(match usize::try_from(first.length) {
-            Ok(length) => StripeLength::Known(length),
-            Err(_) => StripeLength::NoFiles,
-        });
+) -> Result<StripeLength, AllocError>
+    ensures { IfOk result (IsStripeLength code stripe.now.files.found stripe.now.name.now (S.files store.now)) }
+{
+    if let Some(length) = common_length(code, &stripe.files) {
+        return Ok(as_known(length));
     }
-    Ok(
-        match confirmed_length(alloc, store, code, stripe, lengths.groups.as_slice())? {
-            Some(length) => StripeLength::Known(length),
-            None => StripeLength::Undecided(lengths),
-        },
-    )
+    let lengths = lengths_of(alloc, code, &stripe.files)?;
+    if lengths.groups.is_empty() {
+        return Ok(StripeLength::NoFiles);
+    }
+    match confirmed_length(alloc, store, code, stripe, lengths.groups.as_slice())? {
+        Some(length) if lengths.are_at_most(length) => Ok(StripeLength::Known(length)),
+        _ => Ok(StripeLength::Undecided(lengths)),
+    }
+}
+
+// So many bytes, if memory can be as long.
+fn as_known(length: u64) -> StripeLength
+    ensures { IfKnown (λ len. len ≡ length) result }
+{
+    match usize::try_from(length) {
+        Ok(length) => StripeLength::Known(length),
+        Err(_) => StripeLength::NoFiles,
+    }
+}
+
+// How many bytes each file at a code's places has; none where there are no files, or where these differ in length.
+fn common_length(code: Code, files: &StripeFiles) -> Option<u64>
+    ensures { IfSome result (HaveOneLength code files.now.found) }
+{
+    let mut common = None;
+    for index in 0..16 {
+        if let Some(length) = length_at(code, files, nth_place(index)) {
+            if !is_in_common(common, length) {
+                return None;
+            }
+            common = Some(length);
+        }
+    }
+    common
+}
+
+// How many bytes the file at a place has, if there is one and the place is the code's.
+fn length_at(code: Code, files: &StripeFiles, place: Place) -> Option<u64>
+    ensures { MatchOption result ((len : ℕ) → HasLengthAt code files.now.found len place)
+        (λ len. HasLengthAt code files.now.found len place) }
+{
+    if !code.has(place) {
+        return None;
+    }
+    match files.found[place.index()] {
+        Found::File { length } => Some(length),
+        _ => None,
+    }
+}
+
+// Whether a length is the one before, if there is one.
+fn is_in_common(common: Option<u64>, length: u64) -> bool
+    ensures { result ≡ true → IfSome common (λ other. other ≡ length) }
+{
+    match common {
+        Some(other) => other == length,
+        None => true,
+    }
 }
 
 /// How many bytes each fragment of a stripe has; where that isn't known, why is noted.
@@ -94,7 +143,9 @@ fn confirmed_length<S: Store>(
     code: Code,
     stripe: &Stripe<'_>,
     groups: &[LengthGroup],
-) -> Result<Option<usize>, AllocError> {
+) -> Result<Option<usize>, AllocError>
+    ensures { IfOk result (λ o. IfSome o (λ len. IfSome (S.files store.now) (IsConfirmed code len stripe.now.name.now))) }
+{
     let mut confirmed = None;
     for group in groups {
         let Ok(length) = usize::try_from(group.length) else {
@@ -117,13 +168,12 @@ fn is_confirmed<S: Store>(
     code: Code,
     stripe: &Stripe<'_>,
     length: usize,
-) -> Result<bool, AllocError> {
-    if length == 0 {
-        return Ok(false);
-    }
+) -> Result<bool, AllocError>
+    ensures { IfOk result (λ b. b ≡ true → IfSome (S.files store.now) (IsConfirmed code length stripe.now.name.now)) }
+{
     let mut noted_later = Vec::new(alloc);
     let opened = open_survivors(alloc, store, code, stripe, length, &mut noted_later)?;
-    if !have_checks(code, opened.set) {
+    if !are_checked(code, opened.set, length) {
         return Ok(false);
     }
     let survivors = Survivors {

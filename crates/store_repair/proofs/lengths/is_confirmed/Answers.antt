@@ -1,0 +1,21 @@
+use Rattle.std.proofs.Common.{◌≡◌, arith, length, subst, sym}
+use Rattle.lrc_code.specs.Sets.{is_in}
+use Rattle.store_repair.specs.Mended.{IsConsistency}
+use Rattle.store_repair.specs.Shown.{AreShown}
+use Rattle.store_repair.proofs.LengthLemmas.{confirmed}
+use Rattle.store_repair.proofs.ScrubLemmas.{of_one_stripe}
+use Rattle.store_repair.proofs.lengths.is_confirmed.Goals as goal
+
+pub returns-in-Ok : goal.returns-in-Ok
+returns-in-Ok g c = λ on.
+    let shown = g.S.Survivor.Fragment.shown in
+    let code = c.args.code in
+    let stripe = c.args.stripe.now.name.now in
+    let len = c.args.length in
+    let files = g.S.Store.files c.args.store.now in
+    let opened = c.in_ok-opened.opened in
+    let sixteen : length opened.fragments.items ≡ 16 = omega (arith, c.in_ok-opened.ensures.sixteen) in
+    confirmed code len stripe opened.set files (c.are_checked.ensures c.if-not-are_checked.false)
+    (of_one_stripe shown code stripe len opened.set opened.fragments.items sixteen files c.in_ok-opened.ensures.opened
+    (λ xs are whole. subst (IsConsistency code (is_in opened.set) xs len) on
+    (c.in-Ok.ensures xs (subst (λ fs. AreShown shown fs xs) (sym c.as_slice.ensures.value) are) whole)))

@@ -1,0 +1,54 @@
+-- How many bytes the fragments of a stripe have.
+use Rattle.std.specs.Prelude.{◌≡◌, ◌⊎◌, ◌<◌, ℕ, List, Bool, true, Option, Some, None, IfSome, slice_index_or}
+use Rattle.lrc_code.specs.declared.places.Place.{Place}
+use Rattle.lrc_code.specs.declared.codes.Code.{Code as CodeName}
+use Rattle.lrc_code.specs.Code.{has_place}
+use Rattle.lrc_code.specs.Codes.{tables_of}
+use Rattle.lrc_code.specs.Places.{index_of}
+use Rattle.store_repair.specs.Losses.{AreChecked}
+use Rattle.store_repair.specs.Scrubbed.{AreOfOneStripe}
+use Rattle.store_repair.specs.Store.{Files, ShownFiles}
+use Rattle.store_repair.specs.declared.lengths.StripeLength.{StripeLength}
+use Rattle.store_repair.specs.declared.lengths.StripeLength.TheVariants as stripe_length
+use Rattle.store_repair.specs.declared.stripes.Found.{Found as FoundName}
+use Rattle.store_repair.specs.declared.stripes.Found.TheVariants as found
+
+-- what was found, if it is a file, has so many bytes
+abbrev pub HasLength : ℕ → FoundName → Type 0
+HasLength len found.Absent = Unit {0}
+HasLength len (found.File length) = length ≡ len
+HasLength len found.Dangling = Unit {0}
+HasLength len found.Other = Unit {0}
+HasLength len (found.Unknown code) = Unit {0}
+
+-- what was found at a place of the code, if it is a file, has so many bytes
+abbrev pub HasLengthAt : CodeName → List FoundName → ℕ → Place → Type 0
+HasLengthAt code files len p =
+    has_place (tables_of code) p ≡ true → HasLength len (slice_index_or files (index_of p) found.Absent)
+
+-- each file at a place of the code has so many bytes
+abbrev pub HaveOneLength : CodeName → List FoundName → ℕ → Type 0
+HaveOneLength code files len = (p : Place) → HasLengthAt code files len p
+
+-- the same at the places before an index, or there is no file
+abbrev pub HaveOneLengthBefore : CodeName → List FoundName → ℕ → Option ℕ → Type 0
+HaveOneLengthBefore code files n None = (len : ℕ) (p : Place) → index_of p < n → HasLengthAt code files len p
+HaveOneLengthBefore code files n (Some len) = (p : Place) → index_of p < n → HasLengthAt code files len p
+
+-- checks confirm a length: fragments of it, under a stripe's names, are checked and of one stripe of the code
+abbrev pub IsConfirmed : CodeName → ℕ → List ℕ → Files → Type 0
+IsConfirmed code len stripe files =
+    (survives : Place → Bool) × AreChecked code survives len × AreOfOneStripe code survives len stripe files
+
+-- what is said of a stripe's length: that each of its files has it, or that checks confirm it
+abbrev pub IsStripeLength : CodeName → List FoundName → List ℕ → ShownFiles → StripeLength → Type 0
+IsStripeLength code files stripe shown stripe_length.NoFiles = Unit {0}
+IsStripeLength code files stripe shown (stripe_length.Known len) =
+    HaveOneLength code files len ⊎ IfSome shown (IsConfirmed code len stripe)
+IsStripeLength code files stripe shown (stripe_length.Undecided lengths) = Unit {0}
+
+-- what holds of a length, where it is known
+abbrev pub IfKnown : (ℕ → Type 0) → StripeLength → Type 0
+IfKnown P stripe_length.NoFiles = Unit {0}
+IfKnown P (stripe_length.Known len) = P len
+IfKnown P (stripe_length.Undecided lengths) = Unit {0}
