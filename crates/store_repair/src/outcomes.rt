@@ -28,7 +28,7 @@ pub enum Reason {
     /// Of a stripe: none of its fragments can be read.
     #[error("no fragment can be read")]
     NoSurvivor,
-    /// Of a stripe: its files have several lengths, and checks confirm none of these, or more than one.
+    /// Of a stripe: its files have several lengths, and checks confirm none of these, or more than one, or one that isn't the greatest.
     #[error("its fragments have different lengths, and no check says which is right: {0}")]
     LengthsDiffer(Lengths),
     /// The survivors don't determine the fragment.

@@ -16,7 +16,8 @@ loop-index-preserved c =
       | in-Some+else-not-is_in_common w ↦ subst after (sym w.common-is)
           (next_file code files n p c.nth_place.ensures common w.in-Some.length (w.is_in_common.ensures w.if-not-is_in_common.false)
           w.in-Some.ensures c.loop-index.invariant)
-      | in_default w ↦ subst after (sym w.common-is) (next_none code files n p c.nth_place.ensures common w.in_default.ensures c.loop-index.invariant)
+      | in_default w ↦ subst after (sym w.common-is)
+          (next_none code files n p c.nth_place.ensures common w.in_default.ensures c.loop-index.invariant)
     ]
 
 pub returns : goal.returns
