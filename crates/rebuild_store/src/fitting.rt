@@ -94,8 +94,9 @@ fn fit_of_opened(
         return Ok(Fit::Unknown);
     }
     match find_damaged(alloc, &survivors) {
-        Ok(Damage::Nowhere | Damage::At(_) | Damage::Among(_)) => Ok(Fit::Fits),
-        Ok(Damage::Unknown) => Ok(Fit::Clashes),
+        Ok(Damage::Nowhere | Damage::At(_)) => Ok(Fit::Fits),
+        Ok(Damage::Among(suspects)) if suspects.single.is_some() => Ok(Fit::Fits),
+        Ok(Damage::Among(_) | Damage::Unknown) => Ok(Fit::Clashes),
         Err(fault) => unknown(fault),
     }
 }
