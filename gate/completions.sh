@@ -9,7 +9,8 @@ completions=$PWD/completions
 scratch=$(mktemp -d)
 trap 'rm -rf "$scratch"' EXIT
 workers='1 2 3 4 5 6 7 8 9 10 11 12 13 14 15 16'
-repair='--code --dry-run --help --json --layout --names --part --reads --replace-damaged --report --stripes --sums --to --workers -h'
+repair='--assume-one-damaged --code --dry-run --follow-links --help --json --layout --names --part --reads --replace-damaged --report'
+repair+=' --stripes --sums --to --trust-writers --workers -h'
 
 # Each line, up to where the key is pressed, and what is offered there: the folder below has two folders and a file.
 mkdir -p "$scratch/here/lists" "$scratch/here/served"
@@ -93,19 +94,19 @@ rebuild-store repair --names :
 rebuild-store repair --part :
 rebuild-store repair --code 6-2-2 --to served l:lists
 rebuild-store lost l:lists
-rebuild-store lost -:--code --help --json --layout --names --part --stripes -h
+rebuild-store lost -:--code --follow-links --help --json --layout --names --part --stripes -h
 rebuild-store lost --stripes l:list.csv lists
 rebuild-store scrub l:lists
-rebuild-store scrub -:--code --help --json --layout --names --part --report --stripes --sums --workers -h
+rebuild-store scrub -:--code --follow-links --help --json --layout --names --part --report --stripes --sums --workers -h
 rebuild-store scrub --sums list.:list.csv
 rebuild-store encode :lists served
 rebuild-store encode lists :list.csv lists served
 rebuild-store encode lists list.csv :list.csv lists served
-rebuild-store encode -:--code --help --layout --names -h
+rebuild-store encode -:--code --follow-links --help --layout --names --trust-writers -h
 rebuild-store encode --layout :groups plain
 rebuild-store read l:lists
 rebuild-store read lists :
-rebuild-store read -:--help --layout --names -h
+rebuild-store read -:--follow-links --help --layout --names -h
 rebuild-store read --layout :groups plain
 END
 
