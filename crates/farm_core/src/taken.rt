@@ -148,6 +148,7 @@ pub(crate) fn room_for<'a>(
     ensures workers { IfOk result (λ r. (r.desk.workers ≡ settings.workers) × (length r.workers.items ≡ settings.workers)) }
 {
     let workers = settings.workers();
+    let space = space_for(alloc, lists.racks(), workers)?;
     let board = Board::new(alloc, lists)?;
     let (job_puts, stops, job_takes) = request_lane(
         alloc,
@@ -158,7 +159,6 @@ pub(crate) fn room_for<'a>(
     let (reply_puts, replies) = reply_lane(alloc, settings.queue(), workers)?;
     let ends = worker_ends(alloc, job_takes, reply_puts)?;
     let racks = racks_for(alloc, lists, gates, seats, job_puts)?;
-    let space = space_for(alloc, lists.racks(), workers)?;
     Ok(Room {
         desk: Desk {
             board,

@@ -26,6 +26,17 @@ pub fn scale_add_into(dst: &mut [u8], c: Gf, src: &[u8])
     requires { length dst.old ≡ length src.now }
     ensures { dst.new ≡ sums dst.old (map (times c) src.now) }
 {
+    if c.byte() == 1 {
+        add_into(dst, src);
+    } else {
+        add_products(dst, c, src);
+    }
+}
+
+fn add_products(dst: &mut [u8], c: Gf, src: &[u8])
+    requires { length dst.old ≡ length src.now }
+    ensures { dst.new ≡ sums dst.old (map (times c) src.now) }
+{
     let tables = Tables::new(c);
     let mut at = 0;
     'lanes: while dst.len() - at >= 32 {

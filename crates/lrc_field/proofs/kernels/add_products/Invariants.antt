@@ -1,7 +1,7 @@
 use Rattle.std.proofs.Common.{map, length, ◌-◌, ◌≤◌}
 use Rattle.lrc_field.specs.Field.{times}
 use Rattle.lrc_field.proofs.Sums.{IsSummed}
-use Rattle.lrc_field.proofs.kernels.scale_add_into.Given as goal
+use Rattle.lrc_field.proofs.kernels.add_products.Given as goal
 
 abbrev pub invariant-lanes : goal.invariant-lanes
 invariant-lanes l = record { within : l.at ≤ length l.dst; summed : IsSummed l.initial.dst (map (times l.c) l.src) l.dst l.at }
