@@ -1,0 +1,4 @@
+pub mod Calls
+pub mod Files
+pub mod Recorded
+pub mod Worlds

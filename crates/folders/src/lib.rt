@@ -1,0 +1,12 @@
+//! Folders of a file system.
+#![tactic(auto)]
+
+mod folder;
+mod record;
+mod status;
+mod system;
+
+pub use folder::{Folder, NewFile, OpenFile, WholeFile};
+pub use record::{Call, Record, Written};
+pub use status::{Identity, Kind, Rights, Status, Time};
+pub use system::{SystemFolder, SystemNew, SystemOpen, SystemWhole};
