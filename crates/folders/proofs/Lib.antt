@@ -1,0 +1,4 @@
+pub mod Answers
+pub mod Links
+pub mod Runs
+pub mod Steps

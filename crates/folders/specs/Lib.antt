@@ -1,4 +1,6 @@
 pub mod Calls
 pub mod Files
+pub mod Kept
+pub mod Placed
 pub mod Recorded
 pub mod Worlds

@@ -98,10 +98,3 @@ pub record IsStep (w : World) (call : Call) (ok : Bool) (calls : List Answered) 
 abbrev pub IsLawful : World → List Answered → Type 0
 IsLawful w [] = Unit {0}
 IsLawful w ((call, ok) ∷ calls) = IsLawful w calls × IsStep w call ok calls
-
--- a front of a run, at or after an earlier one
-pub record IsBetween (old mid new : List Answered) : Type 0 where
-  pub more : List Answered
-  pub since : List Answered
-  pub whole : new ≡ more ++ mid
-  pub front : mid ≡ since ++ old
