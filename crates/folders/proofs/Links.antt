@@ -1,5 +1,5 @@
 -- A file that is on the disk gets a path.
-use Rattle.std.proofs.Common.{◌≡◌, ◌⊎◌, inl, inr, ℕ, suc, List, [], ◌∷◌, ◌++◌, length, Bool, true, false, ◌==◌, ◌&&◌, ◌||◌, Option, Some, None, option_map, IfSome, refl, sym, ◌∙◌, ap, subst}
+use Rattle.std.proofs.Common.{◌≡◌, ◌⊎◌, inl, inr, ℕ, suc, List, [], ◌∷◌, ◌++◌, length, Bool, true, false, ◌==◌, ◌&&◌, ◌||◌, Option, Some, None, option_map, IfSome, IsSome, refl, sym, ◌∙◌, ap, subst}
 use Rattle.std.proofs.lemmas.Bool.{or_left}
 use Rattle.std.proofs.lemmas.Slice.Eq.{bytes_eq-Decides}
 use Rattle.std.specs.Prelude.{bytes_eq, ◌≢◌}
@@ -23,7 +23,8 @@ same_or_other m n = elim (cases_Bool (bytes_eq m n)) [
 closed_now : (file : ℕ) (written : Option (List ℕ)) (calls : List Answered) → is_closed file ((sync file written, true) ∷ calls) ≡ true
 closed_now file written calls = or_left _ _ (equal file)
 
-module _ (temporary : List ℕ → Type 0) (w : World) (file : ℕ) (written : Option (List ℕ)) (to : List ℕ) (ok : Bool) (before : List Answered) where
+module _ (temporary : List ℕ → Type 0) (w : World) (file : ℕ) (written : Option (List ℕ)) (to : List ℕ) (ok : Bool) (before : List Answered)
+    (is_some : IsSome written) where
   abbrev synced : List Answered
   synced = (sync file written, true) ∷ before
 
@@ -34,19 +35,19 @@ module _ (temporary : List ℕ → Type 0) (w : World) (file : ℕ) (written : O
   module _ (old new : Files) (bytes : KeepsClosed synced linked old new) (whole : IfSome written (λ all. old.bytes file ≡ all))
       (may : MayChange w.ours (w.seen synced) (suc (length synced)) (link file to) old new)
       (closed : (path : List ℕ) (f : ℕ) → w.ours path ≡ true → (temporary path → ⊥) → old.named path ≡ Some f → is_closed f synced ≡ true) where
-    all_bytes : (o : Option (List ℕ)) → o ≡ written → IfSome o (λ all. new.bytes file ≡ all)
-    all_bytes None is = tt
-    all_bytes (Some all) is = bytes file (closed_now file written before) (closed_now file written before)
-        ∙ subst (λ (x : Option (List ℕ)). IfSome x (λ (a : List ℕ). old.bytes file ≡ a)) (sym is) whole
+    all_bytes : (o : Option (List ℕ)) → o ≡ written → IsSome o → written ≡ Some (new.bytes file)
+    all_bytes None is some = cc
+    all_bytes (Some all) is some = sym is ∙ ap (λ (b : List ℕ). Some b) (sym (bytes file (closed_now file written before) (closed_now file written before)
+        ∙ subst (λ (x : Option (List ℕ)). IfSome x (λ (a : List ℕ). old.bytes file ≡ a)) (sym is) whole))
 
     gets : (path : List ℕ) → path ≡ to → (w.seen synced).named to ≡ None → new.named to ≡ Some file
-        → IsKept (IsGiven to written) (w.seen synced) old new path
+        → IsKept (IsGiven to written linked) (w.seen synced) old new path
     gets path same nothing leads = inr (
       ap (λ (p : List ℕ). under (w.seen synced) p) same ∙ ap (λ (o : Option ℕ). option_map (w.seen synced).bytes o) nothing,
-      (new.bytes file, (same, all_bytes written refl), ap (λ (p : List ℕ). under new p) same ∙ ap (λ (o : Option ℕ). option_map new.bytes o) leads),
+      (new.bytes file, record { here = same; whole = all_bytes written refl is_some; synced = inl (all_bytes written refl is_some, refl) }, ap (λ (p : List ℕ). under new p) same ∙ ap (λ (o : Option ℕ). option_map new.bytes o) leads),
     )
 
-    pub link_kept : (path : List ℕ) → w.ours path ≡ true → (temporary path → ⊥) → IsKept (IsGiven to written) (w.seen synced) old new path
+    pub link_kept : (path : List ℕ) → w.ours path ≡ true → (temporary path → ⊥) → IsKept (IsGiven to written linked) (w.seen synced) old new path
     link_kept path ours not_temporary = elim (same_or_other path to) [
       | inr other ↦ inl (unchanged temporary w (link file to) ok synced old new path ours (λ p is. cc) bytes (λ f at. closed path f ours not_temporary at) (may.0 path ours other))
       | inl same ↦ elim (may.1 (subst (λ (p : List ℕ). w.ours p ≡ true) same ours)) [
@@ -86,26 +87,31 @@ module _ (temporary : List ℕ → Type 0) (w : World) (file : ℕ) (written : O
       left = link_closed (w.left synced) (w.left linked) lawful.1.left_bytes (left_whole written (lawful.0.1.done refl)) lawful.1.left sound_synced.left;
     }
 
-    last_kept : AreKept temporary (IsGiven to written) w synced linked
+    last_kept : AreKept temporary (IsGiven to written linked) w synced linked
     last_kept path ours not_temporary = (
       link_kept (w.seen synced) (w.seen linked) lawful.1.seen_bytes (seen_whole written (lawful.0.1.done refl)) lawful.1.seen sound_synced.seen path ours not_temporary,
       link_kept (w.left synced) (w.left linked) lawful.1.left_bytes (left_whole written (lawful.0.1.done refl)) lawful.1.left sound_synced.left path ours not_temporary,
     )
 
-    synced_kept : AreKept temporary (IsGiven to written) w before synced
-    synced_kept = quiet_kept temporary w (sync file written) true before lawful.0.1 sound tt (IsGiven to written)
+    synced_kept : AreKept temporary (IsGiven to written linked) w before synced
+    synced_kept = quiet_kept temporary w (sync file written) true before lawful.0.1 sound tt (IsGiven to written linked)
 
-    pub linked_kept : AtEach (AreKept temporary (IsGiven to written) w before) ((link file to, ok) ∷ (sync file written, true) ∷ []) before
+    pub linked_kept : AtEach (AreKept temporary (IsGiven to written linked) w before) ((link file to, ok) ∷ (sync file written, true) ∷ []) before
     linked_kept = (
-      are_kept_after temporary (IsGiven to written) w before synced linked synced_kept last_kept,
+      are_kept_after temporary (IsGiven to written linked) w before synced linked synced_kept last_kept,
       (synced_kept, λ path ours not_temporary. (inl refl, inl refl)),
     )
 
 -- a file goes to the disk and then gets a path, whatever that call answers
-pub keeps_link : (temporary : List ℕ → Type 0) (file : ℕ) (written : Option (List ℕ)) (to : List ℕ) (ok : Bool) (old mid new : List Answered)
-    → mid ≡ (sync file written, true) ∷ old → new ≡ (link file to, ok) ∷ mid → Keeps temporary (IsGiven to written) old new
-keeps_link temporary file written to ok old mid new synced linked = record {
-  more = (link file to, ok) ∷ (sync file written, true) ∷ [];
-  are = linked ∙ ap (λ (calls : List Answered). (link file to, ok) ∷ calls) synced;
-  whenever = λ w lawful sound. (linked_sound temporary w file written to ok old lawful sound, linked_kept temporary w file written to ok old lawful sound);
-}
+pub keeps_link : (temporary : List ℕ → Type 0) (file : ℕ) (written : Option (List ℕ)) (to : List ℕ) (ok : Bool) (old mid new : List Answered) → IsSome written
+    → mid ≡ (sync file written, true) ∷ old → new ≡ (link file to, ok) ∷ mid → Keeps temporary (IsGiven to written new) old new
+keeps_link temporary file written to ok old mid new some synced linked =
+    let whole : new ≡ (link file to, ok) ∷ (sync file written, true) ∷ old = linked ∙ ap (λ (calls : List Answered). (link file to, ok) ∷ calls) synced in
+    subst (λ (calls : List Answered). Keeps temporary (IsGiven to written calls) old calls) (sym whole) (record {
+      more = (link file to, ok) ∷ (sync file written, true) ∷ [];
+      are = refl;
+      whenever = λ w lawful sound. (
+        linked_sound temporary w file written to ok old some lawful sound,
+        linked_kept temporary w file written to ok old some lawful sound,
+      );
+    })

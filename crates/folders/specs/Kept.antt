@@ -1,5 +1,5 @@
 -- What a run of calls keeps of what is at the paths of files, whenever it ends.
-use Rattle.std.specs.Prelude.{◌≡◌, ◌⊎◌, ℕ, List, [], ◌∷◌, ◌++◌, true, Option, Some, None}
+use Rattle.std.specs.Prelude.{◌≡◌, ◌⊎◌, ℕ, List, [], ◌∷◌, ◌++◌, Bool, true, Option, Some, None}
 use Rattle.folders.specs.Calls.{Answered}
 use Rattle.folders.specs.Files.{Files, under}
 use Rattle.folders.specs.Worlds.{World, IsLawful, is_closed}
@@ -37,3 +37,7 @@ pub record Keeps (temporary : List ℕ → Type 0) (given : List ℕ → List �
   pub are : new ≡ more ++ old
   pub whenever : (w : World) → IsLawful w (more ++ old) → IsSound temporary w old
       → IsSound temporary w (more ++ old) × AtEach (AreKept temporary given w old) more old
+
+-- No path changes but this one, if it is temporary, and other temporary ones.
+abbrev pub KeepsBut : List ℕ → List Answered → List Answered → Type 0
+KeepsBut path old new = (temporary : List ℕ → Bool) → temporary path ≡ true → Keeps (λ p. temporary p ≡ true) (λ p bytes. ⊥) old new

@@ -1,14 +1,27 @@
 -- What is said of a new file that gets a path.
-use Rattle.std.specs.Prelude.{◌≡◌, ℕ, List, true, Option, Some, IfSome}
-use Rattle.folders.specs.Calls.{Answered}
+use Rattle.std.specs.Prelude.{◌≡◌, ◌⊎◌, ℕ, List, [], ◌∷◌, true, Option, Some, IfSome}
+use Rattle.folders.specs.Calls.{Answered, make, sync, link, link_again, rename, remove, sync_folder}
 use Rattle.folders.specs.Files.{under}
 use Rattle.folders.specs.Worlds.{World, IsLawful}
 
--- this path, and the bytes that were appended to the file, if no append failed
-abbrev pub IsGiven : List ℕ → Option (List ℕ) → List ℕ → List ℕ → Type 0
-IsGiven to written path bytes = (path ≡ to) × IfSome written (λ whole. bytes ≡ whole)
+-- a file was put on the disk, to which these bytes were appended and no append failed
+abbrev pub WasSynced : List ℕ → List Answered → Type 0
+WasSynced bytes [] = ⊥
+WasSynced bytes ((sync file written, ok) ∷ calls) = ((written ≡ Some bytes) × (ok ≡ true)) ⊎ WasSynced bytes calls
+WasSynced bytes ((make path, ok) ∷ calls) = WasSynced bytes calls
+WasSynced bytes ((link file to, ok) ∷ calls) = WasSynced bytes calls
+WasSynced bytes ((link_again from to, ok) ∷ calls) = WasSynced bytes calls
+WasSynced bytes ((rename file from to, ok) ∷ calls) = WasSynced bytes calls
+WasSynced bytes ((remove path, ok) ∷ calls) = WasSynced bytes calls
+WasSynced bytes ((sync_folder path, ok) ∷ calls) = WasSynced bytes calls
 
--- in each lawful run of these calls the path is seen to have the bytes, if no append failed
+-- this path, and all the bytes that were appended to the file, which one of the calls put on the disk
+pub record IsGiven (to : List ℕ) (written : Option (List ℕ)) (calls : List Answered) (path bytes : List ℕ) : Type 0 where
+  pub here : path ≡ to
+  pub whole : written ≡ Some bytes
+  pub synced : WasSynced bytes calls
+
+-- in each lawful run of these calls the path is seen to have the bytes
 abbrev pub HasPath : List ℕ → Option (List ℕ) → List Answered → Type 0
 HasPath to written calls =
     (w : World) → IsLawful w calls → w.ours to ≡ true → IfSome written (λ whole. under (w.seen calls) to ≡ Some whole)

@@ -1,5 +1,5 @@
 //! A new file gets the path at which others look for it: only once it is whole and on the disk.
-ghost use Rattle.std.specs.Prelude.{◌≡◌, ℕ, List, Bool, true, IfOk, IfSome, Some};
+ghost use Rattle.std.specs.Prelude.{◌≡◌, ℕ, List, Bool, true, IfOk, IsSome};
 ghost use Rattle.folders.specs.Files.{under};
 ghost use Rattle.folders.specs.Kept.{Keeps};
 ghost use Rattle.folders.specs.Placed.{IsGiven, HasPath};
@@ -25,8 +25,9 @@ pub fn place<F: Folder>(
     file: F::New,
     to: &str,
 ) -> io::Result<Placed<F::Whole>>
+    requires { IsSome (F.New.written file) }
     ensures whenever { (temporary : List ℕ → Bool)
-        → Keeps (λ path. temporary path ≡ true) (IsGiven to.now (F.New.written file)) (F.calls folder.old) (F.calls folder.new) }
+        → Keeps (λ path. temporary path ≡ true) (IsGiven to.now (F.New.written file) (F.calls folder.new)) (F.calls folder.old) (F.calls folder.new) }
     ensures path { IfOk result (λ placed. F.Whole.path placed.file ≡ F.New.path file) }
     ensures number { IfOk result (λ placed. F.Whole.number placed.file ≡ F.New.number file) }
     ensures given { IfOk result (λ placed. IfOk placed.answer (λ _. HasPath to.now (F.New.written file) (F.calls folder.new))) }

@@ -1,22 +1,23 @@
 //! A store in a folder. A fragment has no name that another one can have until it is whole and on the disk.
-ghost use Rattle.std.specs.Prelude.{None};
+ghost use Rattle.std.specs.Prelude.{◌≡◌, [], true, IfOk, Some, string_bytes};
+ghost use Rattle.store_folder.specs.Kept.{KeepsEach, KeepsOrGives};
+ghost use Rattle.store_folder.specs.Temporary.{is_temporary};
 ghost use Rattle.store_repair.specs.Store.{never};
 
 use crate::digesting::{Digest, digest_of, digests_of};
-use crate::links::{Links, followed, look_at, refuse_linked_folders};
+use crate::links::{Links, followed_in, refuse_linked_in, status_at};
 use crate::names::{folder_of, path_in};
 use crate::patterns::{KEPT, Pattern};
-use crate::placing::{PRIVATE, sync_folder, take_after};
-use crate::regular::Identity;
+use crate::placing::{Tried, take_after, try_path};
 use crate::sums::Sums;
-use crate::surviving::{FileFragment, open_fragment};
+use crate::surviving::{FileFragment, open_fragment_in};
 use crate::unfinished::Unfinished;
+use crate::unfinished_file::{UnfinishedFile, create_file};
+use folders::{Folder, Rights, SystemFolder, remove_temporary};
 use lrc_code::{Code, Place};
-use sha2::{Digest as _, Sha256};
 use std::alloc::{AllocError, Global};
-use std::fs::{self, Metadata};
-use std::io::{self, ErrorKind, Write};
-use store_repair::{NameFault, NewFragment, Placed, Refused, Store};
+use std::io::{self, ErrorKind};
+use store_repair::{NameFault, Placed, Refused, Store};
 
 /// Where a store is, and how its fragments are named.
 #[derive(Clone, Copy)]
@@ -33,10 +34,12 @@ pub struct Site<'a> {
     pub links: Links,
 }
 
-/// A store in a folder, as one thread works in it.
+/// A store in a folder, as one thread works in it. Whenever one of its calls ends, by a crash or by itself, each path of the folder has what it
+/// had, or all the bytes of a file that was put on the disk.
 #[derive(Drop)]
-pub struct FolderStore<'a> {
+pub struct FolderStore<'a, F: Folder> {
     rt: &'a HostRuntime,
+    files: F,
     site: Site<'a>,
     // The folders in which names were given since the last time that these were written to the disk.
     touched: Vec<String>,
@@ -44,47 +47,19 @@ pub struct FolderStore<'a> {
     leftover: Option<NameFault>,
 }
 
-/// A fragment that has no name yet.
-#[derive(Drop)]
-pub struct UnfinishedFile {
-    unfinished: Unfinished,
-    // The folder that it is in, and the path that it is to have.
-    folder: String,
-    path: String,
-    held: Option<Held>,
-}
-
-// What is digested of a file, and the digest that it has to have.
-#[derive(Drop)]
-struct Held {
-    digest: Sha256,
-    wanted: Digest,
-}
-
-impl Held {
-    fn is_as_wanted(self) -> bool {
-        let wanted = self.wanted;
-        let made = self.digest.finalize();
-        made == wanted
+impl<'a> FolderStore<'a, SystemFolder<'a>> {
+    /// A store at a site of the system's file system.
+    pub fn new(rt: &'a HostRuntime, site: Site<'a>) -> FolderStore<'a, SystemFolder<'a>> {
+        FolderStore::over(rt, SystemFolder::new(rt), site)
     }
 }
 
-impl NewFragment for UnfinishedFile {
-    ghost shown = { λ _. None };
-
-    fn append(&mut self, bytes: &[u8]) -> io::Result<()> {
-        if let Some(held) = &mut self.held {
-            held.digest.update(bytes);
-        }
-        self.unfinished.file.write_all(bytes)
-    }
-}
-
-impl<'a> FolderStore<'a> {
-    /// A store at a site.
-    pub fn new(rt: &'a HostRuntime, site: Site<'a>) -> FolderStore<'a> {
+impl<'a, F: Folder> FolderStore<'a, F> {
+    /// A store at a site of a file system.
+    pub fn over(rt: &'a HostRuntime, files: F, site: Site<'a>) -> FolderStore<'a, F> {
         FolderStore {
             rt,
+            files,
             site,
             touched: Vec::new(rt.alloc()),
             leftover: None,
@@ -132,13 +107,13 @@ impl<'a> FolderStore<'a> {
         Ok(sums)
     }
 
-    // What is said of a file of the stripe, whose owner and rights its rebuilt fragments get.
-    fn neighbour_of(&self, stripe: &str) -> io::Result<Option<Metadata>> {
+    // Those of a file of the stripe, whose owner and rights its rebuilt fragments get.
+    fn rights_of(&self, stripe: &str) -> io::Result<Option<Rights>> {
         let mut refused = None;
         for place in self.site.code.places() {
             let path = self.path_of(self.site.folder, stripe, *place)?;
-            match look_at(self.rt, path.as_str(), self.site.links) {
-                Ok(metadata) if metadata.is_file() => return Ok(Some(metadata)),
+            match status_at(&self.files, path.as_str(), self.site.links) {
+                Ok(status) if status.is_file() => return Ok(Some(status.rights)),
                 Ok(_) => {}
                 Err(error) if error.kind() == ErrorKind::NotFound => {}
                 Err(error) => refused = Some(error),
@@ -150,78 +125,192 @@ impl<'a> FolderStore<'a> {
         }
     }
 
-    // Writes a whole file to the disk, with the owner and rights of a neighbour, if it has the bytes that it has to have.
-    fn finish(&self, file: &mut UnfinishedFile, stripe: &str) -> io::Result<()> {
-        if let Some(held) = file.held.take() {
-            if !held.is_as_wanted() {
-                return Err(io::Error::from(ErrorKind::InvalidData));
-            }
-        }
-        if let Some(neighbour) = self.neighbour_of(stripe)? {
-            take_after(&file.unfinished.file, &neighbour)?;
-        }
-        file.unfinished.file.sync_all()
+    /// A new fragment for a place of a stripe, in a file under a temporary name.
+    pub fn new_fragment(
+        &mut self,
+        stripe: &str,
+        place: Place,
+    ) -> io::Result<UnfinishedFile<F::New>>
+        ensures whenever { KeepsEach (F.calls self.old.files) (F.calls self.new.files) }
+        ensures empty { IfOk result (λ new. F.New.written new.unfinished.file ≡ Some []) }
+    {
+        let sum = self.sum_of(stripe, place)?;
+        let path = self.new_path(stripe, place)?;
+        let tag = self.site.tag;
+        create_file(self.rt, &mut self.files, path, tag, sum)
     }
 
-    // Gives a whole file its name, if nothing is there.
-    fn link(&mut self, file: &UnfinishedFile) -> io::Result<Placed> {
-        let unfinished = file.unfinished.path.as_str();
-        match fs::hard_link(self.rt, unfinished, file.path.as_str()) {
+    // The path that a new fragment is to have.
+    fn new_path(&self, stripe: &str, place: Place) -> io::Result<String> {
+        let alloc = self.rt.alloc();
+        let site = self.site;
+        let name = self.name_of(stripe, place)?;
+        refuse_linked_in(alloc, &self.files, site.target, name.as_str(), site.links)?;
+        let named = path_in(alloc, site.target, name.as_str())?;
+        match site.links {
+            Links::NotFollowed => Ok(named),
+            Links::Followed => followed_in(alloc, &self.files, named),
+        }
+    }
+
+    /// Gives a fragment its name, if nothing is there, and else discards it. Whenever that ends, each path but temporary ones has what it had,
+    /// or, if it had nothing, all the bytes of a file that was put on the disk before.
+    pub fn place_fragment(
+        &mut self,
+        file: UnfinishedFile<F::New>,
+        stripe: &str,
+    ) -> io::Result<Placed>
+        ensures { KeepsOrGives (F.calls self.old.files) (F.calls self.new.files) }
+    {
+        let mut file = file;
+        let finished = self.finish(&mut file, stripe);
+        let UnfinishedFile { unfinished, path, .. } = file;
+        if let Err(error) = finished {
+            return Err(self.given_up(unfinished, error));
+        }
+        self.link(unfinished, path.as_str())
+    }
+
+    /// Gives a fragment the name of one that is there, which is kept under its second name; if one is kept there already, the new one is
+    /// discarded. No clause says what a crash leaves.
+    pub fn replace_fragment(
+        &mut self,
+        file: UnfinishedFile<F::New>,
+        stripe: &str,
+    ) -> io::Result<Placed> {
+        let mut file = file;
+        let finished = self.finish(&mut file, stripe);
+        let UnfinishedFile { unfinished, path, .. } = file;
+        if let Err(error) = finished {
+            return Err(self.given_up(unfinished, error));
+        }
+        self.exchange(unfinished, path.as_str())
+    }
+
+    /// Removes a fragment that has no name. What can't be removed is said by `sync_names`.
+    pub fn discard_fragment(&mut self, file: UnfinishedFile<F::New>)
+        ensures { KeepsEach (F.calls self.old.files) (F.calls self.new.files) }
+    {
+        let UnfinishedFile { unfinished, .. } = file;
+        let Unfinished { made_at, .. } = unfinished;
+        self.remove(made_at);
+    }
+
+    /// Writes the names that were given to the disk, and says what was left over since it was called last.
+    pub fn sync_names(&mut self) -> Result<(), NameFault>
+        ensures { KeepsEach (F.calls self.old.files) (F.calls self.new.files) }
+    {
+        sync_folders(&mut self.files, &mut self.touched)?;
+        match self.leftover.take() {
+            Some(fault) => Err(fault),
+            None => Ok(()),
+        }
+    }
+
+    // Makes a whole file ready for its name: it has the bytes that it has to have, and the owner and rights of its stripe's other files.
+    fn finish(&self, file: &mut UnfinishedFile<F::New>, stripe: &str) -> io::Result<()> {
+        file.refuse_part()?;
+        if let Some(rights) = self.rights_of(stripe)? {
+            take_after(&file.unfinished.file, &rights)?;
+        }
+        Ok(())
+    }
+
+    // Gives a whole file its name, if nothing is there, and takes away the one that it was made at.
+    fn link(&mut self, new: Unfinished<F::New>, path: &str) -> io::Result<Placed>
+        ensures { KeepsOrGives (F.calls self.old.files) (F.calls self.new.files) }
+    {
+        let Tried { made_at, placed } = try_path(&mut self.files, new, path);
+        match placed {
+            Ok(folders::Placed { file: _held, answer }) => {
+                let placed = self.outcome(answer, made_at.as_str(), path);
+                self.remove(made_at);
+                placed
+            }
+            Err(error) => {
+                self.remove(made_at);
+                Err(error)
+            }
+        }
+    }
+
+    // What became of a file that was to get a name, by what the system answered.
+    fn outcome(&mut self, answer: io::Result<()>, made_at: &str, path: &str) -> io::Result<Placed>
+        ensures { F.calls self.new.files ≡ F.calls self.old.files }
+    {
+        match answer {
             Ok(()) => {
-                self.touch(file.folder.as_str())?;
+                self.touch(folder_of(path))?;
                 Ok(Placed::Placed)
             }
-            Err(error) if error.kind() == ErrorKind::AlreadyExists => self.beside(file),
+            Err(error) if error.kind() == ErrorKind::AlreadyExists => self.beside(made_at, path),
             Err(error) => Err(error),
         }
     }
 
     // What became of a file under whose name something is. A run that was killed may have given the name to a file with the same bytes.
-    fn beside(&mut self, file: &UnfinishedFile) -> io::Result<Placed> {
+    fn beside(&mut self, made_at: &str, path: &str) -> io::Result<Placed>
+        ensures { F.calls self.new.files ≡ F.calls self.old.files }
+    {
         let alloc = self.rt.alloc();
-        let length = file.unfinished.file.metadata()?.len();
+        let length = self.files.status(made_at)?.length;
         let links = Links::NotFollowed;
-        let unfinished = file.unfinished.path.as_str();
-        let made = open_fragment(self.rt, unfinished, length, links)?;
-        let Ok(there) = open_fragment(self.rt, file.path.as_str(), length, links) else {
+        let made = open_fragment_in(&self.files, made_at, length, links)?;
+        let Ok(there) = open_fragment_in(&self.files, path, length, links) else {
             return Ok(Placed::IsThere);
         };
         let digest = digest_of(alloc, &made, length as usize)?;
         if digest_of(alloc, &there, length as usize)? != digest {
             return Ok(Placed::IsThere);
         }
-        self.touch(file.folder.as_str())?;
+        self.touch(folder_of(path))?;
         Ok(Placed::Placed)
     }
 
     // Gives a whole file the name of another one, which is kept.
-    fn exchange(&mut self, file: &UnfinishedFile) -> io::Result<Placed> {
-        let mut kept = String::from_str(self.rt.alloc(), file.path.as_str())?;
+    fn exchange(&mut self, new: Unfinished<F::New>, path: &str) -> io::Result<Placed> {
+        let whole = new.refuse_part();
+        let Unfinished { file, made_at, .. } = new;
+        let placed = match whole {
+            Ok(()) => self.rename(file, path),
+            Err(error) => Err(error),
+        };
+        if !matches!(placed, Ok(Placed::Placed)) {
+            self.remove(made_at);
+        }
+        placed
+    }
+
+    // Writes a file to the disk and gives it the name of another one, whose second name is on the disk first.
+    fn rename(&mut self, file: F::New, path: &str) -> io::Result<Placed> {
+        let whole = self.files.sync(file)?;
+        let mut kept = String::from_str(self.rt.alloc(), path)?;
         kept.push_str(KEPT)?;
-        match fs::hard_link(self.rt, file.path.as_str(), kept.as_str()) {
+        match self.files.link_again(path, kept.as_str()) {
             Ok(()) => {}
             Err(error) if error.kind() == ErrorKind::AlreadyExists => {
                 // A run that was killed between the two steps has left both names on one file.
-                if !self.are_one(file.path.as_str(), kept.as_str())? {
+                if !self.are_one(path, kept.as_str())? {
                     return Ok(Placed::IsThere);
                 }
             }
             Err(error) => return Err(error),
         }
-        fs::rename(self.rt, file.unfinished.path.as_str(), file.path.as_str())?;
-        self.touch(file.folder.as_str())?;
+        self.files.sync_folder(folder_of(path))?;
+        self.files.rename(&whole, path)?;
+        self.touch(folder_of(path))?;
         Ok(Placed::Placed)
     }
 
     // Whether two names are of one file.
     fn are_one(&self, one: &str, other: &str) -> io::Result<bool> {
-        let one = fs::symlink_metadata(self.rt, one)?;
-        let other = fs::symlink_metadata(self.rt, other)?;
-        Ok(Identity::of(&one) == Identity::of(&other))
+        Ok(self.files.status(one)?.identity == self.files.status(other)?.identity)
     }
 
     // Notes that a name was given in a folder.
-    fn touch(&mut self, folder: &str) -> Result<(), AllocError> {
+    fn touch(&mut self, folder: &str) -> Result<(), AllocError>
+        ensures { F.calls self.new.files ≡ F.calls self.old.files }
+    {
         if !self
             .touched
             .iter()
@@ -233,28 +322,41 @@ impl<'a> FolderStore<'a> {
         Ok(())
     }
 
+    // Removes an unfinished file after a failure.
+    fn given_up(&mut self, new: Unfinished<F::New>, error: io::Error) -> io::Error
+        ensures { KeepsEach (F.calls self.old.files) (F.calls self.new.files) }
+    {
+        let Unfinished { made_at, .. } = new;
+        self.remove(made_at);
+        error
+    }
+
     // Removes an unfinished file. What could not be removed is said when names are written to the disk.
-    fn remove(&mut self, file: UnfinishedFile) {
-        let Unfinished {
-            file: _file,
-            path: name,
-        } = file.unfinished;
-        if let Err(error) = fs::remove_file(self.rt, name.as_str()) {
+    fn remove(&mut self, name: String)
+        requires { is_temporary (string_bytes name) ≡ true }
+        ensures { KeepsEach (F.calls self.old.files) (F.calls self.new.files) }
+    {
+        if let Err(error) = remove_temporary(&mut self.files, name.as_str()) {
             self.leftover = Some(NameFault { name, error });
         }
     }
 }
 
-impl Store for FolderStore<'_> {
-    type Survivor = FileFragment;
+impl<F: Folder> Store for FolderStore<'_, F> {
+    type Survivor = FileFragment<F::Open>;
 
-    type New = UnfinishedFile;
+    type New = UnfinishedFile<F::New>;
 
     ghost new_shown = { λ s f h. never h };
 
-    fn open(&self, stripe: &str, place: Place, length: usize) -> io::Result<FileFragment> {
+    fn open(
+        &self,
+        stripe: &str,
+        place: Place,
+        length: usize,
+    ) -> io::Result<FileFragment<F::Open>> {
         let path = self.path_of(self.site.folder, stripe, place)?;
-        open_fragment(self.rt, path.as_str(), length as u64, self.site.links)
+        open_fragment_in(&self.files, path.as_str(), length as u64, self.site.links)
     }
 
     fn refused(
@@ -262,7 +364,7 @@ impl Store for FolderStore<'_> {
         alloc: Global,
         stripe: &str,
         length: usize,
-        fragments: &[Option<FileFragment>],
+        fragments: &[Option<FileFragment<F::Open>>],
     ) -> Result<Vec<Refused>, AllocError> {
         let mut refused = Vec::new(alloc);
         let sums = self.sums_of(alloc, stripe)?;
@@ -283,75 +385,55 @@ impl Store for FolderStore<'_> {
         Ok(refused)
     }
 
-    fn create(&mut self, stripe: &str, place: Place) -> io::Result<UnfinishedFile> {
-        let alloc = self.rt.alloc();
-        let sum = self.sum_of(stripe, place)?;
-        let site = self.site;
-        let name = self.name_of(stripe, place)?;
-        refuse_linked_folders(self.rt, site.target, name.as_str(), site.links)?;
-        let named = path_in(alloc, site.target, name.as_str())?;
-        let path = match site.links {
-            Links::NotFollowed => named,
-            Links::Followed => followed(self.rt, named)?,
-        };
-        let folder = String::from_str(alloc, folder_of(path.as_str()))?;
-        let unfinished = Unfinished::create(self.rt, alloc, folder.as_str(), site.tag, PRIVATE)?;
-        let held = match sum {
-            Some(wanted) => Some(Held {
-                digest: Sha256::new(),
-                wanted,
-            }),
-            None => None,
-        };
-        Ok(UnfinishedFile {
-            unfinished,
-            folder,
-            path,
-            held,
-        })
+    fn create(&mut self, stripe: &str, place: Place) -> io::Result<UnfinishedFile<F::New>> {
+        self.new_fragment(stripe, place)
     }
 
-    fn place(&mut self, file: UnfinishedFile, stripe: &str, _place: Place) -> io::Result<Placed> {
-        let mut file = file;
-        let finished = self.finish(&mut file, stripe);
-        let placed = match finished {
-            Ok(()) => self.link(&file),
-            Err(error) => Err(error),
-        };
-        self.remove(file);
-        placed
+    fn place(
+        &mut self,
+        file: UnfinishedFile<F::New>,
+        stripe: &str,
+        _place: Place,
+    ) -> io::Result<Placed> {
+        self.place_fragment(file, stripe)
     }
 
-    fn replace(&mut self, file: UnfinishedFile, stripe: &str, _place: Place) -> io::Result<Placed> {
-        let mut file = file;
-        let finished = self.finish(&mut file, stripe);
-        let placed = match finished {
-            Ok(()) => self.exchange(&file),
-            Err(error) => Err(error),
-        };
-        if !matches!(placed, Ok(Placed::Placed)) {
-            self.remove(file);
-        }
-        placed
+    fn replace(
+        &mut self,
+        file: UnfinishedFile<F::New>,
+        stripe: &str,
+        _place: Place,
+    ) -> io::Result<Placed> {
+        self.replace_fragment(file, stripe)
     }
 
-    fn discard(&mut self, file: UnfinishedFile) -> io::Result<()> {
-        self.remove(file);
+    fn discard(&mut self, file: UnfinishedFile<F::New>) -> io::Result<()> {
+        self.discard_fragment(file);
         Ok(())
     }
 
     fn settle(&mut self) -> Result<(), NameFault> {
-        for _folder in 0..self.touched.len() {
-            if let Some(name) = self.touched.pop() {
-                if let Err(error) = sync_folder(self.rt, name.as_str()) {
-                    return Err(NameFault { name, error });
-                }
-            }
-        }
-        match self.leftover.take() {
-            Some(fault) => Err(fault),
-            None => Ok(()),
-        }
+        self.sync_names()
+    }
+}
+
+// Writes the names in these folders to the disk.
+fn sync_folders<F: Folder>(files: &mut F, folders: &mut Vec<String>) -> Result<(), NameFault>
+    ensures { KeepsEach (F.calls files.old) (F.calls files.new) }
+{
+    'folders: while let Some(name) = folders.pop() {
+        sync_names_of(files, name)?;
+    }
+    Ok(())
+}
+
+// Writes the names in a folder to the disk.
+fn sync_names_of<F: Folder>(files: &mut F, name: String) -> Result<(), NameFault>
+    ensures { KeepsEach (F.calls files.old) (F.calls files.new) }
+{
+    match files.sync_folder(name.as_str()) {
+        Ok(()) => Ok(()),
+        Err(error) => Err(NameFault { name, error }),
     }
 }
 

@@ -13,10 +13,11 @@ mod regular;
 mod sums;
 mod surviving;
 mod unfinished;
+mod unfinished_file;
 
 pub use described::{Described, description_name, read_description};
 pub use digesting::{Digest, digest_of, digests_of};
-pub use folder_store::{FolderStore, Site, UnfinishedFile};
+pub use folder_store::{FolderStore, Site};
 pub use links::{Links, look_at, refuse_linked_folders};
 pub use listing::{Foreign, Listing, Wanted, Watched, left_in, list};
 pub use names::{folder_of, path_in};
@@ -27,3 +28,4 @@ pub use store_repair::{Found, Placed, StripeFiles};
 pub use sums::{SUMS_NAME, Sums, SumsFault, digits_of, read_sums};
 pub use surviving::{FileFragment, open_fragment};
 pub use unfinished::{Leftover, is_left_by, is_of_runs, lock_name, remove_leftover, tag_of_part};
+pub use unfinished_file::UnfinishedFile;

@@ -1,5 +1,7 @@
 //! Symbolic links below a store's folder.
 use crate::names::{folder_of, path_in};
+use folders::{Folder, Status, SystemFolder};
+use std::alloc::Global;
 use std::fs::{self, Metadata};
 use std::io::{self, ErrorKind};
 
@@ -23,23 +25,34 @@ pub fn look_at(rt: &HostRuntime, path: &str, links: Links) -> io::Result<Metadat
     }
 }
 
+/// What is said of what is at a path of a folder: of a link itself where links aren't followed.
+pub(crate) fn status_at<F: Folder>(folder: &F, path: &str, links: Links) -> io::Result<Status> {
+    match links {
+        Links::NotFollowed => folder.status(path),
+        Links::Followed => folder.status_followed(path),
+    }
+}
+
 /// The path that a path's links lead to, as far as there are links.
 pub fn followed(rt: &HostRuntime, path: String) -> io::Result<String> {
-    let alloc = rt.alloc();
+    followed_in(rt.alloc(), &SystemFolder::new(rt), path)
+}
+
+/// The path that a path's links lead to in a folder, as far as there are links.
+pub(crate) fn followed_in<F: Folder>(alloc: Global, folder: &F, path: String) -> io::Result<String> {
     let mut path = path;
     for _link in 0..MOST_LINKS {
-        let is_link = fs::symlink_metadata(rt, path.as_str()).is_ok_and(
-            |metadata| metadata.is_symlink(),
-        );
+        let is_link = folder
+            .status(path.as_str())
+            .is_ok_and(|status| status.is_link());
         if !is_link {
             return Ok(path);
         }
-        let link = fs::read_link(rt, path.as_str())?;
-        let text = link.as_str();
+        let text = folder.read_link(path.as_str())?;
         path = if text.starts_with('/') {
-            String::from_str(alloc, text)?
+            text
         } else {
-            path_in(alloc, folder_of(path.as_str()), text)?
+            path_in(alloc, folder_of(path.as_str()), text.as_str())?
         };
     }
     Err(io::Error::from(ErrorKind::InvalidInput))
@@ -52,17 +65,27 @@ pub fn refuse_linked_folders(
     name: &str,
     links: Links,
 ) -> io::Result<()> {
+    refuse_linked_in(rt.alloc(), &SystemFolder::new(rt), folder, name, links)
+}
+
+/// Refuses a name below a path of a folder if a folder on the way is a link, unless links are followed.
+pub(crate) fn refuse_linked_in<F: Folder>(
+    alloc: Global,
+    folder: &F,
+    path: &str,
+    name: &str,
+    links: Links,
+) -> io::Result<()> {
     let Some((inside, _)) = name.rsplit_once('/') else {
         return Ok(());
     };
     if links == Links::Followed {
         return Ok(());
     }
-    let alloc = rt.alloc();
-    let mut path = String::from_str(alloc, folder)?;
+    let mut path = String::from_str(alloc, path)?;
     for part in inside.split('/') {
         path = path_in(alloc, path.as_str(), part)?;
-        if fs::symlink_metadata(rt, path.as_str())?.is_symlink() {
+        if folder.status(path.as_str())?.is_link() {
             return Err(io::Error::new(
                 ErrorKind::InvalidInput,
                 "its folder is a link, and links aren't followed",

@@ -1,11 +1,15 @@
 //! Putting new files in their places. A file has no name that a fragment can have until it is whole and on the disk.
-ghost use Rattle.std.specs.Prelude.{None};
+ghost use Rattle.std.specs.Prelude.{◌≡◌, IfOk, IsSome, None, true, string_bytes};
+ghost use Rattle.store_folder.specs.Kept.{KeepsOrGives};
+ghost use Rattle.store_folder.specs.Temporary.{is_temporary};
 
-use crate::unfinished::Unfinished;
+use crate::unfinished::{Unfinished, create_unfinished};
+use folders::NewFile as _;
+use folders::{Folder, Rights, SystemFolder, SystemNew, place};
 use std::alloc::Global;
-use std::fs::{self, File, Metadata, Permissions};
-use std::io::{self, ErrorKind, Write};
-use std::os::unix::fs::{MetadataExt, PermissionsExt, fchown};
+use std::fs::{self, Metadata};
+use std::io::{self, ErrorKind};
+use std::os::unix::fs::MetadataExt;
 use store_repair::{NewFragment, Placed};
 
 /// The rights of a new file that nobody but its user may read.
@@ -20,19 +24,18 @@ const MOST_RIGHTS: u32 = 0o666;
 /// A new file that gets a name in a store, or beside one.
 #[derive(Drop)]
 pub struct NewFile {
-    unfinished: Unfinished,
+    unfinished: Unfinished<SystemNew>,
 }
 
 /// Gives a file the owner and the group of another one, by what is said of that, and then its rights to read and write. Who may not give it
 /// away keeps it, with the rights that it was made with. Says whether it was given.
-pub(crate) fn take_after(file: &File, metadata: &Metadata) -> io::Result<bool> {
-    match fchown(file, Some(metadata.uid()), Some(metadata.gid())) {
+pub(crate) fn take_after<N: folders::NewFile>(file: &N, rights: &Rights) -> io::Result<bool> {
+    match file.set_owner(rights) {
         Ok(()) => {}
         Err(error) if error.kind() == ErrorKind::PermissionDenied => return Ok(false),
         Err(error) => return Err(error),
     }
-    let rights = metadata.mode() & MOST_RIGHTS;
-    file.set_permissions(Permissions::from_mode(rights))?;
+    file.set_mode(rights.mode & MOST_RIGHTS)?;
     Ok(true)
 }
 
@@ -40,7 +43,7 @@ impl NewFragment for NewFile {
     ghost shown = { λ _. None };
 
     fn append(&mut self, bytes: &[u8]) -> io::Result<()> {
-        self.unfinished.file.write_all(bytes)
+        self.unfinished.append(bytes)
     }
 }
 
@@ -48,53 +51,102 @@ impl NewFile {
     /// A new file in a folder, with the rights that the user's mask leaves it.
     pub fn create_as_user(rt: &HostRuntime, alloc: Global, folder: &str) -> io::Result<NewFile> {
         Ok(NewFile {
-            unfinished: Unfinished::create(rt, alloc, folder, "", OPEN)?,
+            unfinished: create_unfinished(rt, &mut SystemFolder::new(rt), folder, "", OPEN)?,
         })
     }
 
     /// A new file in a folder, which nobody but its user may read.
     pub fn create_private(rt: &HostRuntime, alloc: Global, folder: &str) -> io::Result<NewFile> {
         Ok(NewFile {
-            unfinished: Unfinished::create(rt, alloc, folder, "", PRIVATE)?,
+            unfinished: create_unfinished(rt, &mut SystemFolder::new(rt), folder, "", PRIVATE)?,
         })
     }
 
     /// Gives the file the owner, the group and the rights to read and write of another one. Who may not give it away keeps it as it is.
     /// Says whether it was given.
     pub fn take_after(&self, other: &Metadata) -> io::Result<bool> {
-        take_after(&self.unfinished.file, other)
+        let rights = Rights {
+            user: other.uid(),
+            group: other.gid(),
+            mode: other.mode(),
+        };
+        take_after(&self.unfinished.file, &rights)
     }
 
     /// Removes the file.
     pub fn discard(self, rt: &HostRuntime) -> io::Result<()> {
-        self.unfinished.discard(rt)
+        fs::remove_file(rt, self.unfinished.made_at.as_str())
     }
 }
 
 /// Writes a file to the disk and gives it the name at a path, under which nothing may be.
 pub fn place_new(rt: &HostRuntime, new: NewFile, path: &str) -> io::Result<Placed> {
-    let placed = match new.unfinished.file.sync_all() {
-        Ok(()) => fs::hard_link(rt, new.unfinished.path.as_str(), path),
-        Err(error) => Err(error),
-    };
-    new.discard(rt)?;
-    match placed {
+    let mut files = SystemFolder::new(rt);
+    let Tried { made_at, placed } = try_path(&mut files, new.unfinished, path);
+    files.remove(made_at.as_str())?;
+    match placed?.answer {
         Ok(()) => Ok(Placed::Placed),
         Err(error) if error.kind() == ErrorKind::AlreadyExists => Ok(Placed::IsThere),
         Err(error) => Err(error),
     }
 }
 
+/// What became of an unfinished file that was to get a path. It still has the one that it was made at.
+#[derive(Drop)]
+pub(crate) struct Tried<W> {
+    pub(crate) made_at: String,
+    pub(crate) placed: io::Result<folders::Placed<W>>,
+    ghost temporary: { is_temporary (string_bytes made_at) ≡ true },
+}
+
+/// Writes a file to the disk and gives it a path at which nothing is, if no bytes of it are missing.
+pub(crate) fn try_path<F: Folder>(
+    files: &mut F,
+    new: Unfinished<F::New>,
+    path: &str,
+) -> Tried<F::Whole>
+    ensures { KeepsOrGives (F.calls files.old) (F.calls files.new) }
+{
+    let whole = new.refuse_part();
+    let Unfinished { file, made_at, .. } = new;
+    let placed = place_whole(files, whole, file, path);
+    Tried { made_at, placed }
+}
+
+// Gives a file a path if it was found to be whole.
+fn place_whole<F: Folder>(
+    files: &mut F,
+    whole: io::Result<()>,
+    file: F::New,
+    path: &str,
+) -> io::Result<folders::Placed<F::Whole>>
+    requires { IfOk whole (λ _. IsSome (F.New.written file)) }
+    ensures { KeepsOrGives (F.calls files.old) (F.calls files.new) }
+{
+    match whole {
+        Ok(()) => place(files, file, path),
+        Err(error) => Err(error),
+    }
+}
+
 /// Writes a file to the disk and gives it the name at a path, in place of the file that has it, if one does.
 pub fn place_again(rt: &HostRuntime, new: NewFile, path: &str) -> io::Result<()> {
-    let placed = match new.unfinished.file.sync_all() {
-        Ok(()) => fs::rename(rt, new.unfinished.path.as_str(), path),
+    let mut files = SystemFolder::new(rt);
+    let whole = new.unfinished.refuse_part();
+    let Unfinished { file, made_at, .. } = new.unfinished;
+    let placed = match whole {
+        Ok(()) => rename(&mut files, file, path),
         Err(error) => Err(error),
     };
     if placed.is_err() {
-        new.discard(rt)?;
+        files.remove(made_at.as_str())?;
     }
     placed
+}
+
+fn rename(files: &mut SystemFolder<'_>, file: SystemNew, path: &str) -> io::Result<()> {
+    let whole = files.sync(file)?;
+    files.rename(&whole, path)
 }
 
 /// Writes the names of a folder to the disk.

@@ -1,6 +1,7 @@
 //! Regular files. What is under a name is asked before it is opened, since opening a FIFO waits for a writer and opening a device may do
 //! something, and once more when it is open, since a name may be given to something else meanwhile.
-use crate::links::{Links, look_at};
+use crate::links::{Links, look_at, status_at};
+use folders::{Folder, OpenFile, Status};
 use std::fs::{self, File, Metadata, OpenOptions};
 use std::io::{self, ErrorKind};
 use std::os::unix::fs::MetadataExt;
@@ -28,6 +29,13 @@ pub struct RegularFile {
     pub metadata: Metadata,
 }
 
+/// A regular file of a folder that is open, and what was said of it then.
+#[derive(Drop)]
+pub(crate) struct Opened<O> {
+    pub(crate) file: O,
+    pub(crate) status: Status,
+}
+
 /// Opens the regular file at a path for reading. An error of the kind `InvalidInput` says that something else is there.
 pub fn open_regular(rt: &HostRuntime, path: &str, links: Links) -> io::Result<RegularFile> {
     let mut options = File::options();
@@ -45,19 +53,37 @@ pub fn open_as(
 ) -> io::Result<RegularFile> {
     let asked = look_at(rt, path, links)?;
     if !asked.is_file() {
-        return Err(no_regular_file(&asked));
+        return Err(no_regular_file(asked.is_symlink()));
     }
     let file = options.open(rt, path)?;
     let metadata = file.metadata()?;
     if !metadata.is_file() || Identity::of(&metadata) != Identity::of(&asked) {
-        return Err(io::Error::other("another file came under the name while it was opened"));
+        return Err(another_file());
     }
     Ok(RegularFile { file, metadata })
 }
 
-// That something is no regular file.
-fn no_regular_file(metadata: &Metadata) -> io::Error {
-    let words = if metadata.is_symlink() {
+/// Opens the regular file at a path of a folder for reading, as `open_regular` does.
+pub(crate) fn open_in<F: Folder>(folder: &F, path: &str, links: Links) -> io::Result<Opened<F::Open>> {
+    let asked = status_at(folder, path, links)?;
+    if !asked.is_file() {
+        return Err(no_regular_file(asked.is_link()));
+    }
+    let file = folder.open(path)?;
+    let status = file.status()?;
+    if !status.is_file() || status.identity != asked.identity {
+        return Err(another_file());
+    }
+    Ok(Opened { file, status })
+}
+
+fn another_file() -> io::Error {
+    io::Error::other("another file came under the name while it was opened")
+}
+
+// That something is no regular file, but maybe a link.
+fn no_regular_file(is_link: bool) -> io::Error {
+    let words = if is_link {
         "is a link, and links aren't followed"
     } else {
         "is no regular file"

@@ -2,23 +2,22 @@
 ghost use Rattle.std.specs.Prelude.{None};
 
 use crate::links::Links;
-use crate::regular::open_regular;
-use std::fs::File;
+use crate::regular::open_in;
+use folders::{Folder, OpenFile, SystemFolder, SystemOpen};
 use std::io::{self, ErrorKind};
-use std::os::unix::fs::FileExt;
 use store_repair::Fragment;
 
 /// A fragment in a file that is open for reading.
 #[derive(Drop)]
-pub struct FileFragment {
-    file: File,
+pub struct FileFragment<O> {
+    file: O,
 }
 
-impl Fragment for FileFragment {
+impl<O: OpenFile> Fragment for FileFragment<O> {
     ghost shown = { λ _. None };
 
     fn read_at(&self, from: usize, bytes: &mut [u8]) -> io::Result<()> {
-        self.file.read_exact_at(bytes, from as u64)
+        self.file.read_exact_at(from as u64, bytes)
     }
 }
 
@@ -28,9 +27,19 @@ pub fn open_fragment(
     path: &str,
     length: u64,
     links: Links,
-) -> io::Result<FileFragment> {
-    let opened = open_regular(rt, path, links)?;
-    if opened.metadata.len() != length {
+) -> io::Result<FileFragment<SystemOpen>> {
+    open_fragment_in(&SystemFolder::new(rt), path, length, links)
+}
+
+/// Opens the regular file at a path of a folder, which has to have so many bytes.
+pub(crate) fn open_fragment_in<F: Folder>(
+    folder: &F,
+    path: &str,
+    length: u64,
+    links: Links,
+) -> io::Result<FileFragment<F::Open>> {
+    let opened = open_in(folder, path, links)?;
+    if opened.status.length != length {
         return Err(io::Error::from(ErrorKind::UnexpectedEof));
     }
     Ok(FileFragment { file: opened.file })

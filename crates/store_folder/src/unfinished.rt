@@ -1,11 +1,14 @@
 //! Files that aren't whole yet: their names, what a run that was killed has left of them, and the locks of parts.
+ghost use Rattle.std.specs.Prelude.{◌≡◌, ◌++◌, [], true, IfOk, IfSome, IsSome, OnOk, Some, option_map, string_bytes};
+ghost use Rattle.store_folder.specs.Temporary.{is_temporary};
+ghost use Rattle.store_folder.specs.Kept.{KeepsEach};
+
 use crate::links::Links;
-use crate::names::path_in;
 use crate::regular::open_regular;
+use folders::{Folder, NewFile, create_locked};
 use std::alloc::{AllocError, Global};
-use std::fs::{self, File, TryLockError};
+use std::fs::{self, TryLockError};
 use std::io::{self, ErrorKind};
-use std::os::unix::fs::{MetadataExt, OpenOptionsExt};
 use std::random::RandomSource;
 
 // How the name of a file begins that isn't whole yet.
@@ -86,71 +89,98 @@ fn is_random(text: &str) -> bool {
 
 /// A new file under a temporary name. Its lock says for as long as it is open that a run works on it.
 #[derive(Drop)]
-pub struct Unfinished {
-    pub(crate) file: File,
-    pub(crate) path: String,
+pub struct Unfinished<N: NewFile> {
+    pub(crate) file: N,
+    /// The path that it has meanwhile.
+    pub(crate) made_at: String,
+    // Whether all appends succeeded.
+    is_whole: bool,
+    ghost temporary: { is_temporary (string_bytes made_at) ≡ true },
+    ghost whole: { is_whole ≡ true → IsSome (N.written file) },
 }
 
-impl Unfinished {
-    /// A new file in a folder, with this tag in its name, and with these rights as far as the user's mask leaves them.
-    pub(crate) fn create(
-        rt: &HostRuntime,
-        alloc: Global,
-        folder: &str,
-        tag: &str,
-        mode: u32,
-    ) -> io::Result<Unfinished> {
-        let mut options = File::options();
-        options.write(true).create_new(true).mode(mode);
-        for _name in 0..MOST_NAMES {
-            let path = new_path(rt, alloc, folder, tag)?;
-            match options.open(rt, path.as_str()) {
-                Ok(file) => {
-                    let new = Unfinished { file, path };
-                    if new.is_held(rt)? {
-                        return Ok(new);
-                    }
-                }
-                Err(error) if error.kind() == ErrorKind::AlreadyExists => {}
-                Err(error) => return Err(error),
-            }
-        }
-        Err(io::Error::from(ErrorKind::AlreadyExists))
+impl<N: NewFile> Unfinished<N> {
+    /// Writes bytes at its end.
+    pub(crate) fn append(&mut self, bytes: &[u8]) -> io::Result<()>
+        ensures { OnOk result (N.written self.new.file ≡ option_map (λ before. before ++ bytes.now) (N.written self.old.file)) }
+    {
+        let appended = self.file.append(bytes);
+        self.is_whole = self.is_whole && appended.is_ok();
+        appended
     }
 
-    // Locks the file. Where another run has taken it for one that was left, it isn't this one's.
-    fn is_held(&self, rt: &HostRuntime) -> io::Result<bool> {
-        match self.file.try_lock() {
-            Ok(()) => {}
-            Err(TryLockError::WouldBlock) => return Ok(false),
-            Err(TryLockError::Error(error)) => return Err(self.given_up(rt, error)),
+    /// Refuses a file that lacks bytes since they couldn't be appended.
+    pub(crate) fn refuse_part(&self) -> io::Result<()>
+        ensures { IfOk result (λ _. IsSome (N.written self.now.file)) }
+    {
+        if self.is_whole {
+            return Ok(());
         }
-        match self.file.metadata() {
-            Ok(metadata) => Ok(metadata.nlink() > 0),
-            Err(error) => Err(self.given_up(rt, error)),
+        Err(io::Error::other("bytes that were written are missing"))
+    }
+}
+
+/// Makes a file under a temporary name in a folder, with this tag in the name, and with these rights as far as the user's mask leaves them.
+pub(crate) fn create_unfinished<F: Folder>(
+    rt: &HostRuntime,
+    files: &mut F,
+    folder: &str,
+    tag: &str,
+    mode: u32,
+) -> io::Result<Unfinished<F::New>>
+    ensures whenever { KeepsEach (F.calls files.old) (F.calls files.new) }
+    ensures empty { IfOk result (λ new. F.New.written new.file ≡ Some []) }
+{
+    for _name in 0..MOST_NAMES {
+        if let Some(new) = try_name(rt, files, folder, tag, mode)? {
+            return Ok(new);
         }
     }
+    Err(io::Error::from(ErrorKind::AlreadyExists))
+}
 
-    // Removes the file after a failure.
-    fn given_up(&self, rt: &HostRuntime, error: io::Error) -> io::Error {
-        let _ = fs::remove_file(rt, self.path.as_str());
-        error
-    }
-
-    /// Removes the file.
-    pub(crate) fn discard(self, rt: &HostRuntime) -> io::Result<()> {
-        let Unfinished { file: _file, path } = self;
-        fs::remove_file(rt, path.as_str())
-    }
+// Makes a file under a temporary name that nothing else has.
+fn try_name<F: Folder>(
+    rt: &HostRuntime,
+    files: &mut F,
+    folder: &str,
+    tag: &str,
+    mode: u32,
+) -> io::Result<Option<Unfinished<F::New>>>
+    ensures whenever { KeepsEach (F.calls files.old) (F.calls files.new) }
+    ensures empty { IfOk result (λ o. IfSome o (λ new. F.New.written new.file ≡ Some [])) }
+{
+    let made_at = new_path(rt, folder, tag)?;
+    Ok(match create_locked(files, made_at.as_str(), mode)? {
+        Some(file) => Some(Unfinished {
+            file,
+            made_at,
+            is_whole: true,
+        }),
+        None => None,
+    })
 }
 
 // A path for a new file.
-fn new_path(rt: &HostRuntime, alloc: Global, folder: &str, tag: &str) -> io::Result<String> {
+fn new_path(rt: &HostRuntime, folder: &str, tag: &str) -> io::Result<String>
+    ensures { IfOk result (λ path. is_temporary (string_bytes path) ≡ true) }
+{
+    let alloc = rt.alloc();
     let mut bytes = [0u8; RANDOM_DIGITS / 2];
     rt.fill_bytes(&mut bytes)?;
     let digits = hex::encode(alloc, bytes.as_slice())?;
-    let name = format!(in alloc; "{UNFINISHED}{tag}{digits}")?;
-    Ok(path_in(alloc, folder, name.as_str())?)
+    let name = format!(in alloc; "{tag}{digits}")?;
+    Ok(temporary_path(alloc, folder, name.as_str())?)
+}
+
+// The path of an unfinished file in a folder.
+fn temporary_path(alloc: Global, folder: &str, name: &str) -> Result<String, AllocError>
+    ensures { IfOk result (λ path. is_temporary (string_bytes path) ≡ true) }
+{
+    let mut path = String::from_str(alloc, folder)?;
+    path.push_str("/.rebuild-store-")?;
+    path.push_str(name)?;
+    Ok(path)
 }
 
 /// What became of a file that has the name of one that a run which was killed has left.
