@@ -1,10 +1,12 @@
 //! The commands `repair` and `scrub` over all stripes of a store.
-use crate::arguments::{Options, Part};
+use crate::arguments::Options;
+use crate::copy_states::CopyFinding;
 use crate::fitting::refuse_other_stores;
 use crate::leftovers::remove_leftovers;
+use crate::naming::fragment_name;
 use crate::progress::Progress;
 use crate::report_files::write_report;
-use crate::reports::{Rows, file_of, line_of, rows_of};
+use crate::reports::{ALONE, Rows, file_of, line_of, rows_of};
 use crate::statuses::{DEVICE, DONE, LEFT};
 use crate::stores::OpenStore;
 use crate::summaries::{planned, repaired, scrubbed};
@@ -14,7 +16,7 @@ use lrc_code::Code;
 use std::alloc::{AllocError, Global};
 use std::io::{self, ErrorKind};
 use std::thread::Threads;
-use store_folder::{FolderStore, Pattern, Site, tag_of_part};
+use store_folder::{Alone, FolderStore, Part, Pattern, Site, tag_of_part};
 use store_repair::{Finding, Outcome, Reads, Reason, Repair};
 
 // The begin of the names of unfinished files, by the part of the store that a run works on.
@@ -44,12 +46,15 @@ pub fn repair_all<R: Threads + Sync>(
         tag: tag.as_str(),
         links: options.links,
     };
-    let stripes = store.stripes(system, options.part)?;
+    let stripes = store.stripes(system)?;
     let files = FolderStore::new(system, site);
-    if let Some(fault) = refuse_other_stores(alloc, store, &files, stripes.as_slice())? {
-        eprintln!(system; "rebuild-store: {fault}")?;
-        return Ok(LEFT);
+    if options.code.is_none() && options.part.is_none() {
+        if let Some(fault) = refuse_other_stores(alloc, store, &files, stripes.as_slice())? {
+            eprintln!(system; "rebuild-store: {fault}")?;
+            return Ok(LEFT);
+        }
     }
+    say_alone(system, store, pattern, options.dry_run);
     let target = store.target.as_ref().unwrap_or(&store.listing);
     let are_removed = options.dry_run || remove_leftovers(system, target, tag.as_str())?;
     let progress = Progress::new(system, alloc, store.code, stripes.as_slice())?;
@@ -59,14 +64,34 @@ pub fn repair_all<R: Threads + Sync>(
     } else {
         Work::Repair(repair, &progress)
     };
-    let all = work_on(rt, system, &site, work, stripes.as_slice(), options.workers)?;
+    let all = work_on(rt, system, &store.work_of(&site, stripes.as_slice()), work, options.workers)?;
     progress.end();
-    let results = Results::new(&site, stripes.as_slice(), all.as_slice());
+    let results = Results::new(store, &site, stripes.as_slice(), all.as_slice());
     let status = say_repaired(system, &results, options)?;
     if !are_removed {
         return Ok(DEVICE);
     }
     Ok(status)
+}
+
+/// Says how many files are named as fragments and are of no stripe, with the first one's name or with all names.
+pub fn say_alone(rt: &HostRuntime, store: &OpenStore, pattern: &Pattern<'_>, all: bool) {
+    let count = store.found.alone.len();
+    for (index, Alone { stripe, place }) in store.found.alone.iter().enumerate() {
+        let alloc = rt.alloc();
+        let name = fragment_name(alloc, pattern, store.code, stripe.as_str(), *place);
+        let Ok(name) = name else {
+            return;
+        };
+        let _ = match (index, count) {
+            _ if all => eprintln!(rt; "{name}: {ALONE}"),
+            (0, 1) => eprintln!(rt; "rebuild-store: {name}: {ALONE}"),
+            (0, _) => eprintln!(rt;
+                "rebuild-store: {count} files are named as fragments, and of no stripe: {name} and others"
+            ),
+            _ => Ok(()),
+        };
+    }
 }
 
 /// Where the store is of a command that writes nothing into it.
@@ -105,7 +130,8 @@ fn say_repaired(rt: &HostRuntime, results: &Results<'_>, options: &Options) -> i
     };
     say_summary(rt, summary.as_str(), options)?;
     let totals = &results.totals;
-    if options.dry_run && totals.rebuilt > 0 && !totals.device && is_reported {
+    let is_to_do = totals.rebuilt > 0 || totals.described > 0;
+    if options.dry_run && is_to_do && !totals.device && is_reported {
         return Ok(LEFT);
     }
     Ok(status_of(totals, is_reported))
@@ -132,6 +158,11 @@ fn say_stripes(rt: &HostRuntime, results: &Results<'_>, reads: Reads) -> io::Res
         for finding in &done.outcome.findings {
             let line = line_of(alloc, results.site, stripe, finding)?;
             eprintln!(rt; "{line}")?;
+        }
+        if let Some(descriptions) = &done.descriptions {
+            for CopyFinding { name, reason } in &descriptions.findings {
+                eprintln!(rt; "{name}: {reason}")?;
+            }
         }
         if done.outcome.is_checked || reads == Reads::Few {
             continue;
@@ -168,11 +199,11 @@ fn say_summary(rt: &HostRuntime, summary: &str, options: &Options) -> io::Result
 // Writes the rows of a report to where they are asked for. Says whether the report could be written.
 fn say_rows(rt: &HostRuntime, results: &Results<'_>, options: &Options) -> io::Result<bool> {
     if options.json {
-        let rows = rows_of(rt.alloc(), results.stripes, results.all, Rows::Json)?;
+        let rows = rows_of(rt.alloc(), results, Rows::Json)?;
         print!(rt; "{rows}")?;
     }
     if let Some(path) = &options.report {
-        let rows = rows_of(rt.alloc(), results.stripes, results.all, Rows::Csv)?;
+        let rows = rows_of(rt.alloc(), results, Rows::Csv)?;
         if let Err(error) = write_report(rt, path.as_str(), rows.as_str()) {
             if error.kind() == ErrorKind::OutOfMemory {
                 return Err(error);
@@ -192,11 +223,12 @@ pub fn scrub<'a, R: Threads + Sync>(
     pattern: &Pattern<'a>,
     options: &'a Options,
 ) -> io::Result<u8> {
-    let stripes = store.stripes(system, options.part)?;
+    let stripes = store.stripes(system)?;
     let site = site_of(store, pattern, options);
+    say_alone(system, store, pattern, false);
     let work = Work::Scrub(store.code);
-    let all = work_on(rt, system, &site, work, stripes.as_slice(), options.workers)?;
-    let results = Results::new(&site, stripes.as_slice(), all.as_slice());
+    let all = work_on(rt, system, &store.work_of(&site, stripes.as_slice()), work, options.workers)?;
+    let results = Results::new(store, &site, stripes.as_slice(), all.as_slice());
     say_scrubbed(system, &results, options)
 }
 
@@ -217,6 +249,11 @@ fn say_scrubbed(rt: &HostRuntime, results: &Results<'_>, options: &Options) -> i
         for finding in &done.outcome.findings {
             let line = line_of(alloc, results.site, stripe, finding)?;
             println!(rt; "{line}")?;
+        }
+        if let Some(descriptions) = &done.descriptions {
+            for CopyFinding { name, reason } in &descriptions.findings {
+                println!(rt; "{name}: {reason}")?;
+            }
         }
     }
     let is_reported = say_rows(rt, results, options)?;

@@ -32,30 +32,22 @@ pub fn refuse_other_stores(
     files: &FolderStore<'_>,
     stripes: &[Stripe<'_>],
 ) -> Result<Option<StoreFault>, AllocError> {
-    let mut clashes = false;
+    let mut clashing = None;
     for stripe in stripes {
         match fit_of(alloc, store.code, files, stripe)? {
             Fit::Fits => return Ok(None),
-            Fit::Clashes => clashes = true,
+            Fit::Clashes => clashing = clashing.or(Some(stripe.name)),
             Fit::Unknown => {}
         }
     }
-    if !clashes {
+    let Some(stripe) = clashing else {
         return Ok(None);
-    }
-    let code = name_of(store.code);
+    };
     Ok(Some(StoreFault::FitsNot {
         folder: String::from_str(alloc, store.folder.as_str())?,
-        code,
+        code: store.code.text(),
+        stripe: String::from_str(alloc, stripe)?,
     }))
-}
-
-/// The name of a code.
-pub fn name_of(code: Code) -> &'static str {
-    match code {
-        Code::Narrow => "6-2-2",
-        Code::Wide => "12-2-2",
-    }
 }
 
 // What the fragments of a stripe say of the store's code.

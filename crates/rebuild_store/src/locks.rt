@@ -1,10 +1,9 @@
 //! Locks, which keep runs that write to the same out of each other's way.
-use crate::arguments::Part;
 use crate::store_faults::{StoreFault, device_fault};
 use std::alloc::Global;
 use std::fs::{self, File, TryLockError};
 use std::io::{self, ErrorKind};
-use store_folder::{Links, is_named, lock_name, open_as, path_in};
+use store_folder::{Links, Part, is_named, lock_name, open_as, path_in};
 
 // How often the file of a part's lock is opened anew where another run has removed it meanwhile.
 const MOST_OPENINGS: usize = 100;

@@ -8,13 +8,13 @@ use crate::file_arguments::ReadOptions;
 use crate::file_faults::{FileFault, device};
 use crate::naming::fragment_name;
 use crate::statuses::DONE;
-use lrc_code::{Place, PlaceSet};
+use lrc_code::{Code, Place, PlaceSet};
 use sha2::{Digest as _, Sha256};
 use std::alloc::{AllocError, Global};
 use std::io::{self, BufWriter, ErrorKind, Write};
 use store_folder::{
-    Described, FileFragment, Links, Pattern, SUMS_NAME, description_name, digests_of,
-    open_fragment, path_in, read_description, read_sums, refuse_linked_folders,
+    Described, FileFragment, Links, Pattern, SUMS_NAME, description_names, digests_of,
+    first_description_name, open_fragment, path_in, read_description, read_sums, refuse_linked_folders,
 };
 use store_repair::{MendFault, NewFragment, Survivors, fragment_length, read_file, without};
 
@@ -58,44 +58,93 @@ pub fn read_one(rt: &HostRuntime, options: &ReadOptions) -> Result<u8, FileFault
     let alloc = rt.alloc();
     let folder = options.store.as_str();
     let name = options.name.as_str();
-    let described = description_of(rt, folder, name, options.links)?;
-    let wanted = Wanted {
-        folder,
-        pattern: pattern_of(rt, &options.naming)?,
-        name,
-        described,
-        length: fragment_length(described.code, described.length as usize),
-        links: options.links,
-    };
-    let fragments = open_fragments(rt, &wanted)?;
-    let Some(set) = set_that_fits(rt, &wanted, &fragments)? else {
-        let what = format!(in alloc;
-            "{name}: the fragments that are there don't give the file that {name}.file describes"
-        )?;
-        return Err(FileFault::Refused { what });
-    };
-    write_out(rt, &wanted, &fragments, set)?;
-    Ok(DONE)
+    let pattern = pattern_of(rt, &options.naming)?;
+    for described in descriptions_of(rt, options, &pattern)? {
+        let wanted = Wanted {
+            folder,
+            pattern,
+            name,
+            described,
+            length: fragment_length(described.code, described.length as usize),
+            links: options.links,
+        };
+        let fragments = open_fragments(rt, &wanted)?;
+        if let Some(set) = set_that_fits(rt, &wanted, &fragments)? {
+            write_out(rt, &wanted, &fragments, set)?;
+            return Ok(DONE);
+        }
+    }
+    let what = format!(in alloc;
+        "{name}: the fragments that are there don't give the file that {name}.file describes"
+    )?;
+    Err(FileFault::Refused { what })
 }
 
-// The description of a file.
-fn description_of(
+// What the copies of a file's description say, each once, first what most say.
+fn descriptions_of(
     rt: &HostRuntime,
-    folder: &str,
-    name: &str,
-    links: Links,
-) -> Result<Described, FileFault> {
+    options: &ReadOptions,
+    pattern: &Pattern<'_>,
+) -> Result<Vec<Described>, FileFault> {
     let alloc = rt.alloc();
-    let description = description_name(alloc, name)?;
-    let path = path_in(alloc, folder, description.as_str())?;
-    match read_description(rt, path.as_str(), links) {
-        Ok(Some(described)) => Ok(described),
+    let name = options.name.as_str();
+    let mut names = description_names(alloc, pattern, Code::Wide, name)?;
+    let first = first_description_name(alloc, name)?;
+    if !names.iter().any(|other| other.as_str() == first.as_str()) {
+        names.push(first)?;
+    }
+    let mut said = Vec::new(alloc);
+    let mut refused = None;
+    for copy in &names {
+        match description_at(rt, options, copy.as_str()) {
+            Ok(Some(described)) => said.push(described)?,
+            Ok(None) => {}
+            Err(FileFault::OutOfMemory) => return Err(FileFault::OutOfMemory),
+            Err(fault) => {
+                let _ = eprintln!(rt; "rebuild-store: {fault}");
+                refused = Some(fault);
+            }
+        }
+    }
+    match refused {
+        Some(fault) if said.is_empty() => Err(fault),
+        None if said.is_empty() => Err(FileFault::Refused {
+            what: format!(in alloc;
+                "{name}: no description is there, as {name}.file, so nothing says how long it is"
+            )?,
+        }),
+        _ => in_order(alloc, said.as_slice()),
+    }
+}
+
+// What descriptions say, each once, first what most say.
+fn in_order(alloc: Global, said: &[Described]) -> Result<Vec<Described>, FileFault> {
+    let mut order = Vec::new(alloc);
+    for votes in (1..=said.len()).rev() {
+        for described in said {
+            let count = said.iter().filter(|other| **other == *described).count();
+            if count == votes && !order.iter().any(|other| *other == *described) {
+                order.push(*described)?;
+            }
+        }
+    }
+    Ok(order)
+}
+
+// The description in a copy; none where there is none.
+fn description_at(
+    rt: &HostRuntime,
+    options: &ReadOptions,
+    copy: &str,
+) -> Result<Option<Described>, FileFault> {
+    let alloc = rt.alloc();
+    let path = path_in(alloc, options.store.as_str(), copy)?;
+    match read_description(rt, path.as_str(), options.links) {
+        Ok(Some(described)) => Ok(Some(described)),
         Ok(None) => Err(FileFault::Refused {
             what: format!(in alloc; "{path}: isn't a line with a length, a digest and a code")?,
         }),
-        Err(error) if error.kind() == ErrorKind::NotFound => Err(FileFault::Refused {
-            what: format!(in alloc; "{path}: isn't there, so nothing says how long {name} is")?,
-        }),
+        Err(error) if error.kind() == ErrorKind::NotFound => Ok(None),
         Err(error) => Err(device(alloc, path.as_str(), error)),
     }
 }

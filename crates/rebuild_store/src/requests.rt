@@ -1,6 +1,8 @@
 //! The command `lost`: the request list of what is lost.
 use crate::arguments::Options;
-use crate::commands::site_of;
+use crate::commands::{say_alone, site_of};
+use crate::copy_states::CopyFinding;
+use crate::descriptions::{CopyWork, tend_descriptions};
 use crate::reports::{Rows, quoted};
 use crate::statuses::{DEVICE, DONE, LEFT};
 use crate::stores::OpenStore;
@@ -8,7 +10,7 @@ use crate::summaries::counted;
 use lrc_code::{Code, Place, PlaceSet};
 use std::alloc::{AllocError, Global};
 use std::io::{self, BufWriter, Write};
-use store_folder::{FolderStore, Pattern};
+use store_folder::{FolderStore, Pattern, Site};
 use store_repair::{Found, Reason, Stripe, StripeLength, stripe_length};
 
 /// The longest fragment that a list can ask for.
@@ -29,13 +31,18 @@ pub fn write_requests<'a>(
     if !options.json {
         output.write_all(header_of(store.code).as_bytes())?;
     }
-    let stripes = store.stripes(rt, options.part)?;
-    let files = FolderStore::new(rt, site_of(store, pattern, options));
-    let mut is_device = false;
+    let stripes = store.stripes(rt)?;
+    let site = site_of(store, pattern, options);
+    let files = FolderStore::new(rt, site);
+    say_alone(rt, store, pattern, false);
+    let mut is_device = store.has_unlisted;
     let mut is_left = false;
     let mut lost = 0u64;
     let mut unlisted = 0u64;
     for stripe in &stripes {
+        if store.found.described.contains(stripe.name) {
+            is_left = say_descriptions(rt, &site, stripe)? || is_left;
+        }
         let Some(length) = length_of(rt, &files, store.code, stripe)? else {
             is_left = true;
             continue;
@@ -64,6 +71,15 @@ pub fn write_requests<'a>(
     } else {
         Ok(DONE)
     }
+}
+
+// Says which copies of a stripe's description aren't as they should be, and whether there are any.
+fn say_descriptions(rt: &HostRuntime, site: &Site<'_>, stripe: &Stripe<'_>) -> io::Result<bool> {
+    let descriptions = tend_descriptions(rt, site, stripe.name, CopyWork::Name)?;
+    for CopyFinding { name, reason } in &descriptions.findings {
+        eprintln!(rt; "rebuild-store: {name}: {reason}")?;
+    }
+    Ok(!descriptions.findings.is_empty())
 }
 
 // How many bytes each fragment of a stripe has, 0 where none is there; none where the files' lengths differ and no check says which is

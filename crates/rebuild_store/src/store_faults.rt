@@ -18,9 +18,19 @@ pub enum StoreFault {
     /// No file in the folder is named as a fragment.
     #[error("{folder}: no file is named as a fragment, {names}: is this the store?")]
     NoFragments { folder: String, names: String },
-    /// No stripe whose fragments can be checked is one of the code.
-    #[error("{folder}: no stripe fits the code {code}: is this the store?")]
-    FitsNot { folder: String, code: &'static str },
+    /// No stripe whose fragments can be checked is one of the code; this is one of them.
+    #[error("{folder}: no stripe fits the code {code}, as {stripe}: is this the store? With --code {code} each is named")]
+    FitsNot {
+        folder: String,
+        code: &'static str,
+        stripe: String,
+    },
+    /// All stripes are of the other code than the one that was given.
+    #[error("{folder}: has fragments of the code {other}: give --code {other}, or another folder")]
+    OtherCode {
+        folder: String,
+        other: &'static str,
+    },
     /// A run by root, in a folder that other users may write into.
     #[error("{folder}: user {user} or others may write there, and lead root elsewhere: run as that user, or give --trust-writers")]
     Untrusted { folder: String, user: u32 },

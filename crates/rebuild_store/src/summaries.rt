@@ -54,6 +54,7 @@ pub fn repaired(alloc: Global, results: &Results<'_>) -> Result<String, AllocErr
         stripes,
         all,
         totals,
+        ..
     } = *results;
     let mut unchecked = Names::new(alloc);
     let mut damaged = Names::new(alloc);
@@ -80,9 +81,19 @@ pub fn repaired(alloc: Global, results: &Results<'_>) -> Result<String, AllocErr
         count: damaged_count,
     } = damaged;
     let left = totals.left;
+    let described = described_text(alloc, totals.described, "made")?;
     format!(in alloc;
-        "repaired {rebuilt}, {bytes} ({count} unchecked{text}); damaged: {damaged_count}{damaged_names}; not possible: {left}"
+        "repaired {rebuilt}, {bytes} ({count} unchecked{text}); damaged: {damaged_count}{damaged_names}; not possible: {left}{described}"
     )
+}
+
+// What is said of copies of descriptions, if there are any.
+fn described_text(alloc: Global, count: u64, what: &str) -> Result<String, AllocError> {
+    if count == 0 {
+        return Ok(String::new(alloc));
+    }
+    let copies = counted(alloc, count, "description")?;
+    format!(in alloc; "; {copies} {what}")
 }
 
 // The sizes of the stripes that a repair would work on.
@@ -142,8 +153,10 @@ pub fn planned(alloc: Global, results: &Results<'_>) -> Result<String, AllocErro
         bytes,
         unchecked,
         left,
+        described,
         ..
     } = results.totals;
+    let described = described_text(alloc, described, "can be made")?;
     let count = counted(alloc, results.stripes.len() as u64, "stripe")?;
     let code = results.site.code.text();
     let lengths = lengths_of(alloc, least, most)?;
@@ -151,7 +164,7 @@ pub fn planned(alloc: Global, results: &Results<'_>) -> Result<String, AllocErro
     let writes = size_of(alloc, bytes)?;
     let first = format!(in alloc; "{count} of {code}, {lengths}; {lost} lost in {lossy}")?;
     format!(in alloc;
-        "{first}; {rebuilt} can be rebuilt ({unchecked} without any check), {left} can't; reads {reads}, writes {writes}"
+        "{first}; {rebuilt} can be rebuilt ({unchecked} without any check), {left} can't; reads {reads}, writes {writes}{described}"
     )
 }
 

@@ -1,6 +1,8 @@
 //! What became of all stripes.
+use crate::descriptions::Descriptions;
+use crate::stores::OpenStore;
 use crate::workers::Done;
-use store_folder::Site;
+use store_folder::{Alone, Site};
 use store_repair::Stripe;
 
 /// What a command did with the stripes of a store: of each stripe what became of it, and the counts over all.
@@ -9,17 +11,27 @@ pub struct Results<'a> {
     pub site: &'a Site<'a>,
     pub stripes: &'a [Stripe<'a>],
     pub all: &'a [Done],
+    /// The files that are named as fragments and are of no stripe.
+    pub alone: &'a [Alone],
     pub totals: Totals,
 }
 
 impl<'a> Results<'a> {
-    /// The results of a command, counted.
-    pub fn new(site: &'a Site<'a>, stripes: &'a [Stripe<'a>], all: &'a [Done]) -> Results<'a> {
+    /// The results of a command over an open store, counted.
+    pub fn new(
+        store: &'a OpenStore,
+        site: &'a Site<'a>,
+        stripes: &'a [Stripe<'a>],
+        all: &'a [Done],
+    ) -> Results<'a> {
+        let mut totals = totals_of(all);
+        totals.device = totals.device || store.has_unlisted;
         Results {
             site,
             stripes,
             all,
-            totals: totals_of(all),
+            alone: store.found.alone.as_slice(),
+            totals,
         }
     }
 }
@@ -34,6 +46,8 @@ pub struct Totals {
     pub unchecked: u64,
     /// How many survivors are known to be damaged.
     pub damaged: u64,
+    /// How many copies of descriptions were made.
+    pub described: u64,
     /// How many findings are not mended.
     pub left: u64,
     /// Whether the system refused to read or write something.
@@ -62,6 +76,22 @@ fn totals_of(all: &[Done]) -> Totals {
             }
             totals.device = totals.device || finding.reason.is_of_device();
         }
+        if let Some(descriptions) = &done.descriptions {
+            totals.add(descriptions);
+        }
     }
     totals
+}
+
+impl Totals {
+    // Counts what became of a stripe's descriptions.
+    fn add(&mut self, descriptions: &Descriptions) {
+        let made = descriptions.made.len() as u64;
+        let left = descriptions.findings.len() as u64;
+        self.described = self.described.saturating_add(made);
+        self.left = self.left.saturating_add(left);
+        for finding in &descriptions.findings {
+            self.device = self.device || finding.reason.is_of_device();
+        }
+    }
 }

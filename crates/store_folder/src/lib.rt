@@ -3,27 +3,35 @@
 
 mod described;
 mod digesting;
+mod disks;
 mod folder_store;
 mod links;
 mod listing;
 mod names;
+mod parts;
 mod patterns;
 mod placing;
 mod regular;
+mod stripe_names;
 mod sums;
 mod surviving;
 mod unfinished;
 
-pub use described::{Described, description_name, read_description};
+pub use described::{
+    DESCRIPTION, Described, MOST_BYTES, description_names, first_description_name, is_ambiguous, read_description,
+};
 pub use digesting::{Digest, digest_of, digests_of};
+pub use disks::{Unlisted, is_folder_of};
 pub use folder_store::{FolderStore, Site, UnfinishedFile};
 pub use links::{Links, look_at, refuse_linked_folders};
 pub use listing::{Foreign, Listing, Wanted, Watched, left_in, list};
 pub use names::{folder_of, path_in};
+pub use parts::Part;
 pub use patterns::{KEPT, Layout, Pattern, PatternFault};
 pub use placing::{NewFile, place_again, place_new, sync_folder};
 pub use regular::{Identity, RegularFile, is_named, open_as, open_regular};
 pub use store_repair::{Found, Placed, StripeFiles};
+pub use stripe_names::{Alone, Others, StoreStripes, StripeNames};
 pub use sums::{SUMS_NAME, Sums, SumsFault, digits_of, read_sums};
 pub use surviving::{FileFragment, open_fragment};
 pub use unfinished::{Leftover, is_left_by, is_of_runs, lock_name, remove_leftover, tag_of_part};

@@ -1,0 +1,160 @@
+//! The copies of the description of a stripe's file: which are as they should be, and making those that are lost from one that is believed.
+use crate::copy_states::{Copies, CopyFinding, CopyReason, CopyState, FoundCopy};
+use std::alloc::AllocError;
+use std::fs::{self, Metadata};
+use std::io::{self, ErrorKind};
+use store_folder::{
+    Described, KEPT, MOST_BYTES, NewFile, Placed, Site, folder_of, path_in, place_again, place_new,
+    refuse_linked_folders, sync_folder,
+};
+use store_repair::NewFragment;
+
+/// What is done with copies that aren't as they should be.
+#[derive(Clone, Copy, Debug, PartialEq, Eq)]
+pub enum CopyWork {
+    /// They are named.
+    Name,
+    /// It is said which would be made.
+    Plan,
+    /// Those that are lost are made, and others are replaced if that is asked for.
+    Make { replaces: bool },
+}
+
+/// What became of the copies of a stripe's description.
+#[derive(Drop)]
+pub struct Descriptions {
+    /// The names of those that were made, or would be.
+    pub made: Vec<String>,
+    pub findings: Vec<CopyFinding>,
+}
+
+/// Looks at the copies of a stripe's description, and makes what is lost of them if that is asked for.
+pub fn tend_descriptions(
+    rt: &HostRuntime,
+    site: &Site<'_>,
+    stripe: &str,
+    work: CopyWork,
+) -> Result<Descriptions, AllocError> {
+    let alloc = rt.alloc();
+    let copies = Copies::look(rt, site, stripe)?;
+    let mut done = Descriptions {
+        made: Vec::new(alloc),
+        findings: copies.stripe_findings(alloc, site, stripe)?,
+    };
+    let believed = copies.believed();
+    let Copies { all, listed, like } = copies;
+    for copy in all {
+        let FoundCopy {
+            name,
+            state,
+            is_wanted,
+        } = copy;
+        let may_replace = state.may_be_replaced();
+        let Some(reason) = state.reason(believed.as_ref(), listed.is_some()) else {
+            continue;
+        };
+        if !is_wanted && matches!(reason, CopyReason::Lost) {
+            continue;
+        }
+        let reason = match (&believed, work) {
+            (Some(described), CopyWork::Make { replaces }) => {
+                let is_odd = !matches!(reason, CopyReason::Lost);
+                if is_odd && !(replaces && may_replace) {
+                    Some(reason)
+                } else {
+                    made(rt, site, name.as_str(), described, is_odd, like.as_ref())?
+                }
+            }
+            (Some(_), CopyWork::Plan) if matches!(reason, CopyReason::Lost) => None,
+            _ => Some(reason),
+        };
+        match reason {
+            None => done.made.push(name)?,
+            Some(reason) => done.findings.push(CopyFinding { name, reason })?,
+        }
+    }
+    Ok(done)
+}
+
+// Makes a copy, and says why it couldn't be made.
+fn made(
+    rt: &HostRuntime,
+    site: &Site<'_>,
+    name: &str,
+    described: &Described,
+    replaces: bool,
+    like: Option<&Metadata>,
+) -> Result<Option<CopyReason>, AllocError> {
+    match make(rt, site, name, described, replaces, like) {
+        Ok(Placed::Placed) => Ok(None),
+        Ok(Placed::IsThere) => Ok(Some(CopyReason::CameMeanwhile)),
+        Err(error) if error.kind() == ErrorKind::OutOfMemory => Err(AllocError),
+        Err(error) => Ok(Some(CopyReason::Unwritten(error))),
+    }
+}
+
+// Makes a copy, with the owner and the rights of another one.
+fn make(
+    rt: &HostRuntime,
+    site: &Site<'_>,
+    name: &str,
+    described: &Described,
+    replaces: bool,
+    like: Option<&Metadata>,
+) -> io::Result<Placed> {
+    let alloc = rt.alloc();
+    refuse_linked_folders(rt, site.target, name, site.links)?;
+    let path = path_in(alloc, site.target, name)?;
+    let path = path.as_str();
+    let text = described.text(alloc)?;
+    let mut file = NewFile::create_private(rt, alloc, folder_of(path))?;
+    if let Err(error) = fill(&mut file, text.as_bytes(), like) {
+        file.discard(rt)?;
+        return Err(error);
+    }
+    let placed = if replaces && site.target == site.folder {
+        replace(rt, file, path)?
+    } else {
+        place_new(rt, file, path)?
+    };
+    sync_folder(rt, folder_of(path))?;
+    Ok(placed)
+}
+
+fn fill(file: &mut NewFile, text: &[u8], like: Option<&Metadata>) -> io::Result<()> {
+    file.append(text)?;
+    if let Some(like) = like {
+        file.take_after(like)?;
+    }
+    Ok(())
+}
+
+// Gives a file the name of another one, which is kept.
+fn replace(rt: &HostRuntime, file: NewFile, path: &str) -> io::Result<Placed> {
+    let mut kept = String::from_str(rt.alloc(), path)?;
+    kept.push_str(KEPT)?;
+    match fs::hard_link(rt, path, kept.as_str()) {
+        Ok(()) => {
+            place_again(rt, file, path)?;
+            Ok(Placed::Placed)
+        }
+        Err(error) => {
+            file.discard(rt)?;
+            if error.kind() == ErrorKind::AlreadyExists {
+                return Ok(Placed::IsThere);
+            }
+            Err(error)
+        }
+    }
+}
+
+impl CopyState {
+    // Whether what is there may be replaced: a file that could be read, and that isn't longer than a description.
+    fn may_be_replaced(&self) -> bool {
+        match self {
+            CopyState::There(..) => true,
+            CopyState::Odd { length } => *length <= MOST_BYTES,
+            CopyState::Absent | CopyState::NoFile | CopyState::Unread(_) => false,
+        }
+    }
+}
