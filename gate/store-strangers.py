@@ -857,6 +857,174 @@ def test_names_like_descriptions(place, choose):
     hold("can't have this name" in run("encode", store, source, *DISKS, status=1), "a file was encoded under names of descriptions")
 
 
+def test_stripe_that_changes_meanwhile(place, choose):
+    """Of a stripe that is rewritten while it is read nothing is put in its place, and a scrub says so too."""
+    store = place / "rewritten"
+    before, after = (stripe("6-2-2", 200_000, choose) for _ in range(2))
+    store.mkdir()
+    for name, data in before.items():
+        (store / f"s.{name}").write_bytes(data)
+    calls = Calls(place)
+    code = ["--code", "6-2-2"]
+    for command in (["repair", store, *code], ["scrub", store], ["repair", store, *code, "--reads", "few"]):
+        if command[0] == "repair":
+            (store / "s.x1").unlink(missing_ok=True)
+        command = [PROGRAM, *command]
+        for path in store.iterdir():
+            path.write_bytes(before[path.name[2:]])
+        reads = [number for number, kind in enumerate(calls.run(command).kinds, 1) if kind == "read"]
+        if command[1] == "repair":
+            (store / "s.x1").unlink()
+        for number in (reads[1], reads[len(reads) // 2], reads[-1]):
+            for path in store.iterdir():
+                path.write_bytes(before[path.name[2:]])
+            with waiting(calls, place, command, number) as go_on:
+                for path in store.iterdir():
+                    with open(path, "r+b") as fragment:
+                        fragment.write(after[path.name[2:]])
+                status, said = go_on()
+            hold(status == 1 and "changed meanwhile" in said, f"status {status}: {said}")
+            hold(command[1] == "scrub" or not (store / "s.x1").exists(), "a fragment was made of a stripe that changed")
+            left = {path.name for path in store.iterdir()} - {f"s.{name}" for name in before}
+            hold(not left, f"left {left}")
+    run("repair", store, status=0)
+    hold((store / "s.x1").read_bytes() == after["x1"], "what was rebuilt isn't of the new stripe")
+
+
+def part_of(name, parts):
+    """Which part a stripe is of."""
+    return int.from_bytes(hashlib.sha256(name.encode()).digest()[:8], "big") % parts + 1
+
+
+def test_contradictory_stripes(place, choose):
+    """A part of contradictory stripes, and a store whose code was given, aren't refused: each contradiction is named."""
+    store = place / "contradictory"
+    names = [f"s{number}" for number in range(12)]
+    files = lay(store, choose, names=names, length=50)
+    bad = [name for name in names if part_of(name, 3) == 2]
+    for name in names:
+        if name in bad:
+            for path in store.glob(f"{name}.*"):
+                path.write_bytes(choose.randbytes(50))
+        (store / f"{name}.x0").unlink()
+    said = run("repair", store, "--part", "2/3", status=1)
+    hold(all(f"{name}: contradiction" in said for name in bad), said)
+    hold(not list(store.glob(".rebuild-store-*")), "a lock is left behind")
+    run("repair", store, "--part", "1/3", status=0)
+    for code in ([], ["--code", "6-2-2"]):
+        only = place / f"only-{len(code)}"
+        only.mkdir()
+        for path in store.iterdir():
+            if path.name.split(".")[0] in bad:
+                (only / path.name).write_bytes(path.read_bytes())
+        said = run("repair", only, *code, status=1)
+        if code:
+            hold("is this the store?" not in said and all(f"{name}: contradiction" in said for name in bad), said)
+        else:
+            hold("is this the store?" in said and sorted(bad)[0] in said, said)
+    for name in set(names) - set(bad):
+        hold((store / f"{name}.x0").exists() == (part_of(name, 3) == 1), "another part was repaired")
+        files.pop(f"{name}.x0")
+
+
+def test_wrong_code(place, choose):
+    """A code that no stripe is of is refused in the words of encode."""
+    for right, wrong in (("6-2-2", "12-2-2"), ("12-2-2", "6-2-2")):
+        store, source = place / f"of-{right}", place / "new"
+        store.mkdir()
+        source.write_bytes(b"new")
+        for name in ("a", "b"):
+            for at, data in stripe(right, 30, choose).items():
+                (store / f"{name}.{at}").write_bytes(data)
+        words = f"has fragments of the code {right}"
+        hold(words in run("encode", store, source, "--code", wrong, status=1), "encode says something else")
+        for command in ("repair", "scrub", "lost"):
+            hold(words in run(command, store, "--code", wrong, status=1), f"{command} says something else")
+            run(command, store, "--code", right, status=0)
+    store, _, _ = encoded_disks(place, choose)
+    hold("has fragments of the code 6-2-2" in run("scrub", store, "--code", "12-2-2", *DISKS[2:], status=1), "no description says the code")
+    for pattern in ("{stripe}1{shard}", "{shard}2{stripe}", "{stripe}{shard}"):
+        run("repair", store, "--code", "6-2-2", "--names", pattern, status=2)
+
+
+def test_sums_given(place, choose):
+    """Digests that are of no file of the store are said, and what they cover isn't called unchecked."""
+    store, sums, report = place / "summed", place / "sums", place / "report.csv"
+    files = lay(store, choose, names=("a",))
+    sums.write_text(f"{digest(b'')}  other\n")
+    said = run("scrub", store, "--sums", sums, status=0)
+    hold(f"{sums}: names no file of the store" in said, said)
+    sums.write_text("".join(f"{digest(data)}  {name}\n" for name, data in files.items()))
+    hold("names no file" not in run("scrub", store, "--sums", sums, status=0), "digests that fit are called strange")
+    lost = ("a.x0", "a.x1", "a.y0", "a.p0")
+    for name in lost:
+        (store / name).unlink()
+    said = run("repair", store, "--sums", sums, "--report", report, status=0)
+    hold("(0 unchecked)" in said and "without any check" not in said and "unchecked" not in report.read_text(), said)
+    for name in lost:
+        (store / name).unlink()
+    said = run("repair", store, "--report", report, status=0)
+    hold("(4 unchecked" in said and said.count("without any check") == 4 and report.read_text().count("unchecked") == 4, said)
+    hold(there(store) == files, "the store isn't what it was")
+    for option in ("--sums", "--stripes"):
+        hold("nothere: No such file" in run("scrub", store, option, place / "nothere", status=3), f"{option} isn't named")
+    said = run("scrub", store, "--report", place / "nowhere/report.csv", status=3)
+    hold("nowhere/report.csv: the report can't be written" in said, said)
+
+
+def test_odd_names(place, choose):
+    """No name ends a line or steers a terminal."""
+    store = place / "odd-names"
+    odd = "a\nrebuild-store: forged\x1b[31m\t\x07\u0085"
+    lay(store, choose, names=(odd, "b"))
+    (store / f"{odd}.x0").write_bytes(b"short")
+    for path in store.glob("b.x[01]"):
+        path.unlink()
+    for command in ("scrub", "repair", "lost"):
+        said = run(command, store, status=1)
+        hold("\x1b" not in said and "\x07" not in said and "\u0085" not in said, repr(said))
+        hold(command == "lost" or r"a\nrebuild-store: forged\033[31m\t\a\302\205.x0: " in said, repr(said))
+        hold(not any(line.startswith("rebuild-store: forged") for line in said.splitlines()), repr(said))
+
+
+def test_standard_error_that_fails(place, choose):
+    """A standard error that is closed or full costs neither the summary nor the report."""
+    for kind in ("closed", "full"):
+        store, report = place / f"stderr-{kind}", place / "report.csv"
+        files = lay(store, choose, names=("a", "b"))
+        (store / "a.x0").unlink()
+        (store / "b.y0").write_bytes(b"short")
+        (store / LEFTOVER).write_bytes(b"half")
+        with open("/dev/full", "wb") as full:
+            how = {"stderr": full} if kind == "full" else {"preexec_fn": lambda: os.close(2)}
+            ended = subprocess.run([PROGRAM, "repair", store, "--report", report], stdout=subprocess.PIPE, **how)
+        hold(ended.returncode == 1 and b"repaired 1 fragment" in ended.stdout, f"{kind}: status {ended.returncode}: {ended.stdout}")
+        hold("a,x0,rebuilt," in report.read_text() and (store / "a.x0").read_bytes() == files["a.x0"], report.read_text())
+
+
+def test_dry_run(place, choose):
+    """A dry run says what the repair does: what this leaves isn't promised."""
+    store, report = place / "dry", place / "report.csv"
+    lay(store, choose, names=("a", "b"))
+    (store / "a.x0").unlink()
+    (store / "a.x1").write_bytes(b"short")
+    (store / "b.y0").unlink()
+    (store / "b.y0").mkdir()
+    before = below(store)
+    for options, count, left in (([], 1, 2), (["--replace-damaged"], 2, 1)):
+        said = run("repair", store, "--dry-run", "--report", report, *options, status=1)
+        hold(f"; {count} can be rebuilt (0 without any check), {left} can't" in said, said)
+        rows = report.read_text()
+        hold(rows.count(",would be rebuilt,") == count and ",rebuilt," not in rows, rows)
+        hold(below(store) == before, "a dry run changed the store")
+    said = run("repair", store, "--replace-damaged", status=1)
+    hold("repaired 2 fragments" in said and "not possible: 1" in said, said)
+    damaged = place / "damaged"
+    lay(damaged, choose)
+    (damaged / "s.x0").write_bytes(bytes(600))
+    hold("1 damaged, 0 lost or contradictory" in run("scrub", damaged, status=1), "one damaged fragment is counted twice")
+
+
 def test_file_that_changes_while_it_is_read(place, choose):
     """What is written of a file whose fragment changes after it was tested isn't said to be the file."""
     store, source = place / "changing", place / "changing-file"

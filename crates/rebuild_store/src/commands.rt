@@ -1,4 +1,5 @@
 //! The commands `repair` and `scrub` over all stripes of a store.
+use crate::lines::{say, write};
 use crate::arguments::Options;
 use crate::copy_states::CopyFinding;
 use crate::fitting::refuse_other_stores;
@@ -10,7 +11,7 @@ use crate::reports::{ALONE, Rows, file_of, line_of, rows_of};
 use crate::statuses::{DEVICE, DONE, LEFT};
 use crate::stores::OpenStore;
 use crate::summaries::{planned, repaired, scrubbed};
-use crate::totals::{Results, Totals};
+use crate::totals::{Results, Totals, unchecked_places};
 use crate::workers::{Work, work_on};
 use lrc_code::Code;
 use std::alloc::{AllocError, Global};
@@ -50,7 +51,7 @@ pub fn repair_all<R: Threads + Sync>(
     let files = FolderStore::new(system, site);
     if options.code.is_none() && options.part.is_none() {
         if let Some(fault) = refuse_other_stores(alloc, store, &files, stripes.as_slice())? {
-            eprintln!(system; "rebuild-store: {fault}")?;
+            say(system, format!(in system.alloc(); "rebuild-store: {fault}"))?;
             return Ok(LEFT);
         }
     }
@@ -66,7 +67,12 @@ pub fn repair_all<R: Threads + Sync>(
     };
     let all = work_on(rt, system, &store.work_of(&site, stripes.as_slice()), work, options.workers)?;
     progress.end();
-    let results = Results::new(store, &site, stripes.as_slice(), all.as_slice());
+    let word = if options.dry_run {
+        "would be rebuilt"
+    } else {
+        "rebuilt"
+    };
+    let results = Results::new(alloc, store, &site, stripes.as_slice(), all.as_slice(), word)?;
     let status = say_repaired(system, &results, options)?;
     if !are_removed {
         return Ok(DEVICE);
@@ -84,11 +90,9 @@ pub fn say_alone(rt: &HostRuntime, store: &OpenStore, pattern: &Pattern<'_>, all
             return;
         };
         let _ = match (index, count) {
-            _ if all => eprintln!(rt; "{name}: {ALONE}"),
-            (0, 1) => eprintln!(rt; "rebuild-store: {name}: {ALONE}"),
-            (0, _) => eprintln!(rt;
-                "rebuild-store: {count} files are named as fragments, and of no stripe: {name} and others"
-            ),
+            _ if all => say(rt, format!(in rt.alloc(); "{name}: {ALONE}")),
+            (0, 1) => say(rt, format!(in rt.alloc(); "rebuild-store: {name}: {ALONE}")),
+            (0, _) => say(rt, format!(in rt.alloc(); "rebuild-store: {count} files are named as fragments, and of no stripe: {name} and others")),
             _ => Ok(()),
         };
     }
@@ -157,20 +161,20 @@ fn say_stripes(rt: &HostRuntime, results: &Results<'_>, reads: Reads) -> io::Res
         };
         for finding in &done.outcome.findings {
             let line = line_of(alloc, results.site, stripe, finding)?;
-            eprintln!(rt; "{line}")?;
+            say(rt, format!(in rt.alloc(); "{line}"))?;
         }
         if let Some(descriptions) = &done.descriptions {
             for CopyFinding { name, reason } in &descriptions.findings {
-                eprintln!(rt; "{name}: {reason}")?;
+                say(rt, format!(in rt.alloc(); "{name}: {reason}"))?;
             }
         }
-        if done.outcome.is_checked || reads == Reads::Few {
+        if reads == Reads::Few {
             continue;
         }
         let why = why_unchecked(&done.outcome);
-        for place in &done.outcome.rebuilt {
-            let name = file_of(alloc, results.site, stripe, *place)?;
-            eprintln!(rt; "{name}: rebuilt without any check: {why}")?;
+        for place in unchecked_places(alloc, results.site, stripe.name, &done.outcome)? {
+            let name = file_of(alloc, results.site, stripe, place)?;
+            say(rt, format!(in rt.alloc(); "{name}: rebuilt without any check: {why}"))?;
         }
     }
     Ok(())
@@ -191,9 +195,10 @@ fn why_unchecked(outcome: &Outcome) -> &'static str {
 // The summary is on standard output, but where rows are there.
 fn say_summary(rt: &HostRuntime, summary: &str, options: &Options) -> io::Result<()> {
     if options.json {
-        return eprintln!(rt; "{summary}");
+        say(rt, format!(in rt.alloc(); "{summary}"))?;
+        return Ok(());
     }
-    println!(rt; "{summary}")
+    write(rt, format!(in rt.alloc(); "{summary}"))
 }
 
 // Writes the rows of a report to where they are asked for. Says whether the report could be written.
@@ -208,7 +213,7 @@ fn say_rows(rt: &HostRuntime, results: &Results<'_>, options: &Options) -> io::R
             if error.kind() == ErrorKind::OutOfMemory {
                 return Err(error);
             }
-            eprintln!(rt; "rebuild-store: {path}: the report can't be written: {error}")?;
+            say(rt, format!(in rt.alloc(); "rebuild-store: {path}: the report can't be written: {error}"))?;
             return Ok(false);
         }
     }
@@ -228,7 +233,9 @@ pub fn scrub<'a, R: Threads + Sync>(
     say_alone(system, store, pattern, false);
     let work = Work::Scrub(store.code);
     let all = work_on(rt, system, &store.work_of(&site, stripes.as_slice()), work, options.workers)?;
-    let results = Results::new(store, &site, stripes.as_slice(), all.as_slice());
+    let alloc = system.alloc();
+    let all = all.as_slice();
+    let results = Results::new(alloc, store, &site, stripes.as_slice(), all, "rebuilt")?;
     say_scrubbed(system, &results, options)
 }
 
@@ -248,11 +255,11 @@ fn say_scrubbed(rt: &HostRuntime, results: &Results<'_>, options: &Options) -> i
         }
         for finding in &done.outcome.findings {
             let line = line_of(alloc, results.site, stripe, finding)?;
-            println!(rt; "{line}")?;
+            write(rt, format!(in rt.alloc(); "{line}"))?;
         }
         if let Some(descriptions) = &done.descriptions {
             for CopyFinding { name, reason } in &descriptions.findings {
-                println!(rt; "{name}: {reason}")?;
+                write(rt, format!(in rt.alloc(); "{name}: {reason}"))?;
             }
         }
     }

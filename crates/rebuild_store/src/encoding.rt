@@ -2,9 +2,10 @@
 ghost use Rattle.std.specs.Prelude.{◌≡◌, IfOk, length, vec_len};
 ghost use Rattle.lrc_code.specs.Codes.{tables_of};
 
+use crate::lines::{say, write};
 use crate::digesting::{DigestedFile, digest_at};
 use crate::file_arguments::EncodeOptions;
-use crate::file_faults::{FileFault, device, encode_fault};
+use crate::file_faults::{FileFault, device, encode_fault, source_fault};
 use crate::leftovers::remove_leftovers;
 use crate::locks::lock_folder;
 use crate::naming::{Naming, fragment_name};
@@ -39,13 +40,13 @@ pub fn encode_all(rt: &HostRuntime, options: &EncodeOptions) -> Result<u8, FileF
         match encode_one(rt, &mut target, path.as_str()) {
             Ok(()) => encoded = encoded.saturating_add(1),
             Err(FileFault::OutOfMemory) => return Err(FileFault::OutOfMemory),
-            Err(fault) => status = status.max(say(rt, &fault)),
+            Err(fault) => status = status.max(say_fault(rt, &fault)),
         }
     }
     write_new_sums(rt, &target)?;
     let left = (options.files.len() as u64).saturating_sub(encoded);
     let encoded = counted(alloc, encoded, "file")?;
-    println!(rt; "encoded {encoded}; not encoded: {left}").map_err(|error| device(
+    write(rt, format!(in rt.alloc(); "encoded {encoded}; not encoded: {left}")).map_err(|error| device(
         alloc,
         "standard output",
         error,
@@ -109,8 +110,8 @@ pub fn pattern_of<'n>(rt: &HostRuntime, naming: &'n Naming) -> Result<Pattern<'n
 }
 
 // Says why a file isn't encoded, and gives the exit status.
-fn say(rt: &HostRuntime, fault: &FileFault) -> u8 {
-    let _ = eprintln!(rt; "rebuild-store: {fault}");
+fn say_fault(rt: &HostRuntime, fault: &FileFault) -> u8 {
+    let _ = say(rt, format!(in rt.alloc(); "rebuild-store: {fault}"));
     match fault {
         FileFault::Device { .. } => DEVICE,
         _ => LEFT,
@@ -134,7 +135,7 @@ fn encode_one(rt: &HostRuntime, target: &mut Target<'_>, path: &str) -> Result<(
     let length = before.len();
     let described = Described {
         length,
-        digest: digest_at(rt, path, length, Links::Followed).map_err(|error| device(
+        digest: digest_at(rt, path, length, Links::Followed).map_err(|error| source_fault(
             alloc, path, error,
         ))?,
         code: target.code,

@@ -2,6 +2,7 @@
 ghost use Rattle.std.specs.Prelude.{◌≡◌, IfOk, None, length, vec_len};
 ghost use Rattle.store_repair.specs.Files.{fragment_length};
 
+use crate::lines::say;
 use crate::digesting::DigestAlone;
 use crate::encoding::pattern_of;
 use crate::file_arguments::ReadOptions;
@@ -101,7 +102,7 @@ fn descriptions_of(
             Ok(None) => {}
             Err(FileFault::OutOfMemory) => return Err(FileFault::OutOfMemory),
             Err(fault) => {
-                let _ = eprintln!(rt; "rebuild-store: {fault}");
+                let _ = say(rt, format!(in rt.alloc(); "rebuild-store: {fault}"));
                 refused = Some(fault);
             }
         }
@@ -184,7 +185,7 @@ fn open_at(
         Ok(fragment) => Ok(Some(fragment)),
         Err(error) if error.kind() == ErrorKind::OutOfMemory => Err(FileFault::OutOfMemory),
         Err(error) => {
-            let _ = eprintln!(rt; "rebuild-store: {name}: left out: {error}");
+            let _ = say(rt, format!(in rt.alloc(); "rebuild-store: {name}: left out: {error}"));
             Ok(None)
         }
     }
@@ -223,18 +224,14 @@ fn set_that_fits(
     let name = wanted.name;
     let listed = with_digests(rt, wanted, fragments)?;
     if listed.len() < all.len() && gives_file(rt, wanted, fragments, listed)? {
-        let _ = eprintln!(rt;
-            "rebuild-store: {name}: read without the fragments that differ from {SUMS_NAME}"
-        );
+        let _ = say(rt, format!(in rt.alloc(); "rebuild-store: {name}: read without the fragments that differ from {SUMS_NAME}"));
         return Ok(Some(listed));
     }
     for first in &Place::ALL {
         let set = without(code, all, *first);
         if all.has(*first) && gives_file(rt, wanted, fragments, set)? {
             let first = first.name();
-            let _ = eprintln!(rt;
-                "rebuild-store: {name}: a fragment is damaged: read without {first}"
-            );
+            let _ = say(rt, format!(in rt.alloc(); "rebuild-store: {name}: a fragment is damaged: read without {first}"));
             return Ok(Some(set));
         }
     }
@@ -248,9 +245,7 @@ fn set_that_fits(
             {
                 let first = first.name();
                 let second = second.name();
-                let _ = eprintln!(rt;
-                    "rebuild-store: {name}: fragments are damaged: read without {first} and {second}"
-                );
+                let _ = say(rt, format!(in rt.alloc(); "rebuild-store: {name}: fragments are damaged: read without {first} and {second}"));
                 return Ok(Some(set));
             }
         }

@@ -2,7 +2,7 @@
 use crate::copy_states::CopyFinding;
 use crate::descriptions::Descriptions;
 use crate::naming::fragment_name;
-use crate::totals::Results;
+use crate::totals::{Results, unchecked_places};
 use csv::WriterBuilder;
 use lrc_code::Place;
 use serde_json::Value;
@@ -65,9 +65,9 @@ pub fn rows_of(alloc: Global, results: &Results<'_>, rows: Rows) -> io::Result<S
     }
     for done in results.all {
         if let Some(stripe) = results.stripes.get(done.index) {
-            add_rows(alloc, stripe.name, &done.outcome, rows, &mut text)?;
+            add_rows(alloc, results, stripe.name, &done.outcome, rows, &mut text)?;
             if let Some(descriptions) = &done.descriptions {
-                add_descriptions(alloc, stripe.name, descriptions, rows, &mut text)?;
+                add_descriptions(alloc, results, stripe.name, descriptions, rows, &mut text)?;
             }
         }
     }
@@ -86,17 +86,20 @@ pub fn rows_of(alloc: Global, results: &Results<'_>, rows: Rows) -> io::Result<S
 // Adds the rows of a stripe.
 fn add_rows(
     alloc: Global,
+    results: &Results<'_>,
     stripe: &str,
     outcome: &Outcome,
     rows: Rows,
     text: &mut String,
 ) -> io::Result<()> {
-    let detail = if outcome.is_checked { "" } else { "unchecked" };
+    let unchecked = unchecked_places(alloc, results.site, stripe, outcome)?;
     for place in &outcome.rebuilt {
+        let is_unchecked = unchecked.iter().any(|other| *other == *place);
+        let detail = if is_unchecked { "unchecked" } else { "" };
         let row = Row {
             stripe,
             place: place.name(),
-            outcome: "rebuilt",
+            outcome: results.word,
             detail: String::from_str(alloc, detail)?,
         };
         add_row(alloc, &row, rows, text)?;
@@ -124,6 +127,7 @@ fn add_rows(
 // Adds the rows of a stripe's descriptions.
 fn add_descriptions(
     alloc: Global,
+    results: &Results<'_>,
     stripe: &str,
     descriptions: &Descriptions,
     rows: Rows,
@@ -133,7 +137,7 @@ fn add_descriptions(
         let row = Row {
             stripe,
             place: "file",
-            outcome: "rebuilt",
+            outcome: results.word,
             detail: String::from_str(alloc, name.as_str())?,
         };
         add_row(alloc, &row, rows, text)?;

@@ -1,4 +1,5 @@
 //! The command `lost`: the request list of what is lost.
+use crate::lines::say;
 use crate::arguments::Options;
 use crate::commands::{say_alone, site_of};
 use crate::copy_states::CopyFinding;
@@ -62,7 +63,7 @@ pub fn write_requests<'a>(
     output.flush()?;
     let stripes = counted(alloc, stripes.len() as u64, "stripe")?;
     let fragments = counted(alloc, lost, "fragment")?;
-    eprintln!(rt; "{stripes}; {fragments} lost, {unlisted} of them not in the list")?;
+    say(rt, format!(in rt.alloc(); "{stripes}; {fragments} lost, {unlisted} of them not in the list"))?;
     if is_device {
         return Ok(DEVICE);
     }
@@ -77,7 +78,7 @@ pub fn write_requests<'a>(
 fn say_descriptions(rt: &HostRuntime, site: &Site<'_>, stripe: &Stripe<'_>) -> io::Result<bool> {
     let descriptions = tend_descriptions(rt, site, stripe.name, CopyWork::Name)?;
     for CopyFinding { name, reason } in &descriptions.findings {
-        eprintln!(rt; "rebuild-store: {name}: {reason}")?;
+        say(rt, format!(in rt.alloc(); "rebuild-store: {name}: {reason}"))?;
     }
     Ok(!descriptions.findings.is_empty())
 }
@@ -96,7 +97,7 @@ fn length_of(
         StripeLength::Undecided(lengths) => {
             let name = stripe.name;
             let reason = Reason::LengthsDiffer(lengths);
-            eprintln!(rt; "rebuild-store: {name}: {reason}")?;
+            say(rt, format!(in rt.alloc(); "rebuild-store: {name}: {reason}"))?;
             Ok(None)
         }
     }
@@ -115,9 +116,7 @@ fn say_unlisted(
     for place in places {
         let name = pattern.name_of(alloc, code, stripe.name, *place)?;
         let name = name.unwrap_or(String::new(alloc));
-        eprintln!(rt;
-            "rebuild-store: {name}: a list can't ask for it: it has {length} bytes, or another name than lists take"
-        )?;
+        say(rt, format!(in rt.alloc(); "rebuild-store: {name}: a list can't ask for it: it has {length} bytes, or another name than lists take"))?;
     }
     Ok(())
 }
@@ -138,7 +137,7 @@ fn say_unknown(
             let name = pattern.name_of(alloc, code, stripe.name, *place)?;
             let name = name.unwrap_or(String::new(alloc));
             let reason = Reason::of(found);
-            eprintln!(rt; "rebuild-store: {name}: {reason}")?;
+            say(rt, format!(in rt.alloc(); "rebuild-store: {name}: {reason}"))?;
             is_said = true;
         }
     }

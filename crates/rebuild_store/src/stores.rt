@@ -1,4 +1,5 @@
 //! Stores: a folder, its code, and what is in it.
+use crate::lines::say;
 use crate::arguments::Options;
 use crate::locks::Locks;
 use crate::store_faults::{StoreFault, device_fault};
@@ -193,7 +194,7 @@ pub fn other_than(code: Code) -> Code {
 // Says that digests which were given are of no file of the store.
 fn say_strange_sums(rt: &HostRuntime, options: &Options, expected: u64) {
     if let (Some(path), 0) = (&options.sums, expected) {
-        let _ = eprintln!(rt; "rebuild-store: {path}: names no file of the store");
+        let _ = say(rt, format!(in rt.alloc(); "rebuild-store: {path}: names no file of the store"));
     }
 }
 
@@ -212,7 +213,7 @@ fn say_unlisted(
             continue;
         }
         is_there = is_there || !is_gone;
-        let _ = eprintln!(rt; "rebuild-store: {path}: {error}: what should be in it counts as lost");
+        let _ = say(rt, format!(in rt.alloc(); "rebuild-store: {path}: {error}: what should be in it counts as lost"));
     }
     Ok(is_there)
 }
@@ -233,12 +234,8 @@ pub fn say_links(rt: &HostRuntime, listing: &Listing) {
     if let Some(path) = &listing.link {
         let links = listing.links;
         let _ = match links {
-            1 => eprintln!(rt;
-                "rebuild-store: {path}: is a link, and isn't followed without --follow-links"
-            ),
-            _ => eprintln!(rt;
-                "rebuild-store: {path} and others are links, {links} in all, and aren't followed without --follow-links"
-            ),
+            1 => say(rt, format!(in rt.alloc(); "rebuild-store: {path}: is a link, and isn't followed without --follow-links")),
+            _ => say(rt, format!(in rt.alloc(); "rebuild-store: {path} and others are links, {links} in all, and aren't followed without --follow-links")),
         };
     }
 }

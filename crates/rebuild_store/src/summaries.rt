@@ -1,6 +1,6 @@
 //! The last line of a command: what was done, or would be, and what is left.
 use crate::reports::file_of;
-use crate::totals::{Results, Totals};
+use crate::totals::{Results, Totals, unchecked_places};
 use lrc_code::Place;
 use std::alloc::{AllocError, Global};
 use store_folder::Site;
@@ -62,10 +62,8 @@ pub fn repaired(alloc: Global, results: &Results<'_>) -> Result<String, AllocErr
         let Some(stripe) = stripes.get(done.index) else {
             continue;
         };
-        if !done.outcome.is_checked {
-            for place in &done.outcome.rebuilt {
-                unchecked.add(alloc, site, stripe, *place)?;
-            }
+        for place in unchecked_places(alloc, site, stripe.name, &done.outcome)? {
+            unchecked.add(alloc, site, stripe, place)?;
         }
         for finding in &done.outcome.findings {
             if let (Some(place), true) = (finding.place, finding.reason.is_damage()) {
@@ -177,6 +175,7 @@ pub fn scrubbed(
     let count = counted(alloc, results.stripes.len() as u64, "stripe")?;
     let unchecked = counted(alloc, unchecked, "stripe")?;
     let Totals { damaged, left, .. } = results.totals;
+    let left = left.saturating_sub(damaged);
     format!(in alloc;
         "scrubbed {count}: {damaged} damaged, {left} lost or contradictory, {unchecked} without any check"
     )

@@ -1,5 +1,6 @@
 //! Threads that work on stripes side by side.
 use crate::descriptions::{CopyWork, Descriptions, tend_descriptions};
+use crate::plans::without_left;
 use crate::progress::Progress;
 use crate::separate::SeparateStore;
 use lrc_code::Code;
@@ -89,7 +90,10 @@ fn take_stripes(
                 progress.count(&outcome);
                 outcome
             }
-            Work::Plan(repair) => plan_stripe(system.alloc(), &store, &repair, stripe)?,
+            Work::Plan(repair) => {
+                let plan = plan_stripe(system.alloc(), &store, &repair, stripe)?;
+                without_left(system.alloc(), &repair, stripe, plan)?
+            }
             Work::Scrub(code) => scrub_stripe(system.alloc(), &store, code, stripe)?,
         };
         let descriptions = if stripes.described.contains(stripe.name) {

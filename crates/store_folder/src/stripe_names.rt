@@ -221,24 +221,23 @@ impl StripeNames {
         votes
     }
 
-    /// How many stripes are of the other code than this one, as their descriptions say, or else their places: one has a place that the
-    /// (6,2,2) code hasn't, or all places of that one and no other.
+    /// How many stripes are of the other code than this one, as their descriptions say, or their places: one has a place that the (6,2,2)
+    /// code hasn't, or all places of that one and no other. Where all descriptions say the other code, all are.
     pub fn of_another_code(&self, code: Code) -> Others {
-        let Votes { narrow, wide } = self.by_descriptions;
-        let votes = if narrow > 0 || wide > 0 {
-            self.by_descriptions
-        } else {
-            self.by_places(code)
-        };
         let other = match code {
             Code::Narrow => Code::Wide,
             Code::Wide => Code::Narrow,
         };
-        match (votes.of(code), votes.of(other)) {
-            (_, 0) => Others::None,
-            (0, _) => Others::All,
-            _ => Others::Some,
+        let described = self.by_descriptions;
+        let placed = self.by_places(code);
+        let is_described = described.of(code) > 0;
+        if described.of(other) == 0 && placed.of(other) == 0 {
+            return Others::None;
         }
+        if !is_described && (described.of(other) > 0 || placed.of(code) == 0) {
+            return Others::All;
+        }
+        Others::Some
     }
 
     /// The stripes of this code. `ending` is how names end of files that describe stripes, where a stripe's own name may end so too.
