@@ -875,14 +875,19 @@ def test_stripe_that_changes_meanwhile(place, choose):
         reads = [number for number, kind in enumerate(calls.run(command).kinds, 1) if kind == "read"]
         if command[1] == "repair":
             (store / "s.x1").unlink()
-        for number in (reads[1], reads[len(reads) // 2], reads[-1]):
+        for number in (reads[len(reads) // 3], reads[len(reads) // 2], reads[-1]):
             for path in store.iterdir():
                 path.write_bytes(before[path.name[2:]])
             with waiting(calls, place, command, number) as go_on:
-                for path in store.iterdir():
+                for path in store.glob("s.*"):
                     with open(path, "r+b") as fragment:
                         fragment.write(after[path.name[2:]])
                 status, said = go_on()
+            if "few" in command:
+                # All are read instead, which by then are those of the new stripe.
+                hold(status == 0 and (store / "s.x1").read_bytes() == after["x1"], f"status {status}: {said}")
+                (store / "s.x1").unlink()
+                continue
             hold(status == 1 and "changed meanwhile" in said, f"status {status}: {said}")
             hold(command[1] == "scrub" or not (store / "s.x1").exists(), "a fragment was made of a stripe that changed")
             left = {path.name for path in store.iterdir()} - {f"s.{name}" for name in before}
@@ -925,6 +930,21 @@ def test_contradictory_stripes(place, choose):
     for name in set(names) - set(bad):
         hold((store / f"{name}.x0").exists() == (part_of(name, 3) == 1), "another part was repaired")
         files.pop(f"{name}.x0")
+
+
+def test_other_parts(place, choose):
+    """A run of a part is refused while a run works on the store in another number of parts, and only then."""
+    store = place / "other-parts"
+    lay(store, choose)
+    lock = store / ".rebuild-store-part-1-of-3"
+    held = os.open(lock, os.O_CREAT | os.O_RDWR)
+    run("repair", store, "--part", "1/2", status=0)
+    fcntl.flock(held, fcntl.LOCK_EX)
+    hold("another run works in this store" in run("repair", store, "--part", "1/2", status=1), "parts of two divisions were worked on")
+    hold(not (store / LOCK_OF_PART).exists() and lock.exists(), "a lock is left, or another run's is gone")
+    run("repair", store, "--part", "2/3", status=0)
+    os.close(held)
+    run("repair", store, "--part", "1/2", status=0)
 
 
 def test_wrong_code(place, choose):

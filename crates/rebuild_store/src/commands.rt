@@ -1,9 +1,9 @@
 //! The commands `repair` and `scrub` over all stripes of a store.
-use crate::lines::{say, write};
 use crate::arguments::Options;
 use crate::copy_states::CopyFinding;
 use crate::fitting::refuse_other_stores;
 use crate::leftovers::remove_leftovers;
+use crate::lines::{say, write};
 use crate::naming::fragment_name;
 use crate::progress::Progress;
 use crate::report_files::write_report;
@@ -18,7 +18,7 @@ use std::alloc::{AllocError, Global};
 use std::io::{self, ErrorKind};
 use std::thread::Threads;
 use store_folder::{Alone, FolderStore, Part, Pattern, Site, tag_of_part};
-use store_repair::{Finding, Outcome, Reads, Reason, Repair};
+use store_repair::{Finding, Outcome, Reads, Reason, Repair, Stripe};
 
 // The begin of the names of unfinished files, by the part of the store that a run works on.
 fn tag_of(alloc: Global, part: Option<Part>) -> Result<String, AllocError> {
@@ -39,45 +39,60 @@ pub fn repair_all<R: Threads + Sync>(
     let alloc = system.alloc();
     let tag = tag_of(alloc, options.part)?;
     let site = Site {
-        folder: store.folder.as_str(),
         target: options.to.as_ref().unwrap_or(&store.folder).as_str(),
-        pattern: *pattern,
-        code: store.code,
-        sums: store.sums.as_ref(),
         tag: tag.as_str(),
-        links: options.links,
+        ..site_of(store, pattern, options)
     };
     let stripes = store.stripes(system)?;
-    let files = FolderStore::new(system, site);
-    if options.code.is_none() && options.part.is_none() {
-        if let Some(fault) = refuse_other_stores(alloc, store, &files, stripes.as_slice())? {
-            say(system, format!(in system.alloc(); "rebuild-store: {fault}"))?;
-            return Ok(LEFT);
-        }
+    let stripes = stripes.as_slice();
+    if is_refused(system, store, &site, options, stripes)? {
+        return Ok(LEFT);
     }
     say_alone(system, store, pattern, options.dry_run);
     let target = store.target.as_ref().unwrap_or(&store.listing);
     let are_removed = options.dry_run || remove_leftovers(system, target, tag.as_str())?;
-    let progress = Progress::new(system, alloc, store.code, stripes.as_slice())?;
+    let progress = Progress::new(system, alloc, store.code, stripes)?;
     let repair = repair_of(store.code, options);
-    let work = if options.dry_run {
-        Work::Plan(repair)
+    let (work, word) = if options.dry_run {
+        (Work::Plan(repair), "would be rebuilt")
     } else {
-        Work::Repair(repair, &progress)
+        (Work::Repair(repair, &progress), "rebuilt")
     };
-    let all = work_on(rt, system, &store.work_of(&site, stripes.as_slice()), work, options.workers)?;
+    let all = work_on(
+        rt,
+        system,
+        &store.work_of(&site, stripes),
+        work,
+        options.workers,
+    )?;
     progress.end();
-    let word = if options.dry_run {
-        "would be rebuilt"
-    } else {
-        "rebuilt"
-    };
-    let results = Results::new(alloc, store, &site, stripes.as_slice(), all.as_slice(), word)?;
+    let results = Results::new(alloc, store, &site, stripes, all.as_slice(), word)?;
     let status = say_repaired(system, &results, options)?;
     if !are_removed {
         return Ok(DEVICE);
     }
     Ok(status)
+}
+
+// Whether no stripe fits the code that the places say, which then is said. A code that was given is believed, and so is one part of a store.
+fn is_refused(
+    rt: &HostRuntime,
+    store: &OpenStore,
+    site: &Site<'_>,
+    options: &Options,
+    stripes: &[Stripe<'_>],
+) -> io::Result<bool> {
+    if options.code.is_some() || options.part.is_some() {
+        return Ok(false);
+    }
+    let files = FolderStore::new(rt, *site);
+    match refuse_other_stores(rt.alloc(), store, &files, stripes)? {
+        Some(fault) => {
+            say(rt, format!(in rt.alloc(); "rebuild-store: {fault}"))?;
+            Ok(true)
+        }
+        None => Ok(false),
+    }
 }
 
 /// Says how many files are named as fragments and are of no stripe, with the first one's name or with all names.
@@ -92,7 +107,12 @@ pub fn say_alone(rt: &HostRuntime, store: &OpenStore, pattern: &Pattern<'_>, all
         let _ = match (index, count) {
             _ if all => say(rt, format!(in rt.alloc(); "{name}: {ALONE}")),
             (0, 1) => say(rt, format!(in rt.alloc(); "rebuild-store: {name}: {ALONE}")),
-            (0, _) => say(rt, format!(in rt.alloc(); "rebuild-store: {count} files are named as fragments, and of no stripe: {name} and others")),
+            (0, _) => say(
+                rt,
+                format!(in rt.alloc();
+                    "rebuild-store: {count} files are named as fragments, and of no stripe: {name} and others"
+                ),
+            ),
             _ => Ok(()),
         };
     }
@@ -174,7 +194,10 @@ fn say_stripes(rt: &HostRuntime, results: &Results<'_>, reads: Reads) -> io::Res
         let why = why_unchecked(&done.outcome);
         for place in unchecked_places(alloc, results.site, stripe.name, &done.outcome)? {
             let name = file_of(alloc, results.site, stripe, place)?;
-            say(rt, format!(in rt.alloc(); "{name}: rebuilt without any check: {why}"))?;
+            say(
+                rt,
+                format!(in rt.alloc(); "{name}: rebuilt without any check: {why}"),
+            )?;
         }
     }
     Ok(())
@@ -213,7 +236,12 @@ fn say_rows(rt: &HostRuntime, results: &Results<'_>, options: &Options) -> io::R
             if error.kind() == ErrorKind::OutOfMemory {
                 return Err(error);
             }
-            say(rt, format!(in rt.alloc(); "rebuild-store: {path}: the report can't be written: {error}"))?;
+            say(
+                rt,
+                format!(in rt.alloc();
+                    "rebuild-store: {path}: the report can't be written: {error}"
+                ),
+            )?;
             return Ok(false);
         }
     }
@@ -232,7 +260,13 @@ pub fn scrub<'a, R: Threads + Sync>(
     let site = site_of(store, pattern, options);
     say_alone(system, store, pattern, false);
     let work = Work::Scrub(store.code);
-    let all = work_on(rt, system, &store.work_of(&site, stripes.as_slice()), work, options.workers)?;
+    let all = work_on(
+        rt,
+        system,
+        &store.work_of(&site, stripes.as_slice()),
+        work,
+        options.workers,
+    )?;
     let alloc = system.alloc();
     let all = all.as_slice();
     let results = Results::new(alloc, store, &site, stripes.as_slice(), all, "rebuilt")?;

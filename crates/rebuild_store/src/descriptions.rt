@@ -43,6 +43,12 @@ pub fn tend_descriptions(
     };
     let believed = copies.believed();
     let Copies { all, listed, like } = copies;
+    let tended = Tended {
+        site,
+        work,
+        believed,
+        like,
+    };
     for copy in all {
         let FoundCopy {
             name,
@@ -56,24 +62,50 @@ pub fn tend_descriptions(
         if !is_wanted && matches!(reason, CopyReason::Lost) {
             continue;
         }
-        let reason = match (&believed, work) {
-            (Some(described), CopyWork::Make { replaces }) => {
-                let is_odd = !matches!(reason, CopyReason::Lost);
-                if is_odd && !(replaces && may_replace) {
-                    Some(reason)
-                } else {
-                    made(rt, site, name.as_str(), described, is_odd, like.as_ref())?
-                }
-            }
-            (Some(_), CopyWork::Plan) if matches!(reason, CopyReason::Lost) => None,
-            _ => Some(reason),
-        };
-        match reason {
+        match tended.left(rt, name.as_str(), reason, may_replace)? {
             None => done.made.push(name)?,
             Some(reason) => done.findings.push(CopyFinding { name, reason })?,
         }
     }
     Ok(done)
+}
+
+// What is done with the copies of a stripe's description.
+#[derive(Drop)]
+struct Tended<'a> {
+    site: &'a Site<'a>,
+    work: CopyWork,
+    believed: Option<Described>,
+    // What is said of a copy that is there.
+    like: Option<Metadata>,
+}
+
+impl Tended<'_> {
+    // Makes the copy of a name that isn't as it should be, if it is to be made, and says why it still isn't so.
+    fn left(
+        &self,
+        rt: &HostRuntime,
+        name: &str,
+        reason: CopyReason,
+        may_replace: bool,
+    ) -> Result<Option<CopyReason>, AllocError> {
+        let is_lost = matches!(reason, CopyReason::Lost);
+        let Some(described) = &self.believed else {
+            return Ok(Some(reason));
+        };
+        match self.work {
+            CopyWork::Make { replaces } if is_lost || (replaces && may_replace) => made(
+                rt,
+                self.site,
+                name,
+                described,
+                !is_lost,
+                self.like.as_ref(),
+            ),
+            CopyWork::Plan if is_lost => Ok(None),
+            _ => Ok(Some(reason)),
+        }
+    }
 }
 
 // Makes a copy, and says why it couldn't be made.

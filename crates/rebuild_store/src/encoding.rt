@@ -2,17 +2,17 @@
 ghost use Rattle.std.specs.Prelude.{◌≡◌, IfOk, length, vec_len};
 ghost use Rattle.lrc_code.specs.Codes.{tables_of};
 
-use crate::lines::{say, write};
 use crate::digesting::{DigestedFile, digest_at};
 use crate::file_arguments::EncodeOptions;
 use crate::file_faults::{FileFault, device, encode_fault, source_fault};
 use crate::leftovers::remove_leftovers;
+use crate::lines::{say, write};
 use crate::locks::lock_folder;
 use crate::naming::{Naming, fragment_name};
 use crate::sources::{base_name, is_changed, no_name, regular};
 use crate::statuses::{DEVICE, DONE, LEFT};
-use crate::store_sums::{stored_sums, write_sums};
 use crate::store_faults::StoreFault;
+use crate::store_sums::{stored_sums, write_sums};
 use crate::stores::{other_than, refuse_untrusted, say_links};
 use crate::summaries::counted;
 use crate::targets::{
@@ -46,11 +46,11 @@ pub fn encode_all(rt: &HostRuntime, options: &EncodeOptions) -> Result<u8, FileF
     write_new_sums(rt, &target)?;
     let left = (options.files.len() as u64).saturating_sub(encoded);
     let encoded = counted(alloc, encoded, "file")?;
-    write(rt, format!(in rt.alloc(); "encoded {encoded}; not encoded: {left}")).map_err(|error| device(
-        alloc,
-        "standard output",
-        error,
-    ))?;
+    write(
+        rt,
+        format!(in rt.alloc(); "encoded {encoded}; not encoded: {left}"),
+    )
+    .map_err(|error| device(alloc, "standard output", error))?;
     Ok(status)
 }
 

@@ -2,11 +2,11 @@
 ghost use Rattle.std.specs.Prelude.{◌≡◌, IfOk, None, length, vec_len};
 ghost use Rattle.store_repair.specs.Files.{fragment_length};
 
-use crate::lines::say;
 use crate::digesting::DigestAlone;
 use crate::encoding::pattern_of;
 use crate::file_arguments::ReadOptions;
 use crate::file_faults::{FileFault, device};
+use crate::lines::say;
 use crate::naming::fragment_name;
 use crate::statuses::DONE;
 use lrc_code::{Code, Place, PlaceSet};
@@ -15,7 +15,8 @@ use std::alloc::{AllocError, Global};
 use std::io::{self, BufWriter, ErrorKind, Write};
 use store_folder::{
     Described, FileFragment, Links, Pattern, SUMS_NAME, description_names, digests_of,
-    first_description_name, open_fragment, path_in, read_description, read_sums, refuse_linked_folders,
+    first_description_name, open_fragment, path_in, read_description, read_sums,
+    refuse_linked_folders,
 };
 use store_repair::{MendFault, NewFragment, Survivors, fragment_length, read_file, without};
 
@@ -185,7 +186,10 @@ fn open_at(
         Ok(fragment) => Ok(Some(fragment)),
         Err(error) if error.kind() == ErrorKind::OutOfMemory => Err(FileFault::OutOfMemory),
         Err(error) => {
-            let _ = say(rt, format!(in rt.alloc(); "rebuild-store: {name}: left out: {error}"));
+            let _ = say(
+                rt,
+                format!(in rt.alloc(); "rebuild-store: {name}: left out: {error}"),
+            );
             Ok(None)
         }
     }
@@ -224,14 +228,24 @@ fn set_that_fits(
     let name = wanted.name;
     let listed = with_digests(rt, wanted, fragments)?;
     if listed.len() < all.len() && gives_file(rt, wanted, fragments, listed)? {
-        let _ = say(rt, format!(in rt.alloc(); "rebuild-store: {name}: read without the fragments that differ from {SUMS_NAME}"));
+        let _ = say(
+            rt,
+            format!(in rt.alloc();
+                "rebuild-store: {name}: read without the fragments that differ from {SUMS_NAME}"
+            ),
+        );
         return Ok(Some(listed));
     }
     for first in &Place::ALL {
         let set = without(code, all, *first);
         if all.has(*first) && gives_file(rt, wanted, fragments, set)? {
             let first = first.name();
-            let _ = say(rt, format!(in rt.alloc(); "rebuild-store: {name}: a fragment is damaged: read without {first}"));
+            let _ = say(
+                rt,
+                format!(in rt.alloc();
+                    "rebuild-store: {name}: a fragment is damaged: read without {first}"
+                ),
+            );
             return Ok(Some(set));
         }
     }
@@ -245,7 +259,12 @@ fn set_that_fits(
             {
                 let first = first.name();
                 let second = second.name();
-                let _ = say(rt, format!(in rt.alloc(); "rebuild-store: {name}: fragments are damaged: read without {first} and {second}"));
+                let _ = say(
+                    rt,
+                    format!(in rt.alloc();
+                        "rebuild-store: {name}: fragments are damaged: read without {first} and {second}"
+                    ),
+                );
                 return Ok(Some(set));
             }
         }

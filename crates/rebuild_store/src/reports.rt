@@ -57,7 +57,7 @@ pub fn line_of(
     format!(in alloc; "{name}: {reason}")
 }
 
-/// The rows of a report on stripes: one for each fragment that was rebuilt, one for each finding, and one for each file that is of no stripe.
+/// The rows of a report: one for each fragment that was rebuilt, one for each finding, and one for each file that is of no stripe.
 pub fn rows_of(alloc: Global, results: &Results<'_>, rows: Rows) -> io::Result<String> {
     let mut text = String::new(alloc);
     if rows == Rows::Csv {

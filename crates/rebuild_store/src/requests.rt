@@ -1,9 +1,9 @@
 //! The command `lost`: the request list of what is lost.
-use crate::lines::say;
 use crate::arguments::Options;
 use crate::commands::{say_alone, site_of};
 use crate::copy_states::CopyFinding;
 use crate::descriptions::{CopyWork, tend_descriptions};
+use crate::lines::say;
 use crate::reports::{Rows, quoted};
 use crate::statuses::{DEVICE, DONE, LEFT};
 use crate::stores::OpenStore;
@@ -61,24 +61,33 @@ pub fn write_requests<'a>(
         say_unlisted(rt, pattern, store.code, stripe, length, places.as_slice())?;
     }
     output.flush()?;
-    let stripes = counted(alloc, stripes.len() as u64, "stripe")?;
+    say_counts(rt, stripes.len() as u64, lost, unlisted)?;
+    Ok(match (is_device, lost > 0 || is_left) {
+        (true, _) => DEVICE,
+        (false, true) => LEFT,
+        (false, false) => DONE,
+    })
+}
+
+// Says how many stripes there are, and how many fragments are lost and can't be asked for.
+fn say_counts(rt: &HostRuntime, stripes: u64, lost: u64, unlisted: u64) -> Result<(), AllocError> {
+    let alloc = rt.alloc();
+    let stripes = counted(alloc, stripes, "stripe")?;
     let fragments = counted(alloc, lost, "fragment")?;
-    say(rt, format!(in rt.alloc(); "{stripes}; {fragments} lost, {unlisted} of them not in the list"))?;
-    if is_device {
-        return Ok(DEVICE);
-    }
-    if lost > 0 || is_left {
-        Ok(LEFT)
-    } else {
-        Ok(DONE)
-    }
+    say(
+        rt,
+        format!(in alloc; "{stripes}; {fragments} lost, {unlisted} of them not in the list"),
+    )
 }
 
 // Says which copies of a stripe's description aren't as they should be, and whether there are any.
 fn say_descriptions(rt: &HostRuntime, site: &Site<'_>, stripe: &Stripe<'_>) -> io::Result<bool> {
     let descriptions = tend_descriptions(rt, site, stripe.name, CopyWork::Name)?;
     for CopyFinding { name, reason } in &descriptions.findings {
-        say(rt, format!(in rt.alloc(); "rebuild-store: {name}: {reason}"))?;
+        say(
+            rt,
+            format!(in rt.alloc(); "rebuild-store: {name}: {reason}"),
+        )?;
     }
     Ok(!descriptions.findings.is_empty())
 }
@@ -97,7 +106,10 @@ fn length_of(
         StripeLength::Undecided(lengths) => {
             let name = stripe.name;
             let reason = Reason::LengthsDiffer(lengths);
-            say(rt, format!(in rt.alloc(); "rebuild-store: {name}: {reason}"))?;
+            say(
+                rt,
+                format!(in rt.alloc(); "rebuild-store: {name}: {reason}"),
+            )?;
             Ok(None)
         }
     }
@@ -116,7 +128,12 @@ fn say_unlisted(
     for place in places {
         let name = pattern.name_of(alloc, code, stripe.name, *place)?;
         let name = name.unwrap_or(String::new(alloc));
-        say(rt, format!(in rt.alloc(); "rebuild-store: {name}: a list can't ask for it: it has {length} bytes, or another name than lists take"))?;
+        say(
+            rt,
+            format!(in rt.alloc();
+                "rebuild-store: {name}: a list can't ask for it: it has {length} bytes, or another name than lists take"
+            ),
+        )?;
     }
     Ok(())
 }
@@ -137,7 +154,10 @@ fn say_unknown(
             let name = pattern.name_of(alloc, code, stripe.name, *place)?;
             let name = name.unwrap_or(String::new(alloc));
             let reason = Reason::of(found);
-            say(rt, format!(in rt.alloc(); "rebuild-store: {name}: {reason}"))?;
+            say(
+                rt,
+                format!(in rt.alloc(); "rebuild-store: {name}: {reason}"),
+            )?;
             is_said = true;
         }
     }

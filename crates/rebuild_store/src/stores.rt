@@ -1,18 +1,18 @@
 //! Stores: a folder, its code, and what is in it.
-use crate::lines::say;
 use crate::arguments::Options;
-use crate::locks::Locks;
+use crate::lines::say;
+use crate::locks::{Locks, other_parts_lock};
 use crate::store_faults::{StoreFault, device_fault};
 use crate::workers::Stripes;
 use lrc_code::Code;
 use std::alloc::AllocError;
-use std::fs;
 use std::io::{self, BufRead, BufReader, ErrorKind};
-use std::mem;
 use std::os::unix::fs::MetadataExt;
+use std::{fs, mem};
 use store_folder::{
-    Links, Listing, Others, Pattern, SUMS_NAME, Site, StoreStripes, StripeNames, Sums, SumsFault,
-    Unlisted, Wanted, Watched, is_ambiguous, is_folder_of, list, look_at, path_in, read_sums,
+    DESCRIPTION, Links, Listing, Others, Pattern, SUMS_NAME, Site, StoreStripes, StripeNames, Sums,
+    SumsFault, Unlisted, Wanted, Watched, is_ambiguous, is_folder_of, list, look_at, path_in,
+    read_sums,
 };
 use store_repair::Stripe;
 
@@ -102,7 +102,6 @@ fn open_locked(
     writes: bool,
 ) -> Result<Unlocked, StoreFault> {
     let alloc = rt.alloc();
-    let folder = String::from_str(alloc, options.store.as_str())?;
     let watched = match &options.report {
         Some(path) => Watched::at(rt, path.as_str()),
         None => None,
@@ -115,49 +114,22 @@ fn open_locked(
         links: options.links,
         watched: watched.as_ref(),
     };
-    let mut listing = listed(rt, folder.as_str(), &wanted)?;
-    let target = match &options.to {
-        Some(to) => {
-            let left = Wanted {
-                has_stripes: false,
-                ..wanted
-            };
-            Some(listed(rt, to.as_str(), &left)?)
-        }
-        None => None,
-    };
+    let mut listing = listed(rt, options.store.as_str(), &wanted)?;
+    let target = listed_target(rt, options, &wanted)?;
     refuse_report(rt, options, &listing, target.as_ref())?;
-    if writes && !options.trusts_writers {
-        refuse_untrusted(rt, target.as_ref().unwrap_or(&listing))?;
+    if writes {
+        refuse_writing(rt, options, target.as_ref().unwrap_or(&listing))?;
     }
-    if let Some(path) = &options.stripes {
-        expect_stripes(rt, &mut listing, path.as_str())?;
-    }
-    let sums = sums_of(rt, options)?;
-    if let Some(sums) = &sums {
-        let expected = sums.expect(alloc, pattern, wanted.code, &mut listing.names)?;
-        say_strange_sums(rt, options, expected);
-    }
+    let sums = expected(rt, options, &wanted, &mut listing)?;
     let code = match options.code {
         Some(code) => code,
         None => listing.names.code(),
     };
     refuse_other_code(rt, options, &listing, code)?;
     let has_unlisted = say_unlisted(rt, &listing, pattern, code)?;
-    let names = mem::replace(&mut listing.names, StripeNames::new(alloc, None));
-    let is_empty = names.is_empty();
-    let ending = if is_ambiguous(alloc, pattern, code)? {
-        Some(".file")
-    } else {
-        None
-    };
-    let found = names.settled(alloc, code, ending)?;
-    if is_empty || (options.part.is_none() && found.files.is_empty()) {
-        let names = String::from_str(alloc, options.naming.text.as_str())?;
-        return Err(StoreFault::NoFragments { folder, names });
-    }
+    let found = stripes_of(rt, options, pattern, code, &mut listing)?;
     Ok(Unlocked {
-        folder,
+        folder: String::from_str(alloc, options.store.as_str())?,
         code,
         listing,
         found,
@@ -165,6 +137,87 @@ fn open_locked(
         sums,
         has_unlisted,
     })
+}
+
+// What runs have left in the folder that rebuilt fragments are written to, if that isn't the store's.
+fn listed_target(
+    rt: &HostRuntime,
+    options: &Options,
+    wanted: &Wanted<'_>,
+) -> Result<Option<Listing>, StoreFault> {
+    let Some(to) = &options.to else {
+        return Ok(None);
+    };
+    let left = Wanted {
+        has_stripes: false,
+        ..*wanted
+    };
+    Ok(Some(listed(rt, to.as_str(), &left)?))
+}
+
+// Refuses to write where others may write, or where a run works that divides the store into other parts.
+fn refuse_writing(
+    rt: &HostRuntime,
+    options: &Options,
+    listing: &Listing,
+) -> Result<(), StoreFault> {
+    if !options.trusts_writers {
+        refuse_untrusted(rt, listing)?;
+    }
+    let Some(part) = options.part else {
+        return Ok(());
+    };
+    match other_parts_lock(rt, &part, listing.leftovers.as_slice()) {
+        Some(path) => Err(StoreFault::InUse {
+            folder: String::from_str(rt.alloc(), path)?,
+        }),
+        None => Ok(()),
+    }
+}
+
+// Notes what has to be there by a list, the digests and what these name, and gives the digests.
+fn expected(
+    rt: &HostRuntime,
+    options: &Options,
+    wanted: &Wanted<'_>,
+    listing: &mut Listing,
+) -> Result<Option<Sums>, StoreFault> {
+    if let Some(path) = &options.stripes {
+        expect_stripes(rt, listing, path.as_str())?;
+    }
+    let sums = sums_of(rt, options)?;
+    if let Some(sums) = &sums {
+        let names = &mut listing.names;
+        let count = sums.expect(rt.alloc(), &wanted.pattern, wanted.code, names)?;
+        say_strange_sums(rt, options, count);
+    }
+    Ok(sums)
+}
+
+// The stripes of a store that was listed; it is refused where there are none.
+fn stripes_of(
+    rt: &HostRuntime,
+    options: &Options,
+    pattern: &Pattern<'_>,
+    code: Code,
+    listing: &mut Listing,
+) -> Result<StoreStripes, StoreFault> {
+    let alloc = rt.alloc();
+    let names = mem::replace(&mut listing.names, StripeNames::new(alloc, None));
+    let is_empty = names.is_empty();
+    let ending = if is_ambiguous(alloc, pattern, code)? {
+        Some(DESCRIPTION)
+    } else {
+        None
+    };
+    let found = names.settled(alloc, code, ending)?;
+    if is_empty || (options.part.is_none() && found.files.is_empty()) {
+        return Err(StoreFault::NoFragments {
+            folder: String::from_str(alloc, options.store.as_str())?,
+            names: String::from_str(alloc, options.naming.text.as_str())?,
+        });
+    }
+    Ok(found)
 }
 
 // Refuses a store all of whose stripes are of another code than the one that was given.
@@ -194,7 +247,10 @@ pub fn other_than(code: Code) -> Code {
 // Says that digests which were given are of no file of the store.
 fn say_strange_sums(rt: &HostRuntime, options: &Options, expected: u64) {
     if let (Some(path), 0) = (&options.sums, expected) {
-        let _ = say(rt, format!(in rt.alloc(); "rebuild-store: {path}: names no file of the store"));
+        let _ = say(
+            rt,
+            format!(in rt.alloc(); "rebuild-store: {path}: names no file of the store"),
+        );
     }
 }
 
@@ -213,7 +269,12 @@ fn say_unlisted(
             continue;
         }
         is_there = is_there || !is_gone;
-        let _ = say(rt, format!(in rt.alloc(); "rebuild-store: {path}: {error}: what should be in it counts as lost"));
+        let _ = say(
+            rt,
+            format!(in rt.alloc();
+                "rebuild-store: {path}: {error}: what should be in it counts as lost"
+            ),
+        );
     }
     Ok(is_there)
 }
@@ -234,8 +295,18 @@ pub fn say_links(rt: &HostRuntime, listing: &Listing) {
     if let Some(path) = &listing.link {
         let links = listing.links;
         let _ = match links {
-            1 => say(rt, format!(in rt.alloc(); "rebuild-store: {path}: is a link, and isn't followed without --follow-links")),
-            _ => say(rt, format!(in rt.alloc(); "rebuild-store: {path} and others are links, {links} in all, and aren't followed without --follow-links")),
+            1 => say(
+                rt,
+                format!(in rt.alloc();
+                    "rebuild-store: {path}: is a link, and isn't followed without --follow-links"
+                ),
+            ),
+            _ => say(
+                rt,
+                format!(in rt.alloc();
+                    "rebuild-store: {path} and others are links, {links} in all, and aren't followed without --follow-links"
+                ),
+            ),
         };
     }
 }

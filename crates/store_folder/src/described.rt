@@ -1,5 +1,5 @@
-//! What is kept of a file beside the fragments of its stripe, in `<name>.file`: a line with its length, its SHA-256 digest and the code. Each
-//! folder that has fragments of the stripe has a copy; where all are in one folder there is a second one, `<name>.file.copy`.
+//! What is kept of a file beside the fragments of its stripe, in `<name>.file`: a line with its length, its SHA-256 digest and the code.
+//! Each folder that has fragments of the stripe has a copy; where all are in one folder there is a second one, `<name>.file.copy`.
 use crate::disks::stripe_folders;
 use crate::links::Links;
 use crate::names::path_in;
@@ -73,8 +73,8 @@ pub fn described_stripe(last: &str) -> Option<&str> {
     (!stripe.is_empty()).then_some(stripe)
 }
 
-/// The names in the store of the copies of a stripe's description: one in each folder that has fragments of the stripe, or two where that is
-/// one folder.
+/// The names in the store of the copies of a stripe's description: one in each folder that has fragments of the stripe, or two where that
+/// is one folder.
 pub fn description_names(
     alloc: Global,
     pattern: &Pattern<'_>,

@@ -18,7 +18,8 @@ mod surviving;
 mod unfinished;
 
 pub use described::{
-    DESCRIPTION, Described, MOST_BYTES, description_names, first_description_name, is_ambiguous, read_description,
+    DESCRIPTION, Described, MOST_BYTES, description_names, first_description_name, is_ambiguous,
+    read_description,
 };
 pub use digesting::{Digest, digest_of, digests_of};
 pub use disks::{Unlisted, is_folder_of};

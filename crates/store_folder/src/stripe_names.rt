@@ -347,10 +347,13 @@ fn count_of(files: &StripeFiles, code: Code) -> usize {
     count
 }
 
-// The code of a stripe by its places: 12-2-2 if it has one that the (6,2,2) code hasn't, 6-2-2 if it has all of that code, and else this one.
+// The code of a stripe by its places: 12-2-2 if it has one that the (6,2,2) code hasn't, 6-2-2 if it has all of that code, and else this.
 fn said_by(files: &StripeFiles, doubtful_is: Code) -> Code {
     let is_there = |place: &Place| files.at(*place) != Found::Absent;
-    if Place::ALL.iter().any(|place| !Code::Narrow.has(*place) && is_there(place)) {
+    if Place::ALL
+        .iter()
+        .any(|place| !Code::Narrow.has(*place) && is_there(place))
+    {
         return Code::Wide;
     }
     if Code::Narrow.places().iter().all(|place| is_there(place)) {
