@@ -74,7 +74,7 @@ pub fn repair_all<R: Threads + Sync>(
     Ok(status)
 }
 
-// Whether no stripe fits the code that the places say, which then is said. A code that was given is believed, and so is one part of a store.
+// Whether no stripe fits the code that the places say, which then is said. A code that was given is believed, and a part may have others.
 fn is_refused(
     rt: &HostRuntime,
     store: &OpenStore,

@@ -14,8 +14,8 @@ use store_repair::NewFragment;
 pub enum CopyWork {
     /// They are named.
     Name,
-    /// It is said which would be made.
-    Plan,
+    /// It is said which would be made, or replaced if that is asked for.
+    Plan { replaces: bool },
     /// Those that are lost are made, and others are replaced if that is asked for.
     Make { replaces: bool },
 }
@@ -102,7 +102,7 @@ impl Tended<'_> {
                 !is_lost,
                 self.like.as_ref(),
             ),
-            CopyWork::Plan if is_lost => Ok(None),
+            CopyWork::Plan { replaces } if is_lost || (replaces && may_replace) => Ok(None),
             _ => Ok(Some(reason)),
         }
     }

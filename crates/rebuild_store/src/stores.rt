@@ -1,18 +1,18 @@
 //! Stores: a folder, its code, and what is in it.
 use crate::arguments::Options;
+use crate::expecting::expected;
 use crate::lines::say;
 use crate::locks::{Locks, other_parts_lock};
 use crate::store_faults::{StoreFault, device_fault};
 use crate::workers::Stripes;
 use lrc_code::Code;
 use std::alloc::AllocError;
-use std::io::{self, BufRead, BufReader, ErrorKind};
+use std::io::ErrorKind;
 use std::os::unix::fs::MetadataExt;
 use std::{fs, mem};
 use store_folder::{
-    DESCRIPTION, Links, Listing, Others, Pattern, SUMS_NAME, Site, StoreStripes, StripeNames, Sums,
-    SumsFault, Unlisted, Wanted, Watched, is_ambiguous, is_folder_of, list, look_at, path_in,
-    read_sums,
+    DESCRIPTION, Listing, Others, Pattern, Site, StoreStripes, StripeNames, Sums, Unlisted, Wanted,
+    Watched, is_ambiguous, is_folder_of, list,
 };
 use store_repair::Stripe;
 
@@ -175,25 +175,6 @@ fn refuse_writing(
     }
 }
 
-// Notes what has to be there by a list, the digests and what these name, and gives the digests.
-fn expected(
-    rt: &HostRuntime,
-    options: &Options,
-    wanted: &Wanted<'_>,
-    listing: &mut Listing,
-) -> Result<Option<Sums>, StoreFault> {
-    if let Some(path) = &options.stripes {
-        expect_stripes(rt, listing, path.as_str())?;
-    }
-    let sums = sums_of(rt, options)?;
-    if let Some(sums) = &sums {
-        let names = &mut listing.names;
-        let count = sums.expect(rt.alloc(), &wanted.pattern, wanted.code, names)?;
-        say_strange_sums(rt, options, count);
-    }
-    Ok(sums)
-}
-
 // The stripes of a store that was listed; it is refused where there are none.
 fn stripes_of(
     rt: &HostRuntime,
@@ -241,16 +222,6 @@ pub fn other_than(code: Code) -> Code {
     match code {
         Code::Narrow => Code::Wide,
         Code::Wide => Code::Narrow,
-    }
-}
-
-// Says that digests which were given are of no file of the store.
-fn say_strange_sums(rt: &HostRuntime, options: &Options, expected: u64) {
-    if let (Some(path), 0) = (&options.sums, expected) {
-        let _ = say(
-            rt,
-            format!(in rt.alloc(); "rebuild-store: {path}: names no file of the store"),
-        );
     }
 }
 
@@ -341,51 +312,6 @@ pub fn refuse_untrusted(rt: &HostRuntime, listing: &Listing) -> Result<(), Store
         folder: String::from_str(rt.alloc(), foreign.folder.as_str())?,
         user: foreign.user,
     })
-}
-
-// Adds the stripes that a file names, one on each line.
-fn expect_stripes(rt: &HostRuntime, listing: &mut Listing, path: &str) -> Result<(), StoreFault> {
-    match read_names(rt, listing, path) {
-        Ok(()) => Ok(()),
-        Err(error) => Err(device_fault(String::from_str(rt.alloc(), path)?, error)),
-    }
-}
-
-fn read_names(rt: &HostRuntime, listing: &mut Listing, path: &str) -> io::Result<()> {
-    let alloc = rt.alloc();
-    for line in BufReader::new(alloc, fs::open(rt, path)?)?.lines(alloc) {
-        let line = line?;
-        let name = line.as_str().trim_end_matches('\r');
-        if !name.is_empty() {
-            listing.names.expect(alloc, name)?;
-        }
-    }
-    Ok(())
-}
-
-// The checksums that the options name, or those in the store.
-fn sums_of(rt: &HostRuntime, options: &Options) -> Result<Option<Sums>, StoreFault> {
-    let alloc = rt.alloc();
-    let (path, links) = match &options.sums {
-        Some(path) => (String::from_str(alloc, path.as_str())?, Links::Followed),
-        None => {
-            let path = path_in(alloc, options.store.as_str(), SUMS_NAME)?;
-            match look_at(rt, path.as_str(), options.links) {
-                Ok(metadata) if metadata.is_file() || metadata.is_symlink() => (
-                    path,
-                    options.links,
-                ),
-                Ok(_) => return Ok(None),
-                Err(error) if error.kind() == ErrorKind::NotFound => return Ok(None),
-                Err(error) => return Err(device_fault(path, error)),
-            }
-        }
-    };
-    match read_sums(rt, path.as_str(), links) {
-        Ok(sums) => Ok(Some(sums)),
-        Err(SumsFault::OutOfMemory) => Err(StoreFault::OutOfMemory),
-        Err(fault) => Err(StoreFault::BadSums { path, fault }),
-    }
 }
 
 impl OpenStore {

@@ -43,7 +43,9 @@ impl Work<'_, '_> {
             Work::Repair(repair, _) => CopyWork::Make {
                 replaces: repair.replace_damaged,
             },
-            Work::Plan(_) => CopyWork::Plan,
+            Work::Plan(repair) => CopyWork::Plan {
+                replaces: repair.replace_damaged,
+            },
             Work::Scrub(_) => CopyWork::Name,
         }
     }

@@ -4,8 +4,11 @@
 mod described;
 mod digesting;
 mod disks;
+mod expecting;
 mod folder_store;
+mod leaving;
 mod links;
+mod listed_descriptions;
 mod listing;
 mod names;
 mod parts;
@@ -16,6 +19,7 @@ mod stripe_names;
 mod sums;
 mod surviving;
 mod unfinished;
+mod watching;
 
 pub use described::{
     DESCRIPTION, Described, MOST_BYTES, description_names, first_description_name, is_ambiguous,
@@ -23,9 +27,11 @@ pub use described::{
 };
 pub use digesting::{Digest, digest_of, digests_of};
 pub use disks::{Unlisted, is_folder_of};
+pub use expecting::expect_listed;
 pub use folder_store::{FolderStore, Site, UnfinishedFile};
+pub use leaving::left_in;
 pub use links::{Links, look_at, refuse_linked_folders};
-pub use listing::{Foreign, Listing, Wanted, Watched, left_in, list};
+pub use listing::{Listing, list};
 pub use names::{folder_of, path_in};
 pub use parts::Part;
 pub use patterns::{KEPT, Layout, Pattern, PatternFault};
@@ -36,3 +42,4 @@ pub use stripe_names::{Alone, Others, StoreStripes, StripeNames};
 pub use sums::{SUMS_NAME, Sums, SumsFault, digits_of, read_sums};
 pub use surviving::{FileFragment, open_fragment};
 pub use unfinished::{Leftover, is_left_by, is_of_runs, lock_name, remove_leftover, tag_of_part};
+pub use watching::{Foreign, Wanted, Watched};

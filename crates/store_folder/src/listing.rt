@@ -1,15 +1,12 @@
 //! What is in a store: which fragments of which stripes, and how many bytes each has.
-use crate::described::{described_stripe, is_ambiguous, read_description};
-use crate::disks::{Unlisted, disk_folders, folder_in, is_folder_of, last_of};
+use crate::described::is_ambiguous;
+use crate::disks::{Unlisted, disk_folders, last_of};
 use crate::links::{Links, followed, look_at};
 use crate::names::{folder_of, path_in};
-use crate::parts::Part;
-use crate::patterns::{KEPT, Pattern};
 use crate::regular::Identity;
 use crate::stripe_names::StripeNames;
-use crate::sums::SUMS_NAME;
-use crate::unfinished::{is_left_by, is_of_runs};
-use lrc_code::Code;
+use crate::unfinished::is_of_runs;
+use crate::watching::{Foreign, Wanted, is_of_store, may_others_write};
 use std::alloc::{AllocError, Global};
 use std::collections::BTreeSet;
 use std::fs::{self, Metadata};
@@ -17,58 +14,8 @@ use std::io::{self, ErrorKind};
 use std::os::unix::fs::MetadataExt;
 use store_repair::Found;
 
-// The rights by which others than a file's user may write: of the group, and of everybody.
-const GROUP_WRITES: u32 = 0o020;
-
-const ALL_WRITE: u32 = 0o002;
-
 // The folder that a file system keeps for what it finds of lost files: no store's, and no stripe's.
 const LOST_AND_FOUND: &str = "lost+found";
-
-/// How a folder is listed.
-#[derive(Clone, Copy)]
-pub struct Wanted<'a> {
-    pub pattern: Pattern<'a>,
-    /// The code by which names are read.
-    pub code: Code,
-    /// Whether stripes are listed, and not only what runs have left.
-    pub has_stripes: bool,
-    /// The part whose stripes are listed, or all.
-    pub part: Option<Part>,
-    pub links: Links,
-    /// A path that may be one of the store's.
-    pub watched: Option<&'a Watched<'a>>,
-}
-
-/// A path that may lead to a file of a store: its folder, its last part, and which file is there, if one is.
-#[derive(Clone, Copy)]
-pub struct Watched<'a> {
-    folder: Identity,
-    name: &'a str,
-    file: Option<Identity>,
-}
-
-impl<'a> Watched<'a> {
-    /// The path, if its folder is there.
-    pub fn at(rt: &HostRuntime, path: &'a str) -> Option<Watched<'a>> {
-        let folder = fs::metadata(rt, folder_of(path)).ok()?;
-        Some(Watched {
-            folder: Identity::of(&folder),
-            name: last_of(path),
-            file: fs::metadata(rt, path)
-                .ok()
-                .map(|metadata| Identity::of(&metadata)),
-        })
-    }
-}
-
-/// A folder that others than root may write into.
-#[derive(Drop)]
-pub struct Foreign {
-    pub folder: String,
-    /// The number of its user.
-    pub user: u32,
-}
 
 /// What is in a folder.
 #[derive(Drop)]
@@ -91,7 +38,7 @@ pub struct Listing {
     /// Whether the path that was to be watched is one of the store's.
     pub is_watched: bool,
     // Whether names of descriptions may be those of fragments.
-    is_ambiguous: bool,
+    pub(crate) is_ambiguous: bool,
 }
 
 /// Lists the folder at a path. Names that don't fit its pattern are left alone. A folder in it that can't be listed costs what is in it.
@@ -111,24 +58,6 @@ pub fn list(rt: &HostRuntime, folder: &str, wanted: &Wanted<'_>) -> io::Result<L
         None => listing.add_below(rt, folder, wanted, own)?,
     }
     Ok(listing)
-}
-
-/// The paths of the files in a folder that a run with this tag may have left.
-pub fn left_in(rt: &HostRuntime, folder: &str, tag: &str) -> io::Result<Vec<String>> {
-    let alloc = rt.alloc();
-    let mut paths = Vec::new(alloc);
-    for entry in fs::read_dir(rt, folder)? {
-        match entry {
-            Ok(entry) => {
-                if is_left_by(entry.file_name(), tag) {
-                    paths.push(path_in(alloc, folder, entry.file_name())?)?;
-                }
-            }
-            Err(error) if error.kind() == ErrorKind::InvalidFilename => {}
-            Err(error) => return Err(error),
-        }
-    }
-    Ok(paths)
 }
 
 impl Listing {
@@ -387,37 +316,6 @@ impl Listing {
         Ok(())
     }
 
-    // Whether a name of the store is that of a description, which then is noted.
-    fn is_description(
-        &mut self,
-        rt: &HostRuntime,
-        folder: &str,
-        wanted: &Wanted<'_>,
-        name: &str,
-    ) -> Result<bool, AllocError> {
-        let alloc = rt.alloc();
-        let Some(stripe) = described_stripe(last_of(name)) else {
-            return Ok(false);
-        };
-        let inside = folder_in(name);
-        let pattern = &wanted.pattern;
-        if !inside.is_empty() && !is_folder_of(alloc, pattern, wanted.code, stripe, inside)? {
-            return Ok(false);
-        }
-        let may_be_fragment = self.is_ambiguous && pattern.read(wanted.code, name).is_some();
-        if self.names.is_described(stripe) && !may_be_fragment {
-            return Ok(true);
-        }
-        let path = path_in(alloc, folder, name)?;
-        match read_description(rt, path.as_str(), wanted.links) {
-            Ok(Some(described)) => self.names.describe(alloc, stripe, described.code)?,
-            Err(error) if error.kind() == ErrorKind::OutOfMemory => return Err(AllocError),
-            _ if may_be_fragment => return Ok(false),
-            _ => self.names.doubt(alloc, stripe)?,
-        }
-        Ok(true)
-    }
-
     // What is at a path at which there is a name; none where that is a folder.
     fn look(
         &mut self,
@@ -468,24 +366,6 @@ impl Listing {
         }
         Ok(metadata)
     }
-}
-
-// Whether others than root may write into a folder.
-fn may_others_write(metadata: &Metadata) -> bool {
-    let mode = metadata.mode();
-    metadata.uid() != 0
-        || mode & ALL_WRITE != 0
-        || (mode & GROUP_WRITES != 0 && metadata.gid() != 0)
-}
-
-// Whether a name in a store is one that the store has, or gets: a fragment's, one that was kept, its digests, a description.
-fn is_of_store(name: &str, wanted: &Wanted<'_>) -> bool {
-    let name = name.strip_suffix(KEPT).unwrap_or(name);
-    let is_fragment = wanted.pattern.read(wanted.code, name).is_some();
-    is_fragment
-        || name == SUMS_NAME
-        || described_stripe(name).is_some()
-        || is_of_runs(last_of(name))
 }
 
 // The path of a folder inside the store's.

@@ -1,13 +1,8 @@
 //! Sums: the SHA-256 digests of files, listed by names in a file as `sha256sum` writes it. Lines end in a line feed, also after a carriage
 //! return. Empty lines and those that begin with `#` say nothing.
-use crate::described::described_stripe;
-use crate::disks::{folder_in, is_folder_of, last_of};
 use crate::links::Links;
-use crate::patterns::Pattern;
 use crate::regular::open_regular;
-use crate::stripe_names::StripeNames;
 use hex::FromHex;
-use lrc_code::Code;
 use std::alloc::{AllocError, AllocFailed, Global};
 use std::collections::BTreeMap;
 use std::io::{self, BufRead, BufReader, ErrorKind};
@@ -96,32 +91,15 @@ impl Sums {
         self.digests.get(name.as_bytes())
     }
 
-    /// Notes that the stripes have to be there of which fragments or descriptions are named. Says how many are, of all parts.
-    pub fn expect(
-        &self,
-        alloc: Global,
-        pattern: &Pattern<'_>,
-        code: Code,
-        names: &mut StripeNames,
-    ) -> Result<u64, AllocError> {
-        let mut count = 0u64;
-        let mut descriptions = Vec::new(alloc);
+    /// The names that are UTF-8, in their order.
+    pub fn names(&self, alloc: Global) -> Result<Vec<&str>, AllocError> {
+        let mut names = Vec::new(alloc);
         for name in self.digests.keys() {
-            let Ok(name) = str::from_utf8(name.as_slice()) else {
-                continue;
-            };
-            if described_stripe(last_of(name)).is_some() {
-                descriptions.push(name)?;
-            } else if let Some((stripe, place)) = pattern.read(code, name) {
-                names.expect_fragment(alloc, stripe, place)?;
-                count = count.saturating_add(1);
+            if let Ok(name) = str::from_utf8(name.as_slice()) {
+                names.push(name)?;
             }
         }
-        for name in descriptions {
-            let is_of_store = expect_described(alloc, pattern, code, name, names)?;
-            count = count.saturating_add(u64::from(is_of_store));
-        }
-        Ok(count)
+        Ok(names)
     }
 
     /// Sets the digest of the file of a name.
@@ -159,30 +137,6 @@ impl Sums {
         self.digests.insert(sum.name, digest)?;
         Ok(())
     }
-}
-
-// Notes what has to be there by a name that ends as a description's. It is a fragment's where a pattern takes it for one and nothing is
-// known of the stripe that it would describe. Says whether it is the store's.
-fn expect_described(
-    alloc: Global,
-    pattern: &Pattern<'_>,
-    code: Code,
-    name: &str,
-    names: &mut StripeNames,
-) -> Result<bool, AllocError> {
-    let Some(stripe) = described_stripe(last_of(name)) else {
-        return Ok(false);
-    };
-    let folder = folder_in(name);
-    let is_of_stripe = folder.is_empty() || is_folder_of(alloc, pattern, code, stripe, folder)?;
-    match pattern.read(code, name) {
-        Some((other, place)) if !is_of_stripe || !names.is_expected(stripe) => {
-            names.expect_fragment(alloc, other, place)?;
-        }
-        _ if is_of_stripe => names.expect_description(alloc, stripe)?,
-        _ => return Ok(false),
-    }
-    Ok(true)
 }
 
 // What a line says, if it has the form.
