@@ -1,7 +1,7 @@
 #!/usr/bin/env python3
 """Tests that each definition that a public contract cites says what it means, by a comment above it in specs/ or by docs/DEFINITIONS.md,
-that each public call says by a comment what it does, that docs/PROOFS.md names each of which no contract says more, and that what both
-pages name is there.
+that each public call says by a comment what it does, that docs/PROOFS.md names each of which no contract says more, that what both pages
+name is there, and that no crate's README claims as proved what no contract says.
 
 A public contract is that of a function that a crate hands out: a `pub fn` of its root, of a public module or of a type that the root names,
 or a function of such a trait. The words of its clauses that are defined in a crate's specs/ are the names; which crate's is said by the
@@ -25,6 +25,8 @@ SIGNATURE = re.compile(r"^(?:(?:abbrev|unfoldable|pub|record|data) )*([^\s:({]+)
 MEMBER = re.compile(r"^ *(?:pub (?:record |data )?|abbrev pub )([^\s:({]+)", re.M)
 FUNCTION = re.compile(r'^(\s*)(?:pub(?:\(crate\))? )?(?:const |unsafe |extern "C" )*fn (\w+)')
 CLAUSE = re.compile(r"^\s*(?:requires|ensures)\b")
+# What a README may claim without a contract.
+SAFE = re.compile(r"nothing here|`main` is safe|that (?:the program|each call) is safe(?: and returns)?")
 # What pages call by a name that is no definition of a crate here: a crate of the toolchain has it.
 ELSEWHERE = {"Sha256.sha256", "sha2"}
 
@@ -203,6 +205,16 @@ def missing_calls():
             yield f"docs/PROOFS.md doesn't have {call} of {crate}, which has no contract"
 
 
+def claims():
+    """What a crate's README claims to be proved beyond safety, where no contract of its sources says anything."""
+    for readme in sorted(CRATES.glob("*/README.md")):
+        sources = "".join(file.read_text() for file in (readme.parent / "src").rglob("*.rt"))
+        claim = re.search(r"^Proved: (.*?)(?:\.\s|;|,|$)", readme.read_text(), re.M | re.S)
+        has_contract = re.search(r"^\s*ensures\b", sources, re.M)
+        if claim and not has_contract and not SAFE.fullmatch(" ".join(claim[1].split())):
+            yield f"{readme.parent.name}'s README claims as proved what no contract says: {claim[1]}"
+
+
 def main():
     # A reader of the lists may end early, as `head` does.
     signal.signal(signal.SIGPIPE, signal.SIG_DFL)
@@ -212,7 +224,7 @@ def main():
     if sys.argv[1:2] == ["calls"]:
         show_calls(sys.argv[2:])
         return
-    found = [*missing_definitions(), *missing_calls()]
+    found = [*missing_definitions(), *missing_calls(), *claims()]
     if found:
         print(*found, sep="\n")
         sys.exit(f"documented: {len(found)} things are missing, or aren't there")

@@ -65,7 +65,8 @@ def digest(data):
 def files_of(code, name, data):
     """The files that a store has of an encoded file, by their names."""
     there = {f"{name}.{place}": fragment for place, fragment in fragments_of(code, data).items()}
-    there[f"{name}.file"] = f"{len(data)} {digest(data)} {code}\n".encode()
+    for ending in ("file", "file.copy"):
+        there[f"{name}.{ending}"] = f"{len(data)} {digest(data)} {code}\n".encode()
     return there
 
 
@@ -165,12 +166,15 @@ def test_damage(folder, code, choose):
             damage(again / f"f0.{place}", choose)
         output, errors = run("read", again, "f0", status=0, text=False)
         check(output == data and "read without" in errors, errors)
-    (folder / "f0.file").write_bytes((folder / "f0.file").read_bytes().replace(b" ", b"  ", 1))
+    for ending in ("file", "file.copy"):
+        path = folder / f"f0.{ending}"
+        path.write_bytes(path.read_bytes().replace(b" ", b"  ", 1))
     _, errors = run("read", folder, "f0", status=1)
     check("isn't a line with" in errors, errors)
     (folder / "f0.file").unlink()
+    (folder / "f0.file.copy").unlink()
     _, errors = run("read", folder, "f0", status=1)
-    check("isn't there" in errors, errors)
+    check("no description is there" in errors, errors)
 
 
 def test_names_that_are_there(folder, code, choose):
@@ -197,8 +201,12 @@ def test_names_that_are_there(folder, code, choose):
     if code == "6-2-2":
         (folder / "new.x3").write_bytes(b"")
         _, errors = run("encode", folder, other / "new", "--code", code, status=1)
+        check("new.x3: is there already" in errors, errors)
+        (folder / "new.x4").write_bytes(b"")
+        _, errors = run("encode", folder, other / "new", "--code", code, status=1)
         check("12-2-2" in errors, errors)
         (folder / "new.x3").unlink()
+        (folder / "new.x4").unlink()
     else:
         for place in CODES["6-2-2"][0] + ["px", "py", "p0", "p1"]:
             (folder / f"z.{place}").write_bytes(b"")
@@ -228,7 +236,7 @@ def test_names(folder, code, choose):
         (store / ".rebuild-store-fedcba9876543210").write_bytes(b"left")
         run("encode", store, source, "--code", code, *names, status=0)
         wanted = {f"disk{number}/{source.name}": fragments[place] for number, place in enumerate(order)}
-        wanted[f"{source.name}.file"] = f"{len(data)} {digest(data)} {code}\n".encode()
+        wanted |= {f"disk{number}/{source.name}.file": f"{len(data)} {digest(data)} {code}\n".encode() for number in range(len(order))}
         wanted["SHA256SUMS"] = "".join(f"{digest(wanted[name])}  {name}\n" for name in sorted(wanted)).encode()
         there = {str(path.relative_to(store)): path.read_bytes() for path in store.glob("**/*") if path.is_file()}
         check(there == wanted, f"{sorted(there)} are there")

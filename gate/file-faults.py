@@ -53,7 +53,8 @@ def fragments_of(data):
 def names_of(name, data):
     """The files of a store that a file becomes."""
     made = {f"{name}.{place}": fragment for place, fragment in fragments_of(data).items()}
-    return made | {f"{name}.file": f"{len(data)} {hashlib.sha256(data).hexdigest()} {CODE}\n".encode()}
+    description = f"{len(data)} {hashlib.sha256(data).hexdigest()} {CODE}\n".encode()
+    return made | {f"{name}.file": description, f"{name}.file.copy": description}
 
 
 def sums_of(files):
@@ -85,8 +86,8 @@ class Files:
         for name, data in there.items():
             hold(data == self.after.get(name), f"a name has bytes that are no file's: {name}: {ran.text()}")
         for name in self.data:
-            if f"{name}.file" in there:
-                missing = [it for it in names_of(name, b"") if it not in there]
+            if f"{name}.file" in there or f"{name}.file.copy" in there:
+                missing = [it for it in names_of(name, b"") if it not in there and ".file" not in it]
                 hold(not missing, f"a description is there without its fragments: {missing}: {ran.text()}")
         known = dict(line.split("  ")[::-1] for line in sums.decode().splitlines())
         for name, digest in known.items():

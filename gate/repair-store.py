@@ -318,15 +318,17 @@ def test_kills(folder, code, choose):
 
 
 def test_other_stores(folder, code, choose):
-    """A folder none of whose stripes fits the code is refused, and nothing in it changes."""
+    """A folder none of whose stripes fits the code is refused, or each is named if the code was given, and nothing in it changes."""
     stripes = make(folder, code, [50, 60], choose)
     for name, fragments in stripes.items():
         for place in fragments:
             (folder / f"{name}.{place}").write_bytes(choose.randbytes(50))
     (folder / "s000.x0").unlink()
     before = {path.name: path.read_bytes() for path in folder.iterdir()}
+    _, errors = run("repair", folder, status=1)
+    check("is this the store?" in errors and "s000" in errors, errors)
     _, errors = run("repair", folder, "--code", code, status=1)
-    check("is this the store?" in errors, errors)
+    check(all(f"{name}: contradiction" in errors for name in stripes), errors)
     check({path.name: path.read_bytes() for path in folder.iterdir()} == before, "a folder that is no store was changed")
 
 

@@ -2,12 +2,14 @@
 """Tries what rebuild-store may never do to a store, or beside it, with what a stranger may have put there: links, FIFOs, devices, odd
 rights, names like the program's own, other runs at the wrong moment.
 
-    store-strangers.py [PROGRAM]
+    store-strangers.py [PROGRAM [TEST]]
 
 Each expected byte, mode and name is worked out here. What root alone can try is said to be skipped where this isn't root."""
 
 import contextlib
+import errno
 import fcntl
+import hashlib
 import os
 import pathlib
 import random
@@ -543,6 +545,506 @@ def test_kept_fragments(place, choose):
         run("encode", store, source, "--names", pattern, status=2)
 
 
+DISKS = ["--code", "6-2-2", "--names", "disk{shard}/{stripe}"]
+
+
+def lay_disks(store, choose, names=("a", "b"), length=80):
+    """Makes a store with a folder for each disk, and gives the bytes of its files by their names."""
+    files = {}
+    store.mkdir()
+    for name in names:
+        for number, data in enumerate(stripe("6-2-2", length, choose).values()):
+            (store / f"disk{number}").mkdir(exist_ok=True)
+            (store / f"disk{number}/{name}").write_bytes(data)
+            files[f"disk{number}/{name}"] = data
+    return files
+
+
+def below(store):
+    """The bytes of the regular files below a folder, by their names in it."""
+    return {str(path.relative_to(store)): path.read_bytes() for path in store.rglob("*") if path.is_file() and not path.is_symlink()}
+
+
+def hold_disk_lost(store, files, bad, said):
+    """All but a bad disk has what it should have, and the disk is said once."""
+    there = {name: data for name, data in below(store).items() if not name.startswith(f"{bad}/") and name != bad}
+    wanted = {name: data for name, data in files.items() if not name.startswith(f"{bad}/")}
+    hold(there == wanted, f"{sorted(name for name in wanted if there.get(name) != wanted[name])} didn't come back: {said}")
+    named = [line for line in said.splitlines() if line.startswith(f"rebuild-store: {store / bad}: ")]
+    hold(len(named) == 1, f"{len(named)} lines name {bad}: {said}")
+
+
+def test_disks_that_are_gone(place, choose):
+    """A disk's folder that isn't there or is no folder is said once, and the same stripes' fragments on other disks come back."""
+    for kind in ("missing", "file"):
+        store = place / kind
+        files = lay_disks(store, choose)
+        for name in ("disk1/a", "disk4/b", "disk2/a", "disk2/b"):
+            (store / name).unlink()
+        (store / "disk2").rmdir()
+        if kind == "file":
+            (store / "disk2").write_bytes(b"")
+        run("scrub", store, *DISKS, status=1)
+        run("lost", store, *DISKS, status=1)
+        said = run("repair", store, *DISKS, status=3)
+        hold_disk_lost(store, files, "disk2", said)
+        for name in "ab":
+            hold(f"disk2/{name}: can't be put in its place" in said, said)
+        hold("repaired 2 fragments" in said, said)
+
+
+def test_disks_that_fail(place, choose):
+    """A disk's folder that can't be listed is a disk whose fragments are lost: it is said once, and the others are repaired."""
+    calls = Calls(place)
+    store = place / "failing"
+    files = lay_disks(store, choose)
+    lost = ("disk1/a", "disk4/b")
+    command = [PROGRAM, "repair", store, *DISKS, "--workers", "1"]
+    for name in lost:
+        (store / name).unlink()
+    ran = calls.run(command)
+    lists = [number for number, kind in enumerate(ran.kinds, 1) if kind == "list"]
+    tried = 0
+    for number in lists:
+        for name in lost:
+            (store / name).unlink(missing_ok=True)
+        ran = calls.run(command, number, errno.EIO)
+        bad = pathlib.Path(ran.paths[0])
+        if bad == store:
+            hold(ran.status == 3, ran.text())
+            continue
+        hold(ran.status == 3 and below(store) == files, f"{bad.name}: {ran.text()}")
+        hold(ran.err.count(f"rebuild-store: {bad}: Input/output error") == 1, ran.text())
+        tried += 1
+    hold(tried > 0, f"no disk's listing was tried: {ran.kinds}")
+
+
+def test_disks_of_others(place, choose):
+    """A disk's folder that the user may not list, and one that is full of rights but one, cost no other disk its fragments."""
+    how = as_user(place)
+    store = place / "of-others"
+    files = lay_disks(store, choose)
+    for path in store.iterdir():
+        path.chmod(0o777)
+    for name in ("disk1/a", "disk4/b", "disk2/a"):
+        (store / name).unlink()
+    (store / "disk2").chmod(0)
+    said = run("repair", store, *DISKS, status=3, **how)
+    hold_disk_lost(store, files, "disk2", said)
+    run("scrub", store, *DISKS, status=3, **how)
+    (store / "disk2").chmod(0o777)
+    (store / "disk4/a").unlink()
+    (store / "disk2").chmod(0o555)
+    said = run("repair", store, *DISKS, status=3, **how)
+    hold((store / "disk4/a").read_bytes() == files["disk4/a"] and "disk2/a: can't be put in its place: Permission denied" in said, said)
+
+
+def test_lost_and_found(place, choose):
+    """The folder lost+found of a disk stops nothing, for root and for a user, and is no stripe."""
+    store, folders = place / "disks", place / "folders"
+    files = lay_disks(store, choose)
+    for number in range(10):
+        (store / f"disk{number}/lost+found").mkdir()
+        (store / f"disk{number}/lost+found").chmod(0o700)
+    (store / "lost+found").mkdir(mode=0o700)
+    folders.mkdir()
+    for name, data in files.items():
+        disk, name = name.split("/")
+        (folders / name).mkdir(exist_ok=True)
+        (folders / name / list(stripe("6-2-2", 1, choose))[int(disk[4:])]).write_bytes(data)
+    (folders / "lost+found").mkdir(mode=0o700)
+    (folders / "lost+found/x0").write_bytes(b"found")
+    inside = ["--names", "{stripe}/{place}"]
+    for how in ({}, as_user(place) if is_root() else {}):
+        for command in ("scrub", "lost", "repair"):
+            for words in ([store, *DISKS], [folders, *inside]):
+                said = run(command, *words, status=0, **how)
+                hold("lost+found" not in said, said)
+        for path in (store, *store.glob("disk*"), folders, folders / "a", folders / "b"):
+            path.chmod(0o777)
+    source = place / "lost+found"
+    source.write_bytes(b"source")
+    run("encode", store, source, *DISKS, "--trust-writers", status=1)
+
+
+def test_what_is_no_stripe(place, choose):
+    """A file alone makes no stripe, and doesn't make a store of the other code: it is said once, and named in rows and by a dry run."""
+    store = place / "alone"
+    files = lay(store, choose, names=("a", "b"))
+    for name in ("notes.x3", "todo.p1"):
+        (store / name).write_bytes(b"mine")
+    (store / "folder.x0").mkdir()
+    (store / "folder.x1").mkdir()
+    for command in ("scrub", "lost", "repair"):
+        said = run(command, store, status=0)
+        hold(said.count("2 files are named as fragments, and of no stripe: notes.x3 and others") == 1, said)
+    (store / "a.x0").unlink()
+    said = run("repair", store, "--dry-run", status=1)
+    hold("notes.x3: is named as a fragment, and of no stripe" in said and "todo.p1: is named" in said, said)
+    report = place / "alone.csv"
+    run("repair", store, "--report", report, status=0)
+    rows = report.read_text()
+    hold("notes,x3,alone," in rows and "todo,p1,alone," in rows and "a,x0,rebuilt," in rows, rows)
+    hold(there(store) == {**files, "notes.x3": b"mine", "todo.p1": b"mine"}, "the store was changed")
+    only = place / "only"
+    only.mkdir()
+    (only / "notes.x3").write_bytes(b"mine")
+    hold("is this the store?" in run("repair", only, status=1), "a file alone was taken for a store")
+
+
+def digest(data):
+    return hashlib.sha256(data).hexdigest()
+
+
+def test_expected(place, choose):
+    """What sums and descriptions name has to be there: a stripe of which everything is lost is said to be lost."""
+    for kind in ("sums", "given", "description"):
+        store = place / f"expected-{kind}"
+        lay(store, choose, names=("a", "b", "gone"))
+        words = []
+        if kind == "description":
+            data = choose.randbytes(50)
+            (store / "gone.file").write_text(f"50 {digest(data)} 6-2-2\n")
+            (store / "gone.file.copy").write_text(f"50 {digest(data)} 6-2-2\n")
+        else:
+            sums = "".join(f"{digest(path.read_bytes())}  {path.name}\n" for path in sorted(store.iterdir()))
+            path = store / "SHA256SUMS" if kind == "sums" else place / "sums"
+            path.write_text(sums)
+            words = ["--sums", path] if kind == "given" else []
+        run("repair", store, *words, status=0)
+        for path in store.glob("gone.[xyp]*"):
+            path.unlink()
+        for command in ("scrub", "repair"):
+            hold("gone: no fragment can be read" in run(command, store, *words, status=1), f"{kind}: {command} passed over a lost stripe")
+        if kind != "given":
+            hold("3 stripes; 10 fragments lost" in run("lost", store, status=1), f"{kind}: lost passed over a lost stripe")
+
+
+def encoded_disks(place, choose, name="note", code="6-2-2"):
+    """A store with a folder for each disk, into which a file is encoded: the store, the file's bytes and its description."""
+    store, source = place / "encoded", place / name
+    store.mkdir()
+    for number in range(10):
+        (store / f"disk{number}").mkdir()
+    data = choose.randbytes(1_001)
+    source.write_bytes(data)
+    run("encode", store, source, *DISKS, status=0)
+    return store, data, f"{len(data)} {digest(data)} {code}\n".encode()
+
+
+def test_descriptions(place, choose):
+    """A file's description is on each disk, is tested and made again, and the file can be read as long as one is there."""
+    store, data, line = encoded_disks(place, choose)
+    names = ["--names", "disk{shard}/{stripe}"]
+    whole = below(store)
+    copies = [f"disk{number}/note.file" for number in range(10)]
+    hold({name for name in whole if name.endswith(".file")} == set(copies), f"{sorted(whole)}")
+    hold(all(whole[name] == line for name in copies), "a description isn't the file's")
+    for command in ("scrub", "lost", "repair"):
+        run(command, store, *DISKS, status=0)
+    for lost in (["disk3"], [f"disk{number}" for number in (0, 4, 9)]):
+        for disk in lost:
+            (store / disk / "note").unlink()
+            (store / f"{disk}/note.file").unlink()
+        run("read", store, "note", *names, status=0)
+        for command in ("scrub", "lost"):
+            hold(f"{lost[0]}/note.file: is lost" in run(command, store, *DISKS, status=1), f"{command} passed over a lost description")
+        said = run("repair", store, *DISKS, "--dry-run", status=1)
+        hold("can be made" in said, said)
+        said = run("repair", store, *DISKS, status=0)
+        hold(f"; {len(lost)} description{'s' * (len(lost) > 1)} made" in said, said)
+        hold(below(store) == whole, f"the store isn't what it was: {said}")
+    for name in copies[1:]:
+        (store / name).unlink()
+    for disk in ("disk0", "disk5"):
+        (store / disk / "note").unlink()
+    ended = subprocess.run([PROGRAM, "read", store, "note", *names], capture_output=True)
+    hold(ended.returncode == 0 and ended.stdout == data, ended.stderr.decode())
+    run("repair", store, *DISKS, status=0)
+    hold(below(store) == whole, "the store isn't what it was")
+
+
+def test_descriptions_that_differ(place, choose):
+    """A copy that differs is named and never believed over the others, unless the sums say so; it is replaced only if that is asked for."""
+    store, data, line = encoded_disks(place, choose)
+    whole = below(store)
+    other = line.replace(b"1001", b"1002")
+    report = place / "report.csv"
+    for wrong in (other, b"", b"no description"):
+        (store / "disk4/note.file").write_bytes(wrong)
+        said = run("scrub", store, *DISKS, status=1)
+        hold("disk4/note.file: " in said, said)
+        run("repair", store, *DISKS, "--report", report, status=1)
+        hold("disk4/note.file: " in report.read_text(), report.read_text())
+        hold((store / "disk4/note.file").read_bytes() == wrong, "a copy was replaced unasked")
+        ended = subprocess.run([PROGRAM, "read", store, "note", *DISKS[2:]], capture_output=True)
+        hold(ended.returncode == 0 and ended.stdout == data, ended.stderr.decode())
+        run("repair", store, *DISKS, "--replace-damaged", status=0)
+        hold((store / "disk4/note.file.damaged").read_bytes() == wrong, "the copy that differed isn't kept")
+        (store / "disk4/note.file.damaged").unlink()
+        hold(below(store) == whole, "the copy wasn't replaced")
+    # Most copies are wrong: the sums know the right one, and nothing is believed without them.
+    for number in range(6):
+        (store / f"disk{number}/note.file").write_bytes(other)
+    said = run("scrub", store, *DISKS, status=1)
+    hold("disk0/note.file: differs from the checksums" in said and "disk7/" not in said, said)
+    run("repair", store, *DISKS, "--replace-damaged", status=0)
+    for number in range(6):
+        (store / f"disk{number}/note.file.damaged").unlink()
+    hold(below(store) == whole, "the sums didn't decide")
+    (store / "SHA256SUMS").unlink()
+    for number in range(5):
+        (store / f"disk{number}/note.file").write_bytes(other)
+    (store / "disk9/note").unlink()
+    said = run("repair", store, *DISKS, "--replace-damaged", status=1)
+    hold("note: its descriptions differ, and nothing says which is right" in said, said)
+    hold(sum(path.read_bytes() == other for path in store.glob("disk*/note.file")) == 5, "a description was replaced by a guess")
+    ended = subprocess.run([PROGRAM, "read", store, "note", *DISKS[2:]], capture_output=True)
+    hold(ended.returncode == 0 and ended.stdout == data, ended.stderr.decode())
+
+
+def test_descriptions_of_before(place, choose):
+    """A store whose only description is in its own folder is read, and a repair makes the copies."""
+    store, data, line = encoded_disks(place, choose)
+    whole = below(store)
+    for path in store.glob("disk*/note.file"):
+        path.unlink()
+    (store / "note.file").write_bytes(line)
+    (store / "SHA256SUMS").unlink()
+    ended = subprocess.run([PROGRAM, "read", store, "note", *DISKS[2:]], capture_output=True)
+    hold(ended.returncode == 0 and ended.stdout == data, ended.stderr.decode())
+    run("repair", store, *DISKS, status=0)
+    del whole["SHA256SUMS"]
+    hold(below(store) == {**whole, "note.file": line}, "the copies weren't made")
+    run("scrub", store, *DISKS, status=0)
+
+
+def test_descriptions_in_one_folder(place, choose):
+    """Where all fragments are in one folder there are two copies, each of which is made again from the other."""
+    for pattern in ("{stripe}.{place}", "{stripe}/{place}"):
+        store, source = place / f"one-{pattern[8:9] == '/'}", place / "note"
+        store.mkdir()
+        if "/" in pattern:
+            (store / "note").mkdir()
+        source.write_bytes(b"some bytes")
+        names = ["--names", pattern]
+        run("encode", store, source, *names, status=0)
+        whole = below(store)
+        inside = "note/" * ("/" in pattern)
+        copies = [f"{inside}note.file", f"{inside}note.file.copy"]
+        hold(all(name in whole for name in copies), f"{sorted(whole)}")
+        for name in copies:
+            (store / name).unlink()
+            run("scrub", store, *names, status=1)
+            hold("some bytes" in run("read", store, "note", *names, status=0), "it can't be read")
+            run("repair", store, *names, status=0)
+            hold(below(store) == whole, f"{name} didn't come back")
+        for name in copies:
+            (store / name).unlink()
+        hold(f"{copies[0]}: is lost" in run("scrub", store, *names, status=1), "lost descriptions that the sums name are passed over")
+
+
+def test_names_like_descriptions(place, choose):
+    """A stripe whose name ends as a description's is one where it holds no description, and none of its fragments is replaced."""
+    store = place / "like-descriptions"
+    files = lay_disks(store, choose, ("data", "data.file", "more.file"), length=200)
+    (store / "disk3/data.file").unlink()
+    (store / "disk2/more.file").unlink()
+    run("repair", store, *DISKS, status=0)
+    hold(below(store) == files, "a stripe of such a name wasn't repaired")
+    source = place / "x.file"
+    source.write_bytes(b"source")
+    hold("can't have this name" in run("encode", store, source, *DISKS, status=1), "a file was encoded under names of descriptions")
+
+
+def test_stripe_that_changes_meanwhile(place, choose):
+    """Of a stripe that is rewritten while it is read nothing is put in its place, and a scrub says so too."""
+    store = place / "rewritten"
+    before, after = (stripe("6-2-2", 200_000, choose) for _ in range(2))
+    store.mkdir()
+    for name, data in before.items():
+        (store / f"s.{name}").write_bytes(data)
+    calls = Calls(place)
+    code = ["--code", "6-2-2"]
+    for command in (["repair", store, *code], ["scrub", store], ["repair", store, *code, "--reads", "few"]):
+        if command[0] == "repair":
+            (store / "s.x1").unlink(missing_ok=True)
+        command = [PROGRAM, *command]
+        for path in store.iterdir():
+            path.write_bytes(before[path.name[2:]])
+        reads = [number for number, kind in enumerate(calls.run(command).kinds, 1) if kind == "read"]
+        if command[1] == "repair":
+            (store / "s.x1").unlink()
+        for number in (reads[len(reads) // 3], reads[len(reads) // 2], reads[-1]):
+            for path in store.iterdir():
+                path.write_bytes(before[path.name[2:]])
+            with waiting(calls, place, command, number) as go_on:
+                for path in store.glob("s.*"):
+                    with open(path, "r+b") as fragment:
+                        fragment.write(after[path.name[2:]])
+                status, said = go_on()
+            if "few" in command:
+                # All are read instead, which by then are those of the new stripe.
+                hold(status == 0 and (store / "s.x1").read_bytes() == after["x1"], f"status {status}: {said}")
+                (store / "s.x1").unlink()
+                continue
+            hold(status == 1 and "changed meanwhile" in said, f"status {status}: {said}")
+            hold(command[1] == "scrub" or not (store / "s.x1").exists(), "a fragment was made of a stripe that changed")
+            left = {path.name for path in store.iterdir()} - {f"s.{name}" for name in before}
+            hold(not left, f"left {left}")
+    run("repair", store, status=0)
+    hold((store / "s.x1").read_bytes() == after["x1"], "what was rebuilt isn't of the new stripe")
+
+
+def part_of(name, parts):
+    """Which part a stripe is of."""
+    return int.from_bytes(hashlib.sha256(name.encode()).digest()[:8], "big") % parts + 1
+
+
+def test_contradictory_stripes(place, choose):
+    """A part of contradictory stripes, and a store whose code was given, aren't refused: each contradiction is named."""
+    store = place / "contradictory"
+    names = [f"s{number}" for number in range(12)]
+    files = lay(store, choose, names=names, length=50)
+    bad = [name for name in names if part_of(name, 3) == 2]
+    for name in names:
+        if name in bad:
+            for path in store.glob(f"{name}.*"):
+                path.write_bytes(choose.randbytes(50))
+        (store / f"{name}.x0").unlink()
+    said = run("repair", store, "--part", "2/3", status=1)
+    hold(all(f"{name}: contradiction" in said for name in bad), said)
+    hold(not list(store.glob(".rebuild-store-*")), "a lock is left behind")
+    run("repair", store, "--part", "1/3", status=0)
+    for code in ([], ["--code", "6-2-2"]):
+        only = place / f"only-{len(code)}"
+        only.mkdir()
+        for path in store.iterdir():
+            if path.name.split(".")[0] in bad:
+                (only / path.name).write_bytes(path.read_bytes())
+        said = run("repair", only, *code, status=1)
+        if code:
+            hold("is this the store?" not in said and all(f"{name}: contradiction" in said for name in bad), said)
+        else:
+            hold("is this the store?" in said and sorted(bad)[0] in said, said)
+    for name in set(names) - set(bad):
+        hold((store / f"{name}.x0").exists() == (part_of(name, 3) == 1), "another part was repaired")
+        files.pop(f"{name}.x0")
+
+
+def test_other_parts(place, choose):
+    """A run of a part is refused while a run works on the store in another number of parts, and only then."""
+    store = place / "other-parts"
+    lay(store, choose)
+    lock = store / ".rebuild-store-part-1-of-3"
+    held = os.open(lock, os.O_CREAT | os.O_RDWR)
+    run("repair", store, "--part", "1/2", status=0)
+    fcntl.flock(held, fcntl.LOCK_EX)
+    hold("another run works in this store" in run("repair", store, "--part", "1/2", status=1), "parts of two divisions were worked on")
+    hold(not (store / LOCK_OF_PART).exists() and lock.exists(), "a lock is left, or another run's is gone")
+    run("repair", store, "--part", "2/3", status=0)
+    os.close(held)
+    run("repair", store, "--part", "1/2", status=0)
+
+
+def test_wrong_code(place, choose):
+    """A code that no stripe is of is refused in the words of encode."""
+    for right, wrong in (("6-2-2", "12-2-2"), ("12-2-2", "6-2-2")):
+        store, source = place / f"of-{right}", place / "new"
+        store.mkdir()
+        source.write_bytes(b"new")
+        for name in ("a", "b"):
+            for at, data in stripe(right, 30, choose).items():
+                (store / f"{name}.{at}").write_bytes(data)
+        words = f"has fragments of the code {right}"
+        hold(words in run("encode", store, source, "--code", wrong, status=1), "encode says something else")
+        for command in ("repair", "scrub", "lost"):
+            hold(words in run(command, store, "--code", wrong, status=1), f"{command} says something else")
+            run(command, store, "--code", right, status=0)
+    store, _, _ = encoded_disks(place, choose)
+    hold("has fragments of the code 6-2-2" in run("scrub", store, "--code", "12-2-2", *DISKS[2:], status=1), "no description says the code")
+    for pattern in ("{stripe}1{shard}", "{shard}2{stripe}", "{stripe}{shard}"):
+        run("repair", store, "--code", "6-2-2", "--names", pattern, status=2)
+
+
+def test_sums_given(place, choose):
+    """Digests that are of no file of the store are said, and what they cover isn't called unchecked."""
+    store, sums, report = place / "summed", place / "sums", place / "report.csv"
+    files = lay(store, choose, names=("a",))
+    sums.write_text(f"{digest(b'')}  other\n")
+    said = run("scrub", store, "--sums", sums, status=0)
+    hold(f"{sums}: names no file of the store" in said, said)
+    sums.write_text("".join(f"{digest(data)}  {name}\n" for name, data in files.items()))
+    hold("names no file" not in run("scrub", store, "--sums", sums, status=0), "digests that fit are called strange")
+    lost = ("a.x0", "a.x1", "a.y0", "a.p0")
+    for name in lost:
+        (store / name).unlink()
+    said = run("repair", store, "--sums", sums, "--report", report, status=0)
+    hold("(0 unchecked)" in said and "without any check" not in said and "unchecked" not in report.read_text(), said)
+    for name in lost:
+        (store / name).unlink()
+    said = run("repair", store, "--report", report, status=0)
+    hold("(4 unchecked" in said and said.count("without any check") == 4 and report.read_text().count("unchecked") == 4, said)
+    hold(there(store) == files, "the store isn't what it was")
+    for option in ("--sums", "--stripes"):
+        hold("nothere: No such file" in run("scrub", store, option, place / "nothere", status=3), f"{option} isn't named")
+    said = run("scrub", store, "--report", place / "nowhere/report.csv", status=3)
+    hold("nowhere/report.csv: the report can't be written" in said, said)
+
+
+def test_odd_names(place, choose):
+    """No name ends a line or steers a terminal."""
+    store = place / "odd-names"
+    odd = "a\nrebuild-store: forged\x1b[31m\t\x07\u0085"
+    lay(store, choose, names=(odd, "b"))
+    (store / f"{odd}.x0").write_bytes(b"short")
+    for path in store.glob("b.x[01]"):
+        path.unlink()
+    for command in ("scrub", "repair", "lost"):
+        said = run(command, store, status=1)
+        hold("\x1b" not in said and "\x07" not in said and "\u0085" not in said, repr(said))
+        hold(command == "lost" or r"a\nrebuild-store: forged\033[31m\t\a\302\205.x0: " in said, repr(said))
+        hold(not any(line.startswith("rebuild-store: forged") for line in said.splitlines()), repr(said))
+
+
+def test_standard_error_that_fails(place, choose):
+    """A standard error that is closed or full costs neither the summary nor the report."""
+    for kind in ("closed", "full"):
+        store, report = place / f"stderr-{kind}", place / "report.csv"
+        files = lay(store, choose, names=("a", "b"))
+        (store / "a.x0").unlink()
+        (store / "b.y0").write_bytes(b"short")
+        (store / LEFTOVER).write_bytes(b"half")
+        with open("/dev/full", "wb") as full:
+            how = {"stderr": full} if kind == "full" else {"preexec_fn": lambda: os.close(2)}
+            ended = subprocess.run([PROGRAM, "repair", store, "--report", report], stdout=subprocess.PIPE, **how)
+        hold(ended.returncode == 1 and b"repaired 1 fragment" in ended.stdout, f"{kind}: status {ended.returncode}: {ended.stdout}")
+        hold("a,x0,rebuilt," in report.read_text() and (store / "a.x0").read_bytes() == files["a.x0"], report.read_text())
+
+
+def test_dry_run(place, choose):
+    """A dry run says what the repair does: what this leaves isn't promised."""
+    store, report = place / "dry", place / "report.csv"
+    lay(store, choose, names=("a", "b"))
+    (store / "a.x0").unlink()
+    (store / "a.x1").write_bytes(b"short")
+    (store / "b.y0").unlink()
+    (store / "b.y0").mkdir()
+    before = below(store)
+    for options, count, left in (([], 1, 2), (["--replace-damaged"], 2, 1)):
+        said = run("repair", store, "--dry-run", "--report", report, *options, status=1)
+        hold(f"; {count} can be rebuilt (0 without any check), {left} can't" in said, said)
+        rows = report.read_text()
+        hold(rows.count(",would be rebuilt,") == count and ",rebuilt," not in rows, rows)
+        hold(below(store) == before, "a dry run changed the store")
+    said = run("repair", store, "--replace-damaged", status=1)
+    hold("repaired 2 fragments" in said and "not possible: 1" in said, said)
+    damaged = place / "damaged"
+    lay(damaged, choose)
+    (damaged / "s.x0").write_bytes(bytes(600))
+    hold("1 damaged, 0 lost or contradictory" in run("scrub", damaged, status=1), "one damaged fragment is counted twice")
+
+
 def test_file_that_changes_while_it_is_read(place, choose):
     """What is written of a file whose fragment changes after it was tested isn't said to be the file."""
     store, source = place / "changing", place / "changing-file"
@@ -560,11 +1062,11 @@ def test_file_that_changes_while_it_is_read(place, choose):
         hold(status == 3 and "changed meanwhile" in said[-200:], f"status {status}: {said[-200:]!r}")
 
 
-def main(program):
+def main(program=None, only=""):
     global PROGRAM
     PROGRAM = pathlib.Path(program or PROGRAM).resolve()
     choose = random.Random(2026)
-    tests = [value for name, value in globals().items() if name.startswith("test_")]
+    tests = [value for name, value in globals().items() if name.startswith("test_") and only in name]
     with tempfile.TemporaryDirectory() as scratch:
         place = pathlib.Path(scratch)
         place.chmod(0o755)
@@ -586,4 +1088,4 @@ def main(program):
 
 
 if __name__ == "__main__":
-    main(*sys.argv[1:2] or [None])
+    main(*sys.argv[1:3])

@@ -7,7 +7,7 @@ use clap::error::ErrorKind;
 use clap::{Arg, ArgAction, ArgMatches, Command as Definition, Error as ParseError};
 use lrc_code::Code;
 use std::alloc::{AllocError, Global};
-use store_folder::Links;
+use store_folder::{Links, Part};
 use store_repair::Reads;
 use thiserror::Error;
 
@@ -80,14 +80,6 @@ pub enum Command {
     Scrub,
 }
 
-/// A part of a store's stripes: the stripes whose names have this remainder.
-#[derive(Clone, Copy, Debug, PartialEq, Eq)]
-pub struct Part {
-    /// From 1 on.
-    pub index: u64,
-    pub of: u64,
-}
-
 /// What a command is given.
 #[derive(Debug, Drop)]
 pub struct Options {
@@ -97,8 +89,6 @@ pub struct Options {
     /// The path of a file of stripes' names.
     pub stripes: Option<String>,
     pub part: Option<Part>,
-    /// Whether fragments are opened, so that they are held to checksums.
-    pub tests: bool,
     /// The path of a file of checksums.
     pub sums: Option<String>,
     pub report: Option<String>,
@@ -278,7 +268,6 @@ fn command_of(
             naming,
             stripes: given(alloc, matches, "stripes", true)?,
             part: part_of(alloc, matches.get_str("part"))?,
-            tests,
             sums: given(alloc, matches, "sums", tests)?,
             report: given(alloc, matches, "report", tests)?,
             json: matches.get_flag("json"),

@@ -1,21 +1,24 @@
 //! The commands `repair` and `scrub` over all stripes of a store.
-use crate::arguments::{Options, Part};
+use crate::arguments::Options;
+use crate::copy_states::CopyFinding;
 use crate::fitting::refuse_other_stores;
 use crate::leftovers::remove_leftovers;
+use crate::lines::{say, write};
+use crate::naming::fragment_name;
 use crate::progress::Progress;
 use crate::report_files::write_report;
-use crate::reports::{Rows, file_of, line_of, rows_of};
+use crate::reports::{ALONE, Rows, file_of, line_of, rows_of};
 use crate::statuses::{DEVICE, DONE, LEFT};
 use crate::stores::OpenStore;
 use crate::summaries::{planned, repaired, scrubbed};
-use crate::totals::{Results, Totals};
+use crate::totals::{Results, Totals, unchecked_places};
 use crate::workers::{Work, work_on};
 use lrc_code::Code;
 use std::alloc::{AllocError, Global};
 use std::io::{self, ErrorKind};
 use std::thread::Threads;
-use store_folder::{FolderStore, Pattern, Site, tag_of_part};
-use store_repair::{Finding, Outcome, Reads, Reason, Repair};
+use store_folder::{Alone, FolderStore, Part, Pattern, Site, tag_of_part};
+use store_repair::{Finding, Outcome, Reads, Reason, Repair, Stripe};
 
 // The begin of the names of unfinished files, by the part of the store that a run works on.
 fn tag_of(alloc: Global, part: Option<Part>) -> Result<String, AllocError> {
@@ -36,37 +39,83 @@ pub fn repair_all<R: Threads + Sync>(
     let alloc = system.alloc();
     let tag = tag_of(alloc, options.part)?;
     let site = Site {
-        folder: store.folder.as_str(),
         target: options.to.as_ref().unwrap_or(&store.folder).as_str(),
-        pattern: *pattern,
-        code: store.code,
-        sums: store.sums.as_ref(),
         tag: tag.as_str(),
-        links: options.links,
+        ..site_of(store, pattern, options)
     };
-    let stripes = store.stripes(system, options.part)?;
-    let files = FolderStore::new(system, site);
-    if let Some(fault) = refuse_other_stores(alloc, store, &files, stripes.as_slice())? {
-        eprintln!(system; "rebuild-store: {fault}")?;
+    let stripes = store.stripes(system)?;
+    let stripes = stripes.as_slice();
+    if is_refused(system, store, &site, options, stripes)? {
         return Ok(LEFT);
     }
+    say_alone(system, store, pattern, options.dry_run);
     let target = store.target.as_ref().unwrap_or(&store.listing);
     let are_removed = options.dry_run || remove_leftovers(system, target, tag.as_str())?;
-    let progress = Progress::new(system, alloc, store.code, stripes.as_slice())?;
+    let progress = Progress::new(system, alloc, store.code, stripes)?;
     let repair = repair_of(store.code, options);
-    let work = if options.dry_run {
-        Work::Plan(repair)
+    let (work, word) = if options.dry_run {
+        (Work::Plan(repair), "would be rebuilt")
     } else {
-        Work::Repair(repair, &progress)
+        (Work::Repair(repair, &progress), "rebuilt")
     };
-    let all = work_on(rt, system, &site, work, stripes.as_slice(), options.workers)?;
+    let all = work_on(
+        rt,
+        system,
+        &store.work_of(&site, stripes),
+        work,
+        options.workers,
+    )?;
     progress.end();
-    let results = Results::new(&site, stripes.as_slice(), all.as_slice());
+    let results = Results::new(alloc, store, &site, stripes, all.as_slice(), word)?;
     let status = say_repaired(system, &results, options)?;
     if !are_removed {
         return Ok(DEVICE);
     }
     Ok(status)
+}
+
+// Whether no stripe fits the code that the places say, which then is said. A code that was given is believed, and a part may have others.
+fn is_refused(
+    rt: &HostRuntime,
+    store: &OpenStore,
+    site: &Site<'_>,
+    options: &Options,
+    stripes: &[Stripe<'_>],
+) -> io::Result<bool> {
+    if options.code.is_some() || options.part.is_some() {
+        return Ok(false);
+    }
+    let files = FolderStore::new(rt, *site);
+    match refuse_other_stores(rt.alloc(), store, &files, stripes)? {
+        Some(fault) => {
+            say(rt, format!(in rt.alloc(); "rebuild-store: {fault}"))?;
+            Ok(true)
+        }
+        None => Ok(false),
+    }
+}
+
+/// Says how many files are named as fragments and are of no stripe, with the first one's name or with all names.
+pub fn say_alone(rt: &HostRuntime, store: &OpenStore, pattern: &Pattern<'_>, all: bool) {
+    let count = store.found.alone.len();
+    for (index, Alone { stripe, place }) in store.found.alone.iter().enumerate() {
+        let alloc = rt.alloc();
+        let name = fragment_name(alloc, pattern, store.code, stripe.as_str(), *place);
+        let Ok(name) = name else {
+            return;
+        };
+        let _ = match (index, count) {
+            _ if all => say(rt, format!(in rt.alloc(); "{name}: {ALONE}")),
+            (0, 1) => say(rt, format!(in rt.alloc(); "rebuild-store: {name}: {ALONE}")),
+            (0, _) => say(
+                rt,
+                format!(in rt.alloc();
+                    "rebuild-store: {count} files are named as fragments, and of no stripe: {name} and others"
+                ),
+            ),
+            _ => Ok(()),
+        };
+    }
 }
 
 /// Where the store is of a command that writes nothing into it.
@@ -105,7 +154,8 @@ fn say_repaired(rt: &HostRuntime, results: &Results<'_>, options: &Options) -> i
     };
     say_summary(rt, summary.as_str(), options)?;
     let totals = &results.totals;
-    if options.dry_run && totals.rebuilt > 0 && !totals.device && is_reported {
+    let is_to_do = totals.rebuilt > 0 || totals.described > 0;
+    if options.dry_run && is_to_do && !totals.device && is_reported {
         return Ok(LEFT);
     }
     Ok(status_of(totals, is_reported))
@@ -131,15 +181,23 @@ fn say_stripes(rt: &HostRuntime, results: &Results<'_>, reads: Reads) -> io::Res
         };
         for finding in &done.outcome.findings {
             let line = line_of(alloc, results.site, stripe, finding)?;
-            eprintln!(rt; "{line}")?;
+            say(rt, format!(in rt.alloc(); "{line}"))?;
         }
-        if done.outcome.is_checked || reads == Reads::Few {
+        if let Some(descriptions) = &done.descriptions {
+            for CopyFinding { name, reason } in &descriptions.findings {
+                say(rt, format!(in rt.alloc(); "{name}: {reason}"))?;
+            }
+        }
+        if reads == Reads::Few {
             continue;
         }
         let why = why_unchecked(&done.outcome);
-        for place in &done.outcome.rebuilt {
-            let name = file_of(alloc, results.site, stripe, *place)?;
-            eprintln!(rt; "{name}: rebuilt without any check: {why}")?;
+        for place in unchecked_places(alloc, results.site, stripe.name, &done.outcome)? {
+            let name = file_of(alloc, results.site, stripe, place)?;
+            say(
+                rt,
+                format!(in rt.alloc(); "{name}: rebuilt without any check: {why}"),
+            )?;
         }
     }
     Ok(())
@@ -160,24 +218,30 @@ fn why_unchecked(outcome: &Outcome) -> &'static str {
 // The summary is on standard output, but where rows are there.
 fn say_summary(rt: &HostRuntime, summary: &str, options: &Options) -> io::Result<()> {
     if options.json {
-        return eprintln!(rt; "{summary}");
+        say(rt, format!(in rt.alloc(); "{summary}"))?;
+        return Ok(());
     }
-    println!(rt; "{summary}")
+    write(rt, format!(in rt.alloc(); "{summary}"))
 }
 
 // Writes the rows of a report to where they are asked for. Says whether the report could be written.
 fn say_rows(rt: &HostRuntime, results: &Results<'_>, options: &Options) -> io::Result<bool> {
     if options.json {
-        let rows = rows_of(rt.alloc(), results.stripes, results.all, Rows::Json)?;
+        let rows = rows_of(rt.alloc(), results, Rows::Json)?;
         print!(rt; "{rows}")?;
     }
     if let Some(path) = &options.report {
-        let rows = rows_of(rt.alloc(), results.stripes, results.all, Rows::Csv)?;
+        let rows = rows_of(rt.alloc(), results, Rows::Csv)?;
         if let Err(error) = write_report(rt, path.as_str(), rows.as_str()) {
             if error.kind() == ErrorKind::OutOfMemory {
                 return Err(error);
             }
-            eprintln!(rt; "rebuild-store: {path}: the report can't be written: {error}")?;
+            say(
+                rt,
+                format!(in rt.alloc();
+                    "rebuild-store: {path}: the report can't be written: {error}"
+                ),
+            )?;
             return Ok(false);
         }
     }
@@ -192,11 +256,20 @@ pub fn scrub<'a, R: Threads + Sync>(
     pattern: &Pattern<'a>,
     options: &'a Options,
 ) -> io::Result<u8> {
-    let stripes = store.stripes(system, options.part)?;
+    let stripes = store.stripes(system)?;
     let site = site_of(store, pattern, options);
+    say_alone(system, store, pattern, false);
     let work = Work::Scrub(store.code);
-    let all = work_on(rt, system, &site, work, stripes.as_slice(), options.workers)?;
-    let results = Results::new(&site, stripes.as_slice(), all.as_slice());
+    let all = work_on(
+        rt,
+        system,
+        &store.work_of(&site, stripes.as_slice()),
+        work,
+        options.workers,
+    )?;
+    let alloc = system.alloc();
+    let all = all.as_slice();
+    let results = Results::new(alloc, store, &site, stripes.as_slice(), all, "rebuilt")?;
     say_scrubbed(system, &results, options)
 }
 
@@ -216,7 +289,12 @@ fn say_scrubbed(rt: &HostRuntime, results: &Results<'_>, options: &Options) -> i
         }
         for finding in &done.outcome.findings {
             let line = line_of(alloc, results.site, stripe, finding)?;
-            println!(rt; "{line}")?;
+            write(rt, format!(in rt.alloc(); "{line}"))?;
+        }
+        if let Some(descriptions) = &done.descriptions {
+            for CopyFinding { name, reason } in &descriptions.findings {
+                write(rt, format!(in rt.alloc(); "{name}: {reason}"))?;
+            }
         }
     }
     let is_reported = say_rows(rt, results, options)?;

@@ -4,14 +4,16 @@ ghost use Rattle.lrc_code.specs.Codes.{tables_of};
 
 use crate::digesting::{DigestedFile, digest_at};
 use crate::file_arguments::EncodeOptions;
-use crate::file_faults::{FileFault, device, encode_fault};
+use crate::file_faults::{FileFault, device, encode_fault, source_fault};
 use crate::leftovers::remove_leftovers;
+use crate::lines::{say, write};
 use crate::locks::lock_folder;
 use crate::naming::{Naming, fragment_name};
 use crate::sources::{base_name, is_changed, no_name, regular};
 use crate::statuses::{DEVICE, DONE, LEFT};
+use crate::store_faults::StoreFault;
 use crate::store_sums::{stored_sums, write_sums};
-use crate::stores::{is_of_another_code, refuse_untrusted, say_links};
+use crate::stores::{other_than, refuse_untrusted, say_links};
 use crate::summaries::counted;
 use crate::targets::{
     Made, Target, discard_all, is_there, is_there_already, place_fragments, place_one,
@@ -20,8 +22,9 @@ use lrc_code::{Code, Place};
 use std::fs;
 use std::io::{self, ErrorKind};
 use store_folder::{
-    Described, KEPT, Links, NewFile, Pattern, Wanted, description_name, folder_of, list,
-    open_fragment, path_in, read_description, refuse_linked_folders, sync_folder,
+    DESCRIPTION, Described, KEPT, Links, NewFile, Others, Pattern, Wanted, description_names,
+    folder_of, is_ambiguous, list, open_fragment, path_in, read_description, refuse_linked_folders,
+    sync_folder,
 };
 use store_repair::{NewFragment, encode, fragment_length};
 
@@ -37,17 +40,17 @@ pub fn encode_all(rt: &HostRuntime, options: &EncodeOptions) -> Result<u8, FileF
         match encode_one(rt, &mut target, path.as_str()) {
             Ok(()) => encoded = encoded.saturating_add(1),
             Err(FileFault::OutOfMemory) => return Err(FileFault::OutOfMemory),
-            Err(fault) => status = status.max(say(rt, &fault)),
+            Err(fault) => status = status.max(say_fault(rt, &fault)),
         }
     }
     write_new_sums(rt, &target)?;
     let left = (options.files.len() as u64).saturating_sub(encoded);
     let encoded = counted(alloc, encoded, "file")?;
-    println!(rt; "encoded {encoded}; not encoded: {left}").map_err(|error| device(
-        alloc,
-        "standard output",
-        error,
-    ))?;
+    write(
+        rt,
+        format!(in rt.alloc(); "encoded {encoded}; not encoded: {left}"),
+    )
+    .map_err(|error| device(alloc, "standard output", error))?;
     Ok(status)
 }
 
@@ -65,6 +68,7 @@ fn open_target<'o>(rt: &HostRuntime, options: &'o EncodeOptions) -> Result<Targe
         pattern,
         code: read_as,
         has_stripes: true,
+        part: None,
         links: options.links,
         watched: None,
     };
@@ -76,16 +80,13 @@ fn open_target<'o>(rt: &HostRuntime, options: &'o EncodeOptions) -> Result<Targe
     let is_clean = remove_leftovers(rt, &listing, "").map_err(|error| device(
         alloc, folder, error,
     ))?;
-    if !pattern.has_shards() && is_of_another_code(&listing, options.code) {
-        let other = match options.code {
-            Code::Narrow => Code::Wide,
-            Code::Wide => Code::Narrow,
-        };
-        let other = other.text();
-        let what = format!(in alloc;
-            "{folder}: has fragments of the code {other}: give --code {other}, or another folder"
-        )?;
-        return Err(FileFault::Refused { what });
+    if listing.names.of_another_code(options.code) != Others::None {
+        return Err(FileFault::Store {
+            fault: StoreFault::OtherCode {
+                folder: String::from_str(alloc, folder)?,
+                other: other_than(options.code).text(),
+            },
+        });
     }
     Ok(Target {
         folder,
@@ -109,8 +110,8 @@ pub fn pattern_of<'n>(rt: &HostRuntime, naming: &'n Naming) -> Result<Pattern<'n
 }
 
 // Says why a file isn't encoded, and gives the exit status.
-fn say(rt: &HostRuntime, fault: &FileFault) -> u8 {
-    let _ = eprintln!(rt; "rebuild-store: {fault}");
+fn say_fault(rt: &HostRuntime, fault: &FileFault) -> u8 {
+    let _ = say(rt, format!(in rt.alloc(); "rebuild-store: {fault}"));
     match fault {
         FileFault::Device { .. } => DEVICE,
         _ => LEFT,
@@ -134,14 +135,18 @@ fn encode_one(rt: &HostRuntime, target: &mut Target<'_>, path: &str) -> Result<(
     let length = before.len();
     let described = Described {
         length,
-        digest: digest_at(rt, path, length, Links::Followed).map_err(|error| device(
+        digest: digest_at(rt, path, length, Links::Followed).map_err(|error| source_fault(
             alloc, path, error,
         ))?,
         code: target.code,
     };
     refuse_others(rt, target, name, &described)?;
     let names = target.names(alloc, name)?;
-    if names.iter().any(|fragment| fragment.ends_with(KEPT)) {
+    let is_ambiguous = is_ambiguous(alloc, &target.pattern, target.code)?;
+    let is_taken = |fragment: &String| {
+        fragment.ends_with(KEPT) || (is_ambiguous && fragment.ends_with(DESCRIPTION))
+    };
+    if names.iter().any(is_taken) {
         return Err(no_name(rt, path)?);
     }
     let made = make_fragments(rt, target, name, path, length)?;
@@ -159,7 +164,7 @@ fn encode_one(rt: &HostRuntime, target: &mut Target<'_>, path: &str) -> Result<(
     }
     let fragment_bytes = fragment_length(target.code, length as usize);
     place_fragments(rt, target, names.as_slice(), fragment_bytes, made)?;
-    place_description(rt, target, name, &described)
+    place_descriptions(rt, target, name, &described)
 }
 
 // Refuses a file beside whose stripe's names there is another description, or a fragment at a place that its code hasn't.
@@ -170,12 +175,13 @@ fn refuse_others(
     described: &Described,
 ) -> Result<(), FileFault> {
     let alloc = rt.alloc();
-    let description = description_name(alloc, name)?;
-    let path = path_in(alloc, target.folder, description.as_str())?;
-    if is_there(rt, path.as_str())? {
-        match read_description(rt, path.as_str(), target.links) {
-            Ok(Some(there)) if there == *described => {}
-            _ => return Err(is_there_already(rt, description.as_str())?),
+    for description in target.descriptions(alloc, name)? {
+        let path = target.path(alloc, description.as_str())?;
+        if is_there(rt, path.as_str())? {
+            match read_description(rt, path.as_str(), target.links) {
+                Ok(Some(there)) if there == *described => {}
+                _ => return Err(is_there_already(rt, description.as_str())?),
+            }
         }
     }
     if target.pattern.has_shards() {
@@ -270,8 +276,8 @@ fn new_file(
     NewFile::create_as_user(rt, rt.alloc(), folder)
 }
 
-// Writes the description of a file, last of all that is of its stripe.
-fn place_description(
+// Writes the copies of a file's description, last of all that is of its stripe.
+fn place_descriptions(
     rt: &HostRuntime,
     target: &mut Target<'_>,
     name: &str,
@@ -279,23 +285,34 @@ fn place_description(
 ) -> Result<(), FileFault> {
     let alloc = rt.alloc();
     let text = described.text(alloc)?;
-    let file = NewFile::create_as_user(rt, alloc, target.folder).map_err(|error| device(
-        alloc,
-        target.folder,
-        error,
-    ))?;
+    for description in description_names(alloc, &target.pattern, target.code, name)? {
+        place_description(rt, target, description.as_str(), text.as_str())?;
+    }
+    Ok(())
+}
+
+// Writes a copy of a description.
+fn place_description(
+    rt: &HostRuntime,
+    target: &mut Target<'_>,
+    name: &str,
+    text: &str,
+) -> Result<(), FileFault> {
+    let alloc = rt.alloc();
+    let path = target.path(alloc, name)?;
+    let folder = folder_of(path.as_str());
+    let file = new_file(rt, target, name, folder).map_err(|error| device(alloc, folder, error))?;
     let mut file = DigestedFile::new(file);
     let written = file.append(text.as_bytes());
     let (file, digest) = file.finish();
     if let Err(error) = written {
         file.discard(rt)
-            .map_err(|error| device(alloc, target.folder, error))?;
-        return Err(device(alloc, target.folder, error));
+            .map_err(|error| device(alloc, folder, error))?;
+        return Err(device(alloc, folder, error));
     }
-    let description = description_name(alloc, name)?;
     let made = Made { file, digest };
-    place_one(rt, target, description.as_str(), text.len() as u64, made)?;
-    sync_folder(rt, target.folder).map_err(|error| device(alloc, target.folder, error))
+    place_one(rt, target, name, text.len() as u64, made)?;
+    sync_folder(rt, folder).map_err(|error| device(alloc, folder, error))
 }
 
 // Writes the store's digests, if there are new ones.

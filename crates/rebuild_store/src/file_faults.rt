@@ -53,11 +53,22 @@ pub fn device(alloc: Global, path: &str, error: io::Error) -> FileFault {
     }
 }
 
+/// What the system refused of the file at a path that is encoded, or that it was changed meanwhile.
+pub fn source_fault(alloc: Global, path: &str, error: io::Error) -> FileFault {
+    if error.kind() != ErrorKind::ResourceBusy {
+        return device(alloc, path, error);
+    }
+    match format!(in alloc; "{path}: changed while it was read") {
+        Ok(what) => FileFault::Refused { what },
+        Err(AllocError) => FileFault::OutOfMemory,
+    }
+}
+
 /// What the system refused of a file that is encoded from one path, or of its fragments, at the other.
 pub fn encode_fault(alloc: Global, source: &str, fragments: &str, fault: MendFault) -> FileFault {
     match fault {
         MendFault::OutOfMemory | MendFault::Several { .. } => FileFault::OutOfMemory,
-        MendFault::Unread { error, .. } => device(alloc, source, error),
+        MendFault::Unread { error, .. } => source_fault(alloc, source, error),
         MendFault::Unwritten { error, .. } => device(alloc, fragments, error),
     }
 }

@@ -5,7 +5,7 @@ use crate::store_faults::StoreFault;
 use crate::stores::OpenStore;
 use lrc_code::Code;
 use std::alloc::{AllocError, Global};
-use store_folder::{FileFragment, FolderStore};
+use store_folder::{FileFragment, FolderStore, SystemFolder, SystemOpen};
 use store_repair::{
     Damage, MendFault, Opened, Stripe, Survivors, find_damaged, have_checks, open_survivors,
 };
@@ -29,40 +29,32 @@ enum Fit {
 pub fn refuse_other_stores(
     alloc: Global,
     store: &OpenStore,
-    files: &FolderStore<'_>,
+    files: &FolderStore<'_, SystemFolder<'_>>,
     stripes: &[Stripe<'_>],
 ) -> Result<Option<StoreFault>, AllocError> {
-    let mut clashes = false;
+    let mut clashing = None;
     for stripe in stripes {
         match fit_of(alloc, store.code, files, stripe)? {
             Fit::Fits => return Ok(None),
-            Fit::Clashes => clashes = true,
+            Fit::Clashes => clashing = clashing.or(Some(stripe.name)),
             Fit::Unknown => {}
         }
     }
-    if !clashes {
+    let Some(stripe) = clashing else {
         return Ok(None);
-    }
-    let code = name_of(store.code);
+    };
     Ok(Some(StoreFault::FitsNot {
         folder: String::from_str(alloc, store.folder.as_str())?,
-        code,
+        code: store.code.text(),
+        stripe: String::from_str(alloc, stripe)?,
     }))
-}
-
-/// The name of a code.
-pub fn name_of(code: Code) -> &'static str {
-    match code {
-        Code::Narrow => "6-2-2",
-        Code::Wide => "12-2-2",
-    }
 }
 
 // What the fragments of a stripe say of the store's code.
 fn fit_of(
     alloc: Global,
     code: Code,
-    files: &FolderStore<'_>,
+    files: &FolderStore<'_, SystemFolder<'_>>,
     stripe: &Stripe<'_>,
 ) -> Result<Fit, AllocError> {
     let Some(length) = stripe.length() else {
@@ -80,7 +72,7 @@ fn fit_of(
 fn fit_of_opened(
     alloc: Global,
     code: Code,
-    opened: &Opened<FileFragment>,
+    opened: &Opened<FileFragment<SystemOpen>>,
 ) -> Result<Fit, AllocError>
     requires { vec_len opened.now.fragments ≡ 16 }
 {

@@ -1,4 +1,5 @@
 //! What runs that were killed have left: it is removed by the next run that writes to the same.
+use crate::lines::say;
 use std::io;
 use store_folder::{Leftover, Listing, is_left_by, left_in, remove_leftover};
 
@@ -27,14 +28,22 @@ pub fn remove_leftovers(rt: &HostRuntime, listing: &Listing, tag: &str) -> io::R
 fn remove(rt: &HostRuntime, path: &str, is_known_dead: bool) -> io::Result<bool> {
     match remove_leftover(rt, path, is_known_dead) {
         Leftover::Removed => {
-            eprintln!(rt;
-                "rebuild-store: {path}: was left by a run that was killed, and is removed"
+            say(
+                rt,
+                format!(in rt.alloc();
+                    "rebuild-store: {path}: was left by a run that was killed, and is removed"
+                ),
             )?;
             Ok(true)
         }
         Leftover::Kept => Ok(true),
         Leftover::Refused(error) => {
-            eprintln!(rt; "rebuild-store: {path}: is left over, and can't be removed: {error}")?;
+            say(
+                rt,
+                format!(in rt.alloc();
+                    "rebuild-store: {path}: is left over, and can't be removed: {error}"
+                ),
+            )?;
             Ok(false)
         }
     }

@@ -1,10 +1,9 @@
 //! Locks, which keep runs that write to the same out of each other's way.
-use crate::arguments::Part;
 use crate::store_faults::{StoreFault, device_fault};
 use std::alloc::Global;
 use std::fs::{self, File, TryLockError};
 use std::io::{self, ErrorKind};
-use store_folder::{Links, is_named, lock_name, open_as, path_in};
+use store_folder::{Links, Part, is_named, lock_name, open_as, open_regular, path_in};
 
 // How often the file of a part's lock is opened anew where another run has removed it meanwhile.
 const MOST_OPENINGS: usize = 100;
@@ -75,6 +74,30 @@ fn share_folder(rt: &HostRuntime, folder: &str) -> Result<File, StoreFault> {
             locked(file, lock, name)
         }
         Err(error) => Err(device_fault(name, error)),
+    }
+}
+
+/// The path of the lock that a run holds which divides a store into another number of parts, among the paths of what runs have left.
+pub fn other_parts_lock<'p>(rt: &HostRuntime, part: &Part, paths: &'p [String]) -> Option<&'p str> {
+    let is_held = |path: &&String| {
+        is_of_other_parts(path.as_str(), part.of) && is_locked(rt, path.as_str())
+    };
+    paths.iter().find(is_held).map(|path| path.as_str())
+}
+
+// Whether a path is that of the lock of a part of another number of parts.
+fn is_of_other_parts(path: &str, of: u64) -> bool {
+    match path.rsplit_once("-of-") {
+        Some((_, count)) => count.parse::<u64>().is_ok_and(|count| count != of),
+        None => false,
+    }
+}
+
+// Whether a run holds a lock.
+fn is_locked(rt: &HostRuntime, path: &str) -> bool {
+    match open_regular(rt, path, Links::NotFollowed) {
+        Ok(opened) => matches!(opened.file.try_lock(), Err(TryLockError::WouldBlock)),
+        Err(_) => false,
     }
 }
 

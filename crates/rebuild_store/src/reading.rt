@@ -6,15 +6,17 @@ use crate::digesting::DigestAlone;
 use crate::encoding::pattern_of;
 use crate::file_arguments::ReadOptions;
 use crate::file_faults::{FileFault, device};
+use crate::lines::say;
 use crate::naming::fragment_name;
 use crate::statuses::DONE;
-use lrc_code::{Place, PlaceSet};
+use lrc_code::{Code, Place, PlaceSet};
 use sha2::{Digest as _, Sha256};
 use std::alloc::{AllocError, Global};
 use std::io::{self, BufWriter, ErrorKind, Write};
 use store_folder::{
-    Described, FileFragment, Links, Pattern, SUMS_NAME, description_name, digests_of,
-    open_fragment, path_in, read_description, read_sums, refuse_linked_folders,
+    Described, FileFragment, Links, Pattern, SUMS_NAME, SystemOpen, description_names, digests_of,
+    first_description_name, open_fragment, path_in, read_description, read_sums,
+    refuse_linked_folders,
 };
 use store_repair::{MendFault, NewFragment, Survivors, fragment_length, read_file, without};
 
@@ -38,7 +40,7 @@ impl<W: Write> NewFragment for Output<W> {
 #[derive(Drop)]
 struct Fragments {
     set: PlaceSet,
-    opened: Vec<Option<FileFragment>>,
+    opened: Vec<Option<FileFragment<SystemOpen>>>,
 }
 
 // A file that is read, and where from.
@@ -58,44 +60,93 @@ pub fn read_one(rt: &HostRuntime, options: &ReadOptions) -> Result<u8, FileFault
     let alloc = rt.alloc();
     let folder = options.store.as_str();
     let name = options.name.as_str();
-    let described = description_of(rt, folder, name, options.links)?;
-    let wanted = Wanted {
-        folder,
-        pattern: pattern_of(rt, &options.naming)?,
-        name,
-        described,
-        length: fragment_length(described.code, described.length as usize),
-        links: options.links,
-    };
-    let fragments = open_fragments(rt, &wanted)?;
-    let Some(set) = set_that_fits(rt, &wanted, &fragments)? else {
-        let what = format!(in alloc;
-            "{name}: the fragments that are there don't give the file that {name}.file describes"
-        )?;
-        return Err(FileFault::Refused { what });
-    };
-    write_out(rt, &wanted, &fragments, set)?;
-    Ok(DONE)
+    let pattern = pattern_of(rt, &options.naming)?;
+    for described in descriptions_of(rt, options, &pattern)? {
+        let wanted = Wanted {
+            folder,
+            pattern,
+            name,
+            described,
+            length: fragment_length(described.code, described.length as usize),
+            links: options.links,
+        };
+        let fragments = open_fragments(rt, &wanted)?;
+        if let Some(set) = set_that_fits(rt, &wanted, &fragments)? {
+            write_out(rt, &wanted, &fragments, set)?;
+            return Ok(DONE);
+        }
+    }
+    let what = format!(in alloc;
+        "{name}: the fragments that are there don't give the file that {name}.file describes"
+    )?;
+    Err(FileFault::Refused { what })
 }
 
-// The description of a file.
-fn description_of(
+// What the copies of a file's description say, each once, first what most say.
+fn descriptions_of(
     rt: &HostRuntime,
-    folder: &str,
-    name: &str,
-    links: Links,
-) -> Result<Described, FileFault> {
+    options: &ReadOptions,
+    pattern: &Pattern<'_>,
+) -> Result<Vec<Described>, FileFault> {
     let alloc = rt.alloc();
-    let description = description_name(alloc, name)?;
-    let path = path_in(alloc, folder, description.as_str())?;
-    match read_description(rt, path.as_str(), links) {
-        Ok(Some(described)) => Ok(described),
+    let name = options.name.as_str();
+    let mut names = description_names(alloc, pattern, Code::Wide, name)?;
+    let first = first_description_name(alloc, name)?;
+    if !names.iter().any(|other| other.as_str() == first.as_str()) {
+        names.push(first)?;
+    }
+    let mut said = Vec::new(alloc);
+    let mut refused = None;
+    for copy in &names {
+        match description_at(rt, options, copy.as_str()) {
+            Ok(Some(described)) => said.push(described)?,
+            Ok(None) => {}
+            Err(FileFault::OutOfMemory) => return Err(FileFault::OutOfMemory),
+            Err(fault) => {
+                let _ = say(rt, format!(in rt.alloc(); "rebuild-store: {fault}"));
+                refused = Some(fault);
+            }
+        }
+    }
+    match refused {
+        Some(fault) if said.is_empty() => Err(fault),
+        None if said.is_empty() => Err(FileFault::Refused {
+            what: format!(in alloc;
+                "{name}: no description is there, as {name}.file, so nothing says how long it is"
+            )?,
+        }),
+        _ => in_order(alloc, said.as_slice()),
+    }
+}
+
+// What descriptions say, each once, first what most say.
+fn in_order(alloc: Global, said: &[Described]) -> Result<Vec<Described>, FileFault> {
+    let mut order = Vec::new(alloc);
+    for votes in (1..=said.len()).rev() {
+        for described in said {
+            let count = said.iter().filter(|other| **other == *described).count();
+            if count == votes && !order.iter().any(|other| *other == *described) {
+                order.push(*described)?;
+            }
+        }
+    }
+    Ok(order)
+}
+
+// The description in a copy; none where there is none.
+fn description_at(
+    rt: &HostRuntime,
+    options: &ReadOptions,
+    copy: &str,
+) -> Result<Option<Described>, FileFault> {
+    let alloc = rt.alloc();
+    let path = path_in(alloc, options.store.as_str(), copy)?;
+    match read_description(rt, path.as_str(), options.links) {
+        Ok(Some(described)) => Ok(Some(described)),
         Ok(None) => Err(FileFault::Refused {
             what: format!(in alloc; "{path}: isn't a line with a length, a digest and a code")?,
         }),
-        Err(error) if error.kind() == ErrorKind::NotFound => Err(FileFault::Refused {
-            what: format!(in alloc; "{path}: isn't there, so nothing says how long {name} is")?,
-        }),
+        Err(error) if error.kind() == ErrorKind::NotFound => Ok(None),
         Err(error) => Err(device(alloc, path.as_str(), error)),
     }
 }
@@ -127,7 +178,7 @@ fn open_at(
     rt: &HostRuntime,
     wanted: &Wanted<'_>,
     place: Place,
-) -> Result<Option<FileFragment>, FileFault> {
+) -> Result<Option<FileFragment<SystemOpen>>, FileFault> {
     let alloc = rt.alloc();
     let name = name_of(rt, wanted, place)?;
     let path = path_in(alloc, wanted.folder, name.as_str())?;
@@ -135,7 +186,10 @@ fn open_at(
         Ok(fragment) => Ok(Some(fragment)),
         Err(error) if error.kind() == ErrorKind::OutOfMemory => Err(FileFault::OutOfMemory),
         Err(error) => {
-            let _ = eprintln!(rt; "rebuild-store: {name}: left out: {error}");
+            let _ = say(
+                rt,
+                format!(in rt.alloc(); "rebuild-store: {name}: left out: {error}"),
+            );
             Ok(None)
         }
     }
@@ -147,7 +201,7 @@ fn open_below(
     wanted: &Wanted<'_>,
     name: &str,
     path: &str,
-) -> io::Result<FileFragment> {
+) -> io::Result<FileFragment<SystemOpen>> {
     refuse_linked_folders(rt, wanted.folder, name, wanted.links)?;
     open_fragment(rt, path, wanted.length as u64, wanted.links)
 }
@@ -174,8 +228,11 @@ fn set_that_fits(
     let name = wanted.name;
     let listed = with_digests(rt, wanted, fragments)?;
     if listed.len() < all.len() && gives_file(rt, wanted, fragments, listed)? {
-        let _ = eprintln!(rt;
-            "rebuild-store: {name}: read without the fragments that differ from {SUMS_NAME}"
+        let _ = say(
+            rt,
+            format!(in rt.alloc();
+                "rebuild-store: {name}: read without the fragments that differ from {SUMS_NAME}"
+            ),
         );
         return Ok(Some(listed));
     }
@@ -183,8 +240,11 @@ fn set_that_fits(
         let set = without(code, all, *first);
         if all.has(*first) && gives_file(rt, wanted, fragments, set)? {
             let first = first.name();
-            let _ = eprintln!(rt;
-                "rebuild-store: {name}: a fragment is damaged: read without {first}"
+            let _ = say(
+                rt,
+                format!(in rt.alloc();
+                    "rebuild-store: {name}: a fragment is damaged: read without {first}"
+                ),
             );
             return Ok(Some(set));
         }
@@ -199,8 +259,11 @@ fn set_that_fits(
             {
                 let first = first.name();
                 let second = second.name();
-                let _ = eprintln!(rt;
-                    "rebuild-store: {name}: fragments are damaged: read without {first} and {second}"
+                let _ = say(
+                    rt,
+                    format!(in rt.alloc();
+                        "rebuild-store: {name}: fragments are damaged: read without {first} and {second}"
+                    ),
                 );
                 return Ok(Some(set));
             }
@@ -315,7 +378,7 @@ fn survivors_of<'f>(
     wanted: &Wanted<'_>,
     fragments: &'f Fragments,
     set: PlaceSet,
-) -> Survivors<'f, FileFragment>
+) -> Survivors<'f, FileFragment<SystemOpen>>
     requires { vec_len fragments.now.opened ≡ 16 }
     ensures sixteen { length result.fragments.now ≡ 16 }
     ensures len { result.length ≡ fragment_length result.code wanted.now.described.length }

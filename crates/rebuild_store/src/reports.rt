@@ -1,12 +1,14 @@
 //! What is said of fragments: lines, and the rows of a report.
+use crate::copy_states::CopyFinding;
+use crate::descriptions::Descriptions;
 use crate::naming::fragment_name;
-use crate::workers::Done;
+use crate::totals::{Results, unchecked_places};
 use csv::WriterBuilder;
 use lrc_code::Place;
 use serde_json::Value;
 use std::alloc::{AllocError, Global};
 use std::io::{self, ErrorKind};
-use store_folder::Site;
+use store_folder::{Alone, Site};
 use store_repair::{Finding, Outcome, Stripe};
 
 /// The form of a report's rows.
@@ -17,6 +19,9 @@ pub enum Rows {
     /// An object on each line.
     Json,
 }
+
+/// What is said of a file that is named as a fragment and is of no stripe.
+pub const ALONE: &str = "is named as a fragment, and of no stripe";
 
 // A row: the stripe, the place if it is of a fragment, what became of it, and a detail.
 #[derive(Drop)]
@@ -52,21 +57,28 @@ pub fn line_of(
     format!(in alloc; "{name}: {reason}")
 }
 
-/// The rows of a report on stripes: one for each fragment that was rebuilt, and one for each finding.
-pub fn rows_of(
-    alloc: Global,
-    stripes: &[Stripe<'_>],
-    all: &[Done],
-    rows: Rows,
-) -> io::Result<String> {
+/// The rows of a report: one for each fragment that was rebuilt, one for each finding, and one for each file that is of no stripe.
+pub fn rows_of(alloc: Global, results: &Results<'_>, rows: Rows) -> io::Result<String> {
     let mut text = String::new(alloc);
     if rows == Rows::Csv {
         text.push_str("stripe,place,outcome,detail\n")?;
     }
-    for done in all {
-        if let Some(stripe) = stripes.get(done.index) {
-            add_rows(alloc, stripe.name, &done.outcome, rows, &mut text)?;
+    for done in results.all {
+        if let Some(stripe) = results.stripes.get(done.index) {
+            add_rows(alloc, results, stripe.name, &done.outcome, rows, &mut text)?;
+            if let Some(descriptions) = &done.descriptions {
+                add_descriptions(alloc, results, stripe.name, descriptions, rows, &mut text)?;
+            }
         }
+    }
+    for Alone { stripe, place } in results.alone {
+        let row = Row {
+            stripe: stripe.as_str(),
+            place: place.name(),
+            outcome: "alone",
+            detail: String::from_str(alloc, ALONE)?,
+        };
+        add_row(alloc, &row, rows, &mut text)?;
     }
     Ok(text)
 }
@@ -74,17 +86,20 @@ pub fn rows_of(
 // Adds the rows of a stripe.
 fn add_rows(
     alloc: Global,
+    results: &Results<'_>,
     stripe: &str,
     outcome: &Outcome,
     rows: Rows,
     text: &mut String,
 ) -> io::Result<()> {
-    let detail = if outcome.is_checked { "" } else { "unchecked" };
+    let unchecked = unchecked_places(alloc, results.site, stripe, outcome)?;
     for place in &outcome.rebuilt {
+        let is_unchecked = unchecked.iter().any(|other| *other == *place);
+        let detail = if is_unchecked { "unchecked" } else { "" };
         let row = Row {
             stripe,
             place: place.name(),
-            outcome: "rebuilt",
+            outcome: results.word,
             detail: String::from_str(alloc, detail)?,
         };
         add_row(alloc, &row, rows, text)?;
@@ -103,6 +118,36 @@ fn add_rows(
                 "left"
             },
             detail: format!(in alloc; "{reason}")?,
+        };
+        add_row(alloc, &row, rows, text)?;
+    }
+    Ok(())
+}
+
+// Adds the rows of a stripe's descriptions.
+fn add_descriptions(
+    alloc: Global,
+    results: &Results<'_>,
+    stripe: &str,
+    descriptions: &Descriptions,
+    rows: Rows,
+    text: &mut String,
+) -> io::Result<()> {
+    for name in &descriptions.made {
+        let row = Row {
+            stripe,
+            place: "file",
+            outcome: results.word,
+            detail: String::from_str(alloc, name.as_str())?,
+        };
+        add_row(alloc, &row, rows, text)?;
+    }
+    for CopyFinding { name, reason } in &descriptions.findings {
+        let row = Row {
+            stripe,
+            place: "file",
+            outcome: "left",
+            detail: format!(in alloc; "{name}: {reason}")?,
         };
         add_row(alloc, &row, rows, text)?;
     }

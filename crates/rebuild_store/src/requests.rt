@@ -1,6 +1,9 @@
 //! The command `lost`: the request list of what is lost.
 use crate::arguments::Options;
-use crate::commands::site_of;
+use crate::commands::{say_alone, site_of};
+use crate::copy_states::CopyFinding;
+use crate::descriptions::{CopyWork, tend_descriptions};
+use crate::lines::say;
 use crate::reports::{Rows, quoted};
 use crate::statuses::{DEVICE, DONE, LEFT};
 use crate::stores::OpenStore;
@@ -8,7 +11,7 @@ use crate::summaries::counted;
 use lrc_code::{Code, Place, PlaceSet};
 use std::alloc::{AllocError, Global};
 use std::io::{self, BufWriter, Write};
-use store_folder::{FolderStore, Pattern};
+use store_folder::{FolderStore, Pattern, Site, SystemFolder};
 use store_repair::{Found, Reason, Stripe, StripeLength, stripe_length};
 
 /// The longest fragment that a list can ask for.
@@ -29,13 +32,18 @@ pub fn write_requests<'a>(
     if !options.json {
         output.write_all(header_of(store.code).as_bytes())?;
     }
-    let stripes = store.stripes(rt, options.part)?;
-    let files = FolderStore::new(rt, site_of(store, pattern, options));
-    let mut is_device = false;
+    let stripes = store.stripes(rt)?;
+    let site = site_of(store, pattern, options);
+    let files = FolderStore::new(rt, site);
+    say_alone(rt, store, pattern, false);
+    let mut is_device = store.has_unlisted;
     let mut is_left = false;
     let mut lost = 0u64;
     let mut unlisted = 0u64;
     for stripe in &stripes {
+        if store.found.described.contains(stripe.name) {
+            is_left = say_descriptions(rt, &site, stripe)? || is_left;
+        }
         let Some(length) = length_of(rt, &files, store.code, stripe)? else {
             is_left = true;
             continue;
@@ -53,24 +61,42 @@ pub fn write_requests<'a>(
         say_unlisted(rt, pattern, store.code, stripe, length, places.as_slice())?;
     }
     output.flush()?;
-    let stripes = counted(alloc, stripes.len() as u64, "stripe")?;
+    say_counts(rt, stripes.len() as u64, lost, unlisted)?;
+    Ok(match (is_device, lost > 0 || is_left) {
+        (true, _) => DEVICE,
+        (false, true) => LEFT,
+        (false, false) => DONE,
+    })
+}
+
+// Says how many stripes there are, and how many fragments are lost and can't be asked for.
+fn say_counts(rt: &HostRuntime, stripes: u64, lost: u64, unlisted: u64) -> Result<(), AllocError> {
+    let alloc = rt.alloc();
+    let stripes = counted(alloc, stripes, "stripe")?;
     let fragments = counted(alloc, lost, "fragment")?;
-    eprintln!(rt; "{stripes}; {fragments} lost, {unlisted} of them not in the list")?;
-    if is_device {
-        return Ok(DEVICE);
+    say(
+        rt,
+        format!(in alloc; "{stripes}; {fragments} lost, {unlisted} of them not in the list"),
+    )
+}
+
+// Says which copies of a stripe's description aren't as they should be, and whether there are any.
+fn say_descriptions(rt: &HostRuntime, site: &Site<'_>, stripe: &Stripe<'_>) -> io::Result<bool> {
+    let descriptions = tend_descriptions(rt, site, stripe.name, CopyWork::Name)?;
+    for CopyFinding { name, reason } in &descriptions.findings {
+        say(
+            rt,
+            format!(in rt.alloc(); "rebuild-store: {name}: {reason}"),
+        )?;
     }
-    if lost > 0 || is_left {
-        Ok(LEFT)
-    } else {
-        Ok(DONE)
-    }
+    Ok(!descriptions.findings.is_empty())
 }
 
 // How many bytes each fragment of a stripe has, 0 where none is there; none where the files' lengths differ and no check says which is
 // right, which is said.
 fn length_of(
     rt: &HostRuntime,
-    files: &FolderStore<'_>,
+    files: &FolderStore<'_, SystemFolder<'_>>,
     code: Code,
     stripe: &Stripe<'_>,
 ) -> io::Result<Option<u64>> {
@@ -80,7 +106,10 @@ fn length_of(
         StripeLength::Undecided(lengths) => {
             let name = stripe.name;
             let reason = Reason::LengthsDiffer(lengths);
-            eprintln!(rt; "rebuild-store: {name}: {reason}")?;
+            say(
+                rt,
+                format!(in rt.alloc(); "rebuild-store: {name}: {reason}"),
+            )?;
             Ok(None)
         }
     }
@@ -99,8 +128,11 @@ fn say_unlisted(
     for place in places {
         let name = pattern.name_of(alloc, code, stripe.name, *place)?;
         let name = name.unwrap_or(String::new(alloc));
-        eprintln!(rt;
-            "rebuild-store: {name}: a list can't ask for it: it has {length} bytes, or another name than lists take"
+        say(
+            rt,
+            format!(in rt.alloc();
+                "rebuild-store: {name}: a list can't ask for it: it has {length} bytes, or another name than lists take"
+            ),
         )?;
     }
     Ok(())
@@ -122,7 +154,10 @@ fn say_unknown(
             let name = pattern.name_of(alloc, code, stripe.name, *place)?;
             let name = name.unwrap_or(String::new(alloc));
             let reason = Reason::of(found);
-            eprintln!(rt; "rebuild-store: {name}: {reason}")?;
+            say(
+                rt,
+                format!(in rt.alloc(); "rebuild-store: {name}: {reason}"),
+            )?;
             is_said = true;
         }
     }

@@ -11,7 +11,7 @@ pub fn base_name<'a>(rt: &HostRuntime, path: &'a str) -> Result<&'a str, FileFau
         Some((_, name)) => name,
         None => path,
     };
-    if name.is_empty() || name == "." || name == ".." || is_of_runs(name) {
+    if name.is_empty() || name == "." || name == ".." || name == "lost+found" || is_of_runs(name) {
         return Err(no_name(rt, path)?);
     }
     Ok(name)

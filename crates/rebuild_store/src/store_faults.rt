@@ -11,25 +11,51 @@ pub enum StoreFault {
     OutOfMemory,
     /// The system refused to read the folder, or another file.
     #[error("{folder}: {error}")]
-    Device { folder: String, error: io::Error },
+    Device {
+        folder: String,
+        error: io::Error,
+    },
     /// Another run works in the store.
     #[error("{folder}: another run works in this store")]
-    InUse { folder: String },
+    InUse {
+        folder: String,
+    },
     /// No file in the folder is named as a fragment.
     #[error("{folder}: no file is named as a fragment, {names}: is this the store?")]
-    NoFragments { folder: String, names: String },
-    /// No stripe whose fragments can be checked is one of the code.
-    #[error("{folder}: no stripe fits the code {code}: is this the store?")]
-    FitsNot { folder: String, code: &'static str },
+    NoFragments {
+        folder: String,
+        names: String,
+    },
+    /// No stripe whose fragments can be checked is one of the code; this is one of them.
+    #[error("{folder}: no stripe fits the code {code}, as {stripe}: is this the store? With --code {code} each is named")]
+    FitsNot {
+        folder: String,
+        code: &'static str,
+        stripe: String,
+    },
+    /// All stripes are of the other code than the one that was given.
+    #[error("{folder}: has fragments of the code {other}: give --code {other}, or another folder")]
+    OtherCode {
+        folder: String,
+        other: &'static str,
+    },
     /// A run by root, in a folder that other users may write into.
     #[error("{folder}: user {user} or others may write there, and lead root elsewhere: run as that user, or give --trust-writers")]
-    Untrusted { folder: String, user: u32 },
+    Untrusted {
+        folder: String,
+        user: u32,
+    },
     /// A report would be written over a file of the store.
     #[error("{path}: is a file of the store, and no place for a report")]
-    ReportInStore { path: String },
+    ReportInStore {
+        path: String,
+    },
     /// A file of checksums isn't one.
     #[error("{path}: {fault}")]
-    BadSums { path: String, fault: SumsFault },
+    BadSums {
+        path: String,
+        fault: SumsFault,
+    },
 }
 
 impl From<AllocError> for StoreFault {

@@ -1,16 +1,18 @@
 //! Stores: a folder, its code, and what is in it.
-use crate::arguments::{Options, Part};
-use crate::locks::Locks;
+use crate::arguments::Options;
+use crate::expecting::expected;
+use crate::lines::say;
+use crate::locks::{Locks, other_parts_lock};
 use crate::store_faults::{StoreFault, device_fault};
-use lrc_code::{Code, Place};
-use sha2::{Digest, Sha256};
-use std::alloc::{AllocError, Global};
-use std::fs;
-use std::io::{self, BufRead, BufReader, ErrorKind};
+use crate::workers::Stripes;
+use lrc_code::Code;
+use std::alloc::AllocError;
+use std::io::ErrorKind;
 use std::os::unix::fs::MetadataExt;
+use std::{fs, mem};
 use store_folder::{
-    Found, Links, Listing, Pattern, SUMS_NAME, StripeFiles, Sums, SumsFault, Wanted, Watched, list,
-    look_at, path_in, read_sums,
+    DESCRIPTION, Listing, Others, Pattern, Site, StoreStripes, StripeNames, Sums, Unlisted, Wanted,
+    Watched, is_ambiguous, is_folder_of, list,
 };
 use store_repair::Stripe;
 
@@ -20,12 +22,16 @@ pub struct OpenStore {
     pub folder: String,
     pub code: Code,
     pub listing: Listing,
+    /// Its stripes, and what is of none.
+    pub found: StoreStripes,
     /// The digests that fragments have to have.
     pub sums: Option<Sums>,
     /// Keep other repairs out for as long as the store is open for one.
     pub locks: Locks,
     /// What is in the folder that rebuilt fragments are written to, if that isn't the store's.
     pub target: Option<Listing>,
+    /// Whether a folder couldn't be listed that is there.
+    pub has_unlisted: bool,
 }
 
 /// Opens the store that the options name; for a repair no other repair works in it meanwhile. Its code is the one that they name, or else
@@ -58,8 +64,10 @@ struct Unlocked {
     folder: String,
     code: Code,
     listing: Listing,
+    found: StoreStripes,
     target: Option<Listing>,
     sums: Option<Sums>,
+    has_unlisted: bool,
 }
 
 impl Unlocked {
@@ -68,16 +76,20 @@ impl Unlocked {
             folder,
             code,
             listing,
+            found,
             target,
             sums,
+            has_unlisted,
         } = self;
         OpenStore {
             folder,
             code,
             listing,
+            found,
             sums,
             locks,
             target,
+            has_unlisted,
         }
     }
 }
@@ -90,7 +102,6 @@ fn open_locked(
     writes: bool,
 ) -> Result<Unlocked, StoreFault> {
     let alloc = rt.alloc();
-    let folder = String::from_str(alloc, options.store.as_str())?;
     let watched = match &options.report {
         Some(path) => Watched::at(rt, path.as_str()),
         None => None,
@@ -99,47 +110,144 @@ fn open_locked(
         pattern: *pattern,
         code: options.code.unwrap_or(Code::Wide),
         has_stripes: true,
+        part: options.part,
         links: options.links,
         watched: watched.as_ref(),
     };
-    let mut listing = listed(rt, folder.as_str(), &wanted)?;
-    let target = match &options.to {
-        Some(to) => {
-            let left = Wanted {
-                has_stripes: false,
-                ..wanted
-            };
-            Some(listed(rt, to.as_str(), &left)?)
-        }
-        None => None,
-    };
+    let mut listing = listed(rt, options.store.as_str(), &wanted)?;
+    let target = listed_target(rt, options, &wanted)?;
     refuse_report(rt, options, &listing, target.as_ref())?;
-    if writes && !options.trusts_writers {
-        refuse_untrusted(rt, target.as_ref().unwrap_or(&listing))?;
+    if writes {
+        refuse_writing(rt, options, target.as_ref().unwrap_or(&listing))?;
     }
-    if let Some(path) = &options.stripes {
-        expect_stripes(rt, &mut listing, path.as_str())?;
-    }
-    if listing.stripes.is_empty() {
-        let names = String::from_str(alloc, options.naming.text.as_str())?;
-        return Err(StoreFault::NoFragments { folder, names });
-    }
+    let sums = expected(rt, options, &wanted, &mut listing)?;
     let code = match options.code {
         Some(code) => code,
-        None => code_of(&listing),
+        None => listing.names.code(),
     };
-    let sums = if options.tests {
-        sums_of(rt, options)?
+    refuse_other_code(rt, options, &listing, code)?;
+    let has_unlisted = say_unlisted(rt, &listing, pattern, code)?;
+    let found = stripes_of(rt, options, pattern, code, &mut listing)?;
+    Ok(Unlocked {
+        folder: String::from_str(alloc, options.store.as_str())?,
+        code,
+        listing,
+        found,
+        target,
+        sums,
+        has_unlisted,
+    })
+}
+
+// What runs have left in the folder that rebuilt fragments are written to, if that isn't the store's.
+fn listed_target(
+    rt: &HostRuntime,
+    options: &Options,
+    wanted: &Wanted<'_>,
+) -> Result<Option<Listing>, StoreFault> {
+    let Some(to) = &options.to else {
+        return Ok(None);
+    };
+    let left = Wanted {
+        has_stripes: false,
+        ..*wanted
+    };
+    Ok(Some(listed(rt, to.as_str(), &left)?))
+}
+
+// Refuses to write where others may write, or where a run works that divides the store into other parts.
+fn refuse_writing(
+    rt: &HostRuntime,
+    options: &Options,
+    listing: &Listing,
+) -> Result<(), StoreFault> {
+    if !options.trusts_writers {
+        refuse_untrusted(rt, listing)?;
+    }
+    let Some(part) = options.part else {
+        return Ok(());
+    };
+    match other_parts_lock(rt, &part, listing.leftovers.as_slice()) {
+        Some(path) => Err(StoreFault::InUse {
+            folder: String::from_str(rt.alloc(), path)?,
+        }),
+        None => Ok(()),
+    }
+}
+
+// The stripes of a store that was listed; it is refused where there are none.
+fn stripes_of(
+    rt: &HostRuntime,
+    options: &Options,
+    pattern: &Pattern<'_>,
+    code: Code,
+    listing: &mut Listing,
+) -> Result<StoreStripes, StoreFault> {
+    let alloc = rt.alloc();
+    let names = mem::replace(&mut listing.names, StripeNames::new(alloc, None));
+    let is_empty = names.is_empty();
+    let ending = if is_ambiguous(alloc, pattern, code)? {
+        Some(DESCRIPTION)
     } else {
         None
     };
-    Ok(Unlocked {
-        folder,
-        code,
-        listing,
-        target,
-        sums,
+    let found = names.settled(alloc, code, ending)?;
+    if is_empty || (options.part.is_none() && found.files.is_empty()) {
+        return Err(StoreFault::NoFragments {
+            folder: String::from_str(alloc, options.store.as_str())?,
+            names: String::from_str(alloc, options.naming.text.as_str())?,
+        });
+    }
+    Ok(found)
+}
+
+// Refuses a store all of whose stripes are of another code than the one that was given.
+fn refuse_other_code(
+    rt: &HostRuntime,
+    options: &Options,
+    listing: &Listing,
+    code: Code,
+) -> Result<(), StoreFault> {
+    if options.code.is_none() || listing.names.of_another_code(code) != Others::All {
+        return Ok(());
+    }
+    Err(StoreFault::OtherCode {
+        folder: String::from_str(rt.alloc(), options.store.as_str())?,
+        other: other_than(code).text(),
     })
+}
+
+/// The code that isn't this one.
+pub fn other_than(code: Code) -> Code {
+    match code {
+        Code::Narrow => Code::Wide,
+        Code::Wide => Code::Narrow,
+    }
+}
+
+// Says which folders couldn't be listed or aren't there, and whether one is there.
+fn say_unlisted(
+    rt: &HostRuntime,
+    listing: &Listing,
+    pattern: &Pattern<'_>,
+    code: Code,
+) -> Result<bool, AllocError> {
+    let mut is_there = false;
+    for Unlisted { name, path, error } in &listing.unlisted {
+        let kind = error.kind();
+        let is_gone = kind == ErrorKind::NotFound || kind == ErrorKind::NotADirectory;
+        if is_gone && !is_folder_of(rt.alloc(), pattern, code, "a", name.as_str())? {
+            continue;
+        }
+        is_there = is_there || !is_gone;
+        let _ = say(
+            rt,
+            format!(in rt.alloc();
+                "rebuild-store: {path}: {error}: what should be in it counts as lost"
+            ),
+        );
+    }
+    Ok(is_there)
 }
 
 // Lists a folder, and says which links weren't followed.
@@ -158,11 +266,17 @@ pub fn say_links(rt: &HostRuntime, listing: &Listing) {
     if let Some(path) = &listing.link {
         let links = listing.links;
         let _ = match links {
-            1 => eprintln!(rt;
-                "rebuild-store: {path}: is a link, and isn't followed without --follow-links"
+            1 => say(
+                rt,
+                format!(in rt.alloc();
+                    "rebuild-store: {path}: is a link, and isn't followed without --follow-links"
+                ),
             ),
-            _ => eprintln!(rt;
-                "rebuild-store: {path} and others are links, {links} in all, and aren't followed without --follow-links"
+            _ => say(
+                rt,
+                format!(in rt.alloc();
+                    "rebuild-store: {path} and others are links, {links} in all, and aren't followed without --follow-links"
+                ),
             ),
         };
     }
@@ -200,105 +314,25 @@ pub fn refuse_untrusted(rt: &HostRuntime, listing: &Listing) -> Result<(), Store
     })
 }
 
-// Adds the stripes that a file names, one on each line.
-fn expect_stripes(rt: &HostRuntime, listing: &mut Listing, path: &str) -> Result<(), StoreFault> {
-    match read_names(rt, listing, path) {
-        Ok(()) => Ok(()),
-        Err(error) => Err(device_fault(String::from_str(rt.alloc(), path)?, error)),
-    }
-}
-
-fn read_names(rt: &HostRuntime, listing: &mut Listing, path: &str) -> io::Result<()> {
-    let alloc = rt.alloc();
-    for line in BufReader::new(alloc, fs::open(rt, path)?)?.lines(alloc) {
-        let line = line?;
-        let name = line.as_str().trim_end_matches('\r');
-        if !name.is_empty() {
-            listing.expect(alloc, name)?;
-        }
-    }
-    Ok(())
-}
-
-// The checksums that the options name, or those in the store.
-fn sums_of(rt: &HostRuntime, options: &Options) -> Result<Option<Sums>, StoreFault> {
-    let alloc = rt.alloc();
-    let (path, links) = match &options.sums {
-        Some(path) => (String::from_str(alloc, path.as_str())?, Links::Followed),
-        None => {
-            let path = path_in(alloc, options.store.as_str(), SUMS_NAME)?;
-            match look_at(rt, path.as_str(), options.links) {
-                Ok(metadata) if metadata.is_file() || metadata.is_symlink() => (
-                    path,
-                    options.links,
-                ),
-                Ok(_) => return Ok(None),
-                Err(error) if error.kind() == ErrorKind::NotFound => return Ok(None),
-                Err(error) => return Err(device_fault(path, error)),
-            }
-        }
-    };
-    match read_sums(rt, path.as_str(), links) {
-        Ok(sums) => Ok(Some(sums)),
-        Err(SumsFault::OutOfMemory) => Err(StoreFault::OutOfMemory),
-        Err(fault) => Err(StoreFault::BadSums { path, fault }),
-    }
-}
-
-// The code that the places of the files say.
-fn code_of(listing: &Listing) -> Code {
-    for files in listing.stripes.values() {
-        for place in &Place::ALL {
-            if !Code::Narrow.has(*place) && files.at(*place) != Found::Absent {
-                return Code::Wide;
-            }
-        }
-    }
-    Code::Narrow
-}
-
-/// Whether a stripe in a folder is of the other code: it has a place that the (6,2,2) code hasn't, or all places of that one and no other.
-pub fn is_of_another_code(listing: &Listing, code: Code) -> bool {
-    match code {
-        Code::Narrow => code_of(listing) == Code::Wide,
-        Code::Wide => listing.stripes.values().any(|files| is_narrow(files)),
-    }
-}
-
-// Whether a stripe has the places of the (6,2,2) code alone.
-fn is_narrow(files: &StripeFiles) -> bool {
-    Place::ALL.iter().all(|place| (files.at(*place) != Found::Absent) == Code::Narrow.has(*place))
-}
-
 impl OpenStore {
-    /// The stripes of a part, or all, in the order of their names.
-    pub fn stripes(
-        &self,
-        rt: &HostRuntime,
-        part: Option<Part>,
-    ) -> Result<Vec<Stripe<'_>>, AllocError> {
-        let mut stripes = Vec::with_capacity(rt.alloc(), self.listing.stripes.len())?;
-        for (name, files) in self.listing.stripes.iter() {
-            if is_of_part(name.as_str(), part) {
-                stripes.push(Stripe {
-                    name: name.as_str(),
-                    files: *files,
-                })?;
-            }
+    /// The stripes, in the order of their names.
+    pub fn stripes(&self, rt: &HostRuntime) -> Result<Vec<Stripe<'_>>, AllocError> {
+        let mut stripes = Vec::with_capacity(rt.alloc(), self.found.files.len())?;
+        for (name, files) in self.found.files.iter() {
+            stripes.push(Stripe {
+                name: name.as_str(),
+                files: *files,
+            })?;
         }
         Ok(stripes)
     }
-}
 
-// Whether a stripe is of a part: which one it is of is said by the first eight bytes of the digest of its name.
-fn is_of_part(name: &str, part: Option<Part>) -> bool {
-    let Some(Part { index, of }) = part else {
-        return true;
-    };
-    let digest = Sha256::digest(name.as_bytes());
-    let mut number = 0u64;
-    for byte in &digest[..8] {
-        number = number.wrapping_mul(256).wrapping_add(*byte as u64);
+    /// The stripes at a site, and which of them have descriptions.
+    pub fn work_of<'a>(&'a self, site: &'a Site<'a>, all: &'a [Stripe<'a>]) -> Stripes<'a> {
+        Stripes {
+            site,
+            all,
+            described: &self.found.described,
+        }
     }
-    of > 0 && number % of == index.wrapping_sub(1)
 }

@@ -1,6 +1,6 @@
 //! The last line of a command: what was done, or would be, and what is left.
 use crate::reports::file_of;
-use crate::totals::{Results, Totals};
+use crate::totals::{Results, Totals, unchecked_places};
 use lrc_code::Place;
 use std::alloc::{AllocError, Global};
 use store_folder::Site;
@@ -54,6 +54,7 @@ pub fn repaired(alloc: Global, results: &Results<'_>) -> Result<String, AllocErr
         stripes,
         all,
         totals,
+        ..
     } = *results;
     let mut unchecked = Names::new(alloc);
     let mut damaged = Names::new(alloc);
@@ -61,10 +62,8 @@ pub fn repaired(alloc: Global, results: &Results<'_>) -> Result<String, AllocErr
         let Some(stripe) = stripes.get(done.index) else {
             continue;
         };
-        if !done.outcome.is_checked {
-            for place in &done.outcome.rebuilt {
-                unchecked.add(alloc, site, stripe, *place)?;
-            }
+        for place in unchecked_places(alloc, site, stripe.name, &done.outcome)? {
+            unchecked.add(alloc, site, stripe, place)?;
         }
         for finding in &done.outcome.findings {
             if let (Some(place), true) = (finding.place, finding.reason.is_damage()) {
@@ -80,9 +79,19 @@ pub fn repaired(alloc: Global, results: &Results<'_>) -> Result<String, AllocErr
         count: damaged_count,
     } = damaged;
     let left = totals.left;
+    let described = described_text(alloc, totals.described, "made")?;
     format!(in alloc;
-        "repaired {rebuilt}, {bytes} ({count} unchecked{text}); damaged: {damaged_count}{damaged_names}; not possible: {left}"
+        "repaired {rebuilt}, {bytes} ({count} unchecked{text}); damaged: {damaged_count}{damaged_names}; not possible: {left}{described}"
     )
+}
+
+// What is said of copies of descriptions, if there are any.
+fn described_text(alloc: Global, count: u64, what: &str) -> Result<String, AllocError> {
+    if count == 0 {
+        return Ok(String::new(alloc));
+    }
+    let copies = counted(alloc, count, "description")?;
+    format!(in alloc; "; {copies} {what}")
 }
 
 // The sizes of the stripes that a repair would work on.
@@ -142,8 +151,10 @@ pub fn planned(alloc: Global, results: &Results<'_>) -> Result<String, AllocErro
         bytes,
         unchecked,
         left,
+        described,
         ..
     } = results.totals;
+    let described = described_text(alloc, described, "can be made")?;
     let count = counted(alloc, results.stripes.len() as u64, "stripe")?;
     let code = results.site.code.text();
     let lengths = lengths_of(alloc, least, most)?;
@@ -151,7 +162,7 @@ pub fn planned(alloc: Global, results: &Results<'_>) -> Result<String, AllocErro
     let writes = size_of(alloc, bytes)?;
     let first = format!(in alloc; "{count} of {code}, {lengths}; {lost} lost in {lossy}")?;
     format!(in alloc;
-        "{first}; {rebuilt} can be rebuilt ({unchecked} without any check), {left} can't; reads {reads}, writes {writes}"
+        "{first}; {rebuilt} can be rebuilt ({unchecked} without any check), {left} can't; reads {reads}, writes {writes}{described}"
     )
 }
 
@@ -164,6 +175,7 @@ pub fn scrubbed(
     let count = counted(alloc, results.stripes.len() as u64, "stripe")?;
     let unchecked = counted(alloc, unchecked, "stripe")?;
     let Totals { damaged, left, .. } = results.totals;
+    let left = left.saturating_sub(damaged);
     format!(in alloc;
         "scrubbed {count}: {damaged} damaged, {left} lost or contradictory, {unchecked} without any check"
     )

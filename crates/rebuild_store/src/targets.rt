@@ -7,7 +7,8 @@ use std::alloc::{AllocError, Global};
 use std::fs;
 use std::io::ErrorKind;
 use store_folder::{
-    Digest, Links, NewFile, Pattern, Placed, Sums, folder_of, path_in, place_new, sync_folder,
+    Digest, Links, NewFile, Pattern, Placed, Sums, description_names, first_description_name,
+    folder_of, path_in, place_new, sync_folder,
 };
 
 /// A store that files are encoded into, and the digests of what is in it.
@@ -37,6 +38,13 @@ impl Target<'_> {
     /// The name in the store of a stripe's fragment at a place.
     pub fn name_of(&self, alloc: Global, stripe: &str, place: Place) -> Result<String, AllocError> {
         fragment_name(alloc, &self.pattern, self.code, stripe, place)
+    }
+
+    /// The names in the store of the copies of a stripe's description, also of the one in a store that was made before.
+    pub fn descriptions(&self, alloc: Global, stripe: &str) -> Result<Vec<String>, AllocError> {
+        let mut names = description_names(alloc, &self.pattern, self.code, stripe)?;
+        names.push(first_description_name(alloc, stripe)?)?;
+        Ok(names)
     }
 
     /// The path of a name in the store.

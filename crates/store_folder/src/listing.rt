@@ -1,74 +1,29 @@
 //! What is in a store: which fragments of which stripes, and how many bytes each has.
+use crate::described::is_ambiguous;
+use crate::disks::{Unlisted, disk_folders, last_of};
 use crate::links::{Links, followed, look_at};
 use crate::names::{folder_of, path_in};
-use crate::patterns::{KEPT, Pattern};
 use crate::regular::Identity;
-use crate::sums::SUMS_NAME;
-use crate::unfinished::{is_left_by, is_of_runs};
-use lrc_code::{Code, Place};
+use crate::stripe_names::StripeNames;
+use crate::unfinished::is_of_runs;
+use crate::watching::{Foreign, Wanted, is_of_store, may_others_write};
 use std::alloc::{AllocError, Global};
-use std::collections::{BTreeMap, BTreeSet};
+use std::collections::BTreeSet;
 use std::fs::{self, Metadata};
 use std::io::{self, ErrorKind};
 use std::os::unix::fs::MetadataExt;
-use store_repair::{Found, StripeFiles};
+use store_repair::Found;
 
-// The rights by which others than a file's user may write: of the group, and of everybody.
-const GROUP_WRITES: u32 = 0o020;
-
-const ALL_WRITE: u32 = 0o002;
-
-// How the name of a file ends that describes a stripe's.
-const DESCRIPTION: &str = ".file";
-
-/// How a folder is listed.
-#[derive(Clone, Copy)]
-pub struct Wanted<'a> {
-    pub pattern: Pattern<'a>,
-    /// The code by which names are read.
-    pub code: Code,
-    /// Whether stripes are listed, and not only what runs have left.
-    pub has_stripes: bool,
-    pub links: Links,
-    /// A path that may be one of the store's.
-    pub watched: Option<&'a Watched<'a>>,
-}
-
-/// A path that may lead to a file of a store: its folder, its last part, and which file is there, if one is.
-#[derive(Clone, Copy)]
-pub struct Watched<'a> {
-    folder: Identity,
-    name: &'a str,
-    file: Option<Identity>,
-}
-
-impl<'a> Watched<'a> {
-    /// The path, if its folder is there.
-    pub fn at(rt: &HostRuntime, path: &'a str) -> Option<Watched<'a>> {
-        let folder = fs::metadata(rt, folder_of(path)).ok()?;
-        Some(Watched {
-            folder: Identity::of(&folder),
-            name: last_of(path),
-            file: fs::metadata(rt, path)
-                .ok()
-                .map(|metadata| Identity::of(&metadata)),
-        })
-    }
-}
-
-/// A folder that others than root may write into.
-#[derive(Drop)]
-pub struct Foreign {
-    pub folder: String,
-    /// The number of its user.
-    pub user: u32,
-}
+// The folder that a file system keeps for what it finds of lost files: no store's, and no stripe's.
+const LOST_AND_FOUND: &str = "lost+found";
 
 /// What is in a folder.
 #[derive(Drop)]
 pub struct Listing {
-    /// The stripes of which there are files, by name.
-    pub stripes: BTreeMap<String, StripeFiles>,
+    /// What the names of its files say of stripes.
+    pub names: StripeNames,
+    /// The folders in it that couldn't be listed, or aren't there.
+    pub unlisted: Vec<Unlisted>,
     /// The paths of files that have the names of such as runs leave if they are killed.
     pub leftovers: Vec<String>,
     /// How many names are no UTF-8. They are left alone.
@@ -82,54 +37,35 @@ pub struct Listing {
     pub foreign: Option<Foreign>,
     /// Whether the path that was to be watched is one of the store's.
     pub is_watched: bool,
+    // Whether names of descriptions may be those of fragments.
+    pub(crate) is_ambiguous: bool,
 }
 
-/// Lists the folder at a path. Names that don't fit its pattern are left alone.
+/// Lists the folder at a path. Names that don't fit its pattern are left alone. A folder in it that can't be listed costs what is in it.
 pub fn list(rt: &HostRuntime, folder: &str, wanted: &Wanted<'_>) -> io::Result<Listing> {
     let alloc = rt.alloc();
-    let mut listing = Listing::new(alloc);
-    let mut folders = Vec::new(alloc);
-    folders.push(String::new(alloc))?;
-    let depth_of_names = wanted.pattern.depth();
-    'depths: for depth in 0..=depth_of_names {
-        let mut below = Vec::new(alloc);
-        for inside in &folders {
-            let entries = listing.entries(rt, folder, inside.as_str(), wanted)?;
-            for name in entries {
-                if depth == depth_of_names || is_of_runs(last_of(name.as_str())) {
-                    listing.add(rt, folder, wanted, name.as_str())?;
-                } else {
-                    below.push(name)?;
-                }
+    let mut listing = Listing::new(rt, wanted)?;
+    let own = listing.entries(rt, folder, "", wanted)?;
+    match disk_folders(alloc, &wanted.pattern, wanted.code)? {
+        Some(disks) => {
+            for name in &own {
+                listing.add_own(rt, folder, wanted, name.as_str())?;
+            }
+            for disk in &disks {
+                listing.add_disk(rt, folder, wanted, disk.as_str())?;
             }
         }
-        folders = below;
+        None => listing.add_below(rt, folder, wanted, own)?,
     }
     Ok(listing)
 }
 
-/// The paths of the files in a folder that a run with this tag may have left.
-pub fn left_in(rt: &HostRuntime, folder: &str, tag: &str) -> io::Result<Vec<String>> {
-    let alloc = rt.alloc();
-    let mut paths = Vec::new(alloc);
-    for entry in fs::read_dir(rt, folder)? {
-        match entry {
-            Ok(entry) => {
-                if is_left_by(entry.file_name(), tag) {
-                    paths.push(path_in(alloc, folder, entry.file_name())?)?;
-                }
-            }
-            Err(error) if error.kind() == ErrorKind::InvalidFilename => {}
-            Err(error) => return Err(error),
-        }
-    }
-    Ok(paths)
-}
-
 impl Listing {
-    fn new(alloc: Global) -> Listing {
-        Listing {
-            stripes: BTreeMap::new(alloc),
+    fn new(rt: &HostRuntime, wanted: &Wanted<'_>) -> Result<Listing, AllocError> {
+        let alloc = rt.alloc();
+        Ok(Listing {
+            names: StripeNames::new(alloc, wanted.part),
+            unlisted: Vec::new(alloc),
             leftovers: Vec::new(alloc),
             unreadable_names: 0,
             link: None,
@@ -137,10 +73,82 @@ impl Listing {
             linked: BTreeSet::new(alloc),
             foreign: None,
             is_watched: false,
-        }
+            is_ambiguous: is_ambiguous(alloc, &wanted.pattern, wanted.code)?,
+        })
     }
 
-    // The names in a folder inside the store's, each with that folder's. What is no folder has none.
+    // Adds what is under a name in the store's own folder, where fragments are in others.
+    fn add_own(
+        &mut self,
+        rt: &HostRuntime,
+        folder: &str,
+        wanted: &Wanted<'_>,
+        name: &str,
+    ) -> io::Result<()> {
+        if is_of_runs(name) {
+            self.leftovers.push(path_in(rt.alloc(), folder, name)?)?;
+            return Ok(());
+        }
+        if wanted.has_stripes {
+            self.is_description(rt, folder, wanted, name)?;
+        }
+        Ok(())
+    }
+
+    // Adds what is in the folder of a disk.
+    fn add_disk(
+        &mut self,
+        rt: &HostRuntime,
+        folder: &str,
+        wanted: &Wanted<'_>,
+        disk: &str,
+    ) -> io::Result<()> {
+        let alloc = rt.alloc();
+        let mut inside = String::new(alloc);
+        for part in disk.split('/') {
+            if !inside.is_empty() {
+                if !self.enters(rt, folder, inside.as_str(), wanted)? {
+                    return Ok(());
+                }
+                inside.push('/')?;
+            }
+            inside.push_str(part)?;
+        }
+        for name in self.entries(rt, folder, disk, wanted)? {
+            self.add(rt, folder, wanted, name.as_str())?;
+        }
+        Ok(())
+    }
+
+    // Adds what is below the store's own folder, as deep as names are.
+    fn add_below(
+        &mut self,
+        rt: &HostRuntime,
+        folder: &str,
+        wanted: &Wanted<'_>,
+        own: Vec<String>,
+    ) -> io::Result<()> {
+        let alloc = rt.alloc();
+        let depth_of_names = wanted.pattern.depth();
+        let mut entries = own;
+        'depths: for depth in 0..=depth_of_names {
+            let mut below = Vec::new(alloc);
+            for name in &entries {
+                if depth == depth_of_names || is_of_runs(last_of(name.as_str())) {
+                    self.add(rt, folder, wanted, name.as_str())?;
+                } else if last_of(name.as_str()) != LOST_AND_FOUND {
+                    for entry in self.entries(rt, folder, name.as_str(), wanted)? {
+                        below.push(entry)?;
+                    }
+                }
+            }
+            entries = below;
+        }
+        Ok(())
+    }
+
+    // The names in a folder inside the store's, each with that folder's. What is no folder has none, and of one that can't be listed it is
+    // noted; the store's own has to be listed.
     fn entries(
         &mut self,
         rt: &HostRuntime,
@@ -149,32 +157,85 @@ impl Listing {
         wanted: &Wanted<'_>,
     ) -> io::Result<Vec<String>> {
         let alloc = rt.alloc();
-        let path = if inside.is_empty() {
-            String::from_str(alloc, folder)?
-        } else {
-            path_in(alloc, folder, inside)?
-        };
+        let mut names = Vec::new(alloc);
+        if !self.enters(rt, folder, inside, wanted)? {
+            return Ok(names);
+        }
+        let path = path_inside(alloc, folder, inside)?;
+        if let Err(error) = self.names_in(rt, path.as_str(), inside, &mut names) {
+            self.note_unlisted(alloc, folder, inside, error)?;
+        }
+        Ok(names)
+    }
+
+    // Whether a folder inside the store's can be gone into. Why it can't is noted.
+    fn enters(
+        &mut self,
+        rt: &HostRuntime,
+        folder: &str,
+        inside: &str,
+        wanted: &Wanted<'_>,
+    ) -> io::Result<bool> {
+        let alloc = rt.alloc();
+        let path = path_inside(alloc, folder, inside)?;
         let links = if inside.is_empty() {
             Links::Followed
         } else {
             wanted.links
         };
-        let metadata = look_at(rt, path.as_str(), links)?;
+        let metadata = match look_at(rt, path.as_str(), links) {
+            Ok(metadata) => metadata,
+            Err(error) => {
+                self.note_unlisted(alloc, folder, inside, error)?;
+                return Ok(false);
+            }
+        };
         if metadata.is_symlink() {
             self.note_link(path)?;
-            return Ok(Vec::new(alloc));
+            return Ok(false);
         }
         if !metadata.is_dir() && !inside.is_empty() {
-            return Ok(Vec::new(alloc));
+            if disk_folders(alloc, &wanted.pattern, wanted.code)?.is_some() {
+                let error = io::Error::from(ErrorKind::NotADirectory);
+                self.note_unlisted(alloc, folder, inside, error)?;
+            }
+            return Ok(false);
         }
         self.note_folder(alloc, path.as_str(), inside, &metadata, wanted)?;
-        self.names_in(rt, path.as_str(), inside)
+        Ok(true)
     }
 
-    // The names in the folder at a path, each with the name that this has in the store.
-    fn names_in(&mut self, rt: &HostRuntime, path: &str, inside: &str) -> io::Result<Vec<String>> {
+    // Notes that a folder inside the store's can't be listed; the store's own has to be.
+    fn note_unlisted(
+        &mut self,
+        alloc: Global,
+        folder: &str,
+        inside: &str,
+        error: io::Error,
+    ) -> io::Result<()> {
+        let is_noted = |other: &Unlisted| other.name.as_str() == inside;
+        if inside.is_empty() || error.kind() == ErrorKind::OutOfMemory {
+            return Err(error);
+        }
+        if !self.unlisted.iter().any(is_noted) {
+            self.unlisted.push(Unlisted {
+                name: String::from_str(alloc, inside)?,
+                path: path_in(alloc, folder, inside)?,
+                error,
+            })?;
+        }
+        Ok(())
+    }
+
+    // Adds the names in the folder at a path, each with the name that this has in the store.
+    fn names_in(
+        &mut self,
+        rt: &HostRuntime,
+        path: &str,
+        inside: &str,
+        names: &mut Vec<String>,
+    ) -> io::Result<()> {
         let alloc = rt.alloc();
-        let mut names = Vec::new(alloc);
         for entry in fs::read_dir(rt, path)? {
             match entry {
                 Ok(entry) if inside.is_empty() => {
@@ -187,7 +248,7 @@ impl Listing {
                 Err(error) => return Err(error),
             }
         }
-        Ok(names)
+        Ok(())
     }
 
     // Notes a link that isn't followed.
@@ -242,29 +303,31 @@ impl Listing {
             self.leftovers.push(path)?;
             return Ok(());
         }
-        if !wanted.has_stripes {
+        if !wanted.has_stripes || self.is_description(rt, folder, wanted, name)? {
             return Ok(());
         }
         let Some((stripe, place)) = wanted.pattern.read(wanted.code, name) else {
             return Ok(());
         };
-        let found = self.look(rt, path, wanted)?;
-        self.note(alloc, stripe, place, found)?;
+        match self.look(rt, path, wanted)? {
+            Some(found) => self.names.note(alloc, stripe, place, found)?,
+            None => self.names.note_folder(alloc, stripe, place)?,
+        }
         Ok(())
     }
 
-    // What is at a path at which there is a name.
+    // What is at a path at which there is a name; none where that is a folder.
     fn look(
         &mut self,
         rt: &HostRuntime,
         path: String,
         wanted: &Wanted<'_>,
-    ) -> Result<Found, AllocError> {
+    ) -> Result<Option<Found>, AllocError> {
         let metadata = match fs::symlink_metadata(rt, path.as_str()) {
             Ok(metadata) if !metadata.is_symlink() => Ok(metadata),
             Ok(_) if wanted.links == Links::NotFollowed => {
                 self.note_link(path)?;
-                return Ok(Found::Other);
+                return Ok(Some(Found::Other));
             }
             Ok(_) => self.look_behind(rt, path)?,
             Err(error) => Err(error),
@@ -277,11 +340,11 @@ impl Listing {
                 }
                 Ok(found_of(&metadata))
             }
-            Err(error) if error.kind() == ErrorKind::NotFound => Ok(Found::Dangling),
+            Err(error) if error.kind() == ErrorKind::NotFound => Ok(Some(Found::Dangling)),
             Err(error) if error.kind() == ErrorKind::OutOfMemory => Err(AllocError),
-            Err(error) => Ok(Found::Unknown {
+            Err(error) => Ok(Some(Found::Unknown {
                 code: error.raw_os_error().unwrap_or(0),
-            }),
+            })),
         }
     }
 
@@ -303,60 +366,25 @@ impl Listing {
         }
         Ok(metadata)
     }
+}
 
-    // Notes what is under the name of a fragment.
-    fn note(
-        &mut self,
-        alloc: Global,
-        stripe: &str,
-        place: Place,
-        found: Found,
-    ) -> Result<(), AllocError> {
-        self.expect(alloc, stripe)?;
-        if let Some(files) = self.stripes.get_mut(stripe) {
-            files.found[place.index()] = found;
-        }
-        Ok(())
+// The path of a folder inside the store's.
+fn path_inside(alloc: Global, folder: &str, inside: &str) -> Result<String, AllocError> {
+    if inside.is_empty() {
+        return String::from_str(alloc, folder);
     }
+    path_in(alloc, folder, inside)
+}
 
-    /// Adds a stripe without files, if there is none of its name.
-    pub fn expect(&mut self, alloc: Global, stripe: &str) -> Result<(), AllocError> {
-        if !self.stripes.contains_key(stripe) {
-            self.stripes
-                .insert(String::from_str(alloc, stripe)?, StripeFiles::new())?;
-        }
-        Ok(())
+// What something is; none for a folder.
+fn found_of(metadata: &Metadata) -> Option<Found> {
+    if metadata.is_dir() {
+        return None;
     }
-}
-
-// Whether others than root may write into a folder.
-fn may_others_write(metadata: &Metadata) -> bool {
-    let mode = metadata.mode();
-    metadata.uid() != 0
-        || mode & ALL_WRITE != 0
-        || (mode & GROUP_WRITES != 0 && metadata.gid() != 0)
-}
-
-// Whether a name in a store is one that the store has, or gets: a fragment's, one that was kept, its digests, a description.
-fn is_of_store(name: &str, wanted: &Wanted<'_>) -> bool {
-    let name = name.strip_suffix(KEPT).unwrap_or(name);
-    let is_fragment = wanted.pattern.read(wanted.code, name).is_some();
-    is_fragment || name == SUMS_NAME || name.ends_with(DESCRIPTION) || is_of_runs(last_of(name))
-}
-
-// The last part of a name.
-fn last_of(name: &str) -> &str {
-    match name.rsplit_once('/') {
-        Some((_, last)) => last,
-        None => name,
-    }
-}
-
-fn found_of(metadata: &Metadata) -> Found {
     if metadata.is_file() {
-        return Found::File {
+        return Some(Found::File {
             length: metadata.len(),
-        };
+        });
     }
-    Found::Other
+    Some(Found::Other)
 }

@@ -39,7 +39,7 @@ pub enum PatternFault {
     NotOnce,
     #[error("the pattern of names is no name below the store's folder")]
     NotBelow,
-    #[error("the pattern of names needs something between {{stripe}} and {{shard}}")]
+    #[error("the pattern of names needs something that is no digit between {{stripe}} and {{shard}}")]
     Adjoining,
 }
 
@@ -55,6 +55,16 @@ pub const KEPT: &str = ".damaged";
 // How many times a text goes into a folder.
 fn slashes(text: &str) -> usize {
     text.chars().filter(|letter| *letter == '/').count()
+}
+
+// Whether a number that is before a text or after it could have digits of the text.
+fn adjoins(between: &str, is_number_after: bool) -> bool {
+    let next = if is_number_after {
+        between.chars().last()
+    } else {
+        between.chars().next()
+    };
+    next.is_none_or(|letter| letter.is_ascii_digit())
 }
 
 fn has_brace(text: &str) -> bool {
@@ -159,8 +169,8 @@ impl<'a> Pattern<'a> {
         {
             return Err(PatternFault::NotBelow);
         }
-        // The digits of a number and of a stripe's name could be taken for each other's.
-        if naming == Naming::Shard && between.is_empty() {
+        // The digits of a number and of a stripe's name could be taken for each other's, also where digits are between the two.
+        if naming == Naming::Shard && adjoins(between, is_stripe_first) {
             return Err(PatternFault::Adjoining);
         }
         Ok(Pattern {

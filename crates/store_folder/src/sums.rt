@@ -6,6 +6,7 @@ use hex::FromHex;
 use std::alloc::{AllocError, AllocFailed, Global};
 use std::collections::BTreeMap;
 use std::io::{self, BufRead, BufReader, ErrorKind};
+use std::str;
 use thiserror::Error;
 
 /// The name of a store's sums.
@@ -88,6 +89,17 @@ impl Sums {
     /// The digest of the file of a name, where there is one.
     pub fn digest_of(&self, name: &str) -> Option<&[u8; 32]> {
         self.digests.get(name.as_bytes())
+    }
+
+    /// The names that are UTF-8, in their order.
+    pub fn names(&self, alloc: Global) -> Result<Vec<&str>, AllocError> {
+        let mut names = Vec::new(alloc);
+        for name in self.digests.keys() {
+            if let Ok(name) = str::from_utf8(name.as_slice()) {
+                names.push(name)?;
+            }
+        }
+        Ok(names)
     }
 
     /// Sets the digest of the file of a name.

@@ -3,21 +3,31 @@ ghost use Rattle.std.specs.Prelude.{None};
 
 use crate::links::Links;
 use crate::regular::open_in;
-use folders::{Folder, OpenFile, SystemFolder, SystemOpen};
+use folders::{Folder, OpenFile, Status, SystemFolder, SystemOpen};
 use std::io::{self, ErrorKind};
 use store_repair::Fragment;
 
-/// A fragment in a file that is open for reading.
+/// A fragment in a file that is open for reading. An error of the kind `ResourceBusy` says that the file was changed since then.
 #[derive(Drop)]
 pub struct FileFragment<O> {
     file: O,
+    opened: Status,
+}
+
+// Whether a file has the length and the times of change that it had.
+fn is_unchanged(before: &Status, now: &Status) -> bool {
+    now.length == before.length && now.modified == before.modified && now.changed == before.changed
 }
 
 impl<O: OpenFile> Fragment for FileFragment<O> {
     ghost shown = { λ _. None };
 
     fn read_at(&self, from: usize, bytes: &mut [u8]) -> io::Result<()> {
-        self.file.read_exact_at(from as u64, bytes)
+        let read = self.file.read_exact_at(from as u64, bytes);
+        if !is_unchanged(&self.opened, &self.file.status()?) {
+            return Err(io::Error::new(ErrorKind::ResourceBusy, "changed meanwhile"));
+        }
+        read
     }
 }
 
@@ -42,5 +52,8 @@ pub(crate) fn open_fragment_in<F: Folder>(
     if opened.status.length != length {
         return Err(io::Error::from(ErrorKind::UnexpectedEof));
     }
-    Ok(FileFragment { file: opened.file })
+    Ok(FileFragment {
+        file: opened.file,
+        opened: opened.status,
+    })
 }

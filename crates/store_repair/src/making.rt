@@ -187,7 +187,7 @@ fn new_files<S: Store>(
 }
 
 // Discards files. One that can't be discarded is left over.
-fn discard_all<S: Store>(
+pub(crate) fn discard_all<S: Store>(
     store: &mut S,
     files: Vec<S::New>,
     findings: &mut Vec<Finding>,

@@ -54,6 +54,9 @@ pub enum Reason {
     /// The rebuilt fragment doesn't have the bytes that the store's checksums say, so it isn't put in its place.
     #[error("was rebuilt, and what was rebuilt differs from the checksums")]
     RebuiltDiffers,
+    /// The fragment was written to since it was opened, so what was read of it may be of two states.
+    #[error("changed meanwhile: nothing of its stripe is put in its place")]
+    Changed,
     #[error("can't be read: {0}")]
     Unread(io::Error),
     #[error("can't be put in its place: {0}")]
@@ -189,13 +192,15 @@ pub(crate) fn note_unknown(
     Ok(())
 }
 
-/// Why a fragment can't be read. An error of the kind `InvalidData` says that it differs from the store's checksums.
+/// Why a fragment can't be read. An error of the kind `InvalidData` says that it differs from the store's checksums, and one of the kind
+/// `ResourceBusy` that it was changed since it was opened.
 pub(crate) fn read_fault(error: io::Error) -> Result<Reason, AllocError>
     ensures { IfOk result (λ reason. (place : Option Place) → damaged_by reason place ≡ []) }
 {
     match error.kind() {
         ErrorKind::OutOfMemory => Err(AllocError),
         ErrorKind::InvalidData => Ok(Reason::Differs),
+        ErrorKind::ResourceBusy => Ok(Reason::Changed),
         _ => Ok(Reason::Unread(error)),
     }
 }

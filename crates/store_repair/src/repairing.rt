@@ -7,9 +7,9 @@ ghost use Rattle.store_repair.specs.Store.{AreUntouched};
 
 use crate::fewest::make_from_fewest;
 use crate::lengths::length_or_note;
-use crate::making::{Made, make};
+use crate::making::{Made, discard_all, make};
 use crate::opening::open_survivors;
-use crate::outcomes::{Finding, Outcome, note_unknown};
+use crate::outcomes::{Finding, Outcome, Reason, note_unknown};
 use crate::putting::{put_all, settle};
 use crate::settings::{Reads, Repair};
 use crate::store::Store;
@@ -42,6 +42,11 @@ pub fn repair_stripe<S: Store>(
         settle(store, &mut findings)?;
         return Ok(Outcome::of(alloc, findings));
     };
+    if has_changed(findings.as_slice()) {
+        discard_all(store, made.files, &mut findings)?;
+        settle(store, &mut findings)?;
+        return Ok(Outcome::of(alloc, findings));
+    }
     let survivors = made.set;
     let is_checked = made.is_checked;
     let rebuilt = put_all(alloc, store, repair, stripe, made, &mut findings)?;
@@ -52,6 +57,13 @@ pub fn repair_stripe<S: Store>(
         rebuilt,
         findings,
     })
+}
+
+// Whether a survivor was changed while it was read.
+fn has_changed(findings: &[Finding]) -> bool {
+    findings
+        .iter()
+        .any(|finding| matches!(finding.reason, Reason::Changed))
 }
 
 // Makes files for the lost fragments, from the survivors that are to be read.

@@ -1,0 +1,363 @@
+//! Which stripes a store has, by the names of its files and by what else says that they should be there.
+use crate::described::MOST_BYTES;
+use crate::parts::Part;
+use lrc_code::{Code, Place};
+use std::alloc::{AllocError, Global};
+use std::collections::{BTreeMap, BTreeSet};
+use store_repair::{Found, StripeFiles};
+
+// A stripe that nothing else names has so many fragments at least: a file alone may have such a name by chance.
+const LEAST_FRAGMENTS: usize = 2;
+
+/// A file that is named as a fragment, and is of no stripe: it has no other fragment beside it, or the code hasn't its place.
+#[derive(Debug, Drop)]
+pub struct Alone {
+    pub stripe: String,
+    pub place: Place,
+}
+
+/// What names say of a store's stripes, while they are read.
+#[derive(Drop)]
+pub struct StripeNames {
+    part: Option<Part>,
+    files: BTreeMap<String, StripeFiles>,
+    // Folders under the names of fragments. They make no stripe.
+    blocked: Vec<Alone>,
+    // Those that have to be there, and those of which a description is there.
+    expected: BTreeSet<String>,
+    described: BTreeSet<String>,
+    // Those of which a file is there that is named as a description and isn't one.
+    doubtful: BTreeSet<String>,
+    // How many files are named as fragments, also those of other parts.
+    named: u64,
+    // How many descriptions say each code, and how many fragments that sums name are at places of each.
+    by_descriptions: Votes,
+    by_sums: Votes,
+}
+
+// How many things say each code.
+#[derive(Clone, Copy, Default)]
+struct Votes {
+    narrow: u64,
+    wide: u64,
+}
+
+impl Votes {
+    fn add(&mut self, code: Code) {
+        match code {
+            Code::Narrow => self.narrow = self.narrow.saturating_add(1),
+            Code::Wide => self.wide = self.wide.saturating_add(1),
+        }
+    }
+
+    fn of(&self, code: Code) -> u64 {
+        match code {
+            Code::Narrow => self.narrow,
+            Code::Wide => self.wide,
+        }
+    }
+}
+
+/// The stripes of a store.
+#[derive(Drop)]
+pub struct StoreStripes {
+    /// What is under the names of each stripe's fragments.
+    pub files: BTreeMap<String, StripeFiles>,
+    /// Those of which there is a description, or should be one.
+    pub described: BTreeSet<String>,
+    /// What is of no stripe.
+    pub alone: Vec<Alone>,
+}
+
+impl StripeNames {
+    /// No names. Those of other parts than this one are left out.
+    pub fn new(alloc: Global, part: Option<Part>) -> StripeNames {
+        StripeNames {
+            part,
+            files: BTreeMap::new(alloc),
+            blocked: Vec::new(alloc),
+            expected: BTreeSet::new(alloc),
+            described: BTreeSet::new(alloc),
+            doubtful: BTreeSet::new(alloc),
+            named: 0,
+            by_descriptions: Votes::default(),
+            by_sums: Votes::default(),
+        }
+    }
+
+    /// Whether no file is named as a fragment and no stripe is expected, in any part.
+    pub fn is_empty(&self) -> bool {
+        self.named == 0
+    }
+
+    /// Notes what is under the name of a fragment.
+    pub fn note(
+        &mut self,
+        alloc: Global,
+        stripe: &str,
+        place: Place,
+        found: Found,
+    ) -> Result<(), AllocError> {
+        self.named = self.named.saturating_add(1);
+        if !self.is_wanted(stripe) {
+            return Ok(());
+        }
+        if !self.files.contains_key(stripe) {
+            self.files
+                .insert(String::from_str(alloc, stripe)?, StripeFiles::new())?;
+        }
+        if let Some(files) = self.files.get_mut(stripe) {
+            files.found[place.index()] = found;
+        }
+        Ok(())
+    }
+
+    /// Notes a folder under the name of a fragment.
+    pub fn note_folder(
+        &mut self,
+        alloc: Global,
+        stripe: &str,
+        place: Place,
+    ) -> Result<(), AllocError> {
+        if self.is_wanted(stripe) {
+            let stripe = String::from_str(alloc, stripe)?;
+            self.blocked.push(Alone { stripe, place })?;
+        }
+        Ok(())
+    }
+
+    /// Notes that a stripe has to be there.
+    pub fn expect(&mut self, alloc: Global, stripe: &str) -> Result<(), AllocError> {
+        self.named = self.named.saturating_add(1);
+        if self.is_wanted(stripe) && !self.expected.contains(stripe) {
+            self.expected.insert(String::from_str(alloc, stripe)?)?;
+        }
+        Ok(())
+    }
+
+    /// Notes that a fragment of a stripe has to be there.
+    pub fn expect_fragment(
+        &mut self,
+        alloc: Global,
+        stripe: &str,
+        place: Place,
+    ) -> Result<(), AllocError> {
+        let is_narrow = Code::Narrow.has(place);
+        self.by_sums
+            .add(if is_narrow { Code::Narrow } else { Code::Wide });
+        self.expect(alloc, stripe)
+    }
+
+    /// Whether a stripe has to be there.
+    pub fn is_expected(&self, stripe: &str) -> bool {
+        self.expected.contains(stripe)
+    }
+
+    /// Notes that a description of a stripe has to be there, so that the stripe has to be there too.
+    pub fn expect_description(&mut self, alloc: Global, stripe: &str) -> Result<(), AllocError> {
+        if self.is_wanted(stripe) && !self.described.contains(stripe) {
+            self.described.insert(String::from_str(alloc, stripe)?)?;
+        }
+        self.expect(alloc, stripe)
+    }
+
+    /// Notes that there is a description of a stripe, which says that it is of a code.
+    pub fn describe(&mut self, alloc: Global, stripe: &str, code: Code) -> Result<(), AllocError> {
+        if !self.described.contains(stripe) {
+            self.by_descriptions.add(code);
+        }
+        self.expect_description(alloc, stripe)
+    }
+
+    /// Notes that a file is named as a stripe's description and isn't one. It makes no stripe.
+    pub fn doubt(&mut self, alloc: Global, stripe: &str) -> Result<(), AllocError> {
+        if self.is_wanted(stripe) && !self.doubtful.contains(stripe) {
+            self.doubtful.insert(String::from_str(alloc, stripe)?)?;
+        }
+        Ok(())
+    }
+
+    /// Whether a description of a stripe was met.
+    pub fn is_described(&self, stripe: &str) -> bool {
+        self.described.contains(stripe)
+    }
+
+    fn is_wanted(&self, stripe: &str) -> bool {
+        match self.part {
+            Some(part) => part.has(stripe),
+            None => true,
+        }
+    }
+
+    /// The code that most descriptions say, and without them the places of the files: 12-2-2 where at least half of the stripes have a
+    /// place of that code alone, or a fifth of the fragments that sums name.
+    pub fn code(&self) -> Code {
+        let Votes { narrow, wide } = self.by_descriptions;
+        if narrow > 0 || wide > 0 {
+            return if wide > narrow {
+                Code::Wide
+            } else {
+                Code::Narrow
+            };
+        }
+        let Votes { narrow, wide } = self.by_places(Code::Narrow);
+        let are_wide = wide > 0 && wide >= narrow;
+        let Votes { narrow, wide } = self.by_sums;
+        if are_wide || wide > narrow / 4 {
+            Code::Wide
+        } else {
+            Code::Narrow
+        }
+    }
+
+    // How many stripes are of each code by their places.
+    fn by_places(&self, doubtful_is: Code) -> Votes {
+        let mut votes = Votes::default();
+        for files in self.files.values() {
+            if count_of(files, Code::Wide) >= LEAST_FRAGMENTS {
+                votes.add(said_by(files, doubtful_is));
+            }
+        }
+        votes
+    }
+
+    /// How many stripes are of the other code than this one, as their descriptions say, or their places: one has a place that the (6,2,2)
+    /// code hasn't, or all places of that one and no other. Where all descriptions say the other code, all are.
+    pub fn of_another_code(&self, code: Code) -> Others {
+        let other = match code {
+            Code::Narrow => Code::Wide,
+            Code::Wide => Code::Narrow,
+        };
+        let described = self.by_descriptions;
+        let placed = self.by_places(code);
+        let is_described = described.of(code) > 0;
+        if described.of(other) == 0 && placed.of(other) == 0 {
+            return Others::None;
+        }
+        if !is_described && (described.of(other) > 0 || placed.of(code) == 0) {
+            return Others::All;
+        }
+        Others::Some
+    }
+
+    /// The stripes of this code. `ending` is how names end of files that describe stripes, where a stripe's own name may end so too.
+    pub fn settled(
+        self,
+        alloc: Global,
+        code: Code,
+        ending: Option<&str>,
+    ) -> Result<StoreStripes, AllocError> {
+        let StripeNames {
+            files,
+            blocked,
+            expected,
+            described,
+            doubtful,
+            ..
+        } = self;
+        let mut stripes = StoreStripes {
+            files: BTreeMap::new(alloc),
+            described,
+            alone: Vec::new(alloc),
+        };
+        for (name, found) in files {
+            if stripes.describes(name.as_str(), &found, ending) {
+                continue;
+            }
+            let is_expected = expected.contains(name.as_str());
+            stripes.settle(alloc, code, name, found, is_expected)?;
+        }
+        for name in expected {
+            if !stripes.files.contains_key(name.as_str()) {
+                stripes.files.insert(name, StripeFiles::new())?;
+            }
+        }
+        for name in doubtful {
+            if stripes.files.contains_key(name.as_str()) {
+                stripes.described.insert(name)?;
+            }
+        }
+        for Alone { stripe, place } in blocked {
+            if let Some(files) = stripes.files.get_mut(stripe.as_str()) {
+                files.found[place.index()] = Found::Other;
+            }
+        }
+        Ok(stripes)
+    }
+}
+
+/// How many of some stripes are of another code.
+#[derive(Clone, Copy, Debug, PartialEq, Eq)]
+pub enum Others {
+    None,
+    Some,
+    All,
+}
+
+impl StoreStripes {
+    // Whether files are the descriptions of a stripe, and no stripe of their own.
+    fn describes(&self, name: &str, files: &StripeFiles, ending: Option<&str>) -> bool {
+        let Some(ending) = ending else {
+            return false;
+        };
+        let Some(stripe) = name.strip_suffix(ending) else {
+            return false;
+        };
+        let is_short = |found: &Found| {
+            match *found {
+                Found::File { length } => length <= MOST_BYTES,
+                _ => true,
+            }
+        };
+        self.described.contains(stripe) && files.found.iter().all(is_short)
+    }
+
+    // Takes the files of a name for those of a stripe, or each for one that is alone.
+    fn settle(
+        &mut self,
+        alloc: Global,
+        code: Code,
+        name: String,
+        found: StripeFiles,
+        is_expected: bool,
+    ) -> Result<(), AllocError> {
+        let is_stripe = is_expected || count_of(&found, code) >= LEAST_FRAGMENTS;
+        for place in &Place::ALL {
+            if found.at(*place) != Found::Absent && !(is_stripe && code.has(*place)) {
+                let stripe = String::from_str(alloc, name.as_str())?;
+                let place = *place;
+                self.alone.push(Alone { stripe, place })?;
+            }
+        }
+        if is_stripe {
+            self.files.insert(name, found)?;
+        }
+        Ok(())
+    }
+}
+
+// At how many places of a code there is something.
+fn count_of(files: &StripeFiles, code: Code) -> usize {
+    let mut count = 0usize;
+    for place in code.places() {
+        if files.at(*place) != Found::Absent {
+            count = count.saturating_add(1);
+        }
+    }
+    count
+}
+
+// The code of a stripe by its places: 12-2-2 if it has one that the (6,2,2) code hasn't, 6-2-2 if it has all of that code, and else this.
+fn said_by(files: &StripeFiles, doubtful_is: Code) -> Code {
+    let is_there = |place: &Place| files.at(*place) != Found::Absent;
+    if Place::ALL
+        .iter()
+        .any(|place| !Code::Narrow.has(*place) && is_there(place))
+    {
+        return Code::Wide;
+    }
+    if Code::Narrow.places().iter().all(|place| is_there(place)) {
+        return Code::Narrow;
+    }
+    doubtful_is
+}
