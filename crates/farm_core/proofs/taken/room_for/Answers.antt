@@ -24,10 +24,12 @@ racks_for-racks_given-requires-clause-count c =
     let feeds = c.all_feeds.ensures.all in let ok = lane.job_puts.ok in omega arith
 
 pub worker_ends-workers_given-requires-clause-unused_takes : goal.worker_ends-workers_given-requires-clause-unused_takes
-worker_ends-workers_given-requires-clause-unused_takes c = λ k e at. subst IsUnusedTake (sym (c.in_ok-job_puts.ensures.take_ends.each k e at)) refl
+worker_ends-workers_given-requires-clause-unused_takes c =
+    λ k e at. subst IsUnusedTake (sym (c.in_ok-job_puts.ensures.take_ends.each k e at)) refl
 
 pub worker_ends-workers_given-requires-clause-unused_puts : goal.worker_ends-workers_given-requires-clause-unused_puts
-worker_ends-workers_given-requires-clause-unused_puts c = λ k e at. subst IsUnusedPut (sym (c.in_ok-reply_puts.ensures.put_ends.each k e at)) refl
+worker_ends-workers_given-requires-clause-unused_puts c =
+    λ k e at. subst IsUnusedPut (sym (c.in_ok-reply_puts.ensures.put_ends.each k e at)) refl
 
 pub returns-clause-ready : goal.returns-clause-ready
 returns-clause-ready c =
