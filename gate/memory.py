@@ -82,6 +82,8 @@ def main():
     farm("long list", [rows(MOST_RECORDS, GREATEST, "x1 x2", "6-2-2")], GREATEST, "x1 x2", 60 * MEGABYTE)
     farm("long wide list", [rows(400, GREATEST, WIDE, "12-2-2")], GREATEST, WIDE, 60 * MEGABYTE)
     farm("four feeds", [rows(1_024, GREATEST, "x1 x2", "6-2-2")] * 4, GREATEST, "x1 x2", 60 * MEGABYTE)
+    # Of a next rack that is cut no more is read ahead than its first piece.
+    farm("two long lists", [rows(MOST_RECORDS, GREATEST, "x1 x2", "6-2-2")], GREATEST, "x1 x2", 60 * MEGABYTE, racks=2)
     # What is rebuilt stays until it is written: 105 MB here.
     farm("four feeds rebuilt", [rows(400, GREATEST, NARROW, "6-2-2")] * 4, GREATEST, NARROW, 200 * MEGABYTE)
     # A fragment takes the room that it lists, and a plan's arena ends with its request.

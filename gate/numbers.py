@@ -86,7 +86,7 @@ def limits():
     length = constant("crates/lrc_code/src/requests.rt", "MOST_LENGTH")
     name = constant("crates/lrc_code/src/requests.rt", "MOST_NAME_CHARACTERS")
     lines = constant("crates/line_mode/src/input.rt", "INPUT_LIMIT")
-    batch = constant("crates/farm_serving/src/batches.rt", "MOST_BATCH_BYTES")
+    batch = constant("crates/farm_files/src/batches.rt", "MOST_BATCH_BYTES")
     compare("orders of a rack", constant(farm, "MOST_ORDERS"), records)
     return {
         "README.md": [

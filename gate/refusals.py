@@ -34,13 +34,13 @@ TESTS = [
     ("lrc_tests", "two_forks_give_both_values", 2),
     ("lrc_tests", "the_most_forks_give_both_values", 4),
     ("farm_core_tests", "two_workers_answer_two_racks", 4),
-    ("farm_core_tests", "two_workers_answer_six_feeds", 8),
+    ("farm_core_tests", "two_workers_answer_six_feeds", 9),
     ("farm_core_tests", "collector_takes_its_room", 0),
     ("farm_lists_tests", "three_threads_make_the_known_digest", 2),
-    ("farm_serving_tests", "nothing_written_before_all_texts_are_made", 3),
-    ("farm_serving_tests", "nothing_written_with_two_workers", 4),
-    ("farm_serving_tests", "racks_are_answered_a_request_at_a_time", 3),
-    ("farm_serving_tests", "a_failed_write_without_memory_changes_nothing", 0),
+    ("farm_files_tests", "nothing_written_before_all_texts_are_made", 3),
+    ("farm_files_tests", "nothing_written_with_two_workers", 4),
+    ("farm_files_tests", "racks_are_answered_a_request_at_a_time", 3),
+    ("farm_files_tests", "a_failed_write_without_memory_changes_nothing", 0),
     ("store_repair_tests", "each_name_is_as_it_was_or_rebuilt", 0),
 ]
 
@@ -82,11 +82,11 @@ COUNTED_FOLDERS = [
 
 # A folder whose survivors are read in two batches, the second beside the answering of the first: as many requests of the (12,2,2) code
 # for the longest fragments, each with all other places as survivors. 16 of them fit into a batch. The survivors of these are absent, and
-# of the last two they are there, of zeros. With four workers a batch starts as many threads for its farm as FARM_THREADS: a collector's
-# and the workers', since its one feeder runs in the thread that starts them.
+# of the last two they are there, of zeros. With four workers a batch starts as many threads for its farm as FARM_THREADS: a collector's,
+# the workers' and a feeder's.
 BATCHED = 18
 THERE = range(16, BATCHED)
-FARM_THREADS = 5
+FARM_THREADS = 6
 LONGEST = 65_536
 SURVIVORS = "x1 x2 x3 x4 x5 y0 y1 y2 y3 y4 y5 px py p0 p1"
 
@@ -502,9 +502,8 @@ def racks_of(folder, survivors, length, racks):
 
 def count_threads(library):
     """The program starts as many threads as `--workers` says: for the farm of each batch the collector's, one for each worker and one for
-    each rack's feeder but the last, which the thread that starts the others runs; for the survivors of each rack one fewer than workers,
-    since the thread that waits takes a share, and as many as have the least part each, with one more where they are read beside the batch
-    before; and so for the digests.
+    each rack's feeder; for the survivors of each rack one fewer than workers, since the thread that waits takes a share, and as many as
+    have the least part each, with one more where they are read beside the batch before; and so for the digests.
     """
     with tempfile.TemporaryDirectory(dir=library.folder) as folder:
         folder = pathlib.Path(folder)
@@ -519,7 +518,7 @@ def count_threads(library):
                     raise Fault(f"threads of {name}: {ran.text()}")
                 reading = min(workers, 3 * COUNTED * (OPENING + length + 1) // PART)
                 digesting = min(workers, racks * COUNTED * (BLOCK + length) // PART) if "px" in survivors else 1
-                wanted = batches * (1 + workers) + (racks - batches) + racks * (reading - 1) + (batches - 1) + (digesting - 1)
+                wanted = batches * (1 + workers) + racks + racks * (reading - 1) + (batches - 1) + (digesting - 1)
                 if ran.threads != wanted:
                     raise Fault(f"threads of {name}: {workers} workers started {ran.threads} threads, and not {wanted}")
     print("refusals threads: as many as --workers says, for survivors, requests and digests", flush=True)

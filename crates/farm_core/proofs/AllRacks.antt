@@ -14,8 +14,8 @@ use Rattle.farm_lanes.specs.declared.lane.item.Item.TheVariants.{Value, End}
 use Rattle.farm_lanes.specs.Counting.{times, once_below}
 use Rattle.farm_lanes.specs.LaneEnds.{PutView}
 use Rattle.farm_lanes.specs.LaneRecord.{values}
-use Rattle.farm_lanes.specs.Lists.{Each}
-use Rattle.farm_lanes.proofs.Lists.{at_below, at_snoc_or, at_either, at_map, sum_map}
+use Rattle.list_members.specs.Lists.{Each}
+use Rattle.list_members.proofs.Lists.{at_below, at_snoc_or, at_either, at_map, sum_map}
 use Rattle.farm_lanes.proofs.Numbers.{times-cons, same_test, other_test}
 use Rattle.farm_lanes.proofs.Sums.{total_none}
 use Rattle.farm_orders.specs.declared.orders.Order.{Order}

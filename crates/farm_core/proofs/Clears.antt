@@ -7,7 +7,7 @@ use Rattle.std.proofs.lemmas.List.Sums.{sum_by-cons, sum_by-append}
 use mathlib.Core.Option.{some, some-ne-none, some-injective}
 use lib.ListN.{get_elem?}
 use Rattle.farm_lanes.specs.declared.lane.item.Item.{Item}
-use Rattle.farm_lanes.proofs.Lists.{at_snoc_or, at_front, at_back}
+use Rattle.list_members.proofs.Lists.{at_snoc_or, at_front, at_back}
 use Rattle.farm_lanes.proofs.Values.{values-append}
 use Rattle.farm_lanes.specs.LaneEnds.{PutView, TakeView, take_end, with_taken, AreAllEnds, puts_of, takes_of}
 use Rattle.farm_lanes.specs.LaneRecord.{values}

@@ -6,17 +6,16 @@ use Rattle.std.proofs.lemmas.List.{drop_more, length_push, get_or_append_left, g
 use Rattle.std.proofs.Common.{below_more}
 use mathlib.Core.Option.{some, some-ne-none, some-injective}
 use lib.ListN.{get_elem?}
-use Rattle.atomic_table.specs.Seated.{TableId}
 use Rattle.lrc_code.specs.Requests.{Asked}
 use Rattle.farm_lanes.specs.declared.lane.item.Item.{Item}
 use Rattle.farm_lanes.specs.declared.gate.record.SeatRecord.{SeatRecord}
 use Rattle.farm_lanes.specs.declared.lane.item.Item.TheVariants.{End}
-use Rattle.farm_lanes.proofs.Lists.{at_below, at_snoc_or, each_snoc}
+use Rattle.list_members.proofs.Lists.{at_below, at_snoc_or, each_snoc}
 use Rattle.farm_lanes.proofs.Values.{values-append}
-use Rattle.farm_lanes.specs.GateView.{GateName, SeatView}
+use Rattle.farm_lanes.specs.GateView.{GateName, SeatView, GateId}
 use Rattle.farm_lanes.specs.LaneEnds.{PutView, put_end, with_put}
 use Rattle.farm_lanes.specs.LaneRecord.{is_end, values}
-use Rattle.farm_lanes.specs.Lists.{Each}
+use Rattle.list_members.specs.Lists.{Each}
 use Rattle.farm_lanes.specs.SeatChanges.{accepted, made_close, missed_close}
 use Rattle.farm_lanes.specs.declared.gate.AlreadyClosed.{AlreadyClosed}
 use Rattle.std.specs.Prelude.{Result, Ok, Err, MatchResult}
@@ -157,7 +156,7 @@ feed_more total seat slot orders jobs i s s' e e' number job r d x was along low
 
 -- the feeder ends
 pub feed_ends : (gate : GateName) (seat : SeatView) (slot : ℕ) (list : List Order) (jobs : PutView Job) (i : ℕ) (s s' : SeatView)
-    (e e' : PutView Job) (right : Option TableId) (close : Option ℕ)
+    (e e' : PutView Job) (right : Option GateId) (close : Option ℕ)
     → IsFeeding gate.size.total seat slot (before_close list) jobs i s e → s'.gate ≡ s.gate → s'.has.share ≡ s.has.share
     → s'.has.numbers ≡ s.has.numbers → s'.has.draws ≤ s'.has.share → s'.has.held ≡ s.has.held
     → s'.has.draws ≡ s.has.draws + refused_draws right s'.has.knows
@@ -189,12 +188,12 @@ close_holds s s' (Ok n) closed = ap (λ (q : SeatRecord). q.held) closed.0
 close_holds s s' (Err e) closed = ap (λ (q : SeatRecord). q.held) closed
 
 -- the right is back, and the seat drew so many times more than jobs were put
-pub draws_known : (draws : ℕ) (right : TableId) (s : SeatRecord) (more : ℕ) (said : Bool) → s.knows ≡ said
+pub draws_known : (draws : ℕ) (right : GateId) (s : SeatRecord) (more : ℕ) (said : Bool) → s.knows ≡ said
     → refused_draws (Some right) said ≡ more → s.draws ≡ draws + more → s.draws ≡ draws + refused_draws (Some right) s.knows
 draws_known draws right s more said knows is all = all ∙ ap (λ n. draws + n) (sym (ap (refused_draws (Some right)) knows ∙ is))
 
 -- the right was spent
-pub right_spent : (gate : TableId) (was s s' : SeatRecord) (list : List Order) (result : Result ℕ AlreadyClosed) (close : Option ℕ)
+pub right_spent : (gate : GateId) (was s s' : SeatRecord) (list : List Order) (result : Result ℕ AlreadyClosed) (close : Option ℕ)
     (all : Type 0) → HasClose list → close ≡ result_ok result
     → MatchResult result (λ n. (s' ≡ made_close s n) × (s.knows ≡ false)) (λ _. s' ≡ missed_close s) → s.used ≡ was.used → s.made ≡ was.made
     → all → IsRightLeft gate was list all None close s'

@@ -4,7 +4,7 @@ use Rattle.std.proofs.Common.{Option, Some, None}
 use Rattle.std.specs.Prelude.{IsSome}
 use Rattle.std.specs.Option.{is_some}
 use Rattle.std.proofs.lemmas.Bool.{cases_eq}
-use Rattle.farm_lanes.proofs.Lists.{at_front, at_back}
+use Rattle.list_members.proofs.Lists.{at_front, at_back}
 use Rattle.farm_lanes.proofs.Numbers.{once_le, once_lt}
 use Rattle.farm_orders.specs.declared.orders.Order.{Order}
 use Rattle.farm_core.specs.declared.replies.CollectFault.{CollectFault}

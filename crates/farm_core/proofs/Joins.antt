@@ -5,7 +5,7 @@ use Rattle.std.proofs.lemmas.List.{length_push}
 use mathlib.Core.Option.{some, some-injective}
 use lib.ListN.{get_elem?}
 use Rattle.std.specs.declared.thread.PromisedHandle.{PromisedHandle}
-use Rattle.farm_lanes.proofs.Lists.{at_snoc_or, at_below}
+use Rattle.list_members.proofs.Lists.{at_snoc_or, at_below}
 use Rattle.farm_lanes.specs.LaneEnds.{PutView, TakeView}
 use Rattle.farm_lanes.specs.declared.gate.record.SeatRecord.{SeatRecord}
 use Rattle.std.specs.Prelude.{Option, Some, None}
@@ -14,12 +14,11 @@ use Rattle.farm_core.specs.declared.threads.worker.Worked.{Worked}
 use Rattle.farm_core.specs.Replies.{Replied}
 use Rattle.farm_core.specs.declared.threads.worker.WorkOf.{WorkOf}
 use Rattle.farm_core.specs.Jobs.{HasWorked}
-use Rattle.farm_core.specs.declared.threads.feeding.Feeding.{Feeding}
-use Rattle.farm_core.specs.Threads.{WorkersJoined, FeedersJoined, AreOfGate, AreRackFeeders, feeders_of, given_to}
-use Rattle.farm_lanes.specs.GateView.{GateName}
-use Rattle.farm_lanes.proofs.Lists.{at_map, at_front, at_back, sum_map}
-use Rattle.farm_lanes.specs.Lists.{Each}
-use Rattle.atomic_table.specs.Seated.{TableId}
+use Rattle.farm_core.specs.declared.threads.feeder.FeedOf.{FeedOf}
+use Rattle.farm_core.specs.Threads.{WorkersJoined, FeedersJoined, AreOfGate, AreRackFeeders, feeders_of}
+use Rattle.farm_lanes.specs.GateView.{GateName, GateId}
+use Rattle.list_members.proofs.Lists.{at_map, at_front, at_back, sum_map}
+use Rattle.list_members.specs.Lists.{Each}
 use Rattle.std.specs.List.{sum_by}
 use Rattle.std.proofs.lemmas.List.Sums.{sum_by-cons}
 use Rattle.farm_orders.specs.declared.orders.Order.{Order}
@@ -80,21 +79,24 @@ answered_all R [] (r ∷ rs) same each = absurd (omega arith)
 answered_all R (j ∷ js) [] same each = absurd (omega arith)
 answered_all R (j ∷ js) (r ∷ rs) same each = (each 0 j r refl refl, answered_all R js rs (omega arith) (λ k. each (suc k)))
 
+abbrev FeederHandle : Type 0
+FeederHandle = PromisedHandle (Option Fed) FeedOf
+
 -- one feeder more is joined
-pub fed_next : (hs : List Feeding) (fs : List Fed) (h : Feeding) (f : Fed) → FeedersJoined hs fs → LeftBy (given_to h) f
+pub fed_next : (hs : List FeederHandle) (fs : List Fed) (h : FeederHandle) (f : Fed) → FeedersJoined hs fs → LeftBy h.promise.0.value f
     → FeedersJoined (hs ++ h ∷ []) (fs ++ f ∷ [])
 fed_next hs fs h f was one = record {
   count = length_push fs f ∙ (ap (λ n. n + 1) was.count ∙ sym (length_push hs h));
   each = λ k h' f' at_h at_f. ⊎_elim
       (λ old. let low = at_below hs k h' old in was.each k h' f' old (snoc_old fs f f' k (let c = was.count in omega arith) at_f))
       (λ (new : (k ≡ length hs) × (h ≡ h')). let c = new.0 in
-      let P : Feeding × Fed → Type 0 = λ p. LeftBy (given_to p.0) p.1 in
+      let P : FeederHandle × Fed → Type 0 = λ p. LeftBy p.0.promise.0.value p.1 in
       subst P (λ i. (new.1 i, snoc_new fs f f' k (let e = was.count in omega arith) at_f i)) one)
       (at_snoc_or hs h h' k at_h);
 }
 
-right_own : (id : TableId) (was : SeatRecord) (list : List Order) (all : Type 0) (o : Option TableId) (close : Option ℕ) (left : SeatRecord)
-    (r : TableId) → o ≡ Some r → IsRightLeft id was list all o close left → r ≡ id
+right_own : (id : GateId) (was : SeatRecord) (list : List Order) (all : Type 0) (o : Option GateId) (close : Option ℕ) (left : SeatRecord)
+    (r : GateId) → o ≡ Some r → IsRightLeft id was list all o close left → r ≡ id
 right_own id was list all None close left r is said = absurd (cc)
 right_own id was list all (Some q) close left r is said = (let e : q ≡ r = cc in sym e ∙ said.0)
 
@@ -107,27 +109,27 @@ left_own gate f fed same left = (
   left.within,
 )
 
-module _ (gate : GateName) (hs : List Feeding) (fs : List Fed) (joined : FeedersJoined hs fs) where
+module _ (gate : GateName) (hs : List FeederHandle) (fs : List Fed) (joined : FeedersJoined hs fs) where
   pub all_own : AreOfGate gate hs → Each (IsOfGate gate.id) fs
   all_own own k fed at =
       let h = there hs k (let a = at_below fs k fed at in let b = joined.count in omega arith) in
-      left_own gate (given_to h.0) fed (own k h.0 h.1) (joined.each k h.0 fed h.1 at)
+      left_own gate h.0.promise.0.value fed (own k h.0 h.1) (joined.each k h.0 fed h.1 at)
 
   -- the feeders of a rack were joined
   pub rack_fed : (rack : ℕ) (lists : List (List Order)) → AreRackFeeders gate rack lists (feeders_of hs) → AreFed gate rack lists fs
   rack_fed rack lists are =
-      let long = map_length given_to hs in
+      let long = map_length (λ (h : FeederHandle). h.promise.0.value) hs in
       record {
         count = joined.count ∙ (sym long ∙ are.count);
         rights = are.rights ∙ (long ∙ sym joined.count);
         shares =
-            two_sums (λ (f : Fed). f.seat.has.share) (λ (h : Feeding). (given_to h).seat.has.share) fs hs joined.count
+            two_sums (λ (f : Fed). f.seat.has.share) (λ (h : FeederHandle). h.promise.0.value.seat.has.share) fs hs joined.count
             (λ k f h at_f at_h. (joined.each k h f at_h at_f).share_is)
-            ∙ (sym (sum_map (λ (f : Feeder). f.seat.has.share) given_to hs) ∙ are.shares);
+            ∙ (sym (sum_map (λ (f : Feeder). f.seat.has.share) (λ (h : FeederHandle). h.promise.0.value) hs) ∙ are.shares);
         each = λ k list fed at_list at.
             let h = there hs k (let a = at_below fs k fed at in let b = joined.count in omega arith) in
-            let f = given_to h.0 in
-            let is = are.each k f (at_map given_to hs k h.0 h.1) in
+            let f = h.0.promise.0.value in
+            let is = are.each k f (at_map (λ (h : FeederHandle). h.promise.0.value) hs k h.0 h.1) in
             let same : f.list.now ≡ list = some-injective _ _ (sym is.2 ∙ at_list) in
             let P : GateName × ℕ × ℕ × List Order → Type 0 =
             λ p. HasFed p.0 f.seat (slot_of p.1 p.2) p.3 f.jobs fed.seat fed.right fed.close fed.jobs in (

@@ -7,21 +7,20 @@ use Rattle.std.proofs.lemmas.List.{take_all}
 use Rattle.std.proofs.lemmas.List.Sums.{sum_by-cons}
 use mathlib.Core.Option.{some, some-ne-none, some-injective}
 use lib.ListN.{get_elem?}
-use Rattle.atomic_table.specs.Seated.{TableId}
 use Rattle.farm_lanes.specs.declared.gate.record.SeatRecord.{SeatRecord}
 use Rattle.farm_lanes.specs.declared.gate.record.GateSize.{GateSize}
 use Rattle.farm_lanes.specs.declared.lane.item.Item.TheVariants.{End}
 use Rattle.farm_lanes.specs.Counting.{times}
 use Rattle.farm_lanes.specs.GateRecord.{IsSound}
-use Rattle.farm_lanes.specs.GateView.{GateName, SeatView}
+use Rattle.farm_lanes.specs.GateView.{GateName, SeatView, GateId}
 use Rattle.farm_lanes.specs.LaneEnds.{PutView}
 use Rattle.farm_lanes.specs.LaneRecord.{values}
-use Rattle.farm_lanes.specs.Lists.{Each}
+use Rattle.list_members.specs.Lists.{Each}
 use Rattle.farm_lanes.specs.SeatChanges.{joined, given, given_away, made_close, missed_close}
 use Rattle.farm_lanes.specs.declared.gate.AlreadyClosed.{AlreadyClosed}
 use Rattle.std.specs.Prelude.{Result, Ok, Err, MatchResult}
 use Rattle.std.proofs.Common.{true≢false, append_assoc}
-use Rattle.farm_lanes.proofs.Lists.{at_below, at_map, from_map, sum_map, each_snoc}
+use Rattle.list_members.proofs.Lists.{at_below, at_map, from_map, sum_map, each_snoc}
 use Rattle.farm_lanes.proofs.Numbers.{times-append}
 use Rattle.farm_lanes.proofs.Sums.{total_none, total_snoc}
 use Rattle.farm_lanes.proofs.Values.{values-append}
@@ -96,13 +95,13 @@ draws_length r [] all = refl
 draws_length r (Solve a b q ∷ js) all = ap suc (draws_length r js (λ k d low. all (suc k) d (omega arith)))
 draws_length r (Stop ∷ js) all = absurd (all 0 Stop (omega arith))
 
-left_back : (gate : TableId) (was : SeatRecord) (list : List Order) (all : Type 0) (right : Option TableId) (close : Option ℕ)
+left_back : (gate : GateId) (was : SeatRecord) (list : List Order) (all : Type 0) (right : Option GateId) (close : Option ℕ)
     (left : SeatRecord) → is_some right ≡ true → IsRightLeft gate was list all right close left
     → (left.used ≡ was.used) × (left.made ≡ was.made) × (left.knows ≡ false → all × ¬ HasClose list)
 left_back gate was list all None close left back is = absurd (cc)
 left_back gate was list all (Some r) close left back is = (is.2, is.3, is.4)
 
-left_spent : (gate : TableId) (was : SeatRecord) (list : List Order) (all : Type 0) (right : Option TableId) (close : Option ℕ)
+left_spent : (gate : GateId) (was : SeatRecord) (list : List Order) (all : Type 0) (right : Option GateId) (close : Option ℕ)
     (left : SeatRecord) → right ≡ None → IsRightLeft gate was list all right close left → all × HasClose list
 left_spent gate was list all None close left spent is = (is.2, is.3)
 left_spent gate was list all (Some r) close left spent is = absurd (cc)
@@ -117,7 +116,7 @@ scan (f ∷ given_back) = ⊎_elim
     (λ spent. inr (0, f, refl, spent))
     (decide f.right)
   where
-    decide : (o : Option TableId) → (is_some o ≡ true) ⊎ (o ≡ None)
+    decide : (o : Option GateId) → (is_some o ≡ true) ⊎ (o ≡ None)
     decide None = inr refl
     decide (Some r) = inl refl
 
@@ -294,7 +293,7 @@ spend_ends size was s count sound spending used made all = decide was.knows (λ 
     decide false out = refl
 
 -- the rights that came back
-abbrev pub rights_of : List Fed → List TableId
+abbrev pub rights_of : List Fed → List GateId
 rights_of [] = []
 rights_of (f ∷ given_back) = right_back f.right ++ rights_of given_back
 
@@ -311,24 +310,24 @@ all_back (f ∷ given_back) back =
     let b = one f.right (back 0 f refl) in
     let c = all_back given_back (λ k. back (suc k)) in omega arith
   where
-    one : (o : Option TableId) → is_some o ≡ true → length (right_back o) ≡ 1
+    one : (o : Option GateId) → is_some o ≡ true → length (right_back o) ≡ 1
     one None is = absurd (cc)
     one (Some r) is = refl
 
-pub rights_own : (gate : TableId) (given_back : List Fed) → Each (IsOfGate gate) given_back → Each (λ r. r ≡ gate) (rights_of given_back)
+pub rights_own : (gate : GateId) (given_back : List Fed) → Each (IsOfGate gate) given_back → Each (λ r. r ≡ gate) (rights_of given_back)
 rights_own gate [] own = λ k r at. absurd (some-ne-none r (sym at))
 rights_own gate (f ∷ given_back) own = both (right_back f.right) (rights_of given_back) (one f.right (own 0 f refl).1)
     (rights_own gate given_back (λ k. own (suc k)))
   where
-    only : (q : TableId) (k : ℕ) (r : TableId) → get_elem? (q ∷ []) k ≡ some r → q ≡ gate → r ≡ gate
+    only : (q : GateId) (k : ℕ) (r : GateId) → get_elem? (q ∷ []) k ≡ some r → q ≡ gate → r ≡ gate
     only q zero r at is = sym (some-injective q r at) ∙ is
     only q (suc k) r at is = absurd (some-ne-none r (sym at))
 
-    one : (o : Option TableId) → ((right : TableId) → o ≡ Some right → right ≡ gate) → Each (λ r. r ≡ gate) (right_back o)
+    one : (o : Option GateId) → ((right : GateId) → o ≡ Some right → right ≡ gate) → Each (λ r. r ≡ gate) (right_back o)
     one None is = λ k r at. absurd (some-ne-none r (sym at))
     one (Some q) is = λ k r at. only q k r at (is q refl)
 
-    both : (xs ys : List TableId) → Each (λ r. r ≡ gate) xs → Each (λ r. r ≡ gate) ys → Each (λ r. r ≡ gate) (xs ++ ys)
+    both : (xs ys : List GateId) → Each (λ r. r ≡ gate) xs → Each (λ r. r ≡ gate) ys → Each (λ r. r ≡ gate) (xs ++ ys)
     both [] ys a b k r at = b k r at
     both (x ∷ xs) ys a b zero r at = a 0 r at
     both (x ∷ xs) ys a b (suc k) r at = both xs ys (λ j. a (suc j)) b k r at

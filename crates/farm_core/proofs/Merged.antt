@@ -10,11 +10,11 @@ use mathlib.Core.Option.{some, some-ne-none, some-injective}
 use lib.ListN.{get_elem?}
 use Rattle.lrc_code.specs.declared.outcomes.Outcome.{Outcome}
 use Rattle.lrc_code.specs.Requests.{Asked}
-use Rattle.farm_lanes.proofs.Lists.{from_map}
+use Rattle.list_members.proofs.Lists.{from_map}
 use Rattle.farm_lanes.proofs.Lengths.{below_length}
 use Rattle.farm_lanes.proofs.Numbers.{times-append}
 use Rattle.farm_lanes.specs.Counting.{times, once_below, AreBelow}
-use Rattle.farm_lanes.specs.Lists.{Each}
+use Rattle.list_members.specs.Lists.{Each}
 use Rattle.farm_orders.specs.declared.orders.Order.{Order}
 use Rattle.farm_orders.specs.Orders.{before_close}
 use Rattle.farm_core.specs.Replies.{Replied, Entry}

@@ -9,7 +9,7 @@ use mathlib.Core.Option.{some, some-ne-none, some-injective}
 use lib.ListN.{get_elem?}
 use Rattle.lrc_code.specs.declared.outcomes.Outcome.{Outcome}
 use Rattle.lrc_code.specs.Requests.{Asked}
-use Rattle.farm_lanes.proofs.Lists.{at_below, at_map}
+use Rattle.list_members.proofs.Lists.{at_below, at_map}
 use Rattle.farm_lanes.proofs.Numbers.{times-cons, test_one, once_le, once_lt, same_test, other_test}
 use Rattle.farm_lanes.proofs.Sums.{total_two, total_part}
 use Rattle.farm_lanes.specs.Counting.{times}

@@ -2,8 +2,8 @@
 use Rattle.std.proofs.Common.{◌≡◌, List, [], ◌∷◌, ◌++◌, length, refl, sym, ap, ◌∙◌, subst, arith, append-nil, length-append}
 use mathlib.Core.Option.{some}
 use lib.ListN.{get_elem?}
-use Rattle.farm_lanes.proofs.Lists.{at_back, at_front}
-use Rattle.farm_lanes.specs.Lists.{Each}
+use Rattle.list_members.proofs.Lists.{at_back, at_front}
+use Rattle.list_members.specs.Lists.{Each}
 
 module _ {A : Type 0} where
   pub each_middle : (P : A → Type 0) (all done rest : List A) (x : A) → all ≡ done ++ x ∷ rest → Each P all → P x

@@ -7,7 +7,7 @@ use Rattle.std.proofs.lemmas.List.{length-take, take-append-le}
 use mathlib.Core.Option.{some, some-ne-none, some-injective}
 use lib.ListN.{get_elem?}
 use Rattle.lrc_code.specs.Requests.{Asked}
-use Rattle.farm_lanes.proofs.Lists.{at_below}
+use Rattle.list_members.proofs.Lists.{at_below}
 use Rattle.farm_orders.specs.declared.orders.Order.{Order}
 use Rattle.farm_orders.specs.declared.orders.Order.TheVariants.{Rebuild, Close}
 use Rattle.farm_orders.specs.Orders.{before_close, HasClose}

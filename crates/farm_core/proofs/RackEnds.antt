@@ -1,18 +1,22 @@
 -- The put ends of all racks, and the feeders that had them.
-use Rattle.std.proofs.Common.{◌≡◌, ℕ, suc, List, [], ◌∷◌, ◌++◌, length, map, refl, sym, ap, ◌∙◌, arith, append-nil}
+use Rattle.std.proofs.Common.{◌≡◌, ℕ, suc, List, [], ◌∷◌, ◌++◌, length, map, refl, sym, ap, ◌∙◌, arith, Option, append-nil}
 use Rattle.std.proofs.lemmas.List.{map-append}
 use Rattle.std.proofs.lemmas.Grind.{flat_map-append}
 use mathlib.Core.Option.{some}
 use lib.ListN.{get_elem?}
+use Rattle.std.specs.declared.thread.PromisedHandle.{PromisedHandle}
 use Rattle.farm_lanes.specs.LaneEnds.{PutView}
 use Rattle.farm_core.specs.declared.jobs.Job.{Job}
 use Rattle.farm_core.specs.declared.threads.given.Feeder.{Feeder}
 use Rattle.farm_core.specs.declared.threads.feeder.Fed.{Fed}
-use Rattle.farm_core.specs.declared.threads.feeding.Feeding.{Feeding}
+use Rattle.farm_core.specs.declared.threads.feeder.FeedOf.{FeedOf}
 use Rattle.farm_core.specs.declared.threads.rack_feeders.RackFeeders.{RackFeeders}
 use Rattle.farm_core.specs.Feed.{LeftBy}
-use Rattle.farm_core.specs.Threads.{FeedersJoined, feeders_of, given_to}
+use Rattle.farm_core.specs.Threads.{FeedersJoined, feeders_of}
 use Rattle.farm_core.specs.Ready.{Given, started_of, all_given, ends_given, as_new, AreEndsOf}
+
+abbrev FeederHandle : Type 0
+FeederHandle = PromisedHandle (Option Fed) FeedOf
 
 abbrev jobs_at : Feeder → PutView Job
 jobs_at f = f.jobs
@@ -37,12 +41,12 @@ as_given : (f : Feeder) (fed : Fed) → LeftBy f fed → as_new fed.jobs ≡ f.j
 as_given f fed left = ap as_new left.jobs_is ∙ sym f.unused
 
 -- of a rack's joined feeders
-pub rack_ends : (hs : List Feeding) (fs : List Fed) → FeedersJoined hs fs → AreEndsOf (feeders_of hs) (map fed_jobs fs)
+pub rack_ends : (hs : List FeederHandle) (fs : List Fed) → FeedersJoined hs fs → AreEndsOf (feeders_of hs) (map fed_jobs fs)
 rack_ends hs fs joined =
     maps_twice fed_jobs as_new fs
-    ∙ (same_maps (λ (f : Fed). as_new f.jobs) (λ (h : Feeding). (given_to h).jobs) fs hs joined.count
-    (λ k f h at_f at_h. as_given (given_to h) f (joined.each k h f at_h at_f))
-    ∙ sym (maps_twice given_to jobs_at hs))
+    ∙ (same_maps (λ (f : Fed). as_new f.jobs) (λ (h : FeederHandle). h.promise.0.value.jobs) fs hs joined.count
+    (λ k f h at_f at_h. as_given h.promise.0.value f (joined.each k h f at_h at_f))
+    ∙ sym (maps_twice (λ (h : FeederHandle). h.promise.0.value) jobs_at hs))
 
 -- one rack more
 pub given_snoc : (given : List Given) (g : Given) → all_given (given ++ g ∷ []) ≡ all_given given ++ g.1

@@ -7,8 +7,8 @@ use Rattle.std.proofs.lemmas.List.{length-replicate, get_or-replicate}
 use Rattle.std.proofs.lemmas.List.Sums.{sum_by-cons}
 use mathlib.Core.Option.{some, some-ne-none, some-injective}
 use lib.ListN.{get_elem?}
-use Rattle.farm_lanes.proofs.Lists.{at_back, at_below}
-use Rattle.farm_lanes.specs.Lists.{Each}
+use Rattle.list_members.proofs.Lists.{at_back, at_below}
+use Rattle.list_members.specs.Lists.{Each}
 use Rattle.farm_orders.specs.declared.orders.Order.{Order}
 use Rattle.farm_orders.specs.FedLists.{all_feeds_of}
 

@@ -2,10 +2,10 @@
 use Rattle.std.proofs.Common.{◌≡◌, ℕ, ◌+◌, ◌<◌, ◌≤◌, List, [], ◌∷◌, ◌++◌, length, map, sym, ◌∙◌, subst, arith}
 use mathlib.Core.Option.{some}
 use lib.ListN.{get_elem?}
-use Rattle.farm_lanes.proofs.Lists.{at_map}
+use Rattle.list_members.proofs.Lists.{at_map}
 use Rattle.farm_lanes.proofs.Opens.{popped_put, popped_take}
 use Rattle.farm_lanes.specs.LaneEnds.{LaneName, PutView, TakeView, new_take, AreNewPutEnds, AreNewEnds}
-use Rattle.farm_lanes.specs.Lists.{Each}
+use Rattle.list_members.specs.Lists.{Each}
 use Rattle.farm_orders.specs.declared.orders.Order.{Order}
 use Rattle.farm_core.specs.declared.jobs.Job.{Job}
 use Rattle.farm_core.specs.declared.threads.given.WorkerEnds.{WorkerEnds}

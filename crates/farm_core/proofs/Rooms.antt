@@ -3,10 +3,10 @@ use Rattle.std.proofs.Common.{◌≡◌, ℕ, ◌+◌, List, [], ◌∷◌, ◌+
 use Rattle.std.proofs.lemmas.List.{map-append, length_push}
 use mathlib.Core.Option.{some}
 use lib.ListN.{get_elem?}
-use Rattle.farm_lanes.proofs.Lists.{at_back, at_front, at_snoc_or}
+use Rattle.list_members.proofs.Lists.{at_back, at_front, at_snoc_or}
 use Rattle.farm_lanes.proofs.Opens.{popped_put}
 use Rattle.farm_lanes.specs.LaneEnds.{LaneName, PutView, TakeView, IsUnusedPut, AreNewPutEnds, AreNewEnds}
-use Rattle.farm_lanes.specs.Lists.{Each, EachAt}
+use Rattle.list_members.specs.Lists.{Each, EachAt}
 use Rattle.farm_core.specs.declared.jobs.Job.{Job}
 
 module _ {A : Type 0} where

@@ -9,11 +9,11 @@ use lib.ListN.{get_elem?}
 use Rattle.lrc_code.specs.Requests.{Asked}
 use Rattle.farm_lanes.specs.declared.lane.item.Item.{Item}
 use Rattle.farm_lanes.specs.declared.lane.item.Item.TheVariants.{Value, End}
-use Rattle.farm_lanes.proofs.Lists.{at_snoc_or, sum_map, from_map, at_map, at_front, at_back}
+use Rattle.list_members.proofs.Lists.{at_snoc_or, sum_map, from_map, at_map, at_front, at_back}
 use Rattle.farm_lanes.specs.LaneEnds.{PutView, TakeView, puts_of, takes_of}
 use Rattle.farm_lanes.specs.LaneRecord.{values, sender_of, number_of, IsLawful}
 use Rattle.farm_lanes.specs.LaneSettled.{IsSettled}
-use Rattle.farm_lanes.specs.Lists.{Each}
+use Rattle.list_members.specs.Lists.{Each}
 use Rattle.farm_core.specs.declared.jobs.Job.{Job}
 use Rattle.farm_core.specs.declared.jobs.Job.TheVariants.{Solve, Stop}
 use Rattle.farm_core.specs.Replies.{Replied}

@@ -3,7 +3,7 @@ use Rattle.std.proofs.Common.{◌≡◌, [], ◌∷◌, ◌++◌, sym, ap, ◌�
 use mathlib.Core.Option.{some-ne-none}
 use Rattle.farm_lanes.specs.declared.lane.item.Item.{Item}
 use Rattle.farm_lanes.specs.LaneEnds.{PutView, with_put, IsUnusedPut}
-use Rattle.farm_lanes.proofs.Lists.{each_snoc}
+use Rattle.list_members.proofs.Lists.{each_snoc}
 use Rattle.farm_core.specs.declared.jobs.Job.{Job}
 use Rattle.farm_core.specs.Jobs.{AsksNothing, HasPutStops}
 

@@ -4,7 +4,7 @@ use Rattle.std.specs.List.{AllZip}
 use mathlib.Core.Option.{some}
 use lib.ListN.{get_elem?}
 use Rattle.std.specs.declared.thread.PromisedHandle.{PromisedHandle}
-use Rattle.farm_lanes.proofs.Lists.{at_below, at_map}
+use Rattle.list_members.proofs.Lists.{at_below, at_map}
 use Rattle.farm_lanes.proofs.Values.{values-append}
 use Rattle.farm_lanes.specs.declared.lane.item.Item.TheVariants.{End}
 use Rattle.farm_lanes.specs.LaneRecord.{values}

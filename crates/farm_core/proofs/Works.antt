@@ -3,9 +3,9 @@ use Rattle.std.proofs.Common.{◌≡◌, ℕ, List, [], ◌∷◌, ◌++◌, len
 use Rattle.std.specs.List.{AllZip}
 use Rattle.farm_lanes.specs.declared.lane.item.Item.{Item}
 use Rattle.farm_lanes.specs.declared.lane.item.Item.TheVariants.{End}
-use Rattle.farm_lanes.proofs.Lists.{each_snoc}
+use Rattle.list_members.proofs.Lists.{each_snoc}
 use Rattle.farm_lanes.proofs.Values.{values-append}
-use Rattle.farm_lanes.specs.Lists.{Each}
+use Rattle.list_members.specs.Lists.{Each}
 use Rattle.farm_lanes.specs.LaneEnds.{PutView, TakeView, LaneName, put_end, take_end, with_put, with_taken, IsUnusedPut, IsUnusedTake}
 use mathlib.Core.Option.{some-ne-none}
 use Rattle.farm_lanes.specs.LaneRecord.{is_end, values}

@@ -4,14 +4,13 @@ use Rattle.std.specs.Prelude.{if◌then◌else◌, ◌⊎◌, map}
 use Rattle.std.specs.List.{All, sum_by}
 use mathlib.Core.Option.{some}
 use lib.ListN.{get_elem?}
-use Rattle.atomic_table.specs.Seated.{TableId}
 use Rattle.farm_lanes.specs.declared.lane.item.Item.{Item}
 use Rattle.farm_lanes.specs.declared.lane.item.Item.TheVariants.{End}
 use Rattle.farm_lanes.specs.declared.gate.record.SeatRecord.{SeatRecord}
 use Rattle.farm_lanes.specs.LaneRecord.{is_end, values}
-use Rattle.farm_lanes.specs.Lists.{Each, EachAt}
+use Rattle.list_members.specs.Lists.{Each, EachAt}
 use Rattle.farm_lanes.specs.LaneEnds.{PutView, put_end}
-use Rattle.farm_lanes.specs.GateView.{GateName, SeatView}
+use Rattle.farm_lanes.specs.GateView.{GateName, SeatView, GateId}
 use Rattle.farm_orders.specs.declared.orders.Order.{Order}
 use Rattle.farm_core.specs.declared.jobs.Job.{Job}
 use Rattle.farm_orders.specs.Orders.{before_close, HasClose}
@@ -38,13 +37,13 @@ IsMade was (Some n) made = made ≡ was ++ n ∷ []
 IsMade was None made = made ≡ was
 
 -- how many of a feeder's draws were refused: one, if the right is back and the seat knows of a closing
-abbrev pub refused_draws : Option TableId → Bool → ℕ
+abbrev pub refused_draws : Option GateId → Bool → ℕ
 refused_draws (Some right) knows = if knows then 1 else 0
 refused_draws None knows = 0
 
 -- the right is back, and unless the seat knows of a closing everything was put, of a list without a close; or the right was
 -- spent on the close of the list, of which the seat knows, and everything before it was put
-abbrev pub IsRightLeft : TableId → SeatRecord → List Order → Type 0 → Option TableId → Option ℕ → SeatRecord → Type 0
+abbrev pub IsRightLeft : GateId → SeatRecord → List Order → Type 0 → Option GateId → Option ℕ → SeatRecord → Type 0
 IsRightLeft gate was list All_put (Some right) close left =
     (right ≡ gate) × (close ≡ None) × (left.used ≡ was.used) × (left.made ≡ was.made) × (left.knows ≡ false → All_put × ¬ HasClose list)
 IsRightLeft gate was list All_put None close left = (left.used ≡ was.used + 1) × IsMade was.made close left.made × All_put × HasClose list
@@ -53,7 +52,7 @@ IsRightLeft gate was list All_put None close left = (left.used ≡ was.used + 1)
 -- With this seat and this end, unused at first, a feeder put a job for each of the first requests of its list, with its slot and
 -- the numbers that it drew, which rise, and then its end mark.
 pub record HasFed (gate : GateName) (seat : SeatView) (slot : ℕ) (list : List Order) (jobs : PutView Job) (seat_left : SeatView)
-    (right_left : Option TableId) (close : Option ℕ) (jobs_left : PutView Job) : Type 0 where
+    (right_left : Option GateId) (close : Option ℕ) (jobs_left : PutView Job) : Type 0 where
   pub put : List (Item Job)
   pub only_values : Each (λ x. is_end x ≡ false) put
   pub jobs_is : jobs_left ≡ put_end jobs.lane jobs.sender (put ++ End jobs.sender (length put) ∷ [])
@@ -117,13 +116,13 @@ pub record IsJoint (s : SeatRecord) (parts : List SeatRecord) : Type 0 where
   pub unclosed : s.knows ≡ false → Each (λ (t : SeatRecord). t.knows ≡ false) parts
 
 -- the right that came back, if it did
-abbrev pub right_back : Option TableId → List TableId
+abbrev pub right_back : Option GateId → List GateId
 right_back None = []
 right_back (Some right) = right ∷ []
 
 -- the seat is this gate's, and so is the right that came back; no more was drawn than the seat's share
-abbrev pub IsOfGate : TableId → Fed → Type 0
-IsOfGate gate fed = (fed.seat.gate ≡ gate) × ((right : TableId) → fed.right ≡ Some right → right ≡ gate)
+abbrev pub IsOfGate : GateId → Fed → Type 0
+IsOfGate gate fed = (fed.seat.gate ≡ gate) × ((right : GateId) → fed.right ≡ Some right → right ≡ gate)
     × (fed.seat.has.draws ≤ fed.seat.has.share)
 
 -- these are what the feeders of a rack left, in order, which had all seats and all rights of its gate

@@ -6,7 +6,7 @@ use lib.ListN.{get_elem?}
 use Rattle.lrc_code.specs.declared.outcomes.Outcome.{Outcome}
 use Rattle.lrc_code.specs.Answers.{IsAnswer}
 use Rattle.lrc_code.specs.Requests.{Asked}
-use Rattle.farm_lanes.specs.Lists.{EachAt}
+use Rattle.list_members.specs.Lists.{EachAt}
 use Rattle.farm_orders.specs.declared.orders.Order.{Order}
 use Rattle.farm_orders.specs.Orders.{before_close, HasClose}
 use Rattle.farm_core.specs.Expected.{AreAnswers}

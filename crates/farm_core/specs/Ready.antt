@@ -11,8 +11,7 @@ use Rattle.farm_core.specs.declared.jobs.Job.{Job}
 use Rattle.farm_core.specs.declared.threads.given.Feeder.{Feeder}
 use Rattle.farm_core.specs.declared.threads.rack_feeders.RackFeeders.{RackFeeders}
 use Rattle.farm_core.specs.declared.threads.rack_feeders.RackRoom.{RackRoom}
-use Rattle.farm_lanes.specs.Lists.{Each}
-use Rattle.farm_core.specs.Threads.{AreRackFeeders, feeders_of, IsKept, AreWorkerEnds, ends_of}
+use Rattle.farm_core.specs.Threads.{AreRackFeeders, feeders_of, AreWorkerEnds, ends_of}
 use Rattle.farm_core.specs.Settled.{HavePut}
 use Rattle.farm_core.specs.declared.taken.Room.{Room}
 use Rattle.farm_core.specs.declared.threads.all.Started.{Started}
@@ -20,11 +19,12 @@ use Rattle.farm_core.specs.Replies.{Replied}
 use Rattle.farm_core.specs.Boards.{HoldsNothing}
 use Rattle.farm_orders.specs.Limits.{all_feeds_limit, rack_limit, worker_limit}
 
--- a new gate with so many seats and rights, and these are they
+-- a new gate with so many seats and rights, and these are they, with room for as many feeders
 pub record IsNewGate (feeds : ℕ) (gate : GateName) (own : RackSeats) : Type 0 where
   pub size : gate.size ≡ record { total = 4294967296 / feeds * feeds; rights = feeds }
   pub seats : own.seats.items ≡ replicate feeds (opened gate.id (4294967296 / feeds))
   pub rights : own.rights.items ≡ replicate feeds gate.id
+  pub space : own.space.feeds ≡ feeds
 
 -- for each rack a new gate, with one seat and one right for each of its feeds
 pub record AreGates (lists : List (List (List Order))) (gates : List GateName) (seats : List RackSeats) : Type 0 where
@@ -38,10 +38,6 @@ pub record AreAllFeeders (lists : List (List (List Order))) (racks : List RackFe
   pub count : length racks ≡ length lists
   pub each : (k : ℕ) (feeds : List (List Order)) (r : RackFeeders) → get_elem? lists k ≡ some feeds → get_elem? racks k ≡ some r
       → AreRackFeeders r.gate.now k feeds (feeders_of r.handles.items)
-
--- what was run of these racks' feeders without a thread is what they left
-abbrev pub AreKept : List RackFeeders → Type 0
-AreKept racks = Each (λ (r : RackFeeders). Each IsKept r.handles.items) racks
 
 -- with whatever lists these were the feeders, their ends put what was drawn
 abbrev pub HavePutRacks : List RackFeeders → List (PutView Job) → Type 0

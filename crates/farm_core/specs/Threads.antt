@@ -1,5 +1,5 @@
--- What joined workers and feeders leave.
-use Rattle.std.specs.Prelude.{◌≡◌, ℕ, List, length, map, IfSome}
+-- What joined workers leave.
+use Rattle.std.specs.Prelude.{◌≡◌, ℕ, List, length, map, Option}
 use mathlib.Core.Option.{some}
 use lib.ListN.{get_elem?}
 use Rattle.std.specs.declared.thread.PromisedHandle.{PromisedHandle}
@@ -12,32 +12,21 @@ use Rattle.farm_core.specs.declared.threads.given.WorkerEnds.{WorkerEnds}
 use Rattle.farm_core.specs.declared.threads.given.Feeder.{Feeder}
 use Rattle.std.specs.List.{sum_by}
 use Rattle.farm_lanes.specs.GateView.{GateName}
-use Rattle.farm_lanes.specs.Lists.{Each}
+use Rattle.list_members.specs.Lists.{Each}
 use Rattle.farm_core.specs.declared.threads.feeder.Fed.{Fed}
 use Rattle.farm_core.specs.Feed.{LeftBy}
 use Rattle.farm_orders.specs.declared.orders.Order.{Order}
-use Rattle.farm_lanes.specs.Lists.{EachAt}
-use Rattle.farm_core.specs.declared.threads.feeding.Feeding.{Feeding}
-use Rattle.farm_core.specs.declared.threads.feeding.Feeding.TheVariants.{Thread, Here}
+use Rattle.list_members.specs.Lists.{EachAt}
+use Rattle.farm_core.specs.declared.threads.feeder.FeedOf.{FeedOf}
 use Rattle.farm_core.specs.Jobs.{HasWorked}
 
 -- the ends that these workers were given
 abbrev pub ends_of : List (PromisedHandle Worked WorkOf) → List WorkerEnds
 ends_of handles = map (λ h. h.promise.0.value) handles
 
--- what a feeder was given, whether it has a thread or was run here
-abbrev pub given_to : Feeding → Feeder
-given_to (Thread handle) = handle.promise.0.value
-given_to (Here given fed) = given.value
-
--- what was run here is what its feeder left, if it has fed
-abbrev pub IsKept : Feeding → Type 0
-IsKept (Thread handle) = Unit {0}
-IsKept (Here given fed) = IfSome fed (LeftBy given.value)
-
 -- what these feeders were given
-abbrev pub feeders_of : List Feeding → List Feeder
-feeders_of handles = map given_to handles
+abbrev pub feeders_of : List (PromisedHandle (Option Fed) FeedOf) → List Feeder
+feeders_of handles = map (λ h. h.promise.0.value) handles
 
 -- the ends at each index are what the worker of that index left
 pub record WorkersJoined (handles : List (PromisedHandle Worked WorkOf)) (jobs : List (TakeView Job))
@@ -52,13 +41,14 @@ pub record AreWorkerEnds (jobs_lane : LaneName Job) (replies_lane : LaneName Rep
   pub each : (k : ℕ) (e : WorkerEnds) → get_elem? ends k ≡ some e → (e.jobs ≡ new_take jobs_lane) × (e.replies ≡ new_put replies_lane k)
 
 -- what each feeder left is at its index
-pub record FeedersJoined (handles : List Feeding) (given_back : List Fed) : Type 0 where
+pub record FeedersJoined (handles : List (PromisedHandle (Option Fed) FeedOf)) (given_back : List Fed) : Type 0 where
   pub count : length given_back ≡ length handles
-  pub each : (k : ℕ) (h : Feeding) (f : Fed) → get_elem? handles k ≡ some h → get_elem? given_back k ≡ some f → LeftBy (given_to h) f
+  pub each : (k : ℕ) (h : PromisedHandle (Option Fed) FeedOf) (f : Fed) → get_elem? handles k ≡ some h → get_elem? given_back k ≡ some f
+      → LeftBy h.promise.0.value f
 
 -- all seats and rights of these feeders are this gate's
-abbrev pub AreOfGate : GateName → List Feeding → Type 0
-AreOfGate gate handles = Each (λ h. (given_to h).gate.now ≡ gate) handles
+abbrev pub AreOfGate : GateName → List (PromisedHandle (Option Fed) FeedOf) → Type 0
+AreOfGate gate handles = Each (λ h. h.promise.0.value.gate.now ≡ gate) handles
 
 -- the feeders of a rack: each at the index of its feed, with its list, and all seats and rights of their gate
 pub record AreRackFeeders (gate : GateName) (rack : ℕ) (lists : List (List Order)) (feeders : List Feeder) : Type 0 where

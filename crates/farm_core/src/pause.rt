@@ -1,7 +1,7 @@
 //! Calls around each request, by which tests hold workers.
 
 /// What a worker calls around each request, and a feeder around each draw and close; the threads that a run starts for them have stacks
-/// of 1 MiB, and the last feeder runs in the calling thread. Racks, feeds, positions and numbers count from 0.
+/// of 1 MiB. Racks, feeds, positions and numbers count from 0.
 pub trait Pause: Sync {
     /// Before a request is solved.
     fn before(&self, rack: usize, number: u64);

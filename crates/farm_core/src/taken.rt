@@ -1,7 +1,7 @@
 //! What a run takes before its first thread starts.
-ghost use Rattle.std.specs.Prelude.{◌≡◌, ◌+◌, ◌≤◌, ◌<◌, ◌++◌, IfOk, length, map, vec_len};
+ghost use Rattle.std.specs.Prelude.{◌≡◌, ◌+◌, ◌≤◌, ◌<◌, [], ◌++◌, IfOk, length, map, vec_len, vec_capacity};
 ghost use Rattle.std.specs.Vec.Iter.{into_iter_items, into_iter_len};
-ghost use Rattle.farm_lanes.specs.Lists.{Each};
+ghost use Rattle.list_members.specs.Lists.{Each};
 ghost use Rattle.farm_lanes.specs.LaneEnds.{IsUnusedPut};
 ghost use Rattle.farm_core.specs.declared.jobs.Job.{Job};
 ghost use Rattle.farm_orders.specs.FedLists.{all_feeds_of};
@@ -22,7 +22,7 @@ use crate::taken::lanes::{reply_lane, request_lane, worker_ends};
 use crate::taken::space::{Space, space_for};
 use crate::threads::collecting::Desk;
 use crate::threads::given::{Feeder, WorkerEnds};
-use crate::threads::rack_feeders::RackRoom;
+use crate::threads::rack_feeders::{FeederSpace, RackRoom};
 use farm_lanes::{Gate, PutEnd};
 use farm_orders::{RackList, Settings};
 use std::alloc::{AllocError, Global};
@@ -40,29 +40,35 @@ pub(crate) struct Room<'a> {
 
 // The feeders of a rack, which share its gate.
 fn rack_room<'a>(
-    alloc: Global,
     gate: &'a Gate,
     rack: usize,
     lists: &'a [RackList],
-    own: RackSeats,
+    own: RackSeats<'a>,
     puts: &mut IntoIter<PutEnd<Job<'a>>>,
-) -> Result<RackRoom<'a>, AllocError>
+) -> RackRoom<'a>
     requires rack { rack < rack_limit }
     requires few { (0 < length lists.now) × (length lists.now ≤ feed_limit) }
     requires new { IsNewGate (length lists.now) gate.now own }
     requires enough { length lists.now ≤ into_iter_len puts.old }
     requires unused { Each IsUnusedPut (into_iter_items puts.old) }
-    ensures gate { IfOk result (λ r. r.gate.now ≡ gate.now) }
-    ensures feeders { IfOk result (λ r. AreRackFeeders gate.now rack lists.now r.feeders.items) }
-    ensures ends { IfOk result (λ r. into_iter_items puts.old ≡ map (λ f. f.jobs) r.feeders.items ++ into_iter_items puts.new) }
-    ensures left { IfOk result (λ r. into_iter_len puts.new + length lists.now ≡ into_iter_len puts.old) }
+    ensures gate { result.gate.now ≡ gate.now }
+    ensures feeders { AreRackFeeders gate.now rack lists.now result.feeders.items }
+    ensures ends { into_iter_items puts.old ≡ map (λ f. f.jobs) result.feeders.items ++ into_iter_items puts.new }
+    ensures left { into_iter_len puts.new + length lists.now ≡ into_iter_len puts.old }
 {
     let RackSeats {
         mut seats,
         mut rights,
+        space,
     } = own;
+    let FeederSpace {
+        mut feeders,
+        handles,
+        given_back,
+        rights: rights_back,
+        ..
+    } = space;
     let count = lists.len();
-    let mut feeders = Vec::with_capacity(alloc, count)?;
     for feed in 0..count {
         let Some(seat) = seats.pop() else {
             unreachable!();
@@ -83,43 +89,37 @@ fn rack_room<'a>(
             jobs,
         });
     }
-    Ok(RackRoom {
+    RackRoom {
         gate,
         feeders,
-        handles: Vec::with_capacity(alloc, count)?,
-        given_back: Vec::with_capacity(alloc, count)?,
-        rights: Vec::with_capacity(alloc, count)?,
-    })
+        handles,
+        given_back,
+        rights: rights_back,
+    }
 }
 
-// The feeders of all racks.
+// The feeders of all racks, in a list that has room for them.
 fn racks_for<'a>(
-    alloc: Global,
     lists: Lists<'a>,
     gates: &'a [Gate],
-    seats: Vec<RackSeats>,
+    seats: Vec<RackSeats<'a>>,
     puts: Vec<PutEnd<Job<'a>>>,
-) -> Result<Vec<RackRoom<'a>>, AllocError>
+    mut racks: Vec<RackRoom<'a>>,
+) -> Vec<RackRoom<'a>>
     requires gates { AreGates (lists_of lists) gates.now seats.items }
+    requires few { length (lists_of lists) ≤ rack_limit }
     requires count { vec_len puts ≡ all_feeds_of (lists_of lists) }
     requires unused { Each IsUnusedPut puts.items }
-    ensures racks { IfOk result (λ v. AreAllGiven (lists_of lists.entry) (rooms_of v.items)) }
-    ensures ends { IfOk result (λ v. ends_given (rooms_of v.items) ≡ puts.entry.items) }
+    requires room { (racks.items ≡ []) × (length (lists_of lists) ≤ vec_capacity racks) }
+    ensures racks { AreAllGiven (lists_of lists.entry) (rooms_of result.items) }
+    ensures ends { ends_given (rooms_of result.items) ≡ puts.entry.items }
 {
-    let mut racks = Vec::with_capacity(alloc, lists.racks())?;
     let mut puts = puts.into_iter();
     for own in seats {
         let rack = racks.len();
-        racks.push_reserved(rack_room(
-            alloc,
-            &gates[rack],
-            rack,
-            lists.feeds(rack),
-            own,
-            &mut puts,
-        )?);
+        racks.push_reserved(rack_room(&gates[rack], rack, lists.feeds(rack), own, &mut puts));
     }
-    Ok(racks)
+    racks
 }
 
 // How many feeds all racks have.
@@ -134,12 +134,12 @@ fn all_feeds(lists: Lists) -> usize
     count
 }
 
-/// All that a run needs but the threads: the board, both lanes, and the feeders.
+/// All that a run needs but the threads: the board, both lanes, and the feeders. All lists have their room before a lane is opened.
 pub(crate) fn room_for<'a>(
     alloc: Global,
     lists: Lists<'a>,
     gates: &'a [Gate],
-    seats: Vec<RackSeats>,
+    seats: Vec<RackSeats<'a>>,
     settings: Settings,
 ) -> Result<Room<'a>, AllocError>
     requires { AreGates (lists_of lists) gates.now seats.items }
@@ -149,6 +149,8 @@ pub(crate) fn room_for<'a>(
 {
     let workers = settings.workers();
     let space = space_for(alloc, lists.racks(), workers)?;
+    let ends = Vec::with_capacity(alloc, workers)?;
+    let racks = Vec::with_capacity(alloc, lists.racks())?;
     let board = Board::new(alloc, lists)?;
     let (job_puts, stops, job_takes) = request_lane(
         alloc,
@@ -157,16 +159,16 @@ pub(crate) fn room_for<'a>(
         workers,
     )?;
     let (reply_puts, replies) = reply_lane(alloc, settings.queue(), workers)?;
-    let ends = worker_ends(alloc, job_takes, reply_puts)?;
-    let racks = racks_for(alloc, lists, gates, seats, job_puts)?;
+    let workers_given = worker_ends(job_takes, reply_puts, ends);
+    let racks_given = racks_for(lists, gates, seats, job_puts, racks);
     Ok(Room {
         desk: Desk {
             board,
             replies,
             workers,
         },
-        workers: ends,
-        racks,
+        workers: workers_given,
+        racks: racks_given,
         stops,
         space,
     })

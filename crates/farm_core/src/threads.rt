@@ -5,7 +5,6 @@ pub(crate) mod all;
 pub(crate) mod closing;
 pub(crate) mod collecting;
 pub(crate) mod feeder;
-pub(crate) mod feeding;
 pub(crate) mod given;
 pub(crate) mod rack_feeders;
 pub(crate) mod worker;

@@ -8,3 +8,4 @@ mod pausing;
 mod refusals;
 mod requests;
 mod running;
+mod surface;

@@ -15,7 +15,7 @@ use Rattle.farm_lanes.specs.Counting.{once_below, times}
 use Rattle.farm_lanes.specs.GateRecord.{IsLawfulSeat, IsLawful, IsSound}
 use Rattle.farm_lanes.specs.GateRule.{closing, late, word_of, KeepsGate, Draws, Closes, Looks}
 use Rattle.farm_lanes.specs.SeatChanges.{joined}
-use Rattle.farm_lanes.specs.Lists.{Each}
+use Rattle.list_members.specs.Lists.{Each}
 use Rattle.farm_lanes.specs.SeatChanges.{fresh, accepted, refused, without}
 use Rattle.farm_lanes.proofs.Numbers.{once_more, once_le, times-append, times-snoc, all_below}
 use Rattle.farm_lanes.proofs.Sums.{total_set, total_snoc, total_part, total_two, total_le, total_alone}

@@ -9,9 +9,9 @@ use Rattle.farm_lanes.specs.declared.lane.item.Item.{Item}
 use Rattle.farm_lanes.specs.declared.lane.rule.EndRecord.{EndRecord}
 use Rattle.farm_lanes.specs.LaneRecord.{sender_of, number_of, from_sender, times_of, Rises, EndsLast, is_end}
 use Rattle.farm_lanes.specs.LaneRule.{lists_of, put_length, put_weight, put_of, put_last, first_list, put_on, IsPutRecord}
-use Rattle.farm_lanes.specs.Lists.{Each}
+use Rattle.list_members.specs.Lists.{Each}
 use Rattle.farm_lanes.proofs.Numbers.{same_test, other_test, test_one}
-use Rattle.farm_lanes.proofs.Lists.{at_below, at_snoc_or}
+use Rattle.list_members.proofs.Lists.{at_below, at_snoc_or}
 use Rattle.farm_lanes.proofs.Sums.{total_part}
 use Rattle.std.proofs.lemmas.List.Elements.{filter-append}
 

@@ -15,11 +15,11 @@ use Rattle.farm_lanes.specs.Counting.{once_below}
 use Rattle.farm_lanes.specs.LaneRecord.{sender_of, number_of, from_sender, IsNumbered}
 use Rattle.farm_lanes.specs.LaneRule.{lists_of, put_length, put_weight, put_of, put_last, put_on, take_on, IsLawfulEnd, KeepsLane, Puts}
 use Rattle.farm_lanes.specs.LaneRule.{Takes}
-use Rattle.farm_lanes.specs.Lists.{Each}
+use Rattle.list_members.specs.Lists.{Each}
 use Rattle.farm_lanes.proofs.Items.{sender_snoc_same, sender_snoc_other, sender_cons_same, sender_cons_other, times_snoc, lists_cons}
 use Rattle.farm_lanes.proofs.Items.{put_length_cons, put_weight_cons, lists_put_last, lists_here}
 use Rattle.farm_lanes.proofs.LaneMeasures.{lists_in, times_in, parts_in, put_in, taken_in, put_weight_in, taken_weight_in, each_set}
-use Rattle.farm_lanes.proofs.Lists.{drop_snoc, at_rest, at_snoc_or, each_snoc}
+use Rattle.list_members.proofs.Lists.{drop_snoc, at_rest, at_snoc_or, each_snoc}
 use Rattle.farm_lanes.proofs.Numbers.{once_more, same_test, other_test, test_one, test_le}
 use Rattle.farm_lanes.proofs.Sums.{total_set, total_part, total_two}
 

@@ -1,4 +1,3 @@
-pub mod Lists
 pub mod Sums
 pub mod Numbers
 pub mod Lengths

@@ -5,7 +5,7 @@ use lib.ListN.{get_elem?}
 use Rattle.farm_lanes.specs.declared.lane.rule.EndRecord.{EndRecord}
 use Rattle.farm_lanes.specs.LaneEnds.{LaneName, PutView, TakeView, new_put, new_take, AreNewPutEnds, AreNewTakeEnds}
 use Rattle.farm_lanes.specs.LaneRule.{end_record, empty_lists, puts_rest, puts_first}
-use Rattle.farm_lanes.proofs.Lists.{at_snoc_or, more_items, at_front, at_back}
+use Rattle.list_members.proofs.Lists.{at_snoc_or, more_items, at_front, at_back}
 
 module _ {T : Type 0} where
   first_empty : (s n : ℕ) → 0 < n → puts_first (empty_lists {T = T} s n) ≡ (s, []) ∷ []

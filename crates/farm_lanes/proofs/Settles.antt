@@ -13,8 +13,8 @@ use Rattle.farm_lanes.specs.LaneEnds.{counted, LaneName, PutView, TakeView, AreA
 use Rattle.farm_lanes.specs.LaneRecord.{sender_of, number_of, from_sender, times_of, IsNumbered, EndsLast, Rises}
 use Rattle.farm_lanes.specs.LaneRule.{put_length, put_weight, joined, KnowsWhole}
 use Rattle.farm_lanes.specs.LaneSettled.{IsSettled}
-use Rattle.farm_lanes.specs.Lists.{Each}
-use Rattle.farm_lanes.proofs.Lists.{nil_of, at_front, at_back, at_either, at_map, from_map, sum_map, popped}
+use Rattle.list_members.specs.Lists.{Each}
+use Rattle.list_members.proofs.Lists.{nil_of, at_front, at_back, at_either, at_map, from_map, sum_map, popped}
 use Rattle.farm_lanes.proofs.Items.{times_here}
 use Rattle.farm_lanes.proofs.Numbers.{once_lt}
 use Rattle.farm_lanes.proofs.Sums.{total_part}

@@ -1,7 +1,7 @@
 -- The lawful record of a gate: what its seats have drawn, and who closed it.
 use Rattle.std.specs.Prelude.{◌≡◌, ℕ, ◌+◌, ◌<◌, ◌≤◌, List, length, Bool, true, false, All, if◌then◌else◌}
 use Rattle.std.specs.List.{sum_by}
-use Rattle.farm_lanes.specs.Lists.{Each}
+use Rattle.list_members.specs.Lists.{Each}
 use Rattle.farm_lanes.specs.Counting.{times, once_below, AreBelow}
 use Rattle.farm_lanes.specs.declared.gate.record.SeatRecord.{SeatRecord}
 use Rattle.farm_lanes.specs.declared.gate.record.GateSize.{GateSize}

@@ -5,18 +5,22 @@ use Rattle.farm_lanes.specs.declared.gate.record.SeatRecord.{SeatRecord}
 use Rattle.farm_lanes.specs.declared.gate.record.GateSize.{GateSize}
 use Rattle.farm_lanes.specs.SeatChanges.{fresh}
 
--- a gate: its word's name, and its size
+-- what tells a gate from others: its word's name
+abbrev pub GateId : Type 0
+GateId = TableId
+
+-- a gate: its id, and its size
 pub record GateName : Type 0 where
-  pub id : TableId
+  pub id : GateId
   pub size : GateSize
 
 -- a seat: the gate that it belongs to, and its record
 pub record SeatView : Type 0 where
-  pub gate : TableId
+  pub gate : GateId
   pub has : SeatRecord
 
 -- a seat of a new gate
-abbrev pub opened : TableId → ℕ → SeatView
+abbrev pub opened : GateId → ℕ → SeatView
 opened id share = record { gate = id; has = fresh share 0 false }
 
 -- the greater of two numbers that may be there

@@ -3,7 +3,7 @@ use Rattle.std.specs.Prelude.{◌≡◌, ℕ, ◌+◌, ◌<◌, ◌≤◌, List,
 use Rattle.atomic_table.specs.Seated.{TableId}
 use Rattle.atomic_table.specs.declared.badge.Badge.{Badge}
 use Rattle.crossbeam_channel.specs.declared.flavors.array.Key.{Key}
-use Rattle.farm_lanes.specs.Lists.{Each, EachAt}
+use Rattle.list_members.specs.Lists.{Each, EachAt}
 use Rattle.farm_lanes.specs.declared.lane.item.Item.{Item}
 
 -- how many items a lane may hold at once, and how many put ends and take ends it may have

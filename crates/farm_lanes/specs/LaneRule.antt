@@ -3,7 +3,7 @@ use Rattle.std.specs.Prelude.{◌≡◌, ℕ, zero, suc, ◌+◌, ◌<◌, ◌�
 use Rattle.std.specs.List.{sum_by, count_by}
 use mathlib.Core.Option.{some}
 use lib.ListN.{get_elem?}
-use Rattle.farm_lanes.specs.Lists.{Each}
+use Rattle.list_members.specs.Lists.{Each}
 use Rattle.farm_lanes.specs.Counting.{once_below}
 use Rattle.farm_lanes.specs.LaneRecord.{sender_of, number_of, from_sender, times_of, IsNumbered}
 use Rattle.farm_lanes.specs.declared.lane.item.Item.{Item}

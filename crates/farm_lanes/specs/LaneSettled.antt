@@ -1,7 +1,7 @@
 -- What is known once a lane is settled.
 use Rattle.std.specs.Prelude.{◌≡◌, ℕ, ◌+◌, List, [], length, true, drop}
 use Rattle.std.specs.List.{sum_by}
-use Rattle.farm_lanes.specs.Lists.{Each, EachAt}
+use Rattle.list_members.specs.Lists.{Each, EachAt}
 use Rattle.farm_lanes.specs.LaneRecord.{sender_of, is_end, from_sender, IsLawful, IsAllTaken}
 use Rattle.farm_lanes.specs.declared.lane.item.Item.{Item}
 

@@ -1,4 +1,3 @@
-pub mod Lists
 pub mod Counting
 pub mod GateRecord
 pub mod SeatChanges

@@ -1,7 +1,7 @@
 -- All ends of small lanes.
 use Rattle.std.proofs.Common.{◌≡◌, ℕ, zero, suc, [], ◌∷◌, sym, subst, arith}
 use mathlib.Core.Option.{some-ne-none, some-injective}
-use Rattle.farm_lanes.specs.Lists.{EachAt}
+use Rattle.list_members.specs.Lists.{EachAt}
 use Rattle.farm_lanes.specs.LaneEnds.{LaneName, PutView, TakeView, AreAllEnds}
 
 module _ {T : Type 0} where

@@ -6,3 +6,5 @@
 mod gates;
 #[cfg(test)]
 mod lanes;
+#[cfg(test)]
+mod surface;

@@ -1,5 +1,6 @@
-//! The texts of the faults of lists and requests, written out.
+//! The texts of the faults of lists, requests and serving, written out.
 use farm_lists::ListFault;
+use farm_reading::ServeFault;
 use lrc_code::RequestFault;
 use std::alloc::AllocError;
 
@@ -59,6 +60,33 @@ const LIST_FAULTS: &[(ListFault, &str)] = &[
 #[test]
 fn list_faults_say_their_limits(rt: HostRuntime) -> Result<(), AllocError> {
     for (fault, text) in LIST_FAULTS {
+        let said = format!(in rt.alloc(); "{fault}")?;
+        assert_eq!(&rt; said.as_str(), *text);
+    }
+    Ok(())
+}
+
+// The faults of serving. A list's fault says which list it is of.
+const SERVE_FAULTS: &[(ServeFault, &str)] = &[
+    (
+        ServeFault::List {
+            rack: 11,
+            feed: 3,
+            fault: ListFault::BadHeader,
+        },
+        "the list of feed 3 of rack 11: the first record is not the header",
+    ),
+    (ServeFault::BadFeeds, "a rack has more than 4 feeds"),
+    (ServeFault::TooManyRacks, "there are more than 16 racks"),
+    (ServeFault::NoRacks, "there is no rack0.csv"),
+    (ServeFault::Device, "the device failed"),
+    (ServeFault::NoThread, "a thread was refused"),
+    (ServeFault::OutOfMemory, "out of memory"),
+];
+
+#[test]
+fn faults_of_serving_say_what_failed(rt: HostRuntime) -> Result<(), AllocError> {
+    for (fault, text) in SERVE_FAULTS {
         let said = format!(in rt.alloc(); "{fault}")?;
         assert_eq!(&rt; said.as_str(), *text);
     }

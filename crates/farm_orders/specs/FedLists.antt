@@ -1,7 +1,7 @@
 -- The feeds of racks, and why lists are none.
 use Rattle.std.specs.Prelude.{ℕ, ◌<◌, ◌≤◌, List, [], ◌∷◌, length, map, ◌≡◌}
 use Rattle.std.specs.List.{sum_by}
-use Rattle.farm_lanes.specs.Lists.{Each}
+use Rattle.list_members.specs.Lists.{Each}
 use Rattle.farm_orders.specs.declared.orders.Order.{Order}
 use Rattle.farm_orders.specs.Limits.{feed_limit, rack_limit}
 use Rattle.std.specs.declared.alloc.Global.{Global}

@@ -5,3 +5,4 @@ pub mod Faults
 pub mod Causes
 pub mod Ahead
 pub mod Pieces
+pub mod FarmFaults

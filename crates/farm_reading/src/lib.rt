@@ -1,5 +1,5 @@
 //! What a folder of request lists asks: the lists of all racks, the fragments of the requests that they list, as orders for the farm, and
-//! the batches that these are read in.
+//! the batches that these are read in; and how the command `farm` ends: the exit status for each end, and the line on each fault.
 //!
 //! ```
 //! use farm_reading::read_lists;
@@ -14,12 +14,14 @@
 
 pub mod ahead;
 pub mod cutting;
+mod fault_lines;
 mod faults;
 pub mod fragments;
 mod lists;
 mod rack_lists;
 pub mod rooms;
 
+pub use fault_lines::{farm_status, fault_line};
 pub use faults::ServeFault;
 pub use lists::read_lists;
 pub use rack_lists::RackLists;

@@ -11,17 +11,14 @@ use std::sync::atomic::{AtomicUsize, Ordering};
 use std::thread;
 use std::thread::Threads;
 
-#[cfg(test)]
-mod tests;
-
 // How many fragments a grain has: twice as many as are digested at once.
 const GRAIN: usize = 16;
 
-// The least number of bytes for which a thread is started.
-const LEAST_PART: u64 = 1_048_576;
+/// The least number of bytes for which a thread is started, with `BLOCK` more for each fragment.
+pub const LEAST_PART: u64 = 1_048_576;
 
-// What a fragment takes beside its bytes: a block of padding.
-const BLOCK: u64 = 64;
+/// What a fragment takes beside its bytes: a block of padding.
+pub const BLOCK: u64 = 64;
 
 // How many times its share of the grains a thread has room for.
 const SHARES: usize = 2;
@@ -47,8 +44,8 @@ pub(crate) fn digests_in_grains<R: Threads + Sync>(
     complete(alloc, fragments, made.as_slice())
 }
 
-// The digests that threads make, each at the place of its fragment.
-fn made_in_threads<R: Threads + Sync>(
+/// The digests that at most so many threads make, each at the place of its fragment. All are made, which no contract says.
+pub fn made_in_threads<R: Threads + Sync>(
     rt: &R,
     alloc: Global,
     fragments: &[&[u8]],
@@ -65,9 +62,9 @@ fn made_in_threads<R: Threads + Sync>(
     Ok(digests)
 }
 
-// The places of the fragments, those of the longest first: neighbours in this order mostly have one length, so that eight of them are
-// digested at once, and the last grains are the shortest.
-fn places_by_length(alloc: Global, fragments: &[&[u8]]) -> Result<Vec<usize>, AllocError>
+/// The places of the fragments, those of the longest first: neighbours in this order mostly have one length, so that eight of them are
+/// digested at once, and the last grains are the shortest.
+pub fn places_by_length(alloc: Global, fragments: &[&[u8]]) -> Result<Vec<usize>, AllocError>
     ensures { IfOk result (λ v. All (λ place. place < length fragments.now) v.items) }
 {
     let mut places = Vec::with_capacity(alloc, fragments.len())?;

@@ -13,7 +13,7 @@
 #![tactic(auto)]
 
 mod digests;
-mod grains;
+pub mod grains;
 mod rack_files;
 mod report;
 pub mod report_laws;

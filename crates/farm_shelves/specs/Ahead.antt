@@ -1,8 +1,14 @@
 -- Files that are read ahead.
 use Rattle.std.specs.Prelude.{◌≡◌, ℕ, List, take, Option, Some, None, IfSome, Result, Ok, Err}
+use Rattle.std.specs.String.{string_bytes}
+use Rattle.farm_shelves.specs.declared.ahead.ReadAhead.{ReadAhead}
 use Rattle.farm_shelves.specs.declared.ahead.State.{State}
 use Rattle.farm_shelves.specs.declared.ahead.State.TheVariants as state
 use Rattle.farm_shelves.specs.declared.shelf.ShelfFault.{ShelfFault}
+
+-- the file of this name, up to this limit
+abbrev pub IsListedAs : List ℕ → ℕ → ReadAhead → Type 0
+IsListedAs name limit file = (string_bytes file.name ≡ name) × (file.limit ≡ limit)
 
 -- what is known of a file: its first bytes, that there is no such file, or nothing
 abbrev pub known : State → Option (Option (List ℕ))

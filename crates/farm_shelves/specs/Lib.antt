@@ -3,3 +3,4 @@ pub mod Files
 pub mod Folder
 pub mod Memory
 pub mod ReadAhead
+pub mod Sized

@@ -1,7 +1,7 @@
 //! Files that are read ahead in threads.
-ghost use Rattle.std.specs.Prelude.{◌≡◌, ◌<◌, ◌*◌, option_map};
+ghost use Rattle.std.specs.Prelude.{◌≡◌, ◌<◌, ◌++◌, ◌∷◌, [], Some, IfSome, true, option_map};
 ghost use Rattle.std.specs.Thread.{IsSync};
-ghost use Rattle.farm_shelves.specs.Ahead.{IsKnown, known};
+ghost use Rattle.farm_shelves.specs.Ahead.{IsKnown, IsListedAs, known};
 
 use crate::folder::FolderShelf;
 use crate::regular_files::{FIRST_ROOM, open_regular, read_front};
@@ -61,7 +61,9 @@ impl ReadAhead {
     }
 
     // Whether it is the file of this name, up to this limit.
-    fn is_of(&self, name: &str, limit: usize) -> bool {
+    fn is_of(&self, name: &str, limit: usize) -> bool
+        ensures { result ≡ true → IsListedAs name.now limit self.now }
+    {
         self.limit == limit && self.name.as_str() == name
     }
 }
@@ -146,7 +148,7 @@ impl<'f> Parts<'f> {
 // Does some work in this thread, while so many others read. Each of them is started by this one: beside busy processes a thread waits for
 // its first turn, and one that it starts itself would wait as long once more. A thread that is refused leaves all to the others.
 #[cycle(readers)]
-fn work_beside<H: Threads + Sync, T: Drop, E: Drop, F: Fn() -> Result<T, E>>(
+fn work_while_reading<H: Threads + Sync, T: Drop, E: Drop, F: Fn() -> Result<T, E>>(
     rt: &H,
     readers: usize,
     files: &Parts<'_>,
@@ -165,7 +167,7 @@ fn work_beside<H: Threads + Sync, T: Drop, E: Drop, F: Fn() -> Result<T, E>>(
         || -> Result<T, E>
             requires { IsSync H.row × F.pre work.now × (0 < readers) }
             ensures { F.post work.entry.now result }
-        { work_beside(rt, readers - 1, files, work) },
+        { work_while_reading(rt, readers - 1, files, work) },
     );
     done
 }
@@ -186,7 +188,7 @@ pub(crate) fn read_beside<H: Threads + Sync, T: Drop, E: Drop, F: Fn() -> Result
 {
     let threads = worthwhile(files.as_slice(), threads);
     let done = match parts_of(alloc, folder, files.as_mut_slice(), threads) {
-        Ok(parts) => work_beside(rt, threads, &parts, work),
+        Ok(parts) => work_while_reading(rt, threads, &parts, work),
         Err(_) => return (Vec::new(alloc), work()),
     };
     (files, done)
@@ -204,7 +206,7 @@ pub(crate) fn read_all<R: Threads + Sync>(
 {
     let threads = worthwhile(files.as_slice(), threads);
     let read = match parts_of(alloc, folder, files.as_mut_slice(), threads) {
-        Ok(parts) => work_beside(rt, threads - 1, &parts, &|| parts.read_here()),
+        Ok(parts) => work_while_reading(rt, threads - 1, &parts, &|| parts.read_here()),
         Err(refused) => Err(refused),
     };
     match read {
@@ -265,7 +267,10 @@ pub(crate) fn take_ahead(
     ahead: &mut Vec<ReadAhead>,
     name: &str,
     limit: usize,
-) -> Option<Option<Vec<u8>>> {
+) -> Option<Option<Vec<u8>>>
+    ensures { IfSome result (λ found. (next : ReadAhead) × (ahead.old.items ≡ ahead.new.items ++ next ∷ [])
+        × IsListedAs name.now limit next × (known next.state ≡ Some (option_map (λ b. b.items) found))) }
+{
     let next = ahead.pop()?;
     if !next.is_of(name, limit) {
         ahead.clear();

@@ -1,7 +1,8 @@
 //! Regular files of the system: how they are opened, and their first bytes.
-ghost use Rattle.std.specs.Prelude.{◌≡◌, ◌+◌, ◌<◌, ◌≤◌, IfOk, IfSome, OnErr, OnOk, drop, length, take};
+ghost use Rattle.std.specs.Prelude.{◌≡◌, ◌+◌, ◌<◌, ◌≤◌, IfErr, IfOk, IfSome, OnErr, OnOk, drop, length, take};
 ghost use Rattle.std.specs.Io.KnownBytes.{Consumes, IsAtEnd, Keeps};
 ghost use Rattle.farm_shelves.specs.Folder.{found, kind_fault};
+ghost use Rattle.farm_shelves.specs.declared.shelf.ShelfFault.TheVariants as fault;
 
 use crate::shelf::ShelfFault;
 use crate::sized_file::SizedFile;
@@ -60,14 +61,10 @@ pub(crate) fn write_regular<R: Files>(rt: &R, path: &str, bytes: &[u8]) -> Resul
         .write(true)
         .create_new(true)
         .open(rt, path);
-    let written = match made {
-        Ok(mut file) => file.write_all(bytes),
-        Err(e) if e.kind() == ErrorKind::AlreadyExists => return replace_regular(rt, path, bytes),
-        Err(e) => Err(e),
-    };
-    match written {
-        Ok(()) => Ok(()),
-        Err(_) => Err(ShelfFault::Device),
+    match made {
+        Ok(file) => write_whole(file, bytes),
+        Err(e) if e.kind() == ErrorKind::AlreadyExists => replace_regular(rt, path, bytes),
+        Err(e) => Err(fault_of(e.kind())),
     }
 }
 
@@ -77,7 +74,23 @@ fn replace_regular<R: Files>(rt: &R, path: &str, bytes: &[u8]) -> Result<(), She
         Some(metadata) if !metadata.is_file() => return Err(ShelfFault::Device),
         _ => {}
     }
-    match fs::write(rt, path, bytes) {
+    let opened = OpenOptions::new()
+        .write(true)
+        .create(true)
+        .truncate(true)
+        .open(rt, path);
+    match opened {
+        Ok(file) => write_whole(file, bytes),
+        Err(e) => Err(fault_of(e.kind())),
+    }
+}
+
+// Writes all bytes of an open file. It has changed by then, so any error is the device's: refused memory leaves each file as it was.
+fn write_whole<F: Write + Drop>(file: F, bytes: &[u8]) -> Result<(), ShelfFault>
+    ensures { IfErr result (λ f. f ≡ fault.Device) }
+{
+    let mut file = file;
+    match file.write_all(bytes) {
         Ok(()) => Ok(()),
         Err(_) => Err(ShelfFault::Device),
     }

@@ -22,6 +22,10 @@ impl<F: Drop> SizedFile<F> {
 }
 
 impl<F: Read + Drop> Read for SizedFile<F> {
+    ghost use Rattle.farm_shelves.specs.Sized.{sized_remaining};
+
+    ghost remaining = { sized_remaining F.remaining };
+
     fn read(&mut self, buf: &mut [u8]) -> io::Result<usize> {
         if self.got == self.length && self.length > 0 {
             return Ok(0);

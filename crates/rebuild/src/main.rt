@@ -15,8 +15,8 @@
 use command_line::{Words, WordsFault, read_words};
 use exit_statuses::{DEVICE, DONE, NO_RESOURCES, USAGE};
 use farm_core::{Settings, SettingsFault};
-use farm_faults::{farm_status, fault_line};
-use farm_serving::{Served, serve_folders};
+use farm_files::{Served, serve_folders};
+use farm_reading::{farm_status, fault_line};
 use line_mode::{line_mode_in_threads, line_status};
 use std::io::ErrorKind;
 use std::process::ExitCode;

@@ -1,6 +1,6 @@
 //! The lanes of a run, and the ends that its threads are given.
-ghost use Rattle.std.specs.Prelude.{◌≡◌, ◌+◌, ◌≤◌, [], ◌∷◌, ◌++◌, IfOk, map, vec_len};
-ghost use Rattle.farm_lanes.specs.Lists.{Each};
+ghost use Rattle.std.specs.Prelude.{◌≡◌, ◌+◌, ◌≤◌, [], ◌∷◌, ◌++◌, IfOk, map, vec_len, vec_capacity};
+ghost use Rattle.list_members.specs.Lists.{Each};
 ghost use Rattle.farm_lanes.specs.LaneEnds.{LaneName, AreNewEnds, IsCapacity, IsPutterCount, IsTakerCount, IsUnusedPut, IsUnusedTake};
 ghost use Rattle.farm_lanes.specs.LaneEnds.{new_take};
 ghost use Rattle.farm_core.specs.declared.jobs.Job.{Job};
@@ -65,25 +65,25 @@ pub(crate) fn reply_lane<'a>(
     Ok((puts, last))
 }
 
-/// A pair of ends for each worker.
+/// A pair of ends for each worker, in a list that has room for them.
 pub(crate) fn worker_ends<'a>(
-    alloc: Global,
     mut takes: Vec<TakeEnd<Job<'a>>>,
     puts: Vec<PutEnd<Reply<'a>>>,
-) -> Result<Vec<WorkerEnds<'a>>, AllocError>
+    mut ends: Vec<WorkerEnds<'a>>,
+) -> Vec<WorkerEnds<'a>>
     requires count { vec_len takes ≡ vec_len puts }
     requires unused_takes { Each IsUnusedTake takes.items }
     requires unused_puts { Each IsUnusedPut puts.items }
-    ensures replies { IfOk result (λ v. map (λ e. e.replies) v.items ≡ puts.entry.items) }
-    ensures jobs { IfOk result (λ v. (lane : LaneName Job) → Each (λ t. t ≡ new_take lane) takes.entry.items
-        → Each (λ e. e.jobs ≡ new_take lane) v.items) }
+    requires room { (ends.items ≡ []) × (vec_len puts ≤ vec_capacity ends) }
+    ensures replies { map (λ e. e.replies) result.items ≡ puts.entry.items }
+    ensures jobs { (lane : LaneName Job) → Each (λ t. t ≡ new_take lane) takes.entry.items
+        → Each (λ e. e.jobs ≡ new_take lane) result.items }
 {
-    let mut ends = Vec::with_capacity(alloc, puts.len())?;
     for replies in puts {
         let Some(jobs) = takes.pop() else {
             unreachable!();
         };
         ends.push_reserved(WorkerEnds { jobs, replies });
     }
-    Ok(ends)
+    ends
 }

@@ -1,11 +1,10 @@
-//! The threads of a run: they are started in the order collector, workers, feeders, and all that were started are joined. The last feeder
-//! is run by the thread that starts the others.
+//! The threads of a run: they are started in the order collector, workers, feeders, and all that were started are joined.
 ghost use Rattle.std.specs.Prelude.{◌≡◌, ◌<◌, ◌≤◌, [], true, IfSome, length, vec_len, vec_capacity, ◌+◌, ◌*◌, false, IfNone};
 ghost use Rattle.farm_lanes.specs.LaneEnds.{IsUnusedPut};
 ghost use Rattle.farm_core.specs.declared.taken.Room.{Room};
 ghost use Rattle.farm_core.specs.Settled.{HasJoined};
-ghost use Rattle.farm_orders.specs.Limits.{worker_limit};
-ghost use Rattle.farm_core.specs.Ready.{rooms_of, started_of, IsReady, AreStarted, HavePutRacks, AreEndsOf, all_given, AreKept};
+ghost use Rattle.farm_orders.specs.Limits.{feed_limit, worker_limit};
+ghost use Rattle.farm_core.specs.Ready.{rooms_of, started_of, IsReady, AreStarted, HavePutRacks, AreEndsOf, all_given};
 ghost use Rattle.farm_core.specs.Threads.{ends_of};
 ghost use Rattle.farm_core.specs.Jobs.{HasPutStops};
 
@@ -17,8 +16,7 @@ use crate::taken::space::EndSpace;
 use crate::threads::Shared;
 use crate::threads::closing::close_rack;
 use crate::threads::collecting::{Cleared, CollectorHandle};
-use crate::threads::feeder::end_feeders;
-use crate::threads::feeding::{Feeding, join_feeders, start_feeders};
+use crate::threads::feeder::{FeederHandle, end_feeders, join_feeders, start_feeders};
 use crate::threads::given::WorkerEnds;
 use crate::threads::rack_feeders::{RackFeeders, RackRoom};
 use crate::threads::worker::{WorkerHandle, end_worker, join_workers, start_workers, take_mark};
@@ -34,7 +32,7 @@ pub(crate) struct Started<'a> {
     pub working: Vec<WorkerHandle<'a>>,
     pub feeding: Vec<RackFeeders<'a>>,
     /// The feeders of the rack in which a thread was refused.
-    pub left: Option<Vec<Feeding<'a>>>,
+    pub left: Option<Vec<FeederHandle<'a>>>,
     pub stops: PutEnd<Job<'a>>,
     pub taker: Option<TakeEnd<Job<'a>>>,
 }
@@ -43,25 +41,23 @@ pub(crate) struct Started<'a> {
 #[derive(Drop)]
 pub(crate) struct Starts<'a> {
     pub all: bool,
-    pub left: Option<Vec<Feeding<'a>>>,
+    pub left: Option<Vec<FeederHandle<'a>>>,
     pub taker: Option<TakeEnd<Job<'a>>>,
 }
 
-// Starts the feeders rack by rack, and runs the very last one itself. After a refusal no further one is started, and the ends of the others
-// are ended here: the workers take their marks. Gives nothing if none was refused, else the threads of the rack in which one was.
+// Starts the feeders rack by rack. After a refusal no further one is started, and the ends of the others are ended here: the workers
+// take their marks. Gives nothing if none was refused, else the threads of the rack in which one was.
 fn start_racks<'s, 'a: 's, E, R: Threads + Wait + Sync, P: Pause>(
     shared: &'s Shared<'s, R, P>,
     scope: &Scope<'s, E>,
     racks: Vec<RackRoom<'a>>,
     started: &mut Vec<RackFeeders<'a>>,
-) -> Option<Vec<Feeding<'a>>>
+) -> Option<Vec<FeederHandle<'a>>>
     requires empty { started.old.items ≡ [] }
     requires room { vec_len racks ≤ vec_capacity started.old }
     ensures all { IfNone result (started_of started.new.items ≡ rooms_of racks.entry.items) }
-    ensures kept { AreKept started.new.items }
     ensures len { vec_len started.new ≤ vec_len racks.entry }
 {
-    let count = racks.len();
     let mut left = None;
     for rack in racks {
         let RackRoom {
@@ -71,11 +67,10 @@ fn start_racks<'s, 'a: 's, E, R: Threads + Wait + Sync, P: Pause>(
             given_back,
             rights,
         } = rack;
-        let last = started.len() + 1 == count;
         if left.is_some() {
             let mut none = None;
             end_feeders(shared.rt, feeders, &mut none);
-        } else if start_feeders(shared, scope, feeders, last, &mut handles) {
+        } else if start_feeders(shared, scope, feeders, &mut handles) {
             started.push_reserved(RackFeeders {
                 gate,
                 handles,
@@ -97,8 +92,7 @@ fn end_racks<'a, R: Wait>(rt: &R, racks: Vec<RackRoom<'a>>, taker: &mut Option<T
     }
 }
 
-/// Starts the workers, and where none is refused the feeders, but for the last one, which is run by this thread; the put ends of the
-/// threads that weren't started are ended.
+/// Starts the workers, and where none is refused the feeders; the put ends of the threads that weren't started are ended.
 pub(crate) fn start_all<'s, 'a: 's, E, R: Threads + Wait + Sync, P: Pause>(
     shared: &'s Shared<'s, R, P>,
     scope: &Scope<'s, E>,
@@ -111,7 +105,6 @@ pub(crate) fn start_all<'s, 'a: 's, E, R: Threads + Wait + Sync, P: Pause>(
     requires room { (vec_len ends ≤ vec_capacity workers.old) × (vec_len racks ≤ vec_capacity feeding.old) }
     ensures workers { result.all ≡ true → ends_of workers.new.items ≡ ends.entry.items }
     ensures racks { result.all ≡ true → started_of feeding.new.items ≡ rooms_of racks.entry.items }
-    ensures kept { AreKept feeding.new.items }
     ensures workers_len { vec_len workers.new ≤ vec_len ends.entry }
     ensures racks_len { vec_len feeding.new ≤ vec_len racks.entry }
 {
@@ -139,12 +132,11 @@ fn join_racks<'a, R: Threads>(
     put_ends: &mut Vec<EndedPut<Job<'a>>>,
 ) -> bool
     requires empty { put_ends.old.items ≡ [] }
-    requires room { vec_len racks * 4 ≤ vec_capacity put_ends.old }
-    requires kept { AreKept racks.items }
+    requires room { vec_len racks * feed_limit ≤ vec_capacity put_ends.old }
     ensures joined { result ≡ true → HavePutRacks racks.entry.items put_ends.new.items }
     ensures ends { result ≡ true → AreEndsOf (all_given (started_of racks.entry.items)) put_ends.new.items }
     ensures capacity { vec_capacity put_ends.new ≡ vec_capacity put_ends.old }
-    ensures len { vec_len put_ends.new ≤ vec_len racks.entry * 4 }
+    ensures len { vec_len put_ends.new ≤ vec_len racks.entry * feed_limit }
 {
     let mut all = true;
     for rack in racks {
@@ -164,7 +156,7 @@ fn join_racks<'a, R: Threads>(
 }
 
 // Joins the feeders of the rack in which a thread was refused.
-fn join_left<'a, R: Threads>(rt: &R, left: Option<Vec<Feeding<'a>>>) {
+fn join_left<'a, R: Threads>(rt: &R, left: Option<Vec<FeederHandle<'a>>>) {
     if let Some(handles) = left {
         for handle in handles {
             let _left = handle.join(rt);
@@ -194,7 +186,6 @@ pub(crate) fn join_all<'a, R: Threads + Wait>(
     requires few { (vec_len started.working ≤ worker_limit) × (vec_len started.working ≤ space.workers)
         × (vec_len started.feeding ≤ space.racks) }
     requires unused { IsUnusedPut started.stops }
-    requires kept { AreKept started.feeding.items }
     ensures joined { IfSome result (λ j. (room : Room) → IsReady room → AreStarted room started.entry
         → HasJoined j.all.board.racks j.put_ends.items j.job_ends.items j.reply_ends.items j.desk j.all.board j.all.fault
         × (j.all.board.racks ≡ room.desk.board.racks) × (0 < length j.job_ends.items)) }

@@ -1,7 +1,7 @@
 //! What is done with a rack's gate once all its feeders were joined: their seats become one, and the rights that came back are spent.
 ghost use Rattle.std.specs.Prelude.{◌≡◌, ◌+◌, ◌<◌, ◌≤◌, ◌++◌, ◌∷◌, ℕ, List, [], length, map, false, vec_len, vec_capacity};
 ghost use Rattle.farm_lanes.specs.GateRecord.{IsSound};
-ghost use Rattle.farm_lanes.specs.Lists.{Each};
+ghost use Rattle.list_members.specs.Lists.{Each};
 ghost use Rattle.farm_orders.specs.declared.orders.Order.{Order};
 ghost use Rattle.farm_core.specs.declared.threads.feeder.Fed.{Fed as TheFed};
 ghost use Rattle.farm_core.specs.Feed.{right_back, IsJoint, IsOfGate, AreFed, HasDrawn};

@@ -1,21 +1,22 @@
-//! A feeder: what it puts for its list and leaves, and how its end is ended where it isn't started.
-ghost use Rattle.std.specs.Prelude.{◌≡◌, ◌+◌, ◌≤◌, [], false, IfSome};
+//! A feeder: what it puts for its list, how it is started and joined, and how its end is ended where it isn't started.
+ghost use Rattle.std.specs.Prelude.{◌≡◌, ◌+◌, ◌≤◌, [], false, true, IfSome, vec_len, vec_capacity};
 ghost use Rattle.farm_lanes.specs.LaneEnds.{IsUnusedPut};
 ghost use Rattle.farm_core.specs.Feed.{HasFed, LeftBy};
 ghost use Rattle.farm_orders.specs.Limits.{order_limit};
+ghost use Rattle.farm_core.specs.Threads.{FeedersJoined, feeders_of};
 
 use crate::jobs::Job;
 use crate::pause::Pause;
 use crate::slots::slot_number;
-use crate::threads::Shared;
 use crate::threads::given::Feeder;
 use crate::threads::worker::take_mark;
+use crate::threads::{Shared, start_thread};
 use farm_lanes::{EndedPut, Gate, PutEnd, Right, Seat, TakeEnd};
 use farm_orders::{Order, RackList};
 use std::snapshot::Snapshot;
 use std::sync::Wait;
 use std::sync::atomic::Ordering;
-use std::thread::{Promise, PromisedHandle};
+use std::thread::{Promise, PromisedHandle, Scope, Threads};
 
 /// What a feeder gives back: its slot (`Job` says what that is), its feed and list, its seat, the right unless it was spent on closing,
 /// what the close was answered if it made it, and its end.
@@ -107,11 +108,8 @@ impl<'a> Promise<Option<Fed<'a>>> for FeedOf<'a> {
 /// A feeder's thread. It gives nothing where a feeder was refused before it began; its end is ended all the same.
 pub(crate) type FeederHandle<'a> = PromisedHandle<Option<Fed<'a>>, FeedOf<'a>>;
 
-/// What a feeder does: it feeds its list, unless a feeder was refused before it began.
-pub(crate) fn feed_with<'a, R: Wait, P: Pause>(
-    shared: &Shared<R, P>,
-    feeder: Feeder<'a>,
-) -> Option<Fed<'a>>
+// What a feeder does: it feeds its list, unless a feeder was refused before it began.
+fn feed_with<'a, R: Wait, P: Pause>(shared: &Shared<R, P>, feeder: Feeder<'a>) -> Option<Fed<'a>>
     ensures { IfSome result (LeftBy feeder.entry) }
 {
     let Feeder {
@@ -139,6 +137,78 @@ pub(crate) fn feed_with<'a, R: Wait, P: Pause>(
             shared.pause,
         ))
     }
+}
+
+// Starts a feeder. Where no thread can be made, its end is ended here.
+fn start_feeder<'s, 'a: 's, E, R: Threads + Wait + Sync, P: Pause>(
+    shared: &'s Shared<'s, R, P>,
+    scope: &Scope<'s, E>,
+    feeder: Feeder<'a>,
+) -> Option<FeederHandle<'a>>
+    ensures { IfSome result (λ h. h.promise.0.value ≡ feeder.entry) }
+{
+    let promise = FeedOf(Snapshot::of(&feeder));
+    let body = move || -> Option<Fed>
+        ensures { IfSome result (LeftBy feeder.entry) }
+    { feed_with(shared, feeder) };
+    match start_thread(scope, promise, body) {
+        Ok(handle) => Some(handle),
+        Err(back) => {
+            shared.refused.feeder.store(true, Ordering::SeqCst);
+            let _none = (back.value)();
+            None
+        }
+    }
+}
+
+/// Starts the feeders of a rack, in order. After a refusal no further one is started, and the ends of the others are ended here:
+/// the workers take their marks. Says whether none was refused.
+pub(crate) fn start_feeders<'s, 'a: 's, E, R: Threads + Wait + Sync, P: Pause>(
+    shared: &'s Shared<'s, R, P>,
+    scope: &Scope<'s, E>,
+    feeders: Vec<Feeder<'a>>,
+    handles: &mut Vec<FeederHandle<'a>>,
+) -> bool
+    requires empty { handles.old.items ≡ [] }
+    requires room { vec_len feeders ≤ vec_capacity handles.old }
+    ensures all { result ≡ true → feeders_of handles.new.items ≡ feeders.entry.items }
+    ensures capacity { vec_capacity handles.new ≡ vec_capacity handles.old }
+    ensures len { vec_len handles.new ≤ vec_len feeders.entry }
+{
+    let mut all = true;
+    for feeder in feeders {
+        if all {
+            match start_feeder(shared, scope, feeder) {
+                Some(handle) => handles.push_reserved(handle),
+                None => all = false,
+            }
+        } else {
+            let Feeder { jobs, .. } = feeder;
+            let _ended = jobs.end(shared.rt);
+        }
+    }
+    all
+}
+
+/// Joins the feeders of a rack, and puts what they left in order. Says whether each has fed.
+pub(crate) fn join_feeders<'a, R: Threads>(
+    rt: &R,
+    handles: Vec<FeederHandle<'a>>,
+    given_back: &mut Vec<Fed<'a>>,
+) -> bool
+    requires empty { given_back.old.items ≡ [] }
+    requires room { vec_len handles ≤ vec_capacity given_back.old }
+    ensures joined { result ≡ true → FeedersJoined handles.entry.items given_back.new.items }
+    ensures count { result ≡ true → vec_len given_back.new ≡ vec_len handles.entry }
+{
+    let mut all = true;
+    for handle in handles {
+        match handle.join(rt) {
+            Some(fed) => given_back.push_reserved(fed),
+            None => all = false,
+        }
+    }
+    all
 }
 
 /// Ends the put ends of feeders. Where an end is given, no worker takes from the lane, and each mark is taken by it, so that a

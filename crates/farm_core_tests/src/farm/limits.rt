@@ -140,3 +140,21 @@ fn settings_are_refused_beyond_their_limits(rt: HostRuntime) {
     assert_eq!(rt; Settings::new(1, 0).err(), Some(SettingsFault::BadQueue));
     assert_eq!(rt; Settings::new(1, 1025).err(), Some(SettingsFault::BadQueue));
 }
+
+// What the faults of settings say.
+const TEXTS: &[(SettingsFault, &str)] = &[
+    (
+        SettingsFault::BadWorkers,
+        "the number of workers is not 1 to 16",
+    ),
+    (SettingsFault::BadQueue, "the queue is not 1 to 1024"),
+];
+
+#[test]
+fn faults_of_settings_say_their_limits(rt: HostRuntime) -> Result<(), AllocError> {
+    for (fault, text) in TEXTS {
+        let said = format!(in rt.alloc(); "{fault}")?;
+        assert_eq!(rt; said.as_str(), *text);
+    }
+    Ok(())
+}

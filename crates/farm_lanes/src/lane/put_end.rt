@@ -28,7 +28,7 @@ impl<T: Drop, A: Allocator> Model for PutEnd<T, A> {
     ghost use Rattle.std.specs.Prelude.{◌≡◌, ◌<◌, ◌≤◌, [], ◌∷◌, length, false};
     ghost use Rattle.crossbeam_channel.specs.Claims.{IsSeatAt, view as known};
     ghost use Rattle.crossbeam_channel.specs.Ends.{sends_on};
-    ghost use Rattle.farm_lanes.specs.Lists.{Each};
+    ghost use Rattle.list_members.specs.Lists.{Each};
     ghost use Rattle.farm_lanes.specs.LaneRecord.{is_end};
     ghost use Rattle.farm_lanes.specs.LaneRule.{put_of, IsPutRecord};
     ghost use Rattle.farm_lanes.specs.LaneEnds.{PutView};

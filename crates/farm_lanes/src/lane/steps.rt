@@ -3,7 +3,7 @@ ghost use Rattle.std.specs.Prelude.{◌≡◌, ◌-◌, ◌<◌, List, [], ◌�
 ghost use Rattle.crossbeam_channel.specs.Claims.{IsSeatAt, view};
 ghost use Rattle.crossbeam_channel.specs.Ends.{sends_on, receives_on};
 ghost use Rattle.farm_lanes.specs.declared.lane.item.Item.{Item};
-ghost use Rattle.farm_lanes.specs.Lists.{Each};
+ghost use Rattle.list_members.specs.Lists.{Each};
 ghost use Rattle.farm_lanes.specs.LaneRecord.{sender_of, number_of};
 ghost use Rattle.farm_lanes.specs.LaneRule.{end_record, put_of, put_last, empty_lists, puts_rest, puts_first, joined, KnowsWhole};
 

@@ -2,7 +2,7 @@
 ghost use Rattle.std.specs.Prelude.{◌≡◌, ◌<◌, [], length};
 ghost use Rattle.crossbeam_channel.specs.Claims.{IsSeatAt, view};
 ghost use Rattle.crossbeam_channel.specs.Ends.{receives_on};
-ghost use Rattle.farm_lanes.specs.Lists.{Each};
+ghost use Rattle.list_members.specs.Lists.{Each};
 ghost use Rattle.farm_lanes.specs.LaneRecord.{sender_of, number_of};
 ghost use Rattle.farm_lanes.specs.LaneEnds.{new_take, with_taken, counted};
 ghost use Rattle.farm_lanes.specs.LaneNames.{lane_of};

@@ -4,12 +4,11 @@ use Rattle.std.specs.Vec.Iter.{into_iter_items}
 use Rattle.std.proofs.lemmas.List.{length-replicate}
 use mathlib.Core.Option.{some, some-ne-none}
 use lib.ListN.{get_elem?}
-use Rattle.atomic_table.specs.Seated.{TableId}
-use Rattle.farm_lanes.proofs.Lists.{each_snoc}
+use Rattle.list_members.proofs.Lists.{each_snoc}
 use Rattle.farm_lanes.specs.declared.gate.record.GateSize.{GateSize}
-use Rattle.farm_lanes.specs.GateView.{SeatView, opened}
+use Rattle.farm_lanes.specs.GateView.{SeatView, opened, GateId}
 use Rattle.farm_lanes.specs.LaneEnds.{PutView, IsUnusedPut}
-use Rattle.farm_lanes.specs.Lists.{Each, EachAt}
+use Rattle.list_members.specs.Lists.{Each, EachAt}
 use Rattle.farm_core.specs.declared.threads.given.Feeder.{Feeder}
 use Rattle.farm_core.specs.declared.jobs.Job.{Job}
 use Rattle.farm_core.proofs.Rooms.{each_last, each_rest, each_middle, each_at_snoc, mapped_snoc}
@@ -25,9 +24,9 @@ loop-feed-init c =
     let seats_long = ap (λ (l : List SeatView). length l) own.seats in
     let seats_count = length-replicate (length c.args.lists.now) (opened c.args.gate.now.id (4294967296 / length c.args.lists.now)) in
     let seats_ok = c.args.own.seats.ok in
-    let rights_long = ap (λ (l : List TableId). length l) own.rights in
+    let rights_long = ap (λ (l : List GateId). length l) own.rights in
     let rights_count = length-replicate (length c.args.lists.now) c.args.gate.now.id in let rights_ok = c.args.own.rights.ok in (
-      ap (λ (l : List Feeder). map jobs_at l ++ into_iter_items c.args.puts.now) (sym c.in_ok-feeders.ensures.items),
+      ap (λ (l : List Feeder). map jobs_at l ++ into_iter_items c.args.puts.now) (sym c.args.own.space.given.0),
       search rules,
       search rules,
       search rules,
@@ -35,10 +34,10 @@ loop-feed-init c =
       each_replicate (λ (s : SeatView). s ≡ opened c.args.gate.now.id (4294967296 / length c.args.lists.now)) c.args.own.seats.items
           (length c.args.lists.now) (opened c.args.gate.now.id (4294967296 / length c.args.lists.now)) own.seats refl,
       omega arith,
-      each_replicate (λ (r : TableId). r ≡ c.args.gate.now.id) c.args.own.rights.items
+      each_replicate (λ (r : GateId). r ≡ c.args.gate.now.id) c.args.own.rights.items
           (length c.args.lists.now) c.args.gate.now.id own.rights refl,
-      (λ k f at. absurd (some-ne-none f (sym (subst (λ (l : List Feeder). get_elem? l k ≡ some f) c.in_ok-feeders.ensures.items at)))),
-      (λ k f at. absurd (some-ne-none f (sym (subst (λ (l : List Feeder). get_elem? l k ≡ some f) c.in_ok-feeders.ensures.items at)))),
+      (λ k f at. absurd (some-ne-none f (sym (subst (λ (l : List Feeder). get_elem? l k ≡ some f) c.args.own.space.given.0 at)))),
+      (λ k f at. absurd (some-ne-none f (sym (subst (λ (l : List Feeder). get_elem? l k ≡ some f) c.args.own.space.given.0 at)))),
     )
 
 pub invariant_of-push_reserved : goal.invariant_of-push_reserved
@@ -46,7 +45,7 @@ invariant_of-push_reserved c =
     let was = c.loop-feed.invariant in
     let seat_is = each_last (λ (s : SeatView). s ≡ opened c.args.gate.now.id
     (4294967296 / length c.args.lists.now)) c.loop-feed.seats.items c.pop.new.self.items c.in-Some.seat c.in-Some.ensures.items was.5 in
-    let right_is = each_last (λ (r : TableId). r ≡ c.args.gate.now.id) c.loop-feed.rights.items c.pop-in-loop-feed.new.self.items
+    let right_is = each_last (λ (r : GateId). r ≡ c.args.gate.now.id) c.loop-feed.rights.items c.pop-in-loop-feed.new.self.items
     c.in-Some-pop.right c.in-Some-pop.ensures.items was.7 in
     record {
       own = (ap (λ (s : SeatView). s.gate) seat_is, right_is);
@@ -85,7 +84,7 @@ loop-feed-preserved c =
       each_rest (λ (s : SeatView). s ≡ opened c.args.gate.now.id share) c.loop-feed.seats.items c.pop.new.self.items c.in-Some.seat
           c.in-Some.ensures.items was.5,
       search rules,
-      each_rest (λ (r : TableId). r ≡ c.args.gate.now.id) c.loop-feed.rights.items c.pop-in-loop-feed.new.self.items c.in-Some-pop.right
+      each_rest (λ (r : GateId). r ≡ c.args.gate.now.id) c.loop-feed.rights.items c.pop-in-loop-feed.new.self.items c.in-Some-pop.right
           c.in-Some-pop.ensures.items was.7,
       subst (Each (λ (f : Feeder). f.seat.has.share ≡ share)) (sym c.push_reserved.ensures.items)
           (each_snoc (λ (f : Feeder). f.seat.has.share ≡ share) done _ was.8 (ap (λ (s : SeatView). s.has.share) seat_is)),
@@ -102,12 +101,12 @@ invariant_of-result c =
       own = λ k f at. (was.9 k f at).3;
       some = (let a = c.requires.few.0 in omega arith, let a = c.requires.few.1 in omega arith);
       room = (
-        c.in_ok-with_capacity.ensures.items,
-        let a = c.in_ok-with_capacity.ensures.capacity in omega arith,
-        c.in_ok-with_capacity-2.ensures.items,
-        let a = c.in_ok-with_capacity-2.ensures.capacity in omega arith,
-        c.in_ok-with_capacity-3.ensures.items,
-        let a = c.in_ok-with_capacity-3.ensures.capacity in omega arith,
+        c.args.own.space.given.2,
+        let a = c.args.own.space.given.3 in let b = c.requires.new.space in omega arith,
+        c.args.own.space.left.0,
+        let a = c.args.own.space.left.1 in let b = c.requires.new.space in omega arith,
+        c.args.own.space.left.2,
+        let a = c.args.own.space.left.3 in let b = c.requires.new.space in omega arith,
       );
     }
 

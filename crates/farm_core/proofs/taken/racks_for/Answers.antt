@@ -4,7 +4,7 @@ use Rattle.std.specs.Vec.Iter.{into_iter_items, into_iter_len}
 use Rattle.std.proofs.lemmas.List.{length_push}
 use mathlib.Core.Option.{some, some-ne-none, some-injective}
 use lib.ListN.{get_elem?}
-use Rattle.farm_lanes.proofs.Lists.{at_back, at_snoc_or}
+use Rattle.list_members.proofs.Lists.{at_back, at_snoc_or}
 use Rattle.farm_lanes.specs.GateView.{GateName}
 use Rattle.farm_lanes.specs.LaneEnds.{PutView, IsUnusedPut}
 use Rattle.farm_core.specs.declared.threads.given.Feeder.{Feeder}
@@ -32,17 +32,18 @@ room_at r = (r.gate.now, r.feeders.items)
 pub loop-own-init : goal.loop-own-init
 loop-own-init c =
     let gives = c.into_iter-own-iterator.ensures.into_iter_gives in
-    let none = c.in_ok-racks.ensures.len in
+    let empty = c.requires.room.0 in
+    let none : vec_len c.args.racks ≡ 0 = (let a = ap (λ (l : List RackRoom). length l) empty in let b = c.args.racks.ok in omega arith) in
     let here = ap (λ n. all_feeds_of (drop n (lists_of c.args.lists))) none in
     let puts_len = c.into_iter-puts.ensures.len in (
       refl,
       (let a = gives.1 in let b = c.args.seats.ok in let d = c.requires.gates.seats_count in omega arith),
-      (let a = c.in_ok-racks.ensures.capacity in let b = c.racks.ensures.count in omega arith),
-      ap (λ (l : List RackRoom). ends_given (rooms_of l) ++ into_iter_items c.into_iter-puts.result) (sym c.in_ok-racks.ensures.items),
+      c.requires.room.1,
+      ap (λ (l : List RackRoom). ends_given (rooms_of l) ++ into_iter_items c.into_iter-puts.result) (sym empty),
       puts_len ∙ (c.requires.count ∙ sym here),
-      (let a = ap (λ (l : List RackRoom). length (ends_given (rooms_of l))) c.in_ok-racks.ensures.items in omega arith),
+      (let a = ap (λ (l : List RackRoom). length (ends_given (rooms_of l))) empty in omega arith),
       (λ k feeds g at_l at_g. absurd (some-ne-none g (sym
-          (subst (λ (l : List RackRoom). get_elem? (rooms_of l) k ≡ some g) c.in_ok-racks.ensures.items at_g)))),
+          (subst (λ (l : List RackRoom). get_elem? (rooms_of l) k ≡ some g) empty at_g)))),
       sym none,
     )
 
@@ -55,7 +56,7 @@ feeds-requires c = let was = c.loop-own.invariant.1 in let a = c.in-Some.ensures
 
 pub rack_room-requires-clause-rack : goal.rack_room-requires-clause-rack
 rack_room-requires-clause-rack c = let was = c.loop-own.invariant.1 in let a = c.in-Some.ensures.steps.1 in let b = c.len-rack.ensures in
-    let d = c.racks.ensures.limit in omega arith
+    let d = c.requires.few in omega arith
 
 pub rack_room-requires-clause-new : goal.rack_room-requires-clause-new
 rack_room-requires-clause-new c =
@@ -89,7 +90,7 @@ pub loop-own-preserved : goal.loop-own-preserved
 loop-own-preserved c =
     let was = c.loop-own.invariant in let done = c.loop-own.yielded in let racks = c.loop-own.racks.items in
     let lists = lists_of c.args.lists in let n = c.len-rack.result in let feeds' = c.feeds.result.now in
-    let r = c.in_ok-rack_room.field-0 in let says = c.in_ok-rack_room.ensures in
+    let r = c.rack_room.result in let says = c.rack_room.ensures in
     let new = c.push_reserved.new.self.items in let rest = into_iter_items c.rack_room.new.puts in
     let ends = ends_given (rooms_of racks) in let more = map jobs_at r.feeders.items in
     let steps = c.in-Some.ensures.steps.1 in let n_is = c.len-rack.ensures in let left = was.1 in

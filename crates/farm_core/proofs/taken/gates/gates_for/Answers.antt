@@ -1,7 +1,7 @@
 use Rattle.std.proofs.Common.{rules, arith, ◌≡◌, ◌∙◌, List, [], ◌∷◌, ◌++◌, length, get_or, vec_items, sym, ap, subst, ⊎_elim}
 use mathlib.Core.Option.{some}
 use lib.ListN.{get_elem?}
-use Rattle.farm_lanes.proofs.Lists.{at_below, at_snoc_or}
+use Rattle.list_members.proofs.Lists.{at_below, at_snoc_or}
 use Rattle.farm_lanes.specs.GateView.{GateName}
 use Rattle.farm_orders.specs.declared.orders.Order.{Order}
 use Rattle.farm_core.specs.declared.taken.gates.RackSeats.{RackSeats}

@@ -1,7 +1,7 @@
 use Rattle.std.proofs.Common.{rules, ◌≡◌, ◌∙◌, List, ◌++◌, refl, ap, sym, subst, append_assoc}
-use Rattle.farm_lanes.proofs.Lists.{each_snoc}
+use Rattle.list_members.proofs.Lists.{each_snoc}
 use Rattle.farm_lanes.specs.LaneEnds.{PutView, TakeView, IsUnusedPut, IsUnusedTake, new_take}
-use Rattle.farm_lanes.specs.Lists.{Each}
+use Rattle.list_members.specs.Lists.{Each}
 use Rattle.farm_core.specs.Replies.{Replied}
 use Rattle.farm_core.specs.declared.jobs.Job.{Job}
 use Rattle.farm_core.specs.declared.threads.given.WorkerEnds.{WorkerEnds}

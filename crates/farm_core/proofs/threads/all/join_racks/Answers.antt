@@ -2,10 +2,7 @@ use Rattle.std.proofs.Common.{rules, ◌∙◌, ◌++◌, ◌∷◌, List, [], m
 use Rattle.farm_lanes.specs.LaneEnds.{PutView}
 use Rattle.farm_core.specs.declared.jobs.Job.{Job}
 use Rattle.farm_core.specs.declared.threads.rack_feeders.RackFeeders.{RackFeeders}
-use Rattle.farm_lanes.specs.Lists.{Each}
 use Rattle.farm_core.specs.Ready.{HavePutRacks, as_new}
-use Rattle.farm_core.specs.Threads.{IsKept}
-use Rattle.farm_core.proofs.Middles.{each_middle}
 use Rattle.farm_core.proofs.Joins.{all_own, racks_none, racks_next}
 use Rattle.farm_core.proofs.RackEnds.{ends_next}
 use Rattle.farm_core.proofs.threads.all.join_racks.Goals as goal
@@ -19,13 +16,6 @@ loop-rack-init g c = (
   refl,
   search rules,
 )
-
-pub join_feeders-requires-clause-kept : goal.join_feeders-requires-clause-kept
-join_feeders-requires-clause-kept g c =
-    let was = c.loop-rack.invariant in let done = c.loop-rack.yielded in
-    each_middle (λ (r : RackFeeders). Each IsKept r.handles.items) c.args.racks.items done _ c.in-Some.rack
-    (sym c.into_iter-rack-iterator.ensures.into_iter_gives.0
-    ∙ (was.0 ∙ ap (λ (t : List RackFeeders). done ++ t) c.in-Some.ensures.steps.0)) c.requires.kept
 
 pub close_rack-requires-clause-own : goal.close_rack-requires-clause-own
 close_rack-requires-clause-own g c =

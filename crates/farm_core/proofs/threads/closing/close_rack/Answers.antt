@@ -1,10 +1,9 @@
 use Rattle.std.proofs.Common.{rules, arith, ◌≡◌, ◌∙◌, ◌++◌, ◌∷◌, List, [], length, map, vec_items, sym, ap, subst, append_assoc}
 use Rattle.std.proofs.lemmas.List.{length_push}
-use Rattle.atomic_table.specs.Seated.{TableId}
 use Rattle.farm_lanes.specs.declared.gate.record.SeatRecord.{SeatRecord}
-use Rattle.farm_lanes.specs.GateView.{SeatView}
+use Rattle.farm_lanes.specs.GateView.{SeatView, GateId}
 use Rattle.farm_lanes.specs.LaneEnds.{PutView}
-use Rattle.farm_lanes.specs.Lists.{Each}
+use Rattle.list_members.specs.Lists.{Each}
 use Rattle.farm_lanes.specs.SeatChanges.{joined}
 use Rattle.farm_core.specs.declared.threads.feeder.Fed.{Fed}
 use Rattle.farm_core.specs.declared.jobs.Job.{Job}
@@ -49,7 +48,7 @@ loop-fed-preserved c =
       c.push_reserved.ensures.items ∙ (ap (λ (l : List (PutView Job)). l ++ fed.jobs ∷ []) was.4
           ∙ (append_assoc (vec_items c.args.put_ends.now) (map (λ (f : Fed). f.jobs) done) (fed.jobs ∷ [])
           ∙ ap (λ (l : List (PutView Job)). vec_items c.args.put_ends.now ++ l) (sym (map_snoc (λ (f : Fed). f.jobs) done fed)))),
-      c.keep.ensures.rights ∙ (ap (λ (l : List TableId). l ++ right_back fed.right) was.5 ∙ sym (rights_snoc done fed)),
+      c.keep.ensures.rights ∙ (ap (λ (l : List GateId). l ++ right_back fed.right) was.5 ∙ sym (rights_snoc done fed)),
       search rules,
       search rules,
       search rules,
@@ -64,10 +63,10 @@ spend_all-requires-clause-own c =
     (let a = was.9 in let b = c.in-None.ensures.steps.0 in let d = c.into_iter-fed-iterator.ensures.into_iter_gives.1 in
     let e = c.pop.new.self.ok in omega arith) in
     let all_is : done ++ last ∷ [] ≡ c.args.given_back.items = ap (λ (l : List Fed). l ++ last ∷ []) whole ∙ sym c.in-Some.ensures.items in
-    let rights_are = c.keep-2.ensures.rights ∙ (ap (λ (l : List TableId). l ++ right_back last.right) was.5
+    let rights_are = c.keep-2.ensures.rights ∙ (ap (λ (l : List GateId). l ++ right_back last.right) was.5
     ∙ (sym (rights_snoc done last) ∙ ap rights_of all_is)) in (
       was.1,
-      subst (λ (l : List TableId). Each (λ r. r ≡ c.args.gate.now.id) l) (sym rights_are)
+      subst (λ (l : List GateId). Each (λ r. r ≡ c.args.gate.now.id) l) (sym rights_are)
           (rights_own c.args.gate.now.id c.args.given_back.items c.requires.own),
     )
 
@@ -79,11 +78,11 @@ returns-clause-drawn c = λ rack lists fed.
     (let a = was.9 in let b = c.in-None.ensures.steps.0 in let d = c.into_iter-fed-iterator.ensures.into_iter_gives.1 in
     let e = c.pop.new.self.ok in omega arith) in
     let all_is : done ++ last ∷ [] ≡ c.args.given_back.items = ap (λ (l : List Fed). l ++ last ∷ []) whole ∙ sym c.in-Some.ensures.items in
-    let rights_are = c.keep-2.ensures.rights ∙ (ap (λ (l : List TableId). l ++ right_back last.right) was.5
+    let rights_are = c.keep-2.ensures.rights ∙ (ap (λ (l : List GateId). l ++ right_back last.right) was.5
     ∙ (sym (rights_snoc done last) ∙ ap rights_of all_is)) in
     rack_drawn c.args.gate.now rack lists c.args.given_back.items fed s (length c.keep-2.new.rights.items)
     (subst (λ (l : List SeatRecord). IsJoint s l) (sym (map_snoc seats done last) ∙ ap (map seats) all_is)
     (joint_turn s last.seat.has (map seats done) (was.2 (last.seat.has ∷ []) c.learn_sound-joined.ensures.same)))
     was.3
-    (λ back. ap (λ (l : List TableId). length l) rights_are ∙ all_back c.args.given_back.items back)
+    (λ back. ap (λ (l : List GateId). length l) rights_are ∙ all_back c.args.given_back.items back)
     c.spend_all.ensures

@@ -1,6 +1,6 @@
 use Rattle.std.proofs.Common.{rules, ◌≡◌, ◌∙◌, ◌++◌, length, List, sym, ap, subst, refl, append_assoc, arith}
 use Rattle.std.proofs.lemmas.List.{length_push}
-use Rattle.atomic_table.specs.Seated.{TableId}
+use Rattle.farm_lanes.specs.GateView.{GateId}
 use Rattle.farm_core.proofs.Joints.{IsSpending, spend_begins, spend_next, spend_ends}
 use Rattle.farm_core.proofs.Middles.{each_middle}
 use Rattle.farm_core.proofs.threads.closing.spend_all.Goals as goal
@@ -15,14 +15,14 @@ close-closed-requires c =
         was.1,
         each_middle (λ r. r ≡ c.args.gate.now.id) c.args.rights.items done _ c.in-Some.right
             (sym c.into_iter-right-iterator.ensures.into_iter_gives.0
-            ∙ (was.0 ∙ ap (λ (t : List TableId). done ++ t) c.in-Some.ensures.steps.0)) c.requires.own.1,
+            ∙ (was.0 ∙ ap (λ (t : List GateId). done ++ t) c.in-Some.ensures.steps.0)) c.requires.own.1,
       );
     }
 
 pub loop-right-preserved : goal.loop-right-preserved
 loop-right-preserved c =
     let was = c.loop-right.invariant in let done = c.loop-right.yielded in (
-      rw append_assoc (was.0 ∙ ap (λ (t : List TableId). done ++ t) c.in-Some.ensures.steps.0),
+      rw append_assoc (was.0 ∙ ap (λ (t : List GateId). done ++ t) c.in-Some.ensures.steps.0),
       c.close-closed.ensures.gate ∙ was.1,
       c.close-closed.ensures.sound,
       λ is. subst (IsSpending c.args.gate.now.size c.args.seat.has c.close-closed.new.seat.has) (sym (length_push done c.in-Some.right))

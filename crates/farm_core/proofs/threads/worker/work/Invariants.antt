@@ -1,5 +1,5 @@
 use Rattle.std.proofs.Common.{◌≤◌, length}
-use Rattle.farm_lanes.specs.Lists.{Each}
+use Rattle.list_members.specs.Lists.{Each}
 use Rattle.farm_core.specs.Jobs.{SaysStop}
 use Rattle.farm_core.proofs.Works.{IsWorking}
 use Rattle.farm_core.proofs.threads.worker.work.Given as goal

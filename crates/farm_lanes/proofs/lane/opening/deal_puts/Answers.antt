@@ -4,7 +4,7 @@ use Rattle.crossbeam_channel.specs.Claims.{IsSeatAt, view}
 use Rattle.crossbeam_channel.specs.Ends.{sends_on}
 use Rattle.farm_lanes.specs.LaneEnds.{new_put}
 use Rattle.farm_lanes.specs.LaneRule.{end_record}
-use Rattle.farm_lanes.proofs.Lists.{all_last, all_front, more_items}
+use Rattle.list_members.proofs.Lists.{all_last, all_front, more_items}
 use Rattle.farm_lanes.proofs.Opens.{cut_is, left_is, put_ends_more}
 use Rattle.farm_lanes.proofs.lane.opening.deal_puts.Goals as goal
 

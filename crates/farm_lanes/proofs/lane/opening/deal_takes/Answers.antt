@@ -3,7 +3,7 @@ use Rattle.std.proofs.lemmas.Grind.{common_steps}
 use Rattle.crossbeam_channel.specs.Claims.{view}
 use Rattle.crossbeam_channel.specs.Ends.{sends_on, receives_on}
 use Rattle.farm_lanes.specs.LaneEnds.{new_take}
-use Rattle.farm_lanes.proofs.Lists.{all_front, more_items}
+use Rattle.list_members.proofs.Lists.{all_front, more_items}
 use Rattle.farm_lanes.proofs.Opens.{cut_take_is, left_take_is, take_ends_more}
 use Rattle.farm_lanes.proofs.lane.opening.deal_takes.Goals as goal
 

@@ -4,7 +4,7 @@ use Rattle.crossbeam_channel.specs.Ends.{sends_on}
 use Rattle.farm_lanes.specs.LaneEnds.{LaneName, PutView, TakeView}
 use Rattle.farm_lanes.specs.LaneNames.{lane_of, lane_on}
 use Rattle.farm_lanes.specs.LaneRule.{put_of}
-use Rattle.farm_lanes.proofs.Lists.{popped, nil_of}
+use Rattle.list_members.proofs.Lists.{popped, nil_of}
 use Rattle.farm_lanes.proofs.Settles.{Gathering, LanesAre, starts, puts_more, takes_more, all_parts, some_parts, finishes, same_lanes}
 use Rattle.farm_lanes.proofs.lane.settling.settle.Goals as goal
 

@@ -4,7 +4,7 @@ use Rattle.std.proofs.lemmas.Bool.{cases_lt}
 use Rattle.std.proofs.lemmas.Bool.Decides.{nat_tests}
 use mathlib.Core.Option.{some}
 use lib.ListN.{get_elem?}
-use Rattle.farm_lanes.proofs.Lists.{at_below, at_map, from_map}
+use Rattle.list_members.proofs.Lists.{at_below, at_map, from_map}
 use Rattle.farm_orders.specs.declared.orders.RackList.{RackList}
 use Rattle.farm_orders.specs.FedLists.{IsFewFeeds, AreFeeds}
 use Rattle.farm_orders.proofs.Members.{map_length, place_is, there}

@@ -2,9 +2,9 @@ use Rattle.std.proofs.Common.{◌≡◌, length, ap, sym, subst, arith, refl, fa
 use Rattle.crossbeam_channel.specs.Claims.{view}
 use Rattle.farm_lanes.specs.LaneEnds.{PutView}
 use Rattle.farm_lanes.specs.LaneRecord.{is_end}
-use Rattle.farm_lanes.specs.Lists.{Each}
+use Rattle.list_members.specs.Lists.{Each}
 use Rattle.farm_lanes.proofs.Items.{after_put}
-use Rattle.farm_lanes.proofs.Lists.{each_snoc}
+use Rattle.list_members.proofs.Lists.{each_snoc}
 use Rattle.farm_lanes.proofs.lane.put_end.PutEnd.put.Goals as goal
 
 pub invariant_of-self : goal.invariant_of-self
