@@ -13,8 +13,8 @@ use lrc_code::{Code, Outcome, Place, PlaceSet, Request};
 use std::alloc::{AllocError, Global};
 use std::marker::Model;
 
-// How many plans are remembered.
-const MOST_PLANS: usize = 8;
+// How many plans are remembered: with one fragment lost of each stripe, a plan for each place that it may have had.
+const MOST_PLANS: usize = 16;
 
 // A plan, and what it is the plan for.
 #[derive(Drop)]
@@ -55,10 +55,10 @@ impl Known {
     }
 }
 
-/// The plans of the last eight different questions: of a code, survivors and a target.
+/// The plans of the last sixteen different questions: of a code, survivors and a target.
 #[derive(Drop)]
 pub struct RememberedPlans {
-    known: [Option<Known>; 8],
+    known: [Option<Known>; 16],
     // Where the next plan goes, in place of the oldest.
     next: usize,
 }
@@ -67,7 +67,10 @@ impl RememberedPlans {
     /// No plans.
     pub fn new() -> RememberedPlans {
         RememberedPlans {
-            known: [None, None, None, None, None, None, None, None],
+            known: [
+                None, None, None, None, None, None, None, None, None, None, None, None, None, None,
+                None, None,
+            ],
             next: 0,
         }
     }
