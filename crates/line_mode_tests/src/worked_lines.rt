@@ -195,7 +195,11 @@ fn faults_have_texts_numbers_and_statuses(rt: HostRuntime) -> Result<(), AllocEr
     for (fault, text, number, status) in FAULTS {
         let said = format!(in rt.alloc(); "{fault}")?;
         assert_eq!(rt; said.as_str(), text);
-        assert_eq!(rt; (fault.number(), line_status(&Err(fault))), (number, status), "{text}");
+        assert_eq!(rt;
+            (fault.number(), line_status(&Err(fault))),
+            (number, status),
+            "{text}"
+        );
     }
     Ok(())
 }
