@@ -50,7 +50,7 @@ def lines(count):
 
 
 def questions(count):
-    """As many lines that ask for one lost fragment after another of so many, where all are lost: those of one code, and then of the other."""
+    """As many lines that ask for one lost fragment after another of so many, where all are lost; the last is of the other code."""
     places = "x0 x1 x2 x3 x4 x5 y0 y1 y2 y3 y4 y5 px py p0 p1".split()
     asked = b"".join(([b"code=12-2-2 a %s 1\n" % place.encode() for place in places] + [b"a x0 1\n"])[:count])
     return seconds([PROGRAM], asked * (LINES // count), b"several\n" * (LINES // count * count)) / (LINES // count * count)

@@ -1,4 +1,5 @@
-//! The names of `line_mode` and `command_line` that callers rely on: one that moves, or takes or gives something else, doesn't compile here.
+//! The names of `line_mode` and `command_line` that callers rely on: one that moves, or takes or gives something else, doesn't compile
+//! here.
 use command_line::{Words, WordsFault, read_words};
 use line_mode::{LineCount, LineFault, line_mode, line_status};
 use std::alloc::Global;

@@ -10,7 +10,8 @@ use Rattle.lrc_plan.specs.EvaluationParts.{IsZeroTree}
 use Rattle.lrc_plan.specs.Planned.{IsTargetValue, check_forms, value_form}
 use Rattle.lrc_plan.specs.Said.{IsSaid}
 use Rattle.lrc_plan.specs.Tree.{form_of}
-use Rattle.lrc_plan.proofs.FittingStripes.{ZeroTrees, byte_at-lt, contradiction, forms_along, forms_at, rebuilt, several, trees_along, trees_at}
+use Rattle.lrc_plan.proofs.FittingStripes.{ZeroTrees, byte_at-lt, contradiction, forms_along, forms_at, rebuilt, several}
+use Rattle.lrc_plan.proofs.FittingStripes.{trees_along, trees_at}
 use Rattle.lrc_plan.proofs.solving.answer_by.Goals as goal
 
 pub returns-then-not-possible-clause-said : goal.returns-then-not-possible-clause-said

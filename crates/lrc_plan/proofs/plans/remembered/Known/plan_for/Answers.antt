@@ -70,7 +70,7 @@ same_target p q h = same_place-eq p q (sym (ap₂ nat_eq (index_is p) (index_is 
 
 pub returns-then-eq-3 : goal.returns-then-eq-3
 returns-then-eq-3 c =
-    moved (value_form c.self.inside.plan) (check_forms c.self.inside.plan) c.self.inside.code c.args.code c.self.inside.survivors c.args.survivors
-    c.self.inside.target c.args.target
+    moved (value_form c.self.inside.plan) (check_forms c.self.inside.plan) c.self.inside.code c.args.code
+    c.self.inside.survivors c.args.survivors c.self.inside.target c.args.target
     (same_code c.self.inside.code c.args.code c.if-eq.ensures) (same_list c.self.inside.survivors c.args.survivors (sym c.if-eq-3.ensures))
     (same_target c.self.inside.target c.args.target c.if-eq-2.ensures) c.self.invariant
