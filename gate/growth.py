@@ -1,8 +1,8 @@
 #!/usr/bin/env python3
 """The time of the program grows with its work and not faster: four times the lines, and four times the requests of a rack with four
 feeds, take the processor less than ten times as long. Work that is done anew for each line, reply or row would take it sixteen
-times as long. And line mode remembers the plans of eight questions: lines that ask eight in turn take less time than lines that ask
-nine, each of which is forgotten before it is asked again. It runs what was built last: crates/rebuild/out/rebuild."""
+times as long. And line mode remembers the plans of sixteen questions: lines that ask sixteen in turn take less time than lines that
+ask seventeen, each of which is forgotten before it is asked again. It runs what was built last: crates/rebuild/out/rebuild."""
 
 import pathlib
 import resource
@@ -18,7 +18,7 @@ MOST = 10
 RUNS = 12
 
 # How many plans line mode remembers, and how much longer lines take at least of which each wants a new one.
-REMEMBERED = 8
+REMEMBERED = 16
 LEAST = 1.3
 
 LINES = 100_000
@@ -50,9 +50,9 @@ def lines(count):
 
 
 def questions(count):
-    """As many lines that ask for one lost fragment after another of so many, where all are lost."""
-    places = "x0 x1 x2 x3 x4 x5 y0 y1 y2 y3 y4 y5 px py p0 p1".split()[:count]
-    asked = b"".join(b"code=12-2-2 a %s 1\n" % place.encode() for place in places)
+    """As many lines that ask for one lost fragment after another of so many, where all are lost; the last is of the other code."""
+    places = "x0 x1 x2 x3 x4 x5 y0 y1 y2 y3 y4 y5 px py p0 p1".split()
+    asked = b"".join(([b"code=12-2-2 a %s 1\n" % place.encode() for place in places] + [b"a x0 1\n"])[:count])
     return seconds([PROGRAM], asked * (LINES // count), b"several\n" * (LINES // count * count)) / (LINES // count * count)
 
 

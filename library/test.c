@@ -431,6 +431,32 @@ static void stacks(enum lrc_code code, uint8_t *const fragments[LRC_PLACES], siz
 }
 #endif
 
+/* Stripes of one data byte, whose parities are the coefficients of its place, a product and an inverse that are known. */
+static void known(void)
+{
+    static const struct {
+        enum lrc_code code;
+        enum lrc_place place;
+        uint8_t parities[4];
+    } rows[] = {
+        {LRC_6_2_2, LRC_X0, {0x01, 0x00, 0x04, 0x10}},
+        {LRC_6_2_2, LRC_Y2, {0x00, 0x01, 0x03, 0x05}},
+        {LRC_12_2_2, LRC_X0, {0x01, 0x00, 0x10, 0x1d}},
+    };
+    uint8_t sum[1] = {0x80}, two = 0x02, byte = 0x80, *fragments[LRC_PLACES];
+    for (size_t i = 0; i < sizeof rows / sizeof *rows; i++) {
+        for (int p = 0; p < LRC_PLACES; p++) {
+            fragments[p] = store[p];
+            store[p][0] = p == (int)rows[i].place;
+        }
+        test(lrc_encode(rows[i].code, fragments, 1) == LRC_OK, "a known stripe");
+        for (int r = 0; r < 4; r++)
+            test(store[LRC_PX + r][0] == rows[i].parities[r], "a known parity");
+    }
+    test(lrc_scale_add(sum, 1, two, &byte, 1) == LRC_OK && sum[0] == 0x9d, "a known product");
+    test(lrc_scale_add(sum, 1, 0x8e, &two, 1) == LRC_OK && sum[0] == 0x9c, "a known inverse");
+}
+
 static void names(void)
 {
     test(lrc_version() == LRC_VERSION_NUMBER, "the version");
@@ -453,6 +479,7 @@ int main(void)
                                      MOST};
     uint8_t *fragments[LRC_PLACES];
     names();
+    known();
     for (unsigned c = LRC_6_2_2; c <= LRC_12_2_2; c++) {
         enum lrc_code code = (enum lrc_code)c;
         for (size_t i = 0; i < sizeof lengths / sizeof *lengths; i++) {

@@ -15,11 +15,12 @@ from edits import edited  # noqa: E402
 
 ROOT = pathlib.Path(__file__).resolve().parent.parent
 
-# The crates in which the tests of a crate's calls are, if not in the crate itself.
+# The crates in which the tests of a crate's calls are, if not in the crate itself; those of lrc_c are in C.
 TESTS = {
     "lrc_field": ["lrc_tests"],
     "lrc_code": ["lrc_tests"],
     "lrc_plan": ["lrc_tests"],
+    "lrc_c": [],
     "farm_lanes": ["farm_lanes_tests"],
     "farm_orders": ["farm_core_tests"],
     "farm_core": ["farm_core_tests"],

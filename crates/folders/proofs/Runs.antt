@@ -18,17 +18,20 @@ module _ (P : List Answered → Type 0) where
   at_last [] old each = each
   at_last (call ∷ more) old each = each.0
 
-  pub each_weaker : (Q : List Answered → Type 0) → ((calls : List Answered) → P calls → Q calls) → (more old : List Answered) → AtEach P more old → AtEach Q more old
+  pub each_weaker : (Q : List Answered → Type 0) → ((calls : List Answered) → P calls → Q calls) → (more old : List Answered)
+      → AtEach P more old → AtEach Q more old
   each_weaker Q leads [] old each = leads old each
   each_weaker Q leads (call ∷ more) old each = (leads (call ∷ more ++ old) each.0, each_weaker Q leads more old each.1)
 
   pub each_after : (later more old : List Answered) → AtEach P more old → AtEach P later (more ++ old) → AtEach P (later ++ more) old
   each_after [] more old each each_later = each
   each_after (call ∷ later) more old each each_later =
-      (subst P (ap (λ (calls : List Answered). call ∷ calls) (sym (append_assoc later more old))) each_later.0, each_after later more old each each_later.1)
+      (subst P (ap (λ (calls : List Answered). call ∷ calls) (sym
+          (append_assoc later more old))) each_later.0, each_after later more old each each_later.1)
 
 module _ (given : List ℕ → List ℕ → Type 0) where
-  kept_after : (shown mid_shown old mid new : Files) (path : List ℕ) → IsKept given shown shown mid_shown path → IsKept given shown old mid path
+  kept_after : (shown mid_shown old mid new : Files) (path : List ℕ) → IsKept given shown shown mid_shown path
+      → IsKept given shown old mid path
       → IsKept given mid_shown mid new path → IsKept given shown old new path
   kept_after shown mid_shown old mid new path in_shown (inl first) (inl second) = inl (second ∙ first)
   kept_after shown mid_shown old mid new path in_shown (inr first) (inl second) = inr (first.0, (first.1.0, first.1.1, second ∙ first.1.2))
@@ -58,7 +61,8 @@ module _ (temporary : List ℕ → Type 0) where
 
   -- nothing was called
   pub keeps_all : (given : List ℕ → List ℕ → Type 0) (calls : List Answered) → Keeps temporary given calls calls
-  keeps_all given calls = record { more = []; are = refl; whenever = λ w lawful sound. (sound, λ path ours not_temporary. (inl refl, inl refl)) }
+  keeps_all given calls = record { more = []; are = refl; whenever = λ w lawful sound. (sound, λ path ours not_temporary.
+      (inl refl, inl refl)) }
 
   pub keeps_weaker : (given other : List ℕ → List ℕ → Type 0) → ((path bytes : List ℕ) → given path bytes → other path bytes)
       → (old new : List Answered) → Keeps temporary given old new → Keeps temporary other old new
@@ -67,13 +71,15 @@ module _ (temporary : List ℕ → Type 0) where
     are = keeps.are;
     whenever = λ w lawful sound. let found = keeps.whenever w lawful sound in (
       found.0,
-      each_weaker (AreKept temporary given w old) (AreKept temporary other w old) (λ calls are. are_kept_weaker given other leads w old calls are) keeps.more old found.1,
+      each_weaker (AreKept temporary given w old) (AreKept temporary other w old)
+          (λ calls are. are_kept_weaker given other leads w old calls are) keeps.more old found.1,
     );
   }
 
   -- one run after another
   after : (given : List ℕ → List ℕ → Type 0) (w : World) (later more old : List Answered)
-      → ((lawful : IsLawful w (more ++ old)) → IsSound temporary w old → IsSound temporary w (more ++ old) × AtEach (AreKept temporary given w old) more old)
+      → ((lawful : IsLawful w (more ++ old)) → IsSound temporary w old → IsSound temporary w (more ++ old) × AtEach
+          (AreKept temporary given w old) more old)
       → ((lawful : IsLawful w (later ++ (more ++ old))) → IsSound temporary w (more ++ old)
       → IsSound temporary w (later ++ (more ++ old)) × AtEach (AreKept temporary given w (more ++ old)) later (more ++ old))
       → IsLawful w (later ++ (more ++ old)) → IsSound temporary w old
@@ -83,7 +89,8 @@ module _ (temporary : List ℕ → Type 0) where
         b.0,
         each_after (AreKept temporary given w old) later more old a.1
             (each_weaker (AreKept temporary given w (more ++ old)) (AreKept temporary given w old)
-            (λ calls are. are_kept_after given w old (more ++ old) calls (at_last (AreKept temporary given w old) more old a.1) are) later (more ++ old) b.1),
+            (λ calls are. are_kept_after given w old (more ++ old) calls (at_last (AreKept temporary given w old) more old a.1) are) later
+                (more ++ old) b.1),
       )
 
   pub keeps_after : (given : List ℕ → List ℕ → Type 0) (old mid new : List Answered)

@@ -1,5 +1,6 @@
 -- What one more call keeps.
-use Rattle.std.proofs.Common.{◌≡◌, ◌≢◌, ◌⊎◌, inl, inr, ℕ, suc, List, [], ◌∷◌, ◌++◌, length, Bool, true, false, not, ◌==◌, ◌&&◌, ◌||◌, Option, Some, None, option_map, refl, sym, ◌∙◌, ap, subst, arith}
+use Rattle.std.proofs.Common.{◌≡◌, ◌≢◌, ◌⊎◌, inl, inr, ℕ, suc, List, [], ◌∷◌, ◌++◌, length, Bool, true, false, not, ◌==◌, ◌&&◌, ◌||◌}
+use Rattle.std.proofs.Common.{Option, Some, None, option_map, refl, sym, ◌∙◌, ap, subst, arith}
 use Rattle.std.proofs.lemmas.Bool.{and_from, or_left, or_right}
 use Rattle.folders.specs.Calls.{Call, Answered, make, sync, link, link_again, rename, remove, sync_folder}
 use Rattle.folders.specs.Files.{Files, under}
@@ -18,7 +19,8 @@ other_file : (w : World) (calls : List Answered) (call : Call) (files : Files) (
 other_file w calls call files path file ours new leads same = new path ours (leads ∙ ap (λ (n : ℕ). Some n) same)
 
 -- a file that can't be appended to stays so, if a call that makes a file makes another one
-stays_closed : (call : Call) (ok : Bool) (calls : List Answered) (file : ℕ) → ((path : List ℕ) → call ≡ make path → file ≢ suc (length calls))
+stays_closed : (call : Call) (ok : Bool) (calls : List Answered) (file : ℕ) → ((path : List ℕ) → call ≡ make path → file ≢ suc
+    (length calls))
     → is_closed file calls ≡ true → is_closed file ((call, ok) ∷ calls) ≡ true
 stays_closed (make path) ok calls file other closed = and_from _ _ (differs file (suc (length calls)) (other path refl)) closed
 stays_closed (sync f bytes) ok calls file other closed = or_right _ _ closed
@@ -28,7 +30,8 @@ stays_closed (rename f from to) ok calls file other closed = closed
 stays_closed (remove path) ok calls file other closed = closed
 stays_closed (sync_folder path) ok calls file other closed = closed
 
-new_seen : (w : World) (call : Call) (calls : List Answered) (path : List ℕ) → Makes w call calls → call ≡ make path → IsNew w.ours (suc (length calls)) (w.seen calls)
+new_seen : (w : World) (call : Call) (calls : List Answered) (path : List ℕ) → Makes w call calls → call ≡ make path → IsNew w.ours (suc
+    (length calls)) (w.seen calls)
 new_seen w (make p) calls path makes same = makes.0
 new_seen w (sync f bytes) calls path makes same = cc
 new_seen w (link f to) calls path makes same = cc
@@ -37,7 +40,8 @@ new_seen w (rename f from to) calls path makes same = cc
 new_seen w (remove p) calls path makes same = cc
 new_seen w (sync_folder p) calls path makes same = cc
 
-new_left : (w : World) (call : Call) (calls : List Answered) (path : List ℕ) → Makes w call calls → call ≡ make path → IsNew w.ours (suc (length calls)) (w.left calls)
+new_left : (w : World) (call : Call) (calls : List Answered) (path : List ℕ) → Makes w call calls → call ≡ make path → IsNew w.ours (suc
+    (length calls)) (w.left calls)
 new_left w (make p) calls path makes same = makes.1
 new_left w (sync f bytes) calls path makes same = cc
 new_left w (link f to) calls path makes same = cc
@@ -53,15 +57,18 @@ same_map f g (Some j) same = ap (λ (x : List ℕ). Some x) (same j refl)
 -- a path that leads where it led has what it had, if the file kept its bytes
 pub same_under : (old new : Files) (path : List ℕ) → new.named path ≡ old.named path
     → ((file : ℕ) → old.named path ≡ Some file → new.bytes file ≡ old.bytes file) → under new path ≡ under old path
-same_under old new path named bytes = ap (λ (o : Option ℕ). option_map new.bytes o) named ∙ same_map new.bytes old.bytes (old.named path) bytes
+same_under old new path named bytes = ap (λ (o : Option ℕ). option_map new.bytes o) named ∙ same_map new.bytes old.bytes
+    (old.named path) bytes
 
 module _ (temporary : List ℕ → Type 0) (w : World) where
   -- of one of what is seen and what a crash leaves: a path that leads where it led
   module _ (call : Call) (ok : Bool) (calls : List Answered) (old new : Files) (path : List ℕ) (ours : w.ours path ≡ true)
-      (makes : (p : List ℕ) → call ≡ make p → IsNew w.ours (suc (length calls)) old) (bytes : KeepsClosed calls ((call, ok) ∷ calls) old new)
+      (makes : (p : List ℕ) → call ≡ make p → IsNew w.ours (suc (length calls)) old) (bytes : KeepsClosed calls ((call, ok)
+          ∷ calls) old new)
       (closed : (file : ℕ) → old.named path ≡ Some file → is_closed file calls ≡ true) (named : new.named path ≡ old.named path) where
     stays : (file : ℕ) → old.named path ≡ Some file → is_closed file ((call, ok) ∷ calls) ≡ true
-    stays file leads = stays_closed call ok calls file (λ p is. other_file w calls call old path file ours (makes p is) leads) (closed file leads)
+    stays file leads = stays_closed call ok calls file (λ p is. other_file w calls call old path file ours (makes p is) leads)
+        (closed file leads)
 
     pub unchanged : under new path ≡ under old path
     unchanged = same_under old new path named (λ file leads. bytes file (closed file leads) (stays file leads))
@@ -92,25 +99,32 @@ module _ (temporary : List ℕ → Type 0) (w : World) where
   quiet_named shown old new made (remove p) quiet may path ours not_temporary = may.0 path ours (other_path path p quiet not_temporary)
   quiet_named shown old new made (sync_folder p) quiet may path ours not_temporary = may path ours (λ none. none)
 
-  module _ (call : Call) (ok : Bool) (calls : List Answered) (step : IsStep w call ok calls) (sound : IsSound temporary w calls) (quiet : IsQuiet call) where
-    named_seen : (path : List ℕ) → w.ours path ≡ true → (temporary path → ⊥) → (w.seen ((call, ok) ∷ calls)).named path ≡ (w.seen calls).named path
+  module _ (call : Call) (ok : Bool) (calls : List Answered) (step : IsStep w call ok calls) (sound : IsSound temporary w calls)
+      (quiet : IsQuiet call) where
+    named_seen : (path : List ℕ) → w.ours path ≡ true → (temporary path → ⊥) → (w.seen ((call, ok) ∷ calls)).named path ≡
+        (w.seen calls).named path
     named_seen = quiet_named (w.seen calls) (w.seen calls) (w.seen ((call, ok) ∷ calls)) (suc (length calls)) call quiet step.seen
 
-    named_left : (path : List ℕ) → w.ours path ≡ true → (temporary path → ⊥) → (w.left ((call, ok) ∷ calls)).named path ≡ (w.left calls).named path
+    named_left : (path : List ℕ) → w.ours path ≡ true → (temporary path → ⊥) → (w.left ((call, ok) ∷ calls)).named path ≡
+        (w.left calls).named path
     named_left = quiet_named (w.seen calls) (w.left calls) (w.left ((call, ok) ∷ calls)) (suc (length calls)) call quiet step.left
 
     pub quiet_sound : IsSound temporary w ((call, ok) ∷ calls)
     quiet_sound = record {
       seen = λ path file ours not_temporary leads. unchanged_closed call ok calls (w.seen calls) (w.seen ((call, ok) ∷ calls)) path ours
-          (λ p is. new_seen w call calls p step.makes is) step.seen_bytes (λ f at. sound.seen path f ours not_temporary at) (named_seen path ours not_temporary) file leads;
+          (λ p is. new_seen w call calls p step.makes is) step.seen_bytes (λ f at. sound.seen path f ours not_temporary at)
+              (named_seen path ours not_temporary) file leads;
       left = λ path file ours not_temporary leads. unchanged_closed call ok calls (w.left calls) (w.left ((call, ok) ∷ calls)) path ours
-          (λ p is. new_left w call calls p step.makes is) step.left_bytes (λ f at. sound.left path f ours not_temporary at) (named_left path ours not_temporary) file leads;
+          (λ p is. new_left w call calls p step.makes is) step.left_bytes (λ f at. sound.left path f ours not_temporary at)
+              (named_left path ours not_temporary) file leads;
     }
 
     pub quiet_kept : (given : List ℕ → List ℕ → Type 0) → AreKept temporary given w calls ((call, ok) ∷ calls)
     quiet_kept given path ours not_temporary = (
       inl (unchanged call ok calls (w.seen calls) (w.seen ((call, ok) ∷ calls)) path ours
-          (λ p is. new_seen w call calls p step.makes is) step.seen_bytes (λ f at. sound.seen path f ours not_temporary at) (named_seen path ours not_temporary)),
+          (λ p is. new_seen w call calls p step.makes is) step.seen_bytes (λ f at. sound.seen path f ours not_temporary at)
+              (named_seen path ours not_temporary)),
       inl (unchanged call ok calls (w.left calls) (w.left ((call, ok) ∷ calls)) path ours
-          (λ p is. new_left w call calls p step.makes is) step.left_bytes (λ f at. sound.left path f ours not_temporary at) (named_left path ours not_temporary)),
+          (λ p is. new_left w call calls p step.makes is) step.left_bytes (λ f at. sound.left path f ours not_temporary at)
+              (named_left path ours not_temporary)),
     )

@@ -1,12 +1,15 @@
 -- What a file system may do in a run of calls, and what a crash may leave.
 --
--- It is said of paths that nobody else changes, that are no links, and no two of which are one entry of a folder, and of the files that they
+-- It is said of paths that nobody else changes, that are no links, and no two of which are one entry of a folder, and of the files that
+-- they
 -- lead to. Of other paths and files nothing is said. It says no more than POSIX does, but where a line names what else it rests on.
-use Rattle.std.specs.Prelude.{◌≡◌, ◌≢◌, ◌⊎◌, ℕ, suc, List, [], ◌∷◌, ◌++◌, length, Bool, true, false, ◌==◌, ◌&&◌, ◌||◌, not, if◌then◌else◌, Option, Some, None, IfSome}
+use Rattle.std.specs.Prelude.{◌≡◌, ◌≢◌, ◌⊎◌, ℕ, suc, List, [], ◌∷◌, ◌++◌, length, Bool, true, false, ◌==◌, ◌&&◌, ◌||◌, not, if◌then◌else◌}
+use Rattle.std.specs.Prelude.{Option, Some, None, IfSome}
 use Rattle.folders.specs.Calls.{Call, Answered, make, sync, link, link_again, rename, remove, sync_folder}
 use Rattle.folders.specs.Files.{Files, IsIn}
 
--- One way in which a run may go: what programs see after each front of its calls, the newest call first, and what one crash leaves if it comes
+-- One way in which a run may go: what programs see after each front of its calls, the newest call first, and what one crash leaves if it
+-- comes
 -- then. A statement that holds of each lawful world holds of all that a crash may leave.
 pub record World : Type 0 where
   -- the paths that nobody else changes
@@ -43,7 +46,8 @@ MayChange ours shown file (link other to) old new =
 MayChange ours shown file (link_again from to) old new =
     SameBut ours (λ p. p ≡ to) old new
     × (ours to ≡ true → ours from ≡ true → (new.named to ≡ old.named to) ⊎ ((shown.named to ≡ None) × (new.named to ≡ shown.named from)))
--- A crash leaves the one file at the second path or the other one, and never none: POSIX says it of programs; ext4, XFS, Btrfs and all others
+-- A crash leaves the one file at the second path or the other one, and never none: POSIX says it of programs; ext4, XFS, Btrfs and all
+-- others
 -- with a journal or copies on write say it of crashes.
 MayChange ours shown file (rename other from to) old new =
     SameBut ours (λ p. (p ≡ from) ⊎ (p ≡ to)) old new
@@ -79,7 +83,8 @@ Makes w (rename file from to) calls = Unit {0}
 Makes w (remove path) calls = Unit {0}
 Makes w (sync_folder path) calls = Unit {0}
 
--- Bytes stay in files that can't be appended to. Those of others may be any, as long as they aren't on the disk: nothing is said of the order
+-- Bytes stay in files that can't be appended to. Those of others may be any, as long as they aren't on the disk: nothing is said of the
+-- order
 -- in which they get there, nor of a file after a sync that failed.
 abbrev pub KeepsClosed : List Answered → List Answered → Files → Files → Type 0
 KeepsClosed before after old new =

@@ -1,5 +1,5 @@
 //! The greatest input and one byte more, and long lines.
-use crate::asserting::{MODES, assert_replies};
+use crate::asserting::{Mode, assert_replies};
 use line_mode::{LineCount, LineFault, line_status};
 use std::alloc::AllocError;
 use std::io;
@@ -13,67 +13,82 @@ const GREATEST: usize = 8_388_608;
 // How many bytes are asked of a reader at once.
 const BLOCK: usize = 65_536;
 
-// A reader that gives so many line feeds, at most so many at each call, and counts the calls.
+// A reader that gives a byte so many times, at most so often at each call, and counts the calls.
 #[derive(Drop)]
-struct LineFeeds {
+struct Bytes {
+    byte: u8,
     left: usize,
     most: usize,
     calls: usize,
 }
 
-impl Read for LineFeeds {
+impl Read for Bytes {
     fn read(&mut self, buf: &mut [u8]) -> io::Result<usize> {
         self.calls = self.calls.saturating_add(1);
         let n = buf.len().min(self.most).min(self.left);
-        buf[..n].fill(b'\n');
+        buf[..n].fill(self.byte);
         self.left -= n;
         Ok(n)
     }
 }
 
-// Asserts what line mode answers to so many line feeds, that it writes nothing, and that it reads no more often than whole blocks ask for.
+// Asserts what line mode answers to a reader, that it writes nothing, and that it reads so often at most.
 fn assert_answer(
     rt: &(impl Abort + AllocGlobal + Threads + Sync),
-    left: usize,
-    most: usize,
+    mode: Mode,
+    input: &mut Bytes,
     reads: usize,
     wanted: Result<LineCount, LineFault>,
     status: u8,
 ) {
-    for mode in MODES {
-        let mut output = Vec::new(rt.alloc());
-        let mut input = LineFeeds {
+    let mut output = Vec::new(rt.alloc());
+    let answer = mode.reply(rt, rt.alloc(), input, &mut output);
+    assert_eq!(rt;
+        (answer, line_status(&answer)),
+        (wanted, status),
+        "{mode:?}"
+    );
+    assert!(rt;
+        output.is_empty() && input.calls <= reads,
+        "{mode:?} {} reads",
+        input.calls
+    );
+}
+
+// Asserts that the greatest input is read, and one byte more refused, by a reader that gives a byte so often at each call.
+fn assert_limit(
+    rt: &(impl Abort + AllocGlobal + Threads + Sync),
+    mode: Mode,
+    byte: u8,
+    most: usize,
+    reads: usize,
+) {
+    let none = Ok(LineCount {
+        answered: 0,
+        refused: 0,
+    });
+    let too_long = Err(LineFault::InputTooLong);
+    for (left, wanted, status) in [(GREATEST, none, 0), (GREATEST + 1, too_long, 1)] {
+        let mut input = Bytes {
+            byte,
             left,
             most,
             calls: 0,
         };
-        let answer = mode.reply(rt, rt.alloc(), &mut input, &mut output);
-        assert_eq!(rt; answer, wanted, "{mode:?} {left} bytes, {most} at a call");
-        assert_eq!(rt;
-            line_status(&answer),
-            status,
-            "{mode:?} {left} bytes, {most} at a call"
-        );
-        assert_eq!(rt; output.len(), 0, "{mode:?} {left} bytes, {most} at a call");
-        assert!(rt;
-            input.calls <= reads,
-            "{mode:?} {left} bytes, {most} at a call"
-        );
+        assert_answer(rt, mode, &mut input, reads, wanted, status);
     }
 }
 
-// The greatest input is read, and one byte more is refused, however few bytes a call gives.
+// However few bytes a call gives: here one.
+#[test]
+fn line_feeds_stop_past_the_limit(rt: HostRuntime) {
+    assert_limit(&rt, Mode::Alone, b'\n', 1, GREATEST + 1);
+}
+
+// No more often than whole blocks ask for.
 #[test]
 fn stops_past_the_limit(rt: HostRuntime) {
-    let none = LineCount {
-        answered: 0,
-        refused: 0,
-    };
-    for (most, reads) in [(1, GREATEST + 1), (1_000_000, GREATEST / BLOCK + 1)] {
-        assert_answer(&rt, GREATEST, most, reads, Ok(none), 0);
-        let too_long = Err(LineFault::InputTooLong);
-        assert_answer(&rt, GREATEST + 1, most, reads, too_long, 1);
-    }
+    assert_limit(&rt, Mode::InThreads, b' ', 1_000_000, GREATEST / BLOCK + 1);
 }
 
 // Adds a text so many times.

@@ -61,8 +61,8 @@ fn no_arguments_are_line_mode(rt: HostRuntime) {
     assert!(rt; matches!(read, Ok(Words::Lines)), "{read:?}");
 }
 
-// Arguments with other numbers of workers, or capacities of the queue. Numbers out of a farm's limits are read; the settings refuse
-// them.
+// Arguments, and the numbers of workers and the capacities of the queue that they ask for. Options may be anywhere. Numbers out of a farm's
+// limits are read; the settings refuse them.
 const FARMS: &[(&[&str], (usize, usize))] = &[
     (&["farm", "a", "b"], (4, 16)),
     (&["farm", "a", "b", "--workers", "2"], (2, 16)),
@@ -72,28 +72,29 @@ const FARMS: &[(&[&str], (usize, usize))] = &[
         (0, 1),
     ),
     (&["farm", "a", "b", "--queue", "65535"], (4, 65535)),
+    (
+        &["farm", "a", "b", "--workers", "7", "--queue", "9"],
+        (7, 9),
+    ),
+    (
+        &["farm", "--queue", "9", "--workers", "7", "a", "b"],
+        (7, 9),
+    ),
+    (&["farm", "--workers=7", "a", "--queue=9", "b"], (7, 9)),
+    (
+        &["farm", "a", "--workers", "+7", "b", "--queue=009"],
+        (7, 9),
+    ),
+    (
+        &["farm", "--workers=7", "--queue=9", "--", "a", "b"],
+        (7, 9),
+    ),
 ];
 
 #[test]
-fn farm_has_defaults(rt: HostRuntime) {
+fn farms_have_defaults_and_options(rt: HostRuntime) {
     for (arguments, wanted) in FARMS {
         assert_farm(&rt, arguments, *wanted);
-    }
-}
-
-// Arguments with 7 workers and a queue of 9.
-const OPTIONS: &[&[&str]] = &[
-    &["farm", "a", "b", "--workers", "7", "--queue", "9"],
-    &["farm", "--queue", "9", "--workers", "7", "a", "b"],
-    &["farm", "--workers=7", "a", "--queue=9", "b"],
-    &["farm", "a", "--workers", "+7", "b", "--queue=009"],
-    &["farm", "--workers=7", "--queue=9", "--", "a", "b"],
-];
-
-#[test]
-fn options_may_be_anywhere(rt: HostRuntime) {
-    for arguments in OPTIONS {
-        assert_farm(&rt, arguments, (7, 9));
     }
 }
 

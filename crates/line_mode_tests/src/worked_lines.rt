@@ -183,17 +183,23 @@ fn gives_statuses(rt: HostRuntime) {
     assert_status(&rt, b"?", 1);
 }
 
-// Each fault, its number and its status.
-const FAULTS: [(LineFault, u8, u8); 3] = [
-    (LineFault::InputTooLong, 25, 1),
-    (LineFault::Device, 24, 3),
-    (LineFault::OutOfMemory, 16, 4),
+// Each fault, its text, its number and its status.
+const FAULTS: [(LineFault, &str, u8, u8); 3] = [
+    (LineFault::InputTooLong, "the input is too long", 25, 1),
+    (LineFault::Device, "a read or a write failed", 24, 3),
+    (LineFault::OutOfMemory, "memory was refused", 16, 4),
 ];
 
 #[test]
-fn gives_fault_numbers(rt: HostRuntime) {
-    for (fault, number, status) in FAULTS {
-        assert_eq!(rt; fault.number(), number, "{fault:?}");
-        assert_eq!(rt; line_status(&Err(fault)), status, "{fault:?}");
+fn faults_have_texts_numbers_and_statuses(rt: HostRuntime) -> Result<(), AllocError> {
+    for (fault, text, number, status) in FAULTS {
+        let said = format!(in rt.alloc(); "{fault}")?;
+        assert_eq!(rt; said.as_str(), text);
+        assert_eq!(rt;
+            (fault.number(), line_status(&Err(fault))),
+            (number, status),
+            "{text}"
+        );
     }
+    Ok(())
 }

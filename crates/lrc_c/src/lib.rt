@@ -19,8 +19,6 @@ mod reading;
 mod rebuilding;
 mod rebuilding_many;
 mod statuses;
-#[cfg(test)]
-mod tests;
 mod updating;
 mod version;
 mod windows;

@@ -217,7 +217,7 @@ fn rebuild_four(
 /// Rebuilds the fragments at up to four lost places from the survivors, in one pass over these; the checks are tested
 /// once. A target of 255 is none, and gets the status 0. The others get the statuses of `lrc_rebuild_into`, and their rooms,
 /// in the targets' order, have the length. The answer is the greatest status; 3: the arguments are not of that kind, and
-/// nothing is written. The arguments are as many as `include/lrc.h` declares.
+/// nothing is written. The arguments are as many as `library/lrc.h` declares.
 #[unsafe(no_mangle)]
 pub extern "C" fn lrc_rebuild_many_into(
     code: u8,

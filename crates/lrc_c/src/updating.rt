@@ -105,7 +105,7 @@ fn update(coefficient: Gf, difference: &[u8], parity: &mut [u8])
 /// Brings parities up to date after the fragment at a data place changed: adds to each the place's coefficient in it times the
 /// difference, which is the sum of the fragment's bytes before and after. A parity without bytes is left alone. 0: done. 3: the number is
 /// no code's, the index that of no data place of the code, or a parity has bytes and not as many as the difference; nothing
-/// is written. The arguments are as many as `include/lrc.h` declares.
+/// is written. The arguments are as many as `library/lrc.h` declares.
 #[unsafe(no_mangle)]
 pub extern "C" fn lrc_update_into(
     code: u8,

@@ -8,7 +8,7 @@ use crate::pairing::{LEAST_PAIRED_BYTES, write_pairs};
 use lrc_field::{Pair, Term};
 
 /// How many bytes of each fragment a window has.
-pub(crate) const WINDOW: usize = 2304;
+const WINDOW: usize = 2304;
 
 /// What is wanted in two rooms: sums by their terms, or nothing. Pairs give both sums in one pass over their bytes; there are none where
 /// each is written alone.

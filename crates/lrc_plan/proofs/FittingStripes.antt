@@ -64,6 +64,13 @@ module _ {T : Type 0} (form : T → Form) (r : Asked) (checks : List T) where
   trees_along all k d lt i h = subst (λ t. meaning (byte_at r i) t ≡ 0) (get_or-map form checks k d (form d) lt)
       (all i h k (form d) (subst (λ n. k < n) (sym (length-map checks form)) lt))
 
+  pub forms_at : All (λ t. IsZeroTree r (form t)) checks → All (IsZeroTree r) (map form checks)
+  forms_at all = All-map (IsZeroTree r) form checks all
+
+  pub forms_along : All (IsZeroTree r) (map form checks) → All (λ t. IsZeroTree r (form t)) checks
+  forms_along all k d lt = subst (IsZeroTree r) (get_or-map form checks k d (form d) lt)
+      (all k (form d) (subst (λ n. k < n) (sym (length-map checks form)) lt))
+
 module _ (r : Asked) (accepted : refusal r ≡ None) (bytes : All (λ s. AreBytes s.bytes) r.survivors) where
   abbrev code : Code
   code = tables_of r.code

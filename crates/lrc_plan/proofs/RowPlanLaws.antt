@@ -12,8 +12,8 @@ use Rattle.lrc_code.specs.Places.{index_of, same_place, all_places}
 use Rattle.lrc_code.proofs.PlaceSums.{sum_over-same, combination-sum_over}
 use Rattle.lrc_plan.specs.Rows.{AreReduced, row_sum}
 use Rattle.lrc_plan.specs.PlanParts.{IsTargetRow}
-use Rattle.lrc_plan.specs.Planned.{Extends, ExtensionsDiffer}
-use Rattle.lrc_plan.specs.RowPlans.{AnswerBy, AreCheckRows, IsCheckRow, IsRowPlan, IsRowValue, IsValueRow, ReadsSurvivors, DecideExtensions}
+use Rattle.lrc_plan.specs.Planned.{ExtensionsDiffer}
+use Rattle.lrc_plan.specs.RowPlans.{AreCheckRows, IsCheckRow, IsRowValue, IsValueRow, ReadsSurvivors}
 use Rattle.lrc_plan.proofs.Extension.{determined, has_extension, zeros}
 
 -- a row that determines the target, cut at it
@@ -36,38 +36,6 @@ pub value_either : (code : Code) (survives : Place → Bool) (t : Place) (value 
     → MatchOption value (ExtensionsDiffer code survives t) (IsValueRow code survives t) → IsRowValue code survives t value
 value_either code survives t None h = h
 value_either code survives t (Some row) h = h
-
--- ---- answers
-
--- rows that answer over survivors also answer where these are given otherwise
-pub given_otherwise : (code : Code) (survives other : Place → Bool) → ((p : Place) → survives p ≡ other p) → (t : Place)
-    → (value : Option (List ℕ)) (rows : List (List ℕ)) → AnswerBy code survives t value rows → AnswerBy code other t value rows
-given_otherwise code survives other same t value rows by = at value by
-  where
-    from : (s e : Place → ℕ) → Extends code other s e → Extends code survives s e
-    from s e x = record { bytes = x.bytes; solves = x.solves; kept = λ p l. x.kept p (sym (same p) ∙ l) }
-
-    to : (s e : Place → ℕ) → Extends code survives s e → Extends code other s e
-    to s e x = record { bytes = x.bytes; solves = x.solves; kept = λ p l. x.kept p (same p ∙ l) }
-
-    decide : DecideExtensions code survives rows → DecideExtensions code other rows
-    decide h s small = (λ (e, x). (h s small).0 (e, from s e x), λ a. (let w = (h s small).1 a in (w.0, to s w.0 w.1)))
-
-    differ : ExtensionsDiffer code survives t → ExtensionsDiffer code other t
-    differ (s, d, e, h, x, y, apart) = (s, d, e, h, to s d x, to s e y, apart)
-
-    at : (value : Option (List ℕ)) → AnswerBy code survives t value rows → AnswerBy code other t value rows
-    at None (d, h) = (differ d, decide h)
-    at (Some row) (g, h) = ((λ s e small x. g s e small (from s e x)), decide h)
-
--- so a plan's rows answer
-pub rows_answer : (code : Code) (survives other : Place → Bool) → ((p : Place) → survives p ≡ other p) → (t : Place)
-    → (value : Option (List ℕ)) (checks : List (List ℕ)) → IsRowPlan code survives t value checks → AnswerBy code other t value checks
-rows_answer code survives other same t value checks plan = given_otherwise code survives other same t value checks (at value plan.of_target)
-  where
-    at : (value : Option (List ℕ)) → IsRowValue code survives t value → AnswerBy code survives t value checks
-    at None h = (h, plan.of_survivors.possible)
-    at (Some row) h = (h.right, plan.of_survivors.possible)
 
 module _ (code : Code) (survives : Place → Bool) (coef : ℕ → Place → ℕ) (pivot : ℕ → Option Place)
     (red : AreReduced code survives coef pivot) where

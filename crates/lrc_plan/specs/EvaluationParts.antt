@@ -29,12 +29,6 @@ IsValueAdded factor r t before after =
     (i : ℕ) → i < length before
     → slice_index after i ≡ bit_xor (slice_index before i) (times factor (meaning (byte_at r i) t))
 
--- a factor times some bytes was added to others
-abbrev pub IsProductAdded : ℕ → List ℕ → List ℕ → List ℕ → Type 0
-IsProductAdded factor bytes before after =
-    (i : ℕ) → i < length bytes
-    → slice_index after i ≡ bit_xor (slice_index before i) (times factor (slice_index bytes i))
-
 -- every byte is 0
 abbrev pub AreZeros : List ℕ → Type 0
 AreZeros bytes = (i : ℕ) → i < length bytes → slice_index bytes i ≡ 0

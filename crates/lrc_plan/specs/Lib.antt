@@ -11,4 +11,5 @@ pub mod Terms
 pub mod RowPlans
 pub mod RowTrees
 pub mod Remembered
+pub mod Said
 pub mod Stripes

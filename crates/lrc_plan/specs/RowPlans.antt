@@ -60,8 +60,3 @@ abbrev pub IsCheckRow : (ℕ → Place → ℕ) → (ℕ → Option Place) → �
 IsCheckRow coef pivot r row =
     (pivot r ≡ None → (p : Place) → slice_index row (index_of p) ≡ coef r p)
     × ((v : Place) → pivot r ≡ Some v → (p : Place) → slice_index row (index_of p) ≡ 0)
-
--- rows that answer a request over these survivors: the target's, or none where it is not determined, and those of the survivors
-abbrev pub AnswerBy : Code → (Place → Bool) → Place → Option (List ℕ) → List (List ℕ) → Type 0
-AnswerBy code survives target None checks = ExtensionsDiffer code survives target × DecideExtensions code survives checks
-AnswerBy code survives target (Some row) checks = GivesTarget code survives target row × DecideExtensions code survives checks

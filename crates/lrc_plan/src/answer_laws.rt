@@ -3,7 +3,7 @@ ghost use Rattle.lrc_plan.specs.AnswerLaws.{HasOneAnswer};
 
 use crate::invariant::learn_invariant;
 use crate::plans::row_plans::plan_rows;
-use crate::solving::by_rows::are_zero;
+use crate::solving::terms::are_zero;
 use lrc_code::Request;
 
 /// Each request has exactly one answer. The call plans and tests the checks, so that its proof knows which it is, and gives nothing

@@ -5,10 +5,10 @@ ghost use Rattle.lrc_code.specs.Codes.{tables_of};
 ghost use Rattle.lrc_code.specs.Answers.{IsAnswer};
 ghost use Rattle.lrc_code.specs.Requests.{AreSources, is_among};
 ghost use Rattle.lrc_plan.specs.EvaluationParts.{IsZeroTree};
+ghost use Rattle.lrc_plan.specs.Said.{IsSaid};
 ghost use Rattle.lrc_plan.specs.Planned.{IsPlan, check_forms, value_form};
 ghost use Rattle.lrc_plan.specs.Tree.{form_of};
 
-pub(crate) mod by_rows;
 mod combining;
 pub(crate) mod terms;
 
@@ -47,16 +47,17 @@ pub fn solve<A: Allocator + Clone>(
     answer_by(alloc, &plan, request)
 }
 
-/// The answer to a request, as `solve`, by a plan for its code, its survivors and its target. Each tree is read once, the value's only
-/// where the checks are 00. The checks need no memory, and the value needs that of its bytes.
+/// What a plan's trees say of a request: a contradiction where a check isn't 00 at every position, else the bytes that the value's tree
+/// gives, or several where there is none. By a plan for the request's code, survivors and target it is the answer, as of `solve`. Each tree
+/// is read once, the value's only where the checks are 00. The checks need no memory, and the value needs that of its bytes.
 pub fn answer_by<A: Allocator>(
     alloc: Global,
     plan: &Plan<A>,
     request: &Request,
 ) -> Result<Outcome, AllocError>
-    requires { IsPlan (tables_of request.now.code) (λ p. is_among p request.now.survivors) request.now.target
-        (value_form plan.now) (check_forms plan.now) }
-    ensures { IfOk result (IsAnswer request.now) }
+    ensures said { IfOk result (IsSaid request.now (value_form plan.now) (check_forms plan.now)) }
+    ensures answer { IsPlan (tables_of request.now.code) (λ p. is_among p request.now.survivors) request.now.target
+        (value_form plan.now) (check_forms plan.now) → IfOk result (IsAnswer request.now) }
 {
     learn_invariant(request);
     let sources = request.sources();

@@ -1,10 +1,10 @@
-//! Names, sets, refusals, one stripe and one reduction, with values from outside.
+//! Names, refusals, one stripe and one reduction, with values from outside.
 ghost use Rattle.std.specs.Prelude.{◌≡◌, length, IfOk};
 
 use lrc_code::text::parse_number;
 use lrc_code::{
-    AskedPlaces, Bytes, Code, Fragment, Group, Place, PlaceSet, Request, RequestFault, encode,
-    encode_wide, first_refusal, is_stripe_name, reduce, reduce_in,
+    AskedPlaces, Code, Fragment, Group, Place, PlaceSet, Request, RequestFault, encode,
+    encode_wide, first_refusal, reduce_in,
 };
 use lrc_field::Gf;
 use std::alloc::{AllocError, Global};
@@ -48,25 +48,6 @@ fn places_are_found_by_name_and_index(rt: HostRuntime) {
     assert_eq!(&rt; Place::named(b"\xffp"), None);
 }
 
-#[test]
-fn sets_have_the_places_that_were_added(rt: HostRuntime) {
-    let set = PlaceSet::empty()
-        .with(Place::X1)
-        .with(Place::P1)
-        .with(Place::X1);
-    assert_eq!(&rt; set.len(), 2);
-    let has = [set.has(Place::X1), set.has(Place::P1), set.has(Place::X0)];
-    assert_eq!(&rt; has, [true, true, false], "x1, p1 and x0");
-    let others = set.others();
-    assert_eq!(&rt; others.len(), 8);
-    let have = [
-        others.has(Place::X1),
-        others.has(Place::P1),
-        others.has(Place::X0),
-    ];
-    assert_eq!(&rt; have, [false, false, true], "x1, p1 and x0");
-}
-
 const NUMBERS: &[(&str, u32)] = &[
     ("0", 0),
     ("7", 7),
@@ -84,27 +65,6 @@ fn numbers_have_one_to_seven_digits(rt: HostRuntime) {
     }
     for text in NO_NUMBERS {
         assert_eq!(&rt; parse_number(text.as_bytes()), None, "{text}");
-    }
-}
-
-const STRIPE_NAMES: &[&str] = &["a", "z9-", "-", "abcdefghijklmnopqrstuvwxyz012345"];
-
-const NO_STRIPE_NAMES: &[&str] = &[
-    "",
-    "A",
-    "a b",
-    "a_b",
-    "ä",
-    "abcdefghijklmnopqrstuvwxyz0123456",
-];
-
-#[test]
-fn stripe_names_are_small_letters_digits_and_hyphens(rt: HostRuntime) {
-    for name in STRIPE_NAMES {
-        assert!(&rt; is_stripe_name(name), "{name}");
-    }
-    for name in NO_STRIPE_NAMES {
-        assert!(&rt; !is_stripe_name(name), "{name}");
     }
 }
 
@@ -159,7 +119,21 @@ const REFUSALS: &[(&str, Place, u32, &[(Place, &[u8])], Option<u8>)] = &[
     ("a", Place::X0, 1, &[], None),
     ("a", Place::X0, 65_536, &[], None),
     ("a", Place::X0, 1, &[X1, X2, PX], None),
+    ("z9-", Place::X0, 1, &[], None),
+    ("-", Place::X0, 1, &[], None),
+    ("abcdefghijklmnopqrstuvwxyz012345", Place::X0, 1, &[], None),
+    ("", Place::X0, 1, &[], Some(1)),
     ("A", Place::X0, 1, &[], Some(1)),
+    ("a b", Place::X0, 1, &[], Some(1)),
+    ("a_b", Place::X0, 1, &[], Some(1)),
+    ("ä", Place::X0, 1, &[], Some(1)),
+    (
+        "abcdefghijklmnopqrstuvwxyz0123456",
+        Place::X0,
+        1,
+        &[],
+        Some(1),
+    ),
     ("A", Place::X0, 0, &[X0, X0], Some(1)),
     ("a", Place::X0, 0, &[X0, X0], Some(2)),
     ("a", Place::X0, 65_537, &[], Some(2)),
@@ -254,15 +228,6 @@ fn a_request_gives_what_it_was_made_of(rt: HostRuntime) -> Result<(), AllocError
     Ok(())
 }
 
-#[test]
-fn bytes_give_what_they_were_made_of(rt: HostRuntime) -> Result<(), AllocError> {
-    let three: &[u8] = b"\x01\x02\x03";
-    let bytes = Bytes::new(three.to_vec(rt.alloc())?);
-    assert_eq!(&rt; bytes.as_slice(), three);
-    assert_eq!(&rt; bytes.into_vec().len(), 3);
-    Ok(())
-}
-
 // Whether these fragments have these bytes.
 fn are_fragments(fragments: &[Vec<u8>], expected: &[&[u8]]) -> bool {
     if fragments.len() != expected.len() {
@@ -306,25 +271,6 @@ fn a_stripe_has_the_known_parities(rt: HostRuntime) -> Result<(), AllocError> {
         "other fragments than the known ones"
     );
     Ok(())
-}
-
-// With x0 lost alone the first local equation determines it, and three rows are without a pivot.
-#[test]
-fn a_place_lost_alone_is_the_one_pivot(rt: HostRuntime) {
-    let reduced = reduce(PlaceSet::empty().with(Place::X0));
-    let mut pivots = 0u32;
-    for row in 0..4usize {
-        if let Some(place) = reduced.pivot(row) {
-            pivots = pivots.wrapping_add(1);
-            assert_eq!(&rt;
-                (place, reduced.coefficient(row, place).byte()),
-                (Place::X0, 1)
-            );
-        } else {
-            assert_eq!(&rt; reduced.coefficient(row, Place::X0).byte(), 0);
-        }
-    }
-    assert_eq!(&rt; pivots, 1);
 }
 
 #[test]

@@ -8,3 +8,5 @@ mod code;
 mod field;
 #[cfg(test)]
 mod plan;
+#[cfg(test)]
+mod surface;

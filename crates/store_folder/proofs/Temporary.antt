@@ -6,4 +6,5 @@ use Rattle.store_folder.specs.Temporary.{unfinished, is_temporary}
 
 pub is_made : (folder name : List ℕ) → is_temporary ((folder ++ unfinished) ++ name) ≡ true
 is_made [] name = or_left (bytes_eq (take 16 (unfinished ++ name)) unfinished) (is_temporary (codes ".rebuild-store-" ++ name)) refl
-is_made (letter ∷ folder) name = or_right (bytes_eq (take 16 (letter ∷ (folder ++ unfinished) ++ name)) unfinished) (is_temporary ((folder ++ unfinished) ++ name)) (is_made folder name)
+is_made (letter ∷ folder) name = or_right (bytes_eq (take 16 (letter ∷ (folder ++ unfinished) ++ name)) unfinished) (is_temporary
+    ((folder ++ unfinished) ++ name)) (is_made folder name)

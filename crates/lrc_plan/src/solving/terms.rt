@@ -1,5 +1,5 @@
 //! Rows of coefficients as sums of scaled fragments, which are made in one pass.
-ghost use Rattle.std.specs.Prelude.{◌↔◌, ◌≡◌, ◌==◌, true, length, IfOk};
+ghost use Rattle.std.specs.Prelude.{◌↔◌, ◌≡◌, ◌==◌, true, length, All, IfOk};
 ghost use Rattle.std.specs.Bool.{IsTrue};
 ghost use Rattle.std.specs.List.{list_all};
 ghost use Rattle.lrc_code.specs.Requests.{AreSources};
@@ -36,6 +36,19 @@ pub(crate) fn is_zero(row: &[Gf; 16], request: &Request, sources: &Sources<'_>) 
         return true;
     }
     is_zero_sum(row, request, sources)
+}
+
+/// Whether all rows' sums are 00 at every position.
+pub(crate) fn are_zero(rows: &[[Gf; 16]], request: &Request, sources: &Sources<'_>) -> bool
+    requires { AreSources request.now.survivors sources.now }
+    ensures { IsTrue result ↔ All (IsZeroRow request.now) rows.now }
+{
+    for row in rows {
+        if !is_zero(row, request, sources) {
+            return false;
+        }
+    }
+    true
 }
 
 // Whether the sum of a row that isn't blank is 00 at every position. A call of its own, since the room for its terms costs more than the

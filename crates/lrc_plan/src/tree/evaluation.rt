@@ -3,12 +3,12 @@ ghost use Rattle.std.specs.Prelude.{◌≡◌, ◌<◌, ℕ, true, false, length
 ghost use Rattle.lrc_plan.specs.Form.{meaning};
 ghost use Rattle.lrc_plan.specs.Tree.{form_of};
 ghost use Rattle.lrc_plan.specs.Evaluation.{byte_at, CanEvaluate, IsValue};
-ghost use Rattle.lrc_plan.specs.EvaluationParts.{AreWhole, AreZeros, IsProductAdded, IsScaledValue, IsValueAdded};
+ghost use Rattle.lrc_plan.specs.EvaluationParts.{AreWhole, AreZeros, IsScaledValue, IsValueAdded};
 
 use crate::invariant::learn_invariant;
 use crate::tree::Tree;
 use lrc_code::Request;
-use lrc_field::{Gf, add_into, scale_add_into};
+use lrc_field::{Gf, scale_add_into};
 use std::alloc::{AllocError, Allocator, Global};
 
 /// The tree's value at each position of the request, in one vector of the request's length. The leaves are
@@ -58,7 +58,7 @@ fn add_scaled<A: Allocator>(tree: &Tree<A>, factor: Gf, request: &Request, dst: 
     match tree {
         Tree::Leaf(place) => {
             if let Some(bytes) = request.bytes_at(*place) {
-                add_product(dst, factor, bytes);
+                scale_add_into(dst, factor, bytes);
             }
         }
         Tree::Scale(scalar, below) => add_scaled(below, factor.mul(*scalar), request, dst),
@@ -66,17 +66,5 @@ fn add_scaled<A: Allocator>(tree: &Tree<A>, factor: Gf, request: &Request, dst: 
             add_scaled(left, factor, request, dst);
             add_scaled(right, factor, request, dst);
         }
-    }
-}
-
-// Adds a factor times the bytes. The factor 01 needs no products.
-fn add_product(dst: &mut [u8], factor: Gf, src: &[u8])
-    requires { length dst.old ≡ length src.now }
-    ensures { IsProductAdded factor src.now dst.old dst.new }
-{
-    if factor.byte() == 1 {
-        add_into(dst, src);
-    } else {
-        scale_add_into(dst, factor, src);
     }
 }

@@ -7,12 +7,13 @@ use Rattle.lrc_code.specs.Requests.{is_among}
 use Rattle.lrc_plan.specs.Planned.{IsPlan, check_forms, value_form}
 use Rattle.lrc_plan.proofs.solving.solve.Goals as goal
 
-pub answer_by-requires : goal.answer_by-requires
-answer_by-requires g c =
+pub returns : goal.returns
+returns g c =
     let r = c.args.request.now in
     let plan : IsPlan (tables_of r.code) (is_in c.survivors.result) r.target (value_form c.in_ok-plan.plan)
     (check_forms c.in_ok-plan.plan) =
     rw (sym c.code.ensures, sym c.target.ensures) c.in_ok-plan.ensures.plan in
     let same : is_in c.survivors.result ≡ (λ p. is_among p r.survivors) = λ i p. c.survivors.ensures p i in
-    subst (λ (s : Place → Bool). IsPlan (tables_of r.code) s r.target (value_form c.in_ok-plan.plan) (check_forms c.in_ok-plan.plan))
-    same plan
+    c.answer_by.ensures.answer
+    (subst (λ (s : Place → Bool). IsPlan (tables_of r.code) s r.target (value_form c.in_ok-plan.plan) (check_forms c.in_ok-plan.plan))
+    same plan)

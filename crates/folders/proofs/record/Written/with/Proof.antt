@@ -17,7 +17,8 @@ use denote.Slice.{shr_slice_vals, shr_slice_Tells}
 use denote.Shadow.{pure_i}
 use denote.Signature.{plain, types_at}
 use denote.Triple.Entry.{alive}
-use denote.Triple.Walked.{Stays, walk_of, says, ends_at, stay_none, stay_none_ref, stay_none_slice, Goes-none, Goes-none_ref, Goes-none_slice}
+use denote.Triple.Walked.{Stays, walk_of, says, ends_at, stay_none, stay_none_ref, stay_none_slice, Goes-none, Goes-none_ref}
+use denote.Triple.Walked.{Goes-none_slice}
 
 use Rattle.folders.specs.Recorded.{written_with}
 use Rattle.folders.specs.contracts.record.Written.{the_row as R}

@@ -1,8 +1,16 @@
-use Rattle.std.proofs.Common.{◌∙◌, arith}
+use Rattle.std.proofs.Common.{◌∙◌, ap, map, arith}
 use Rattle.std.proofs.lemmas.Nat.{xor_lt}
+use Rattle.lrc_field.specs.Field.{times}
+use Rattle.lrc_field.specs.Sums.{sums}
 use Rattle.lrc_field.proofs.FieldLaws.{times_lt}
-use Rattle.lrc_plan.proofs.EvaluationSteps.{scaled_step, summed_step}
+use Rattle.lrc_plan.proofs.EvaluationSteps.{product_added, scaled_step, summed_step}
 use Rattle.lrc_plan.proofs.tree.evaluation.+add_scaled.Goals as goal
+
+pub returns-in-Some-clause-sum : goal.returns-in-Some-clause-sum
+returns-in-Some-clause-sum g t c = λ i h.
+    let all = c.requires.whole c.in-Leaf.place c.in-Some.ensures.0 in
+    rw c.in-Leaf.is (product_added _ _ _ _ (omega (arith, all.0, c.requires.length))
+    (c.scale_add_into.ensures ∙ ap (λ b. sums c.args.dst.now (map (times c.args.factor) b)) c.in-Some.ensures.1) i h)
 
 pub returns-in-Scale-clause-sum : goal.returns-in-Scale-clause-sum
 returns-in-Scale-clause-sum g t c = λ i h. rw c.in-Scale.is

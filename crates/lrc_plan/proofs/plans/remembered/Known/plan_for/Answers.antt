@@ -1,4 +1,4 @@
-use Rattle.std.proofs.Common.{◌≡◌, Bool, true, false, List, [], ◌∷◌, Option, ℕ, nat_eq, refl, sym, ◌∙◌, ap₂, subst}
+use Rattle.std.proofs.Common.{◌≡◌, Bool, true, false, List, [], ◌∷◌, Option, nat_eq, refl, sym, ◌∙◌, ap₂, subst}
 use Rattle.std.specs.Prelude.{◌&&◌}
 use Rattle.std.proofs.Math.Bool.{beq}
 use lib.Pointwise.{pointwise}
@@ -10,7 +10,8 @@ use Rattle.lrc_code.specs.declared.places.Place.TheVariants.{X0, X1, X2, X3, X4,
 use Rattle.lrc_code.specs.Places.{index_of}
 use Rattle.lrc_code.specs.Sets.{is_in}
 use Rattle.lrc_code.proofs.PlaceSums.{same_place-eq}
-use Rattle.lrc_plan.specs.RowPlans.{IsRowPlan}
+use Rattle.lrc_plan.specs.Form.{Form}
+use Rattle.lrc_plan.specs.Planned.{IsPlan, check_forms, value_form}
 use Rattle.lrc_plan.proofs.plans.remembered.Known.plan_for.Goals as goal
 
 same_bool : (a b : Bool) → beq a b ≡ true → a ≡ b
@@ -32,12 +33,12 @@ same_list (x ∷ xs) (y ∷ ys) h =
     ap₂ (λ z zs. z ∷ zs) (same_bool x y parts.0) (same_list xs ys parts.1)
 
 -- a plan for these is the plan for the same
-moved : (value : Option (List ℕ)) (checks : List (List ℕ)) (a b : Code) (s t : List Bool) (p q : Place) → a ≡ b → s ≡ t → p ≡ q
-    → IsRowPlan (tables_of a) (is_in s) p value checks → IsRowPlan (tables_of b) (is_in t) q value checks
+moved : (value : Option Form) (checks : List Form) (a b : Code) (s t : List Bool) (p q : Place) → a ≡ b → s ≡ t → p ≡ q
+    → IsPlan (tables_of a) (is_in s) p value checks → IsPlan (tables_of b) (is_in t) q value checks
 moved value checks a b s t p q code survivors target plan =
-    subst (λ r. IsRowPlan (tables_of b) (is_in t) r value checks) target
-    (subst (λ l. IsRowPlan (tables_of b) (is_in l) p value checks) survivors
-    (subst (λ c. IsRowPlan (tables_of c) (is_in s) p value checks) code plan))
+    subst (λ r. IsPlan (tables_of b) (is_in t) r value checks) target
+    (subst (λ l. IsPlan (tables_of b) (is_in l) p value checks) survivors
+    (subst (λ c. IsPlan (tables_of c) (is_in s) p value checks) code plan))
 
 same_code : (a b : Code) → true ≡ denote.Enum.Bare.sameb Rattle.lrc_code.specs.contracts.codes.Code.the_type a b → a ≡ b
 same_code Narrow Narrow h = refl
@@ -69,7 +70,7 @@ same_target p q h = same_place-eq p q (sym (ap₂ nat_eq (index_is p) (index_is 
 
 pub returns-then-eq-3 : goal.returns-then-eq-3
 returns-then-eq-3 c =
-    moved c.self.inside.plan.value c.self.inside.plan.checks c.self.inside.code c.args.code c.self.inside.survivors c.args.survivors
-    c.self.inside.target c.args.target
+    moved (value_form c.self.inside.plan) (check_forms c.self.inside.plan) c.self.inside.code c.args.code
+    c.self.inside.survivors c.args.survivors c.self.inside.target c.args.target
     (same_code c.self.inside.code c.args.code c.if-eq.ensures) (same_list c.self.inside.survivors c.args.survivors (sym c.if-eq-3.ensures))
     (same_target c.self.inside.target c.args.target c.if-eq-2.ensures) c.self.invariant
