@@ -16,6 +16,6 @@ answered (Err e) call old new ok err = (false, err)
 pub keeps_answered : (temporary : List ℕ → Type 0) (given : List ℕ → List ℕ → Type 0) {T E : Type 0} (result : Result T E) (call : Call)
     (old new : List Answered)
     → OnOk result (new ≡ (call, true) ∷ old) → OnErr result (new ≡ (call, false) ∷ old) → ((w : World) → IsQuiet temporary w call)
-        → Keeps temporary given old new
+    → Keeps temporary given old new
 keeps_answered temporary given result call old new ok err quiet =
     let last = answered result call old new ok err in keeps_quiet temporary given call last.0 old new last.1 quiet

@@ -36,7 +36,7 @@ module _ (temporary : List ℕ → Type 0) (w : World) (file : ℕ) (written : O
   module _ (old new : Files) (bytes : KeepsClosed synced linked old new) (whole : IfSome written (λ all. old.bytes file ≡ all))
       (may : MayChange w.ours (w.seen synced) (suc (length synced)) (link file to) old new)
       (closed : (path : List ℕ) (f : ℕ) → w.ours path ≡ true → (temporary path → ⊥) → old.named path ≡ Some f
-          → is_closed f synced ≡ true) where
+      → is_closed f synced ≡ true) where
     all_bytes : (o : Option (List ℕ)) → o ≡ written → IsSome o → written ≡ Some (new.bytes file)
     all_bytes None is some = cc
     all_bytes (Some all) is some = sym is ∙ ap (λ (b : List ℕ). Some b) (sym (bytes file (closed_now file written before)
@@ -47,9 +47,17 @@ module _ (temporary : List ℕ → Type 0) (w : World) (file : ℕ) (written : O
         → IsKept (IsGiven to written linked) (w.seen synced) old new path
     gets path same nothing leads = inr (
       ap (λ (p : List ℕ). under (w.seen synced) p) same ∙ ap (λ (o : Option ℕ). option_map (w.seen synced).bytes o) nothing,
-      (new.bytes file, record { here = same; whole = all_bytes written refl is_some; synced = inl
-          (all_bytes written refl is_some, refl) }, ap (λ (p : List ℕ). under new p) same ∙ ap (λ
-              (o : Option ℕ). option_map new.bytes o) leads),
+      (
+        new.bytes file,
+        record {
+          here = same;
+          whole = all_bytes written refl is_some;
+          synced = inl
+              (all_bytes written refl is_some, refl);
+        },
+        ap (λ (p : List ℕ). under new p) same ∙ ap (λ
+            (o : Option ℕ). option_map new.bytes o) leads,
+      ),
     )
 
     pub link_kept : (path : List ℕ) → w.ours path ≡ true → (temporary path → ⊥) → IsKept (IsGiven to written linked)
@@ -125,7 +133,7 @@ pub keeps_link : (temporary : List ℕ → Type 0) (file : ℕ) (written : Optio
     → mid ≡ (sync file written, true) ∷ old → new ≡ (link file to, ok) ∷ mid → Keeps temporary (IsGiven to written new) old new
 keeps_link temporary file written to ok old mid new some synced linked =
     let whole : new ≡ (link file to, ok) ∷ (sync file written, true) ∷ old = linked ∙ ap (λ (calls : List Answered). (link file to, ok)
-        ∷ calls) synced in
+    ∷ calls) synced in
     subst (λ (calls : List Answered). Keeps temporary (IsGiven to written calls) old calls) (sym whole) (record {
       more = (link file to, ok) ∷ (sync file written, true) ∷ [];
       are = refl;

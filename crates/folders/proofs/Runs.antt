@@ -25,9 +25,11 @@ module _ (P : List Answered → Type 0) where
 
   pub each_after : (later more old : List Answered) → AtEach P more old → AtEach P later (more ++ old) → AtEach P (later ++ more) old
   each_after [] more old each each_later = each
-  each_after (call ∷ later) more old each each_later =
-      (subst P (ap (λ (calls : List Answered). call ∷ calls) (sym
-          (append_assoc later more old))) each_later.0, each_after later more old each each_later.1)
+  each_after (call ∷ later) more old each each_later = (
+    subst P (ap (λ (calls : List Answered). call ∷ calls) (sym
+        (append_assoc later more old))) each_later.0,
+    each_after later more old each each_later.1,
+  )
 
 module _ (given : List ℕ → List ℕ → Type 0) where
   kept_after : (shown mid_shown old mid new : Files) (path : List ℕ) → IsKept given shown shown mid_shown path
@@ -61,8 +63,15 @@ module _ (temporary : List ℕ → Type 0) where
 
   -- nothing was called
   pub keeps_all : (given : List ℕ → List ℕ → Type 0) (calls : List Answered) → Keeps temporary given calls calls
-  keeps_all given calls = record { more = []; are = refl; whenever = λ w lawful sound. (sound, λ path ours not_temporary.
-      (inl refl, inl refl)) }
+  keeps_all given calls = record {
+    more = [];
+    are = refl;
+    whenever = λ w lawful sound. (
+      sound,
+      λ path ours not_temporary.
+          (inl refl, inl refl),
+    );
+  }
 
   pub keeps_weaker : (given other : List ℕ → List ℕ → Type 0) → ((path bytes : List ℕ) → given path bytes → other path bytes)
       → (old new : List Answered) → Keeps temporary given old new → Keeps temporary other old new
@@ -79,7 +88,7 @@ module _ (temporary : List ℕ → Type 0) where
   -- one run after another
   after : (given : List ℕ → List ℕ → Type 0) (w : World) (later more old : List Answered)
       → ((lawful : IsLawful w (more ++ old)) → IsSound temporary w old → IsSound temporary w (more ++ old) × AtEach
-          (AreKept temporary given w old) more old)
+      (AreKept temporary given w old) more old)
       → ((lawful : IsLawful w (later ++ (more ++ old))) → IsSound temporary w (more ++ old)
       → IsSound temporary w (later ++ (more ++ old)) × AtEach (AreKept temporary given w (more ++ old)) later (more ++ old))
       → IsLawful w (later ++ (more ++ old)) → IsSound temporary w old
@@ -90,7 +99,7 @@ module _ (temporary : List ℕ → Type 0) where
         each_after (AreKept temporary given w old) later more old a.1
             (each_weaker (AreKept temporary given w (more ++ old)) (AreKept temporary given w old)
             (λ calls are. are_kept_after given w old (more ++ old) calls (at_last (AreKept temporary given w old) more old a.1) are) later
-                (more ++ old) b.1),
+            (more ++ old) b.1),
       )
 
   pub keeps_after : (given : List ℕ → List ℕ → Type 0) (old mid new : List Answered)
@@ -99,7 +108,7 @@ module _ (temporary : List ℕ → Type 0) where
       let later = second.more in let more = first.more in
       let whole : new ≡ later ++ (more ++ old) = second.are ∙ ap (λ (calls : List Answered). later ++ calls) first.are in
       let again = subst (λ (calls : List Answered). (w : World) → IsLawful w (later ++ calls) → IsSound temporary w calls
-          → IsSound temporary w (later ++ calls) × AtEach (AreKept temporary given w calls) later calls) first.are second.whenever in
+      → IsSound temporary w (later ++ calls) × AtEach (AreKept temporary given w calls) later calls) first.are second.whenever in
       record {
         more = later ++ more;
         are = whole ∙ sym (append_assoc later more old);

@@ -64,7 +64,7 @@ module _ (temporary : List ℕ → Type 0) (w : World) where
   -- of one of what is seen and what a crash leaves: a path that leads where it led
   module _ (call : Call) (ok : Bool) (calls : List Answered) (old new : Files) (path : List ℕ) (ours : w.ours path ≡ true)
       (makes : (p : List ℕ) → call ≡ make p → IsNew w.ours (suc (length calls)) old) (bytes : KeepsClosed calls ((call, ok)
-          ∷ calls) old new)
+      ∷ calls) old new)
       (closed : (file : ℕ) → old.named path ≡ Some file → is_closed file calls ≡ true) (named : new.named path ≡ old.named path) where
     stays : (file : ℕ) → old.named path ≡ Some file → is_closed file ((call, ok) ∷ calls) ≡ true
     stays file leads = stays_closed call ok calls file (λ p is. other_file w calls call old path file ours (makes p is) leads)
@@ -113,18 +113,18 @@ module _ (temporary : List ℕ → Type 0) (w : World) where
     quiet_sound = record {
       seen = λ path file ours not_temporary leads. unchanged_closed call ok calls (w.seen calls) (w.seen ((call, ok) ∷ calls)) path ours
           (λ p is. new_seen w call calls p step.makes is) step.seen_bytes (λ f at. sound.seen path f ours not_temporary at)
-              (named_seen path ours not_temporary) file leads;
+          (named_seen path ours not_temporary) file leads;
       left = λ path file ours not_temporary leads. unchanged_closed call ok calls (w.left calls) (w.left ((call, ok) ∷ calls)) path ours
           (λ p is. new_left w call calls p step.makes is) step.left_bytes (λ f at. sound.left path f ours not_temporary at)
-              (named_left path ours not_temporary) file leads;
+          (named_left path ours not_temporary) file leads;
     }
 
     pub quiet_kept : (given : List ℕ → List ℕ → Type 0) → AreKept temporary given w calls ((call, ok) ∷ calls)
     quiet_kept given path ours not_temporary = (
       inl (unchanged call ok calls (w.seen calls) (w.seen ((call, ok) ∷ calls)) path ours
           (λ p is. new_seen w call calls p step.makes is) step.seen_bytes (λ f at. sound.seen path f ours not_temporary at)
-              (named_seen path ours not_temporary)),
+          (named_seen path ours not_temporary)),
       inl (unchanged call ok calls (w.left calls) (w.left ((call, ok) ∷ calls)) path ours
           (λ p is. new_left w call calls p step.makes is) step.left_bytes (λ f at. sound.left path f ours not_temporary at)
-              (named_left path ours not_temporary)),
+          (named_left path ours not_temporary)),
     )

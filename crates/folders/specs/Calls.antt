@@ -40,7 +40,7 @@ to_parts (sync_folder path) = (6, (0, (None, (path, []))))
 abbrev from_parts : Parts → Call
 from_parts p =
     cond (p.0 == 0) (make p.1.1.1.0) (cond (p.0 == 1) (sync p.1.0 p.1.1.0) (cond (p.0 == 2) (link p.1.0 p.1.1.1.0) (cond (p.0 == 3)
-        (link_again p.1.1.1.0 p.1.1.1.1)
+    (link_again p.1.1.1.0 p.1.1.1.1)
     (cond (p.0 == 4) (rename p.1.0 p.1.1.1.0 p.1.1.1.1) (cond (p.0 == 5) (remove p.1.1.1.0) (sync_folder p.1.1.1.0))))))
 
 pub from_parts-to_parts : (call : Call) → from_parts (to_parts call) ≡ call
@@ -55,7 +55,7 @@ from_parts-to_parts (sync_folder path) = refl
 abbrev pub answered_code : Coded (List Answered)
 answered_code =
     coded_list (coded× (code_by Parts (coded× coded_ℕ (coded× coded_ℕ (coded× (coded_option (coded_list coded_ℕ)) (coded×
-        (coded_list coded_ℕ) (coded_list coded_ℕ)))))
+    (coded_list coded_ℕ) (coded_list coded_ℕ)))))
     to_parts from_parts from_parts-to_parts) coded_bool)
 
 abbrev pub bytes_code : Coded (Option (List ℕ))

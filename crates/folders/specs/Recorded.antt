@@ -14,8 +14,10 @@ call_of (made.Rename file from to) = calls.rename (length file.now.calls) from.n
 call_of (made.Remove path) = calls.remove path.now
 call_of (made.SyncFolder path) = calls.sync_folder path.now
 
+-- the call, and whether it answered Ok
 abbrev pub recorded : Call → Bool → Answered
 recorded call is_ok = (call_of call, is_ok)
 
+-- what was appended, and the bytes after it, if they were appended too
 abbrev pub written_with : Option (List ℕ) → List ℕ → Bool → Option (List ℕ)
 written_with before bytes is_ok = if is_ok then option_map (λ written. written ++ bytes) before else None

@@ -1,4 +1,16 @@
-//! Folders of a file system.
+//! What a store asks of a file system, and how a new file gets the path at which others look for it.
+//!
+//! ```
+//! use folders::{Folder, NewFile, SystemFolder, place};
+//!
+//! let mut files = SystemFolder::new(&rt);
+//! let mut new = files.create_new("/tmp/.note", 0o600)?;
+//! new.append(b"abc")?;
+//! let placed = place(&mut files, new, "/tmp/note")?;
+//! placed.answer?;
+//! files.remove("/tmp/.note")?;
+//! files.sync_folder("/tmp")?;
+//! ```
 #![tactic(auto)]
 
 mod folder;

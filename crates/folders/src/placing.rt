@@ -20,11 +20,7 @@ pub struct Placed<W> {
 /// # Errors
 ///
 /// The file couldn't be written to the disk. If it could and didn't get the path, that is the answer in `Placed`.
-pub fn place<F: Folder>(
-    folder: &mut F,
-    file: F::New,
-    to: &str,
-) -> io::Result<Placed<F::Whole>>
+pub fn place<F: Folder>(folder: &mut F, file: F::New, to: &str) -> io::Result<Placed<F::Whole>>
     requires { IsSome (F.New.written file) }
     ensures whenever { (temporary : List ℕ → Bool)
         → Keeps (λ path. temporary path ≡ true) (IsGiven to.now (F.New.written file) (F.calls folder.new)) (F.calls folder.old) (F.calls folder.new) }

@@ -49,10 +49,12 @@ pub struct Status {
 }
 
 impl Status {
+    /// Whether it is a regular file.
     pub fn is_file(&self) -> bool {
         self.kind == Kind::File
     }
 
+    /// Whether it is a symbolic link.
     pub fn is_link(&self) -> bool {
         self.kind == Kind::Link
     }

@@ -44,6 +44,7 @@ pub struct SystemWhole {
 impl<'a> SystemFolder<'a> {
     ghost use Rattle.folders.specs.Recorded.{recorded};
 
+    /// The system's folders, on which nothing was called yet.
     pub fn new(rt: &'a HostRuntime) -> SystemFolder<'a> {
         SystemFolder {
             rt,
@@ -226,7 +227,10 @@ impl Folder for SystemFolder<'_> {
 
     fn rename(&mut self, file: &SystemWhole, to: &str) -> io::Result<()> {
         let answer = fs::rename(self.rt, file.path.as_str(), to);
-        self.note(&Call::Rename(&file.made, file.path.as_str(), to), answer.is_ok());
+        self.note(
+            &Call::Rename(&file.made, file.path.as_str(), to),
+            answer.is_ok(),
+        );
         answer
     }
 

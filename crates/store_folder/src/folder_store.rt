@@ -126,11 +126,7 @@ impl<'a, F: Folder> FolderStore<'a, F> {
     }
 
     /// A new fragment for a place of a stripe, in a file under a temporary name.
-    pub fn new_fragment(
-        &mut self,
-        stripe: &str,
-        place: Place,
-    ) -> io::Result<UnfinishedFile<F::New>>
+    pub fn new_fragment(&mut self, stripe: &str, place: Place) -> io::Result<UnfinishedFile<F::New>>
         ensures whenever { KeepsEach (F.calls self.old.files) (F.calls self.new.files) }
         ensures empty { IfOk result (λ new. F.New.written new.unfinished.file ≡ Some []) }
     {
@@ -164,7 +160,11 @@ impl<'a, F: Folder> FolderStore<'a, F> {
     {
         let mut file = file;
         let finished = self.finish(&mut file, stripe);
-        let UnfinishedFile { unfinished, path, .. } = file;
+        let UnfinishedFile {
+            unfinished,
+            path,
+            ..
+        } = file;
         if let Err(error) = finished {
             return Err(self.given_up(unfinished, error));
         }
@@ -180,7 +180,11 @@ impl<'a, F: Folder> FolderStore<'a, F> {
     ) -> io::Result<Placed> {
         let mut file = file;
         let finished = self.finish(&mut file, stripe);
-        let UnfinishedFile { unfinished, path, .. } = file;
+        let UnfinishedFile {
+            unfinished,
+            path,
+            ..
+        } = file;
         if let Err(error) = finished {
             return Err(self.given_up(unfinished, error));
         }
@@ -222,7 +226,12 @@ impl<'a, F: Folder> FolderStore<'a, F> {
     {
         let Tried { made_at, placed } = try_path(&mut self.files, new, path);
         match placed {
-            Ok(folders::Placed { file: _held, answer }) => {
+            Ok(
+                folders::Placed {
+                    file: _held,
+                    answer,
+                },
+            ) => {
                 let placed = self.outcome(answer, made_at.as_str(), path);
                 self.remove(made_at);
                 placed
@@ -349,12 +358,7 @@ impl<F: Folder> Store for FolderStore<'_, F> {
 
     ghost new_shown = { λ s f h. never h };
 
-    fn open(
-        &self,
-        stripe: &str,
-        place: Place,
-        length: usize,
-    ) -> io::Result<FileFragment<F::Open>> {
+    fn open(&self, stripe: &str, place: Place, length: usize) -> io::Result<FileFragment<F::Open>> {
         let path = self.path_of(self.site.folder, stripe, place)?;
         open_fragment_in(&self.files, path.as_str(), length as u64, self.site.links)
     }

@@ -39,7 +39,11 @@ pub fn followed(rt: &HostRuntime, path: String) -> io::Result<String> {
 }
 
 /// The path that a path's links lead to in a folder, as far as there are links.
-pub(crate) fn followed_in<F: Folder>(alloc: Global, folder: &F, path: String) -> io::Result<String> {
+pub(crate) fn followed_in<F: Folder>(
+    alloc: Global,
+    folder: &F,
+    path: String,
+) -> io::Result<String> {
     let mut path = path;
     for _link in 0..MOST_LINKS {
         let is_link = folder

@@ -4,8 +4,7 @@ ghost use Rattle.store_folder.specs.Kept.{KeepsOrGives};
 ghost use Rattle.store_folder.specs.Temporary.{is_temporary};
 
 use crate::unfinished::{Unfinished, create_unfinished};
-use folders::NewFile as _;
-use folders::{Folder, Rights, SystemFolder, SystemNew, place};
+use folders::{Folder, NewFile as _, Rights, SystemFolder, SystemNew, place};
 use std::alloc::Global;
 use std::fs::{self, Metadata};
 use std::io::{self, ErrorKind};

@@ -64,7 +64,11 @@ pub fn open_as(
 }
 
 /// Opens the regular file at a path of a folder for reading, as `open_regular` does.
-pub(crate) fn open_in<F: Folder>(folder: &F, path: &str, links: Links) -> io::Result<Opened<F::Open>> {
+pub(crate) fn open_in<F: Folder>(
+    folder: &F,
+    path: &str,
+    links: Links,
+) -> io::Result<Opened<F::Open>> {
     let asked = status_at(folder, path, links)?;
     if !asked.is_file() {
         return Err(no_regular_file(asked.is_link()));

@@ -33,10 +33,14 @@ stayed = (
 pub with_spec : {M : Type 1} → statement M
 with_spec 𝓤 𝓛 𝓜 𝓡 wired =
     let c = f.clauses 𝓛 𝓜.mem 𝓡.returns in let W = walk_of 𝓛 f.ended stayed c in
-    proved 𝓛 f.ended stayed c 𝓜 𝓡
-    (Goes-none_ref 𝓛 3 (0 ∷ []) tt (plain (λ _. R)) yes, (Goes-none_ref 𝓛 3 (1 ∷ []) tt (plain (λ κs. call.the_row
-        (named_lft 3 2 tt κs))) yes,
-    (Goes-none 𝓛 3 (λ _. bool) yes (λ κs x w. refl), tt)))
+    proved 𝓛 f.ended stayed c 𝓜 𝓡 (
+      Goes-none_ref 𝓛 3 (0 ∷ []) tt (plain (λ _. R)) yes,
+      (
+        Goes-none_ref 𝓛 3 (1 ∷ []) tt (plain (λ κs. call.the_row
+            (named_lft 3 2 tt κs))) yes,
+        (Goes-none 𝓛 3 (λ _. bool) yes (λ κs x w. refl), tt),
+      ),
+    )
     f.Key.name code.function (code.unfolded 𝓤 𝓛.H 𝓜 𝓡 wired)
     (λ κs. (shr_vals, (shr_vals, (bool_vals, tt))))
     (λ κs. (shr_Tells (named 0) κs.0 R, (shr_Tells (named 1) κs.1.0 (call.the_row (named_lft 3 2 tt κs)), (bool_Tells, tt))))

@@ -19,7 +19,6 @@ use denote.Signature.{plain, types_at}
 use denote.Triple.Entry.{alive}
 use denote.Triple.Walked.{Stays, walk_of, says, ends_at, stay_none, stay_none_ref, stay_none_slice, Goes-none, Goes-none_ref}
 use denote.Triple.Walked.{Goes-none_slice}
-
 use Rattle.folders.specs.Recorded.{written_with}
 use Rattle.folders.specs.contracts.record.Written.{the_row as R}
 use Rattle.folders.specs.contracts.record.Written.with as f
@@ -35,9 +34,13 @@ stayed = (
 pub with_spec : {M : Type 1} → statement M
 with_spec 𝓤 𝓛 𝓜 𝓡 wired =
     let c = f.clauses 𝓛 𝓜.mem 𝓡.returns in let W = walk_of 𝓛 f.ended stayed c in
-    proved 𝓛 f.ended stayed c 𝓜 𝓡
-    (Goes-none_ref 𝓛 2 (0 ∷ []) tt (plain (λ _. R)) yes, (Goes-none_slice 𝓛 2 (1 ∷ []) tt (plain (λ _. u8)) yes,
-    (Goes-none 𝓛 2 (λ _. bool) yes (λ κs x w. refl), tt)))
+    proved 𝓛 f.ended stayed c 𝓜 𝓡 (
+      Goes-none_ref 𝓛 2 (0 ∷ []) tt (plain (λ _. R)) yes,
+      (
+        Goes-none_slice 𝓛 2 (1 ∷ []) tt (plain (λ _. u8)) yes,
+        (Goes-none 𝓛 2 (λ _. bool) yes (λ κs x w. refl), tt),
+      ),
+    )
     f.Key.name code.function (code.unfolded 𝓤 𝓛.H 𝓜 𝓡 wired)
     (λ κs. (shr_vals, (shr_slice_vals, (bool_vals, tt))))
     (λ κs. (shr_Tells (named 0) κs.0 R, (shr_slice_Tells (named 1) κs.1.0 u8, (bool_Tells, tt))))

@@ -7,7 +7,7 @@ use Rattle.store_folder.proofs.folder_store.FolderStore.link.Goals as goal
 pub returns-in-Ok : goal.returns-in-Ok
 returns-in-Ok g c = gives_after _ _ _
     (subst (λ (calls : List Answered). KeepsOrGives (g.F.Folder.calls c.args.self.now.files) calls)
-        (sym c.outcome-placed.ensures) c.try_path-made_at.ensures)
+    (sym c.outcome-placed.ensures) c.try_path-made_at.ensures)
     (gives_each _ _ c.remove.ensures)
 
 pub returns-in-Err : goal.returns-in-Err
