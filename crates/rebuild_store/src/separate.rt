@@ -45,10 +45,12 @@ impl SeparateFile {
     // The file, whole, or the fault that it met and what there is of it.
     fn parts(self) -> Result<UnfinishedFile, (io::Error, Option<UnfinishedFile>)> {
         let SeparateFile { file, fault } = self;
-        match (file, fault) {
-            (Some(file), None) => Ok(file),
-            (file, Some(error)) => Err((error, file)),
-            (None, None) => Err((io::Error::other("it wasn't made"), None)),
+        match fault {
+            Some(error) => Err((error, file)),
+            None => match file {
+                Some(file) => Ok(file),
+                None => Err((io::Error::other("it wasn't made"), None)),
+            },
         }
     }
 }
@@ -114,10 +116,13 @@ impl Store for SeparateStore<'_> {
     }
 
     fn discard(&mut self, file: SeparateFile) -> io::Result<()> {
-        match file.parts() {
-            Ok(file) => self.store.discard(file),
-            Err((_, Some(file))) => self.store.discard(file),
-            Err((_, None)) => Ok(()),
+        let SeparateFile {
+            file,
+            fault: _fault,
+        } = file;
+        match file {
+            Some(file) => self.store.discard(file),
+            None => Ok(()),
         }
     }
 
