@@ -25,7 +25,7 @@ DIRECTIVES = {"module", "where"}
 # What is used by a form of the language that doesn't name it: `do`.
 UNNAMED = {"◌>>=◌"}
 # Files whose names the prover uses and no text.
-OF_THE_PROVER = {"Answers.antt", "Invariants.antt", "Lib.antt"}
+OF_THE_PROVER = {"Answers.antt", "Invariants.antt", "Lib.antt", "Proof.antt"}
 
 
 def is_left_out(path):

@@ -113,8 +113,10 @@ pub trait Folder {
 
     /// Gives a file another path than the one at which it was made, in place of what is there.
     fn rename(&mut self, file: &Self::Whole, to: &str) -> io::Result<()>
-        ensures ok { OnOk result (calls self.new ≡ (rename (Self.Whole.number file.now) (Self.Whole.path file.now) to.now, true) ∷ calls self.old) }
-        ensures err { OnErr result (calls self.new ≡ (rename (Self.Whole.number file.now) (Self.Whole.path file.now) to.now, false) ∷ calls self.old) };
+        ensures ok { OnOk result (calls self.new
+            ≡ (rename (Self.Whole.number file.now) (Self.Whole.path file.now) to.now, true) ∷ calls self.old) }
+        ensures err { OnErr result (calls self.new
+            ≡ (rename (Self.Whole.number file.now) (Self.Whole.path file.now) to.now, false) ∷ calls self.old) };
 
     /// Takes a path away from its file.
     fn remove(&mut self, path: &str) -> io::Result<()>

@@ -14,8 +14,8 @@ pub struct Placed<W> {
     pub answer: io::Result<()>,
 }
 
-/// Writes a file to the disk and gives it a path at which nothing is, beside the one at which it was made. Whenever that ends, each path but
-/// temporary ones has what it had, or, if it had nothing and is this one, all the bytes of the file.
+/// Writes a file to the disk and gives it a path at which nothing is, beside the one at which it was made. Whenever that ends, each path
+/// but temporary ones has what it had, or, if it had nothing and is this one, all the bytes of the file.
 ///
 /// # Errors
 ///
@@ -23,7 +23,8 @@ pub struct Placed<W> {
 pub fn place<F: Folder>(folder: &mut F, file: F::New, to: &str) -> io::Result<Placed<F::Whole>>
     requires { IsSome (F.New.written file) }
     ensures whenever { (temporary : List ℕ → Bool)
-        → Keeps (λ path. temporary path ≡ true) (IsGiven to.now (F.New.written file) (F.calls folder.new)) (F.calls folder.old) (F.calls folder.new) }
+        → Keeps (λ path. temporary path ≡ true) (IsGiven to.now (F.New.written file) (F.calls folder.new)) (F.calls folder.old)
+        (F.calls folder.new) }
     ensures path { IfOk result (λ placed. F.Whole.path placed.file ≡ F.New.path file) }
     ensures number { IfOk result (λ placed. F.Whole.number placed.file ≡ F.New.number file) }
     ensures given { IfOk result (λ placed. IfOk placed.answer (λ _. HasPath to.now (F.New.written file) (F.calls folder.new))) }

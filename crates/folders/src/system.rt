@@ -1,5 +1,5 @@
-//! The system's file system. Each method makes the one call of the system that it is named for, and records it with its answer; that it does
-//! is not proved, since no contract can see what a call of the system does: it has to be read.
+//! The system's file system. Each method makes the one call of the system that it is named for, and records it with its answer. That it
+//! does so is not proved, since no contract can see what a call of the system does: it has to be read.
 ghost use Rattle.std.specs.Prelude.{◌≡◌, ◌∷◌, length, string_bytes};
 
 use crate::folder::{Folder, NewFile, OpenFile, WholeFile};

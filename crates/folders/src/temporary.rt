@@ -5,8 +5,8 @@ ghost use Rattle.folders.specs.Kept.{KeepsBut};
 use crate::folder::{Folder, NewFile};
 use std::io::{self, ErrorKind};
 
-/// Makes an empty file at a path and locks it for as long as it is open. None if something is at the path, or if somebody else has taken the
-/// file meanwhile for one that was left.
+/// Makes an empty file at a path and locks it for as long as it is open. None if something is at the path, or if somebody else has taken
+/// the file meanwhile for one that was left.
 pub fn create_locked<F: Folder>(folder: &mut F, path: &str, mode: u32) -> io::Result<Option<F::New>>
     ensures whenever { KeepsBut path.now (F.calls folder.old) (F.calls folder.new) }
     ensures path { IfOk result (λ o. IfSome o (λ file. F.New.path file ≡ path.now)) }

@@ -29,19 +29,23 @@ fn tag_of(alloc: Global, part: Option<Part>) -> Result<String, AllocError> {
 }
 
 /// Repairs the stripes, says what was done and what is left, and gives the exit status.
-pub fn repair_all<R: Threads + Sync>(
+pub fn repair_all<'a, R: Threads + Sync>(
     rt: &R,
     system: &HostRuntime,
-    store: &OpenStore,
-    pattern: &Pattern<'_>,
-    options: &Options,
+    store: &'a OpenStore,
+    pattern: &Pattern<'a>,
+    options: &'a Options,
 ) -> io::Result<u8> {
     let alloc = system.alloc();
     let tag = tag_of(alloc, options.part)?;
     let site = Site {
+        folder: store.folder.as_str(),
         target: options.to.as_ref().unwrap_or(&store.folder).as_str(),
+        pattern: *pattern,
+        code: store.code,
+        sums: store.sums.as_ref(),
         tag: tag.as_str(),
-        ..site_of(store, pattern, options)
+        links: options.links,
     };
     let stripes = store.stripes(system)?;
     let stripes = stripes.as_slice();

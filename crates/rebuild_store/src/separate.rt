@@ -6,7 +6,9 @@ ghost use Rattle.store_repair.specs.Store.{never};
 use lrc_code::Place;
 use std::alloc::{AllocError, Global};
 use std::io;
-use store_folder::{FileFragment, FolderStore, SystemFolder, SystemNew, SystemOpen, UnfinishedFile};
+use store_folder::{
+    FileFragment, FolderStore, SystemFolder, SystemNew, SystemOpen, UnfinishedFile,
+};
 use store_repair::{NameFault, NewFragment, Placed, Refused, Store};
 
 /// A store whose new fragments fail each by itself.
@@ -43,12 +45,16 @@ impl NewFragment for SeparateFile {
 
 impl SeparateFile {
     // The file, whole, or the fault that it met and what there is of it.
-    fn parts(self) -> Result<UnfinishedFile<SystemNew>, (io::Error, Option<UnfinishedFile<SystemNew>>)> {
+    fn parts(
+        self,
+    ) -> Result<UnfinishedFile<SystemNew>, (io::Error, Option<UnfinishedFile<SystemNew>>)> {
         let SeparateFile { file, fault } = self;
-        match (file, fault) {
-            (Some(file), None) => Ok(file),
-            (file, Some(error)) => Err((error, file)),
-            (None, None) => Err((io::Error::other("it wasn't made"), None)),
+        match fault {
+            Some(error) => Err((error, file)),
+            None => match file {
+                Some(file) => Ok(file),
+                None => Err((io::Error::other("it wasn't made"), None)),
+            },
         }
     }
 }
@@ -72,7 +78,12 @@ impl Store for SeparateStore<'_> {
 
     ghost new_shown = { λ s f h. never h };
 
-    fn open(&self, stripe: &str, place: Place, length: usize) -> io::Result<FileFragment<SystemOpen>> {
+    fn open(
+        &self,
+        stripe: &str,
+        place: Place,
+        length: usize,
+    ) -> io::Result<FileFragment<SystemOpen>> {
         self.store.open(stripe, place, length)
     }
 
@@ -114,10 +125,13 @@ impl Store for SeparateStore<'_> {
     }
 
     fn discard(&mut self, file: SeparateFile) -> io::Result<()> {
-        match file.parts() {
-            Ok(file) => self.store.discard(file),
-            Err((_, Some(file))) => self.store.discard(file),
-            Err((_, None)) => Ok(()),
+        let SeparateFile {
+            file,
+            fault: _fault,
+        } = file;
+        match file {
+            Some(file) => self.store.discard(file),
+            None => Ok(()),
         }
     }
 

@@ -84,3 +84,17 @@ fn add_together<F: Fragment>(
     }
     Ok(())
 }
+
+/// Why a fragment isn't used, by its digest and the one that it has to have.
+pub(crate) fn refusal_of(
+    digest: Option<io::Result<Digest>>,
+    sum: &Option<Digest>,
+) -> Option<io::Error> {
+    match (digest, sum) {
+        (Some(Ok(digest)), Some(sum)) if digest != *sum => {
+            Some(io::Error::from(io::ErrorKind::InvalidData))
+        }
+        (Some(Err(error)), _) => Some(error),
+        _ => None,
+    }
+}

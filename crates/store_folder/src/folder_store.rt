@@ -4,38 +4,24 @@ ghost use Rattle.store_folder.specs.Kept.{KeepsEach, KeepsOrGives};
 ghost use Rattle.store_folder.specs.Temporary.{is_temporary};
 ghost use Rattle.store_repair.specs.Store.{never};
 
-use crate::digesting::{Digest, digest_of, digests_of};
+use crate::digesting::{Digest, digest_of, digests_of, refusal_of};
 use crate::links::{Links, followed_in, refuse_linked_in, status_at};
 use crate::names::{folder_of, path_in};
-use crate::patterns::{KEPT, Pattern};
+use crate::patterns::KEPT;
 use crate::placing::{Tried, take_after, try_path};
-use crate::sums::Sums;
+use crate::site::Site;
 use crate::surviving::{FileFragment, open_fragment_in};
+use crate::syncing::sync_folders;
 use crate::unfinished::Unfinished;
 use crate::unfinished_file::{UnfinishedFile, create_file};
 use folders::{Folder, Rights, SystemFolder, remove_temporary};
-use lrc_code::{Code, Place};
+use lrc_code::Place;
 use std::alloc::{AllocError, Global};
 use std::io::{self, ErrorKind};
 use store_repair::{NameFault, Placed, Refused, Store};
 
-/// Where a store is, and how its fragments are named.
-#[derive(Clone, Copy)]
-pub struct Site<'a> {
-    pub folder: &'a str,
-    /// The folder that rebuilt fragments are written to: the store's own, or another.
-    pub target: &'a str,
-    pub pattern: Pattern<'a>,
-    pub code: Code,
-    /// The digests that fragments have to have, by their names in the store.
-    pub sums: Option<&'a Sums>,
-    /// What the names of unfinished files have before their digits, so that those of one part of a store are known.
-    pub tag: &'a str,
-    pub links: Links,
-}
-
-/// A store in a folder, as one thread works in it. Whenever one of its calls ends, by a crash or by itself, each path of the folder has what it
-/// had, or all the bytes of a file that was put on the disk.
+/// A store in a folder, as one thread works in it. Whenever one of its calls ends, by a crash or by itself, each path of the folder has what
+/// it had, or all the bytes of a file that was put on the disk.
 #[derive(Drop)]
 pub struct FolderStore<'a, F: Folder> {
     rt: &'a HostRuntime,
@@ -68,19 +54,8 @@ impl<'a, F: Folder> FolderStore<'a, F> {
 
     // The path of a fragment in a folder, if it has a name.
     fn path_of(&self, folder: &str, stripe: &str, place: Place) -> io::Result<String> {
-        let name = self.name_of(stripe, place)?;
+        let name = self.site.name_of(self.rt.alloc(), stripe, place)?;
         Ok(path_in(self.rt.alloc(), folder, name.as_str())?)
-    }
-
-    fn name_of(&self, stripe: &str, place: Place) -> io::Result<String> {
-        let site = &self.site;
-        match site
-            .pattern
-            .name_of(self.rt.alloc(), site.code, stripe, place)?
-        {
-            Some(name) => Ok(name),
-            None => Err(io::Error::from(ErrorKind::InvalidInput)),
-        }
     }
 
     // The digest that a fragment has to have, if the store's checksums say one.
@@ -140,7 +115,7 @@ impl<'a, F: Folder> FolderStore<'a, F> {
     fn new_path(&self, stripe: &str, place: Place) -> io::Result<String> {
         let alloc = self.rt.alloc();
         let site = self.site;
-        let name = self.name_of(stripe, place)?;
+        let name = self.site.name_of(self.rt.alloc(), stripe, place)?;
         refuse_linked_in(alloc, &self.files, site.target, name.as_str(), site.links)?;
         let named = path_in(alloc, site.target, name.as_str())?;
         match site.links {
@@ -149,8 +124,8 @@ impl<'a, F: Folder> FolderStore<'a, F> {
         }
     }
 
-    /// Gives a fragment its name, if nothing is there, and else discards it. Whenever that ends, each path but temporary ones has what it had,
-    /// or, if it had nothing, all the bytes of a file that was put on the disk before.
+    /// Gives a fragment its name, if nothing is there, and else discards it. Whenever that ends, each path but temporary ones has what it
+    /// had, or, if it had nothing, all the bytes of a file that was put on the disk before.
     pub fn place_fragment(
         &mut self,
         file: UnfinishedFile<F::New>,
@@ -418,36 +393,5 @@ impl<F: Folder> Store for FolderStore<'_, F> {
 
     fn settle(&mut self) -> Result<(), NameFault> {
         self.sync_names()
-    }
-}
-
-// Writes the names in these folders to the disk.
-fn sync_folders<F: Folder>(files: &mut F, folders: &mut Vec<String>) -> Result<(), NameFault>
-    ensures { KeepsEach (F.calls files.old) (F.calls files.new) }
-{
-    'folders: while let Some(name) = folders.pop() {
-        sync_names_of(files, name)?;
-    }
-    Ok(())
-}
-
-// Writes the names in a folder to the disk.
-fn sync_names_of<F: Folder>(files: &mut F, name: String) -> Result<(), NameFault>
-    ensures { KeepsEach (F.calls files.old) (F.calls files.new) }
-{
-    match files.sync_folder(name.as_str()) {
-        Ok(()) => Ok(()),
-        Err(error) => Err(NameFault { name, error }),
-    }
-}
-
-// Why a fragment isn't used, by its digest and the one that it has to have.
-fn refusal_of(digest: Option<io::Result<Digest>>, sum: &Option<Digest>) -> Option<io::Error> {
-    match (digest, sum) {
-        (Some(Ok(digest)), Some(sum)) if digest != *sum => {
-            Some(io::Error::from(ErrorKind::InvalidData))
-        }
-        (Some(Err(error)), _) => Some(error),
-        _ => None,
     }
 }

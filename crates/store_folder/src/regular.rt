@@ -14,6 +14,7 @@ pub struct Identity {
 }
 
 impl Identity {
+    /// That of what is said of something.
     pub fn of(metadata: &Metadata) -> Identity {
         Identity {
             device: metadata.dev(),
@@ -31,7 +32,7 @@ pub struct RegularFile {
 
 /// A regular file of a folder that is open, and what was said of it then.
 #[derive(Drop)]
-pub(crate) struct Opened<O> {
+pub(crate) struct OpenRegular<O> {
     pub(crate) file: O,
     pub(crate) status: Status,
 }
@@ -68,7 +69,7 @@ pub(crate) fn open_in<F: Folder>(
     folder: &F,
     path: &str,
     links: Links,
-) -> io::Result<Opened<F::Open>> {
+) -> io::Result<OpenRegular<F::Open>> {
     let asked = status_at(folder, path, links)?;
     if !asked.is_file() {
         return Err(no_regular_file(asked.is_link()));
@@ -78,7 +79,7 @@ pub(crate) fn open_in<F: Folder>(
     if !status.is_file() || status.identity != asked.identity {
         return Err(another_file());
     }
-    Ok(Opened { file, status })
+    Ok(OpenRegular { file, status })
 }
 
 fn another_file() -> io::Error {

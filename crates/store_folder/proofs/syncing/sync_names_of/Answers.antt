@@ -1,7 +1,7 @@
 use Rattle.std.proofs.Common.{true, false}
 use Rattle.folders.specs.Calls.{sync_folder}
 use Rattle.folders.proofs.Runs.{keeps_quiet}
-use Rattle.store_folder.proofs.folder_store.sync_names_of.Goals as goal
+use Rattle.store_folder.proofs.syncing.sync_names_of.Goals as goal
 
 pub returns-in-Ok : goal.returns-in-Ok
 returns-in-Ok g c = keeps_quiet _ _ (sync_folder c.as_str.result.now) true _ _ c.in-Ok.ensures.ok (λ w. tt)

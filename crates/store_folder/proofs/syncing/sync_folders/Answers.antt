@@ -1,5 +1,5 @@
 use Rattle.folders.proofs.Runs.{keeps_all, keeps_after}
-use Rattle.store_folder.proofs.folder_store.sync_folders.Goals as goal
+use Rattle.store_folder.proofs.syncing.sync_folders.Goals as goal
 
 pub folders-init : goal.folders-init
 folders-init g c = keeps_all _ _ _

@@ -1,0 +1,32 @@
+//! Where a store is.
+use crate::links::Links;
+use crate::patterns::Pattern;
+use crate::sums::Sums;
+use lrc_code::{Code, Place};
+use std::alloc::Global;
+use std::io::{self, ErrorKind};
+
+/// Where a store is, and how its fragments are named.
+#[derive(Clone, Copy)]
+pub struct Site<'a> {
+    pub folder: &'a str,
+    /// The folder that rebuilt fragments are written to: the store's own, or another.
+    pub target: &'a str,
+    pub pattern: Pattern<'a>,
+    pub code: Code,
+    /// The digests that fragments have to have, by their names in the store.
+    pub sums: Option<&'a Sums>,
+    /// What the names of unfinished files have before their digits, so that those of one part of a store are known.
+    pub tag: &'a str,
+    pub links: Links,
+}
+
+impl Site<'_> {
+    /// The name of a stripe's fragment at a place.
+    pub(crate) fn name_of(&self, alloc: Global, stripe: &str, place: Place) -> io::Result<String> {
+        match self.pattern.name_of(alloc, self.code, stripe, place)? {
+            Some(name) => Ok(name),
+            None => Err(io::Error::from(ErrorKind::InvalidInput)),
+        }
+    }
+}
