@@ -20,8 +20,8 @@ use std::alloc::{AllocError, Global};
 use std::io::{self, ErrorKind};
 use store_repair::{NameFault, Placed, Refused, Store};
 
-/// A store in a folder, as one thread works in it. Whenever one of its calls ends, by a crash or by itself, each path of the folder has what
-/// it had, or all the bytes of a file that was put on the disk.
+/// A store in a folder, as one thread works in it. Whenever one of its calls ends, by a crash or by itself, each path of the folder has
+/// what it had, or all the bytes of a file that was put on the disk.
 #[derive(Drop)]
 pub struct FolderStore<'a, F: Folder> {
     rt: &'a HostRuntime,

@@ -30,13 +30,6 @@ pub struct RegularFile {
     pub metadata: Metadata,
 }
 
-/// A regular file of a folder that is open, and what was said of it then.
-#[derive(Drop)]
-pub(crate) struct OpenRegular<O> {
-    pub(crate) file: O,
-    pub(crate) status: Status,
-}
-
 /// Opens the regular file at a path for reading. An error of the kind `InvalidInput` says that something else is there.
 pub fn open_regular(rt: &HostRuntime, path: &str, links: Links) -> io::Result<RegularFile> {
     let mut options = File::options();
@@ -64,12 +57,12 @@ pub fn open_as(
     Ok(RegularFile { file, metadata })
 }
 
-/// Opens the regular file at a path of a folder for reading, as `open_regular` does.
+/// Opens the regular file at a path of a folder for reading, as `open_regular` does, and says what is said of it then.
 pub(crate) fn open_in<F: Folder>(
     folder: &F,
     path: &str,
     links: Links,
-) -> io::Result<OpenRegular<F::Open>> {
+) -> io::Result<(F::Open, Status)> {
     let asked = status_at(folder, path, links)?;
     if !asked.is_file() {
         return Err(no_regular_file(asked.is_link()));
@@ -79,7 +72,7 @@ pub(crate) fn open_in<F: Folder>(
     if !status.is_file() || status.identity != asked.identity {
         return Err(another_file());
     }
-    Ok(OpenRegular { file, status })
+    Ok((file, status))
 }
 
 fn another_file() -> io::Error {

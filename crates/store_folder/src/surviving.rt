@@ -48,12 +48,9 @@ pub(crate) fn open_fragment_in<F: Folder>(
     length: u64,
     links: Links,
 ) -> io::Result<FileFragment<F::Open>> {
-    let opened = open_in(folder, path, links)?;
-    if opened.status.length != length {
+    let (file, opened) = open_in(folder, path, links)?;
+    if opened.length != length {
         return Err(io::Error::from(ErrorKind::UnexpectedEof));
     }
-    Ok(FileFragment {
-        file: opened.file,
-        opened: opened.status,
-    })
+    Ok(FileFragment { file, opened })
 }
