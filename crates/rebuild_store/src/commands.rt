@@ -36,8 +36,7 @@ pub fn repair_all<'a, R: Threads + Sync>(
     pattern: &Pattern<'a>,
     options: &'a Options,
 ) -> io::Result<u8> {
-    let alloc = system.alloc();
-    let tag = tag_of(alloc, options.part)?;
+    let tag = tag_of(system.alloc(), options.part)?;
     let site = Site {
         folder: store.folder.as_str(),
         target: options.to.as_ref().unwrap_or(&store.folder).as_str(),
@@ -55,6 +54,23 @@ pub fn repair_all<'a, R: Threads + Sync>(
     say_alone(system, store, pattern, options.dry_run);
     let target = store.target.as_ref().unwrap_or(&store.listing);
     let are_removed = options.dry_run || remove_leftovers(system, target, tag.as_str())?;
+    let status = repair_at(rt, system, store, options, &site, stripes)?;
+    if !are_removed {
+        return Ok(DEVICE);
+    }
+    Ok(status)
+}
+
+// Repairs the stripes of a store at a site.
+fn repair_at<'a, R: Threads + Sync>(
+    rt: &R,
+    system: &HostRuntime,
+    store: &'a OpenStore,
+    options: &Options,
+    site: &'a Site<'a>,
+    stripes: &'a [Stripe<'a>],
+) -> io::Result<u8> {
+    let alloc = system.alloc();
     let progress = Progress::new(system, alloc, store.code, stripes)?;
     let repair = repair_of(store.code, options);
     let (work, word) = if options.dry_run {
@@ -65,17 +81,13 @@ pub fn repair_all<'a, R: Threads + Sync>(
     let all = work_on(
         rt,
         system,
-        &store.work_of(&site, stripes),
+        &store.work_of(site, stripes),
         work,
         options.workers,
     )?;
     progress.end();
-    let results = Results::new(alloc, store, &site, stripes, all.as_slice(), word)?;
-    let status = say_repaired(system, &results, options)?;
-    if !are_removed {
-        return Ok(DEVICE);
-    }
-    Ok(status)
+    let results = Results::new(alloc, store, site, stripes, all.as_slice(), word)?;
+    say_repaired(system, &results, options)
 }
 
 // Whether no stripe fits the code that the places say, which then is said. A code that was given is believed, and a part may have others.
