@@ -171,6 +171,9 @@ class Encoding:
 
     @staticmethod
     def judge_fault(store, ran, how):
+        # Standard error that is closed or full ends nothing.
+        if ran.kind == "output" and ran.status == 0 and ran.out and not ran.err:
+            return
         hold(ran.status == DEVICE, f"another status than {DEVICE}: {ran.text()}")
         if ran.kind == "output":
             return
