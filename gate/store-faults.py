@@ -121,7 +121,11 @@ class Trial:
 
     def kinds(self):
         """The kinds of all calls of a run without a fault, in their order."""
-        ran = self.in_folder(lambda folder: self.calls.run(self.command(folder)))
+        def run(folder):
+            ran = self.calls.run(self.command(folder))
+            return ran, self.below(folder)(ran.out)
+
+        ran, self.out = self.in_folder(run)
         hold(ran.status == self.status, f"{self.words} without a fault: {ran.text()}")
         return ran.kinds
 
@@ -179,6 +183,9 @@ class Trial:
         # The folder is locked, so a leftover whose own lock can't be had is known to be one.
         is_of_leftover = any(pathlib.Path(path).name == LEFTOVER for path in ran.paths)
         if self.is_repair and ran.kind == "lock" and is_of_leftover and ran.status == self.status and self.store.is_whole(folder):
+            return
+        # Standard error that is closed or full ends nothing.
+        if ran.kind == "output" and ran.status == self.status and self.below(folder)(ran.out) == self.out:
             return
         hold(ran.status == DEVICE, f"another status than {DEVICE}: {ran.text()}")
         if ran.kind == "output":
