@@ -176,9 +176,9 @@ class Trial:
         came.unlink()
 
     def judge_fault(self, folder, ran, how, rest):
-        """A fault's status, its line, and what was done all the same. One in reading may be of the first of two attempts, of which the
-        second has all."""
-        if self.is_repair and ran.kind in READ_KINDS and ran.status == self.status and self.store.is_whole(folder):
+        """A fault's status, its line, and what was done all the same. One in reading, or in making a fragment, may be of the first of two
+        attempts, of which the second has all."""
+        if self.is_repair and ran.kind in {*READ_KINDS, "create", "lock", "write"} and ran.status == self.status and self.store.is_whole(folder):
             return
         # The folder is locked, so a leftover whose own lock can't be had is known to be one.
         is_of_leftover = any(pathlib.Path(path).name == LEFTOVER for path in ran.paths)
@@ -193,7 +193,8 @@ class Trial:
         names = {pathlib.Path(path).name for path in ran.paths} - {""}
         unfinished = self.store.unfinished(folder) if self.is_repair else set()
         said = [line for line in (ran.out + ran.err).splitlines() if os.strerror(how) in line]
-        named = [line for line in said if any(name in line for name in names | unfinished)]
+        # Where all further calls of its kind fail too, what is said may be of one of those.
+        named = said if rest == "kind" else [line for line in said if any(name in line for name in names | unfinished)]
         # A store whose checksums can't be read isn't repaired.
         if any("SHA256SUMS: " in line for line in said):
             return
