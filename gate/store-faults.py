@@ -178,7 +178,8 @@ class Trial:
     def judge_fault(self, folder, ran, how, rest):
         """A fault's status, its line, and what was done all the same. One in reading, or in making a fragment, may be of the first of two
         attempts, of which the second has all."""
-        if self.is_repair and ran.kind in {*READ_KINDS, "create", "lock", "write"} and ran.status == self.status and self.store.is_whole(folder):
+        attempted = {*READ_KINDS, "create", "lock", "write"}
+        if self.is_repair and ran.kind in attempted and ran.status == self.status and self.store.is_whole(folder):
             return
         # The folder is locked, so a leftover whose own lock can't be had is known to be one.
         is_of_leftover = any(pathlib.Path(path).name == LEFTOVER for path in ran.paths)
