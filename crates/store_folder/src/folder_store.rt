@@ -1,6 +1,6 @@
 //! A store in a folder. A fragment has no name that another one can have until it is whole and on the disk.
-ghost use Rattle.std.specs.Prelude.{◌≡◌, [], true, IfOk, Some, string_bytes};
-ghost use Rattle.store_folder.specs.Kept.{KeepsEach, KeepsOrGives};
+ghost use Rattle.std.specs.Prelude.{◌≡◌, [], true, ℕ, List, IfOk, IsSome, Some, string_bytes};
+ghost use Rattle.store_folder.specs.Kept.{GivesIn, GivesOne, IsKeptIn, IsPathOf, KeepsEach, none_kept};
 ghost use Rattle.store_folder.specs.Temporary.{is_temporary};
 ghost use Rattle.store_repair.specs.Store.{never};
 
@@ -102,17 +102,20 @@ impl<'a, F: Folder> FolderStore<'a, F> {
 
     /// A new fragment for a place of a stripe, in a file under a temporary name.
     pub fn new_fragment(&mut self, stripe: &str, place: Place) -> io::Result<UnfinishedFile<F::New>>
+        ensures site { self.new.site ≡ self.old.site }
         ensures whenever { KeepsEach (F.calls self.old.files) (F.calls self.new.files) }
         ensures empty { IfOk result (λ new. F.New.written new.unfinished.file ≡ Some []) }
     {
         let sum = self.sum_of(stripe, place)?;
         let path = self.new_path(stripe, place)?;
         let tag = self.site.tag;
-        create_file(self.rt, &mut self.files, path, tag, sum)
+        create_file(self.rt, &mut self.files, folder_of(path.as_str()), tag, sum)
     }
 
     // The path that a new fragment is to have.
-    fn new_path(&self, stripe: &str, place: Place) -> io::Result<String> {
+    fn new_path(&self, stripe: &str, place: Place) -> io::Result<String>
+        ensures { IfOk result (λ path. IsPathOf self.now.site stripe.now place (string_bytes path)) }
+    {
         let alloc = self.rt.alloc();
         let site = self.site;
         let name = self.site.name_of(self.rt.alloc(), stripe, place)?;
@@ -125,25 +128,24 @@ impl<'a, F: Folder> FolderStore<'a, F> {
     }
 
     /// Gives a fragment its name, if nothing is there, and else discards it. Whenever that ends, each path but temporary ones has what it
-    /// had, or, if it had nothing, all the bytes of a file that was put on the disk before.
+    /// had, or, if it had nothing and is the fragment's, all the bytes of the file, which was put on the disk before.
     pub fn place_fragment(
         &mut self,
         file: UnfinishedFile<F::New>,
         stripe: &str,
+        place: Place,
     ) -> io::Result<Placed>
-        ensures { KeepsOrGives (F.calls self.old.files) (F.calls self.new.files) }
+        ensures site { self.new.site ≡ self.old.site }
+        ensures whenever { GivesIn self.old.site stripe.now place (F.New.written file.unfinished.file) (F.calls self.old.files)
+            (F.calls self.new.files) }
     {
         let mut file = file;
-        let finished = self.finish(&mut file, stripe);
-        let UnfinishedFile {
-            unfinished,
-            path,
-            ..
-        } = file;
-        if let Err(error) = finished {
-            return Err(self.given_up(unfinished, error));
+        let finished = self.finish(&mut file, stripe, place);
+        let UnfinishedFile { unfinished, .. } = file;
+        match finished {
+            Ok(path) => self.link(unfinished, path.as_str()),
+            Err(error) => Err(self.given_up(unfinished, error)),
         }
-        self.link(unfinished, path.as_str())
     }
 
     /// Gives a fragment the name of one that is there, which is kept under its second name; if one is kept there already, the new one is
@@ -152,23 +154,21 @@ impl<'a, F: Folder> FolderStore<'a, F> {
         &mut self,
         file: UnfinishedFile<F::New>,
         stripe: &str,
+        place: Place,
     ) -> io::Result<Placed> {
         let mut file = file;
-        let finished = self.finish(&mut file, stripe);
-        let UnfinishedFile {
-            unfinished,
-            path,
-            ..
-        } = file;
-        if let Err(error) = finished {
-            return Err(self.given_up(unfinished, error));
+        let finished = self.finish(&mut file, stripe, place);
+        let UnfinishedFile { unfinished, .. } = file;
+        match finished {
+            Ok(path) => self.exchange(unfinished, path.as_str()),
+            Err(error) => Err(self.given_up(unfinished, error)),
         }
-        self.exchange(unfinished, path.as_str())
     }
 
     /// Removes a fragment that has no name. What can't be removed is said by `sync_names`.
     pub fn discard_fragment(&mut self, file: UnfinishedFile<F::New>)
-        ensures { KeepsEach (F.calls self.old.files) (F.calls self.new.files) }
+        ensures site { self.new.site ≡ self.old.site }
+        ensures whenever { KeepsEach (F.calls self.old.files) (F.calls self.new.files) }
     {
         let UnfinishedFile { unfinished, .. } = file;
         let Unfinished { made_at, .. } = unfinished;
@@ -177,7 +177,8 @@ impl<'a, F: Folder> FolderStore<'a, F> {
 
     /// Writes the names that were given to the disk, and says what was left over since it was called last.
     pub fn sync_names(&mut self) -> Result<(), NameFault>
-        ensures { KeepsEach (F.calls self.old.files) (F.calls self.new.files) }
+        ensures site { self.new.site ≡ self.old.site }
+        ensures whenever { KeepsEach (F.calls self.old.files) (F.calls self.new.files) }
     {
         sync_folders(&mut self.files, &mut self.touched)?;
         match self.leftover.take() {
@@ -186,18 +187,28 @@ impl<'a, F: Folder> FolderStore<'a, F> {
         }
     }
 
-    // Makes a whole file ready for its name: it has the bytes that it has to have, and the owner and rights of its stripe's other files.
-    fn finish(&self, file: &mut UnfinishedFile<F::New>, stripe: &str) -> io::Result<()> {
+    // Makes a whole file ready for its name, which it says: it has the bytes that it has to have, and the owner and rights of its stripe's
+    // other files.
+    fn finish(
+        &self,
+        file: &mut UnfinishedFile<F::New>,
+        stripe: &str,
+        place: Place,
+    ) -> io::Result<String>
+        ensures same { file.new.unfinished ≡ file.old.unfinished }
+        ensures path { IfOk result (λ path. IsPathOf self.now.site stripe.now place (string_bytes path)) }
+    {
         file.refuse_part()?;
         if let Some(rights) = self.rights_of(stripe)? {
             take_after(&file.unfinished.file, &rights)?;
         }
-        Ok(())
+        self.new_path(stripe, place)
     }
 
     // Gives a whole file its name, if nothing is there, and takes away the one that it was made at.
     fn link(&mut self, new: Unfinished<F::New>, path: &str) -> io::Result<Placed>
-        ensures { KeepsOrGives (F.calls self.old.files) (F.calls self.new.files) }
+        ensures site { self.new.site ≡ self.old.site }
+        ensures whenever { GivesOne path.now (F.New.written new.file) (F.calls self.old.files) (F.calls self.new.files) }
     {
         let Tried { made_at, placed } = try_path(&mut self.files, new, path);
         match placed {
@@ -220,7 +231,8 @@ impl<'a, F: Folder> FolderStore<'a, F> {
 
     // What became of a file that was to get a name, by what the system answered.
     fn outcome(&mut self, answer: io::Result<()>, made_at: &str, path: &str) -> io::Result<Placed>
-        ensures { F.calls self.new.files ≡ F.calls self.old.files }
+        ensures site { self.new.site ≡ self.old.site }
+        ensures calls { F.calls self.new.files ≡ F.calls self.old.files }
     {
         match answer {
             Ok(()) => {
@@ -234,7 +246,8 @@ impl<'a, F: Folder> FolderStore<'a, F> {
 
     // What became of a file under whose name something is. A run that was killed may have given the name to a file with the same bytes.
     fn beside(&mut self, made_at: &str, path: &str) -> io::Result<Placed>
-        ensures { F.calls self.new.files ≡ F.calls self.old.files }
+        ensures site { self.new.site ≡ self.old.site }
+        ensures calls { F.calls self.new.files ≡ F.calls self.old.files }
     {
         let alloc = self.rt.alloc();
         let length = self.files.status(made_at)?.length;
@@ -293,7 +306,8 @@ impl<'a, F: Folder> FolderStore<'a, F> {
 
     // Notes that a name was given in a folder.
     fn touch(&mut self, folder: &str) -> Result<(), AllocError>
-        ensures { F.calls self.new.files ≡ F.calls self.old.files }
+        ensures site { self.new.site ≡ self.old.site }
+        ensures calls { F.calls self.new.files ≡ F.calls self.old.files }
     {
         if !self
             .touched
@@ -308,7 +322,8 @@ impl<'a, F: Folder> FolderStore<'a, F> {
 
     // Removes an unfinished file after a failure.
     fn given_up(&mut self, new: Unfinished<F::New>, error: io::Error) -> io::Error
-        ensures { KeepsEach (F.calls self.old.files) (F.calls self.new.files) }
+        ensures site { self.new.site ≡ self.old.site }
+        ensures whenever { KeepsEach (F.calls self.old.files) (F.calls self.new.files) }
     {
         let Unfinished { made_at, .. } = new;
         self.remove(made_at);
@@ -318,7 +333,8 @@ impl<'a, F: Folder> FolderStore<'a, F> {
     // Removes an unfinished file. What could not be removed is said when names are written to the disk.
     fn remove(&mut self, name: String)
         requires { is_temporary (string_bytes name) ≡ true }
-        ensures { KeepsEach (F.calls self.old.files) (F.calls self.new.files) }
+        ensures site { self.new.site ≡ self.old.site }
+        ensures whenever { KeepsEach (F.calls self.old.files) (F.calls self.new.files) }
     {
         if let Err(error) = remove_temporary(&mut self.files, name.as_str()) {
             self.leftover = Some(NameFault { name, error });
@@ -330,6 +346,10 @@ impl<F: Folder> Store for FolderStore<'_, F> {
     type Survivor = FileFragment<F::Open>;
 
     type New = UnfinishedFile<F::New>;
+
+    ghost kept = { λ stripe given old new. IsKeptIn stripe given old.site new.site (F.calls old.files) (F.calls new.files) };
+
+    ghost kept_same = { λ stripe given s. none_kept stripe given s.site (F.calls s.files) };
 
     ghost new_shown = { λ s f h. never h };
 
@@ -372,18 +392,18 @@ impl<F: Folder> Store for FolderStore<'_, F> {
         &mut self,
         file: UnfinishedFile<F::New>,
         stripe: &str,
-        _place: Place,
+        place: Place,
     ) -> io::Result<Placed> {
-        self.place_fragment(file, stripe)
+        self.place_fragment(file, stripe, place)
     }
 
     fn replace(
         &mut self,
         file: UnfinishedFile<F::New>,
         stripe: &str,
-        _place: Place,
+        place: Place,
     ) -> io::Result<Placed> {
-        self.replace_fragment(file, stripe)
+        self.replace_fragment(file, stripe, place)
     }
 
     fn discard(&mut self, file: UnfinishedFile<F::New>) -> io::Result<()> {

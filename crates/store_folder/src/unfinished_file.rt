@@ -3,7 +3,6 @@ ghost use Rattle.std.specs.Prelude.{◌≡◌, [], IsSome, IfOk, Some};
 ghost use Rattle.store_folder.specs.Kept.{KeepsEach};
 
 use crate::digesting::Digest;
-use crate::names::folder_of;
 use crate::placing::PRIVATE;
 use crate::unfinished::{Unfinished, create_unfinished};
 use folders::{Folder, NewFile};
@@ -15,8 +14,6 @@ use store_repair::NewFragment;
 #[derive(Drop)]
 pub struct UnfinishedFile<N: NewFile> {
     pub(crate) unfinished: Unfinished<N>,
-    // The path that it is to have.
-    pub(crate) path: String,
     held: Option<Held>,
 }
 
@@ -49,7 +46,8 @@ impl<N: NewFile> NewFragment for UnfinishedFile<N> {
 impl<N: NewFile> UnfinishedFile<N> {
     /// Refuses a fragment that lacks bytes, or has others than it has to have.
     pub(crate) fn refuse_part(&mut self) -> io::Result<()>
-        ensures { IfOk result (λ _. IsSome (N.written self.new.unfinished.file)) }
+        ensures same { self.new.unfinished ≡ self.old.unfinished }
+        ensures whole { IfOk result (λ _. IsSome (N.written self.new.unfinished.file)) }
     {
         if let Some(held) = self.held.take() {
             if !held.is_as_wanted() {
@@ -60,18 +58,17 @@ impl<N: NewFile> UnfinishedFile<N> {
     }
 }
 
-/// A new fragment that is to have a path, and a digest if one is known. Nobody but its user may read it.
+/// A new fragment in a folder, which is to have a digest if one is known. Nobody but its user may read it.
 pub(crate) fn create_file<F: Folder>(
     rt: &HostRuntime,
     files: &mut F,
-    path: String,
+    folder: &str,
     tag: &str,
     sum: Option<Digest>,
 ) -> io::Result<UnfinishedFile<F::New>>
     ensures whenever { KeepsEach (F.calls files.old) (F.calls files.new) }
     ensures empty { IfOk result (λ new. F.New.written new.unfinished.file ≡ Some []) }
 {
-    let folder = folder_of(path.as_str());
     let unfinished = create_unfinished(rt, files, folder, tag, PRIVATE)?;
     let held = match sum {
         Some(wanted) => Some(Held {
@@ -80,9 +77,5 @@ pub(crate) fn create_file<F: Folder>(
         }),
         None => None,
     };
-    Ok(UnfinishedFile {
-        unfinished,
-        path,
-        held,
-    })
+    Ok(UnfinishedFile { unfinished, held })
 }

@@ -5,6 +5,7 @@ pub mod SuspectLemmas
 pub mod LossLemmas
 pub mod CheckLemmas
 pub mod OpenedLemmas
+pub mod KeptLemmas
 pub mod RepairLemmas
 pub mod ScrubLemmas
 pub mod LengthLemmas

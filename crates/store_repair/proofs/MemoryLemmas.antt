@@ -8,6 +8,7 @@ use Rattle.lrc_code.specs.declared.places.Place.{Place}
 use Rattle.lrc_code.specs.Places.{same_place}
 use Rattle.lrc_code.proofs.PlaceSums.{same_place-eq, same_place-refl}
 use Rattle.std.specs.declared.io.Error.{Error}
+use Rattle.store_repair.specs.Kept.{Given, KeepsOrHas}
 use Rattle.store_repair.specs.Memory.{ExchangesName, GivesName, put_name, with_fragment, with_kept, with_old}
 use Rattle.store_repair.specs.Store.{AreUntouched, Files, HasName, IsUntouched, KeepsAll, Names, SameElsewhere}
 use Rattle.store_repair.specs.declared.store.Placed.{Placed as PlacedName}
@@ -104,6 +105,42 @@ given_placed (Ok placed.Placed) s p bytes old new (none, is) =
     ap (λ (f : Files). f.fragments s p) is ∙ put_own old.fragments s p bytes
 given_placed (Ok placed.IsThere) s p bytes old new so = tt
 given_placed (Err e) s p bytes old new so = tt
+
+-- what a name was given, where nothing was, is there
+had_none : (t : List ℕ) (q : Place) (s : List ℕ) (given : Given) (from old : Files) → old.fragments t q ≡ None
+    → (old.fragments t q ≡ from.fragments t q)
+    ⊎ ((bytes_eq s t ≡ true) × (from.fragments t q ≡ None) × ((b : List ℕ) × (given q ≡ Some b) × (old.fragments t q ≡ Some b)))
+    → from.fragments t q ≡ None
+had_none t q s given from old none (inl same) = sym same ∙ none
+had_none t q s given from old none (inr had) = had.1
+
+still : (t : List ℕ) (q : Place) (s : List ℕ) (given : Given) (from old new : Files) → new.fragments t q ≡ old.fragments t q
+    → (old.fragments t q ≡ from.fragments t q)
+    ⊎ ((bytes_eq s t ≡ true) × (from.fragments t q ≡ None) × ((b : List ℕ) × (given q ≡ Some b) × (old.fragments t q ≡ Some b)))
+    → (new.fragments t q ≡ from.fragments t q)
+    ⊎ ((bytes_eq s t ≡ true) × (from.fragments t q ≡ None) × ((b : List ℕ) × (given q ≡ Some b) × (new.fragments t q ≡ Some b)))
+still t q s given from old new is (inl same) = inl (is ∙ same)
+still t q s given from old new is (inr had) = inr (had.0, had.1, (had.2.0, had.2.1, is ∙ had.2.2))
+
+kept_given : (s : List ℕ) (p : Place) (bytes : List ℕ) (given : Given) (from old : Files) → old.fragments s p ≡ None
+    → given p ≡ Some bytes → KeepsOrHas s given from old → KeepsOrHas s given from (with_fragment old s p bytes)
+kept_given s p bytes given from old none is before t q = elim (cases_Bool (bytes_eq s t && same_place p q)) [
+  | inl on ↦ (let parts = and_parts (bytes_eq s t) (same_place p q) on in
+      let stripe = (bytes_eq-Decides s t).0 parts.0 in
+      let place = same_place-eq p q parts.1 in
+      inr (parts.0, had_none t q s given from old (subst (λ u. old.fragments u q ≡ None) stripe
+      (subst (λ r. old.fragments s r ≡ None) place none)) (before t q),
+      (bytes, subst (λ r. given r ≡ Some bytes) place is, rw on refl)))
+  | inr off ↦ still t q s given from old (with_fragment old s p bytes)
+      (taken old.fragments s p bytes (bytes_eq s t && same_place p q) (Some bytes) (old.fragments t q) off) (before t q)
+]
+
+pub given_kept : (r : Result PlacedName Error) (s : List ℕ) (p : Place) (bytes : List ℕ) (given : Given) (from old new : Files)
+    → GivesName r s p bytes old new → given p ≡ Some bytes → KeepsOrHas s given from old → KeepsOrHas s given from new
+given_kept (Ok placed.Placed) s p bytes given from old new (none, are) is before =
+    subst (KeepsOrHas s given from) (sym are) (kept_given s p bytes given from old none is before)
+given_kept (Ok placed.IsThere) s p bytes given from old new (there, are) is before = subst (KeepsOrHas s given from) (sym are) before
+given_kept (Err e) s p bytes given from old new are is before = subst (KeepsOrHas s given from) (sym are) before
 
 -- ---- a name that was exchanged
 

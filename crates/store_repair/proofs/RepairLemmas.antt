@@ -45,7 +45,7 @@ untouched_trans r s (Some a) (Some b) (Some c) x y = record {
   replaced = λ p bytes h. replaced_still r s a b c p bytes y (x.replaced p bytes h);
 }
 
-off_too : (w r : Bool) → (w ≡ true → r ≡ true) → r ≡ false → w ≡ false
+pub off_too : (w r : Bool) → (w ≡ true → r ≡ true) → r ≡ false → w ≡ false
 off_too true r implies off = absurd (let on = implies refl in cc)
 off_too false r implies off = refl
 
@@ -111,11 +111,12 @@ module _ {F N : Type 0} (survivor : F → Option (List ℕ)) (shown : N → Opti
       (are_whole survivor code stripe len old set fragments sixteen opened)).1 k d e lt)
 
   pub are_made : (files : ShownFiles) → AreOpened survivor code stripe len files set fragments → length made ≡ length places
-      → AreApart places
+      → AreApart places → (0 < length made → (q : Place) × (is_in set q ≡ true))
       → ((xs : List (List ℕ)) → AreShown survivor fragments xs → AreWhole code (is_in set) xs len
       → IsMendedStripe shown code (is_in set) xs len places made true)
       → AreMade shown code (is_in set) len stripe files places made
-  are_made files opened long apart mended = record { lengths = long; apart = apart; only = only files opened mended }
+  are_made files opened long apart used mended =
+      record { lengths = long; apart = apart; used = used; only = only files opened mended }
 
 -- ---- fragments that are left out
 

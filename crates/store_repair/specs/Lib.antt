@@ -5,6 +5,7 @@ pub mod Damage
 pub mod Store
 pub mod Losses
 pub mod Opened
+pub mod Kept
 pub mod Repaired
 pub mod Scrubbed
 pub mod Lengths

@@ -48,11 +48,13 @@ AreOnlyOnes shown code survives len stripe old places files =
     (k : ℕ) (d : Place) (e : _) → k < length files
     → IfSome (shown (slice_index_or files k e)) (IsOnlyOne code survives len stripe old (slice_index_or places k d))
 
--- Files that were made for places of a stripe: where the store's files are shown, each holds the only bytes that fit the survivors.
+-- Files that were made for places of a stripe: where the store's files are shown, each holds the only bytes that fit the survivors, of
+-- which there is one.
 pub record AreMade {N : Type 0} (shown : N → Option (List ℕ)) (code : CodeName) (survives : Place → Bool) (len : ℕ) (stripe : List ℕ)
     (files : ShownFiles) (places : List Place) (made : List N) : Type 0 where
   pub lengths : length made ≡ length places
   pub apart : AreApart places
+  pub used : 0 < length made → (q : Place) × (survives q ≡ true)
   pub only : IfSome files (λ old. AreOnlyOnes shown code survives len stripe old places made)
 
 -- a name has the bytes of the file at the index of its place, where these are shown

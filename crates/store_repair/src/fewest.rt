@@ -2,6 +2,7 @@
 ghost use Rattle.std.specs.Prelude.{◌≡◌, IfOk, IfSome, true};
 ghost use Rattle.store_repair.specs.Losses.{AreChecked};
 ghost use Rattle.lrc_code.specs.Sets.{is_in};
+ghost use Rattle.store_repair.specs.Kept.{Given};
 ghost use Rattle.store_repair.specs.Opened.{AreMade};
 
 use crate::damage::without;
@@ -27,6 +28,8 @@ pub(crate) fn make_from_fewest<S: Store>(
     findings: &mut Vec<Finding>,
 ) -> Result<Option<Made<S::New>>, AllocError>
     ensures same { S.files store.new ≡ S.files store.old }
+    ensures kept { (given : Given) (from : S) → S.kept stripe.now.name.now given from store.old
+        → S.kept stripe.now.name.now given from store.new }
     ensures made { IfOk result (λ o. IfSome o (λ made. AreMade S.New.shown repair.now.code (is_in made.set) length stripe.now.name.now
         (S.files store.old) made.places.items made.files.items)) }
     ensures checked { IfOk result (λ o. IfSome o (λ made. made.is_checked ≡ true → AreChecked repair.now.code (is_in made.set) length)) }

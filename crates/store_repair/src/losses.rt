@@ -1,5 +1,6 @@
 //! The lost places of a stripe: which of them the survivors determine, and whether the survivors can be checked.
-ghost use Rattle.std.specs.Prelude.{◌≡◌, IfOk, true, false, not};
+ghost use Rattle.std.specs.Prelude.{◌≡◌, ◌<◌, IfOk, length, true, false, not};
+ghost use Rattle.lrc_code.specs.declared.places.Place.{Place};
 ghost use Rattle.lrc_code.specs.Code.{has_place};
 ghost use Rattle.lrc_code.specs.Codes.{tables_of};
 ghost use Rattle.lrc_code.specs.Reduction.{IsReduction};
@@ -32,6 +33,7 @@ pub fn lost_places(
 ) -> Result<LostPlaces, AllocError>
     ensures determined { IfOk result (λ lost. AreLost code (is_in survivors) lost.determined.items) }
     ensures apart { IfOk result (λ lost. AreApart lost.determined.items) }
+    ensures used { IfOk result (λ lost. 0 < length lost.determined.items → (q : Place) × (is_in survivors q ≡ true)) }
     ensures several { IfOk result (λ lost. AreLost code (is_in survivors) lost.several.items) }
 {
     Ok(LostPlaces {
@@ -50,7 +52,11 @@ fn places_where(
 ) -> Result<Vec<Place>, AllocError>
     ensures lost { IfOk result (λ v. AreLost code (is_in survivors) v.items) }
     ensures apart { IfOk result (λ v. AreApart v.items) }
+    ensures used { IfOk result (λ v. determined ≡ true → 0 < length v.items → (q : Place) × (is_in survivors q ≡ true)) }
 {
+    if determined && !has_any(survivors) {
+        return Ok(Vec::new(alloc));
+    }
     let reduced = reduce_by_lost(code, survivors);
     let mut places = Vec::new(alloc);
     for index in 0..16 {
@@ -60,6 +66,18 @@ fn places_where(
         }
     }
     Ok(places)
+}
+
+// Whether any fragment survives. None determine nothing.
+fn has_any(survivors: PlaceSet) -> bool
+    ensures { result ≡ true → (q : Place) × (is_in survivors q ≡ true) }
+{
+    for place in &Place::ALL {
+        if survivors.has(*place) {
+            return true;
+        }
+    }
+    false
 }
 
 /// Whether a place among some is lost, and the survivors determine its fragment or don't.

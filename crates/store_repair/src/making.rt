@@ -1,7 +1,8 @@
 //! Making files for the lost fragments of a stripe, from all survivors that belong together.
-ghost use Rattle.std.specs.Prelude.{◌≡◌, ◌&&◌, not, IfOk, IfSome, length, true};
+ghost use Rattle.std.specs.Prelude.{◌≡◌, ◌&&◌, ℕ, List, not, IfOk, IfSome, length, true};
 ghost use Rattle.store_repair.specs.Losses.{AreChecked};
 ghost use Rattle.lrc_code.specs.Sets.{is_in};
+ghost use Rattle.store_repair.specs.Kept.{Given};
 ghost use Rattle.store_repair.specs.Mended.{AreEmpty};
 ghost use Rattle.store_repair.specs.Opened.{AreMade, AreOpened};
 ghost use Rattle.store_repair.specs.Repaired.{IfMade, IsNotMade};
@@ -48,6 +49,8 @@ pub(crate) fn make<S: Store>(
     requires opened { AreOpened S.Survivor.shown repair.now.code stripe.now.name.now opened.length (S.files store.old) opened.set
         opened.fragments.items }
     ensures same { S.files store.new ≡ S.files store.old }
+    ensures kept { (given : Given) (from : S) → S.kept stripe.now.name.now given from store.old
+        → S.kept stripe.now.name.now given from store.new }
     ensures made { IfOk result (λ o. IfSome o (λ made. AreMade S.New.shown repair.now.code (is_in made.set) opened.length
         stripe.now.name.now (S.files store.old) made.places.items made.files.items)) }
     ensures checked { IfOk result (λ o. IfSome o (λ made. made.is_checked ≡ true
@@ -96,6 +99,8 @@ pub(crate) fn make_from<S: Store>(
     requires opened { AreOpened S.Survivor.shown repair.now.code stripe.now.name.now opened.now.length (S.files store.old) opened.now.set
         opened.now.fragments.items }
     ensures same { S.files store.new ≡ S.files store.old }
+    ensures kept { (given : Given) (from : S) → S.kept stripe.now.name.now given from store.old
+        → S.kept stripe.now.name.now given from store.new }
     ensures made { IfOk result (IfMade (λ made. AreMade S.New.shown repair.now.code (is_in made.set) opened.now.length stripe.now.name.now
         (S.files store.old) made.places.items made.files.items)) }
     ensures checked { IfOk result (IfMade (λ made. made.is_checked ≡ true → AreChecked repair.now.code (is_in made.set)
@@ -168,6 +173,8 @@ fn new_files<S: Store>(
     findings: &mut Vec<Finding>,
 ) -> Result<Option<Vec<S::New>>, AllocError>
     ensures same { S.files store.new ≡ S.files store.old }
+    ensures kept { (given : Given) (from : S) → S.kept stripe.now.name.now given from store.old
+        → S.kept stripe.now.name.now given from store.new }
     ensures many { IfOk result (λ o. IfSome o (λ files. length files.items ≡ length places.now)) }
     ensures empty { IfOk result (λ o. IfSome o (λ files. AreEmpty S.New.shown files.items)) }
 {
@@ -192,7 +199,8 @@ pub(crate) fn discard_all<S: Store>(
     files: Vec<S::New>,
     findings: &mut Vec<Finding>,
 ) -> Result<(), AllocError>
-    ensures { S.files store.new ≡ S.files store.old }
+    ensures same { S.files store.new ≡ S.files store.old }
+    ensures kept { (stripe : List ℕ) (given : Given) (from : S) → S.kept stripe given from store.old → S.kept stripe given from store.new }
 {
     let mut left = files;
     'files: while let Some(file) = left.pop() {
@@ -207,7 +215,8 @@ pub(crate) fn discard<S: Store>(
     file: S::New,
     findings: &mut Vec<Finding>,
 ) -> Result<(), AllocError>
-    ensures { S.files store.new ≡ S.files store.old }
+    ensures same { S.files store.new ≡ S.files store.old }
+    ensures kept { (stripe : List ℕ) (given : Given) (from : S) → S.kept stripe given from store.old → S.kept stripe given from store.new }
 {
     match store.discard(file) {
         Ok(()) => Ok(()),

@@ -1,6 +1,7 @@
 //! A store in memory.
 ghost use Rattle.std.specs.Prelude.{◌≡◌, ◌<◌, List, ℕ, IfOk, None, OnErr, OnOk, Some, drop, find, option_copied, option_map};
 ghost use Rattle.std.specs.Prelude.{false, refl, true, vec_len};
+ghost use Rattle.store_repair.specs.Kept.{Given, KeepsOrHas, unchanged};
 ghost use Rattle.lrc_code.specs.Code.{AreBytes};
 ghost use Rattle.lrc_code.specs.declared.places.Place.{Place};
 ghost use Rattle.store_repair.specs.Memory.{ExchangesName, GivesName, bytes_of, files_of, is_entry, names_of, put_name, with_fragment};
@@ -203,6 +204,10 @@ impl Store for MemoryStore {
 
     ghost files = { λ s. Some (files_of s) };
 
+    ghost kept = { λ stripe given old new. KeepsOrHas stripe given (files_of old) (files_of new) };
+
+    ghost kept_same = { λ stripe given s. unchanged stripe given (files_of s) };
+
     ghost new_shown = { λ s f h. refl };
 
     fn open(&self, stripe: &str, place: Place, length: usize) -> io::Result<MemoryFragment> {
@@ -236,6 +241,8 @@ impl Store for MemoryStore {
         ensures untouched { AreUntouched false stripe.now (Some (files_of self.old)) (Some (files_of self.new)) }
         ensures elsewhere { SameElsewhere stripe.now place (Some (files_of self.old)) (Some (files_of self.new)) }
         ensures placed { IfOk result (HasName stripe.now place (Some (bytes_of file)) (Some (files_of self.new))) }
+        ensures kept { (given : Given) (from : MemoryStore) → given place ≡ Some (bytes_of file)
+            → KeepsOrHas stripe.now given (files_of from) (files_of self.old) → KeepsOrHas stripe.now given (files_of from) (files_of self.new) }
         ensures gives { GivesName result stripe.now place (bytes_of file) (files_of self.old) (files_of self.new) }
     {
         self.give_name(stripe, place, file.bytes)

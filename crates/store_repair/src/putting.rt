@@ -1,5 +1,6 @@
 //! Giving rebuilt fragments of a stripe their names.
-ghost use Rattle.std.specs.Prelude.{◌≡◌, ◌&&◌, IfOk, All, true, length};
+ghost use Rattle.std.specs.Prelude.{◌≡◌, ◌&&◌, ℕ, List, IfOk, All, true, false, length};
+ghost use Rattle.store_repair.specs.Kept.{Given, given_by};
 ghost use Rattle.store_repair.specs.Opened.{AreApart, IsPutOf};
 ghost use Rattle.store_repair.specs.Repaired.{IsPlaced, replaces};
 ghost use Rattle.store_repair.specs.Store.{AreUntouched, HasName, SameElsewhere};
@@ -36,6 +37,9 @@ pub(crate) fn put_all<S: Store>(
     requires apart { AreApart made.places.items }
     ensures untouched { AreUntouched (repair.now.replace_damaged && made.is_checked) stripe.now.name.now (S.files store.old)
         (S.files store.new) }
+    ensures kept { (repair.now.replace_damaged && made.is_checked) ≡ false → (from : S)
+        → S.kept stripe.now.name.now (given_by S.New.shown made.places.items made.files.items) from store.old
+        → S.kept stripe.now.name.now (given_by S.New.shown made.places.items made.files.items) from store.new }
     ensures put { IfOk result (λ v. All (IsPutOf S.New.shown made.places.items made.files.items stripe.now.name.now (S.files store.new))
         v.items) }
 {
@@ -62,7 +66,8 @@ pub(crate) fn put_all<S: Store>(
 
 /// Writes names to the disk, and notes what is left over.
 pub(crate) fn settle<S: Store>(store: &mut S, findings: &mut Vec<Finding>) -> Result<(), AllocError>
-    ensures { S.files store.new ≡ S.files store.old }
+    ensures same { S.files store.new ≡ S.files store.old }
+    ensures kept { (stripe : List ℕ) (given : Given) (from : S) → S.kept stripe given from store.old → S.kept stripe given from store.new }
 {
     match store.settle() {
         Ok(()) => Ok(()),
@@ -110,6 +115,8 @@ fn put_one<S: Store>(
 ) -> Result<bool, AllocError>
     ensures untouched { AreUntouched (replaces way) stripe.now.name.now (S.files store.old) (S.files store.new) }
     ensures elsewhere { SameElsewhere stripe.now.name.now place (S.files store.old) (S.files store.new) }
+    ensures kept { replaces way ≡ false → (given : Given) (from : S) → given place ≡ S.New.shown file
+        → S.kept stripe.now.name.now given from store.old → S.kept stripe.now.name.now given from store.new }
     ensures put { IfOk result (λ b. b ≡ true → HasName stripe.now.name.now place (S.New.shown file) (S.files store.new) placed.Placed) }
 {
     match way {

@@ -1,5 +1,6 @@
 //! Repairing a stripe of a store: each lost fragment is rebuilt, with all checks that the survivors allow, and gets its name.
 ghost use Rattle.std.specs.Prelude.{◌≡◌, IfOk, IfSome, false, true};
+ghost use Rattle.store_repair.specs.Kept.{Given, IsRepaired};
 ghost use Rattle.store_repair.specs.Losses.{AreChecked};
 ghost use Rattle.lrc_code.specs.Sets.{is_in};
 ghost use Rattle.store_repair.specs.Opened.{AreMade, AreRebuilt};
@@ -28,6 +29,8 @@ pub fn repair_stripe<S: Store>(
     ensures unchecked { IfOk result (λ o. o.is_checked ≡ false → AreUntouched false stripe.now.name.now (S.files store.old)
         (S.files store.new)) }
     ensures checked { IfOk result (λ o. o.is_checked ≡ true → AreChecked repair.now.code (is_in o.survivors) o.length) }
+    ensures kept { repair.now.replace_damaged ≡ false
+        → IsRepaired S.kept repair.now.code stripe.now.name.now (S.files store.old) store.old store.new }
     ensures rebuilt { IfOk result (λ o. AreRebuilt repair.now.code (is_in o.survivors) o.length stripe.now.name.now (S.files store.old)
         (S.files store.new) o.rebuilt.items) }
 {
@@ -76,6 +79,8 @@ fn make_lost<S: Store>(
     findings: &mut Vec<Finding>,
 ) -> Result<Option<Made<S::New>>, AllocError>
     ensures same { S.files store.new ≡ S.files store.old }
+    ensures kept { (given : Given) (from : S) → S.kept stripe.now.name.now given from store.old
+        → S.kept stripe.now.name.now given from store.new }
     ensures made { IfOk result (λ o. IfSome o (λ made. AreMade S.New.shown repair.now.code (is_in made.set) length stripe.now.name.now
         (S.files store.old) made.places.items made.files.items)) }
     ensures checked { IfOk result (λ o. IfSome o (λ made. made.is_checked ≡ true → AreChecked repair.now.code (is_in made.set) length)) }

@@ -1,5 +1,6 @@
 //! What a store gives for a repair: fragments that survive, and new ones that get their names when they are whole.
 ghost use Rattle.std.specs.Prelude.{◌≡◌, ◌++◌, ℕ, List, Option, None, IfOk, OnOk, IsSome, true, false, option_map};
+ghost use Rattle.store_repair.specs.Kept.{Given};
 ghost use Rattle.store_repair.specs.Mended.{IsEmpty};
 ghost use Rattle.store_repair.specs.Shown.{IsReadAt};
 ghost use Rattle.store_repair.specs.Store.{AreUntouched, HasName, IsOpened, SameElsewhere, ShownFiles};
@@ -64,6 +65,13 @@ pub trait Store {
     /// The fragments by their names, where the store shows them.
     ghost files: { Self → ShownFiles } = { λ _. None };
 
+    /// What a stripe's calls that replace nothing leave, whenever they end, by a crash or by themselves: from the first state to the second
+    /// all is as it was, but for names of this stripe at which nothing was and that were given these fragments.
+    ghost kept: { List ℕ → Given → Self → Self → Type 0 };
+
+    /// Where nothing was called, all is as it was.
+    ghost kept_same: { (stripe : List ℕ) (given : Given) (s : Self) → kept stripe given s s };
+
     /// Opens a stripe's fragment, which has to have so many bytes.
     fn open(&self, stripe: &str, place: Place, length: usize) -> io::Result<Self::Survivor>
         ensures { IfOk result (λ f. IsOpened stripe.now place length (files self.now) (Self.Survivor.shown f)) };
@@ -81,13 +89,17 @@ pub trait Store {
     /// A new fragment for a place of a stripe, still without bytes and without a name.
     fn create(&mut self, stripe: &str, place: Place) -> io::Result<Self::New>
         ensures same { files self.new ≡ files self.old }
-        ensures empty { IfOk result (λ f. IsEmpty (Self.New.shown f)) };
+        ensures empty { IfOk result (λ f. IsEmpty (Self.New.shown f)) }
+        ensures kept { (given : Given) (from : Self) → kept stripe.now given from self.old
+            → kept stripe.now given from self.new };
 
     /// Gives a fragment its name, if nothing is there, and else discards it. After a failure the name has the whole fragment or nothing.
     fn place(&mut self, file: Self::New, stripe: &str, place: Place) -> io::Result<Placed>
         ensures untouched { AreUntouched false stripe.now (files self.old) (files self.new) }
         ensures elsewhere { SameElsewhere stripe.now place (files self.old) (files self.new) }
-        ensures placed { IfOk result (HasName stripe.now place (Self.New.shown file) (files self.new)) };
+        ensures placed { IfOk result (HasName stripe.now place (Self.New.shown file) (files self.new)) }
+        ensures kept { (given : Given) (from : Self) → given place ≡ Self.New.shown file → kept stripe.now given from self.old
+            → kept stripe.now given from self.new };
 
     /// Gives a fragment the name of one that is there, which is kept under its second name; if one is kept there already, the new one is
     /// discarded. After a failure the name has the one fragment or the other.
@@ -98,11 +110,15 @@ pub trait Store {
 
     /// Discards a fragment that has no name. What can't be removed may be said by `settle`.
     fn discard(&mut self, file: Self::New) -> io::Result<()>
-        ensures { files self.new ≡ files self.old };
+        ensures same { files self.new ≡ files self.old }
+        ensures kept { (stripe : List ℕ) (given : Given) (from : Self) → kept stripe given from self.old
+            → kept stripe given from self.new };
 
     /// Writes the names that were given to the disk, and says what was left over since it was called last.
     fn settle(&mut self) -> Result<(), NameFault>
-        ensures { files self.new ≡ files self.old };
+        ensures same { files self.new ≡ files self.old }
+        ensures kept { (stripe : List ℕ) (given : Given) (from : Self) → kept stripe given from self.old
+            → kept stripe given from self.new };
 
     /// Where they are shown, so are new fragments.
     ghost new_shown: { (s : Self) (f : Self.New) → IsSome (files s) → IsSome (Self.New.shown f) };

@@ -20,6 +20,7 @@ attempts-preserved g c =
     let files = g.S.Store.files in
     record {
       same = c.make_from.ensures.same ∙ so.same;
+      kept = λ given from before. c.make_from.ensures.kept given from (so.kept given from before);
       sixteen = ap length c.leave_out.ensures.fragments ∙ length-set old.fragments.items (index_of c.in-LeaveOut.place) _ ∙ so.sixteen;
       long = c.leave_out.ensures.length ∙ so.long;
       opened = rw (c.leave_out.ensures.length, c.make_from.ensures.same)

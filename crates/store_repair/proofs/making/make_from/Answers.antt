@@ -23,6 +23,7 @@ returns-in-Ok-true-clause-made g c =
     let long : length new ≡ length lost = omega (arith, c.mend.auto.files, lent, many, of) in
     rw items (are_made g.S.Survivor.Fragment.shown shown code stripe opened.length opened.set opened.fragments.items
     c.requires.sixteen lost new (g.S.Store.files c.args.store.now) c.requires.opened long c.in_ok-lost.ensures.apart
+    (λ lt. c.in_ok-lost.ensures.used (omega (arith, lt, long)))
     (λ xs are whole. subst (λ b. IsMendedStripe shown code (is_in opened.set) xs opened.length lost new b) c.in-Ok-true.field-0-test
     (subst (λ ps. IsMendedStripe shown code (is_in opened.set) xs opened.length ps new c.in-Ok-true.field-0) c.as_slice-3.ensures.value
     (c.in-Ok-true.ensures.mended xs

@@ -2,6 +2,7 @@ use Rattle.std.specs.Prelude.{◌&&◌}
 use Rattle.std.proofs.Common.{◌≡◌, ◌<◌, ◌≤◌, ℕ, All, false, get_or, length, vec_len}
 use Rattle.lrc_code.specs.declared.places.Place.{Place}
 use Rattle.lrc_code.specs.Places.{same_place}
+use Rattle.store_repair.specs.Kept.{given_by}
 use Rattle.store_repair.specs.Opened.{IsPutOf}
 use Rattle.store_repair.specs.Store.{AreUntouched}
 use Rattle.store_repair.proofs.putting.put_all.Given as goal
@@ -13,6 +14,9 @@ invariant-files g l =
     record {
       untouched : AreUntouched (l.fn.repair.replace_damaged && l.fn.made.is_checked) l.fn.stripe.name.now (files l.fn.store)
           (files l.store);
+      kept : (l.fn.repair.replace_damaged && l.fn.made.is_checked) ≡ false → (from : _)
+          → g.S.Store.kept l.fn.stripe.name.now (given_by g.S.New.NewFragment.shown l.fn.made.places.items made) from l.fn.store
+          → g.S.Store.kept l.fn.stripe.name.now (given_by g.S.New.NewFragment.shown l.fn.made.places.items made) from l.store;
       places : l.places.items ≡ l.fn.made.places.items;
       few : vec_len l.left ≤ length made;
       same : (k : ℕ) (e : _) → k < vec_len l.left → get_or l.left.items k e ≡ get_or made k e;

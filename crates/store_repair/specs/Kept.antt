@@ -1,0 +1,46 @@
+-- What calls on a stripe of a store leave that replace nothing, whenever they end.
+use Rattle.std.specs.Prelude.{◌≡◌, ◌⊎◌, ℕ, List, [], ◌∷◌, Bool, true, bytes_eq, if◌then◌else◌, Option, Some, None, IfSome}
+use Rattle.std.proofs.Common.{inl, refl}
+use Rattle.lrc_code.specs.declared.places.Place.{Place}
+use Rattle.lrc_code.specs.declared.codes.Code.{Code as CodeName}
+use Rattle.lrc_code.specs.Places.{same_place}
+use Rattle.store_repair.specs.Opened.{IsOnlyOne}
+use Rattle.store_repair.specs.Store.{Files, ShownFiles}
+
+-- the bytes that are given to places of a stripe at which nothing is
+abbrev pub Given : Type 0
+Given = Place → Option (List ℕ)
+
+-- none
+abbrev pub nothing : Given
+nothing p = None
+
+-- those of files that were made for places
+abbrev pub given_by : {N : Type 0} → (N → Option (List ℕ)) → List Place → List N → Given
+given_by shown [] made p = None
+given_by shown (place ∷ places) [] p = None
+given_by shown (place ∷ places) (file ∷ made) p = if same_place place p then shown file else given_by shown places made p
+
+-- where the files are shown, all that is given are bytes that are the only ones that fit fragments of the stripe that were there
+abbrev pub FitOnly : CodeName → List ℕ → ShownFiles → Given → Type 0
+FitOnly code stripe None given = Unit {0}
+FitOnly code stripe (Some old) given =
+    (p : Place) → IfSome (given p) (λ bytes. (survives : Place → Bool) × (len : ℕ) × ((q : Place) × (survives q ≡ true))
+    × IsOnlyOne code survives len stripe old p bytes)
+
+-- each name has what it had, or, if nothing was there, what it was given
+abbrev pub KeepsOrHas : List ℕ → Given → Files → Files → Type 0
+KeepsOrHas stripe given old new =
+    (s : List ℕ) (p : Place) → (new.fragments s p ≡ old.fragments s p)
+    ⊎ ((bytes_eq stripe s ≡ true) × (old.fragments s p ≡ None) × ((bytes : List ℕ) × (given p ≡ Some bytes) × (new.fragments s p ≡ Some bytes)))
+
+-- where nothing is given, each name has what it had
+pub unchanged : (stripe : List ℕ) (given : Given) (files : Files) → KeepsOrHas stripe given files files
+unchanged stripe given files s p = inl refl
+
+-- A stripe was given fragments that fit, at places at which nothing was, or none, and all else is kept as `kept` says.
+pub record IsRepaired {S : Type 0} (kept : List ℕ → Given → S → S → Type 0) (code : CodeName) (stripe : List ℕ) (files : ShownFiles)
+    (old : S) (new : S) : Type 0 where
+  pub given : Given
+  pub fit : FitOnly code stripe files given
+  pub keeps : kept stripe given old new
