@@ -52,6 +52,11 @@ impl<'a, F: Folder> FolderStore<'a, F> {
         }
     }
 
+    /// The file system that it worked on.
+    pub fn into_files(self) -> F {
+        self.files
+    }
+
     // The path of a fragment in a folder, if it has a name.
     fn path_of(&self, folder: &str, stripe: &str, place: Place) -> io::Result<String> {
         let name = self.site.name_of(self.rt.alloc(), stripe, place)?;

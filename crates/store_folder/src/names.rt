@@ -1,4 +1,7 @@
 //! The paths of a store's files.
+ghost use Rattle.std.specs.Prelude.{◌≡◌, ◌∷◌, ◌++◌, IfOk, string_bytes};
+ghost use Rattle.folders.specs.Files.{slash};
+
 use std::alloc::{AllocError, Global};
 
 /// The folder of a path.
@@ -11,7 +14,9 @@ pub fn folder_of(path: &str) -> &str {
 }
 
 /// The path of a name in a folder.
-pub fn path_in(alloc: Global, folder: &str, name: &str) -> Result<String, AllocError> {
+pub fn path_in(alloc: Global, folder: &str, name: &str) -> Result<String, AllocError>
+    ensures { IfOk result (λ path. string_bytes path ≡ folder.now ++ slash ∷ name.now) }
+{
     let mut path = String::from_str(alloc, folder)?;
     path.push('/')?;
     path.push_str(name)?;

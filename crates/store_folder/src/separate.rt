@@ -2,6 +2,7 @@
 //! so that the others of its stripe get theirs.
 ghost use Rattle.std.specs.Prelude.{◌≡◌, IfSome};
 ghost use Rattle.store_folder.specs.Kept.{IsKeptIn, KeepsEach, none_kept};
+ghost use Rattle.std.proofs.Props.{props};
 ghost use Rattle.store_repair.specs.Store.{never};
 
 use crate::folder_store::FolderStore;
@@ -27,7 +28,7 @@ pub struct SeparateFile<N: NewFile> {
     faulty: Option<Faulty<N>>,
     // What was to be written, also what isn't since it met a fault.
     meant: Written,
-    ghost meant: { IfSome whole (λ file. N.written file.unfinished.file ≡ meant.bytes) },
+    ghost written: { IfSome whole (λ file. N.written file.unfinished.file ≡ meant.bytes) } by { Prim.hlevel props },
 }
 
 // The first fault that a fragment met, and the file, if it was made.
@@ -42,9 +43,14 @@ impl<'a, F: Folder> SeparateStore<'a, F> {
     pub fn new(store: FolderStore<'a, F>) -> SeparateStore<'a, F> {
         SeparateStore { store }
     }
+
+    /// The file system that it worked on.
+    pub fn into_files(self) -> F {
+        self.store.into_files()
+    }
 }
 
-impl<N: NewFile> NewFragment for SeparateFile<N> {
+impl<N: NewFile + Drop> NewFragment for SeparateFile<N> {
     ghost shown = { λ new. new.meant.bytes };
 
     fn append(&mut self, bytes: &[u8]) -> io::Result<()> {

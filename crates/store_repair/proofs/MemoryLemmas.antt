@@ -128,9 +128,12 @@ kept_given s p bytes given from old none is before t q = elim (cases_Bool (bytes
   | inl on ↦ (let parts = and_parts (bytes_eq s t) (same_place p q) on in
       let stripe = (bytes_eq-Decides s t).0 parts.0 in
       let place = same_place-eq p q parts.1 in
-      inr (parts.0, had_none t q s given from old (subst (λ u. old.fragments u q ≡ None) stripe
-      (subst (λ r. old.fragments s r ≡ None) place none)) (before t q),
-      (bytes, subst (λ r. given r ≡ Some bytes) place is, rw on refl)))
+      inr (
+        parts.0,
+        had_none t q s given from old (subst (λ u. old.fragments u q ≡ None) stripe
+            (subst (λ r. old.fragments s r ≡ None) place none)) (before t q),
+        (bytes, subst (λ r. given r ≡ Some bytes) place is, rw on refl),
+      ))
   | inr off ↦ still t q s given from old (with_fragment old s p bytes)
       (taken old.fragments s p bytes (bytes_eq s t && same_place p q) (Some bytes) (old.fragments t q) off) (before t q)
 ]

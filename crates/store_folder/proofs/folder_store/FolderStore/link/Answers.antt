@@ -6,7 +6,7 @@ use Rattle.store_folder.proofs.folder_store.FolderStore.link.Goals as goal
 
 pub returns-in-Ok-clause-whenever : goal.returns-in-Ok-clause-whenever
 returns-in-Ok-clause-whenever g c = given_then _ _ _ _ _
-    (subst (λ (calls : List Answered). GivesOne c.args.path.now (g.F.Folder.New.NewFile.written c.args.new.file)
+    (subst (λ (calls : List Answered). GivesOne c.args.path.now (g.F.New.NewFile.written c.args.new.file)
     (g.F.Folder.calls c.args.self.now.files) calls)
     (sym c.outcome-placed.ensures.calls) c.try_path-made_at.ensures)
     c.remove.ensures.whenever

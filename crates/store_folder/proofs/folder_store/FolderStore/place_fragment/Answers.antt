@@ -1,8 +1,21 @@
+use Rattle.std.proofs.Common.{IfOk, ap, string_bytes, subst, sym}
+use Rattle.store_folder.specs.Kept.{GivesIn, IsPathOf}
 use Rattle.store_folder.proofs.Kept.{gives_here, gives_none}
 use Rattle.store_folder.proofs.folder_store.FolderStore.place_fragment.Goals as goal
 
 pub returns-in-Ok-clause-whenever : goal.returns-in-Ok-clause-whenever
-returns-in-Ok-clause-whenever g c = gives_here _ _ _ _ _ _ _ c.finish.ensures.path c.link.ensures.whenever
+returns-in-Ok-clause-whenever g c =
+    let site = c.args.self.now.site in
+    let stripe = c.args.stripe.now in
+    let place = c.args.place in
+    let written = g.F.New.NewFile.written in
+    let old = g.F.Folder.calls c.args.self.now.files in
+    let new = g.F.Folder.calls c.link.new.self.files in
+    let path = subst (λ r. IfOk r (λ path. IsPathOf site stripe place (string_bytes path))) c.in-Ok.is c.finish-finished.ensures.path in
+    let here = subst (IsPathOf site stripe place) (sym c.as_str.ensures.value) path in
+    subst (λ w. GivesIn site stripe place w old new) (ap (λ u. written u.file) c.finish-finished.ensures.same)
+    (gives_here site stripe place (written c.finish-finished.new.file.unfinished.file) c.as_str.result.now old new here
+    c.link.ensures.whenever)
 
 pub returns-in-Err-clause-whenever : goal.returns-in-Err-clause-whenever
 returns-in-Err-clause-whenever g c = gives_none _ _ _ _ _ _ c.given_up.ensures.whenever

@@ -1,0 +1,18 @@
+//! A file system in memory, over which a store's calls are tried: with each call failing, and with all that a crash may leave.
+//!
+//! ```
+//! use memory_folder::{Fault, MemoryFolder};
+//!
+//! let mut files = MemoryFolder::new(alloc);
+//! files.put("store/a.x0", b"abc")?;
+//! files.fail(Fault { at: 2, lasts: true, is_done: false });
+//! // .. calls ..
+//! for way in 0..files.crashes() {
+//!     let left = files.after_crash(way)?;
+//! }
+//! ```
+#![tactic(auto)]
+
+mod memory;
+
+pub use memory::{Fault, MemoryFolder, MemoryNew, MemoryOpen, MemoryWhole};

@@ -1,0 +1,500 @@
+//! A file system in memory, for tests: it keeps all that a crash may leave, and fails when it is asked to.
+ghost use Rattle.std.specs.Prelude.{◌≡◌, ◌∷◌, length, string_bytes};
+
+use folders::{
+    Call, Folder, Identity, Kind, NewFile, OpenFile, Record, Rights, Status, Time, WholeFile,
+    Written,
+};
+use std::alloc::{AllocError, Global};
+use std::io::{self, ErrorKind};
+
+/// Files in memory. What is at a path after a crash is what was put on the disk, or any of what was there since.
+#[derive(Drop)]
+pub struct MemoryFolder {
+    alloc: Global,
+    past: Record,
+    nodes: Vec<Node>,
+    names: Vec<Name>,
+    // How many calls were made that change something.
+    count: u64,
+    fault: Option<Fault>,
+}
+
+/// Which calls fail: those that change something are counted from 0 on.
+#[derive(Clone, Copy, Debug, PartialEq, Eq)]
+pub struct Fault {
+    /// The first call that fails.
+    pub at: u64,
+    /// Whether all calls after it fail too, as if the machine had stopped.
+    pub lasts: bool,
+    /// Whether what the call was to do is done, although it answers that it failed.
+    pub is_done: bool,
+}
+
+// A file's bytes.
+#[derive(Drop)]
+struct Node {
+    bytes: Vec<u8>,
+    is_on_disk: bool,
+}
+
+// What is at a path, as the number of a file.
+#[derive(Drop)]
+struct Name {
+    path: String,
+    seen: Option<usize>,
+    // What was there since the names of its folder were written to the disk.
+    before: Vec<Option<usize>>,
+}
+
+/// A file of a memory folder that is open for reading.
+#[derive(Drop)]
+pub struct MemoryOpen {
+    bytes: Vec<u8>,
+    status: Status,
+}
+
+/// A file of a memory folder that was made.
+#[derive(Drop)]
+pub struct MemoryNew {
+    node: usize,
+    path: String,
+    bytes: Vec<u8>,
+    made: Record,
+    written: Written,
+}
+
+/// A file of a memory folder that was made and is on the disk.
+#[derive(Drop)]
+pub struct MemoryWhole {
+    node: usize,
+    path: String,
+    made: Record,
+}
+
+// What a crash may leave of a file that isn't on the disk: nothing, a half, all, or other bytes.
+const STATES: u64 = 4;
+
+const RIGHTS: Rights = Rights {
+    user: 0,
+    group: 0,
+    mode: 0o600,
+};
+
+const NEVER: Time = Time {
+    seconds: 0,
+    billionths: 0,
+};
+
+fn status_of(node: usize, length: usize) -> Status {
+    Status {
+        kind: Kind::File,
+        length: length as u64,
+        identity: Identity {
+            device: 0,
+            node: node as u64,
+        },
+        rights: RIGHTS,
+        paths: 1,
+        modified: NEVER,
+        changed: NEVER,
+    }
+}
+
+// Whether a path is that of a name in a folder.
+fn is_in(folder: &str, path: &str) -> bool {
+    path.strip_prefix(folder)
+        .and_then(|rest| rest.strip_prefix('/'))
+        .is_some_and(|name| !name.contains('/'))
+}
+
+// What a crash leaves of bytes that aren't on the disk, in the way of this number.
+fn torn(bytes: Vec<u8>, way: u64) -> Vec<u8> {
+    let mut bytes = bytes;
+    match way {
+        0 => bytes.clear(),
+        1 => bytes.truncate(bytes.len() / 2),
+        2 => {
+            for byte in bytes.iter_mut() {
+                *byte ^= 0x5a;
+            }
+        }
+        _ => {}
+    }
+    bytes
+}
+
+fn copied(alloc: Global, bytes: &[u8]) -> Result<Vec<u8>, AllocError> {
+    Vec::from_slice(alloc, bytes)
+}
+
+impl MemoryFolder {
+    ghost use Rattle.folders.specs.Recorded.{recorded};
+
+    /// No files.
+    pub fn new(alloc: Global) -> MemoryFolder {
+        MemoryFolder {
+            alloc,
+            past: Record::new(),
+            nodes: Vec::new(alloc),
+            names: Vec::new(alloc),
+            count: 0,
+            fault: None,
+        }
+    }
+
+    /// Puts a file with these bytes at a path, on the disk.
+    pub fn put(&mut self, path: &str, bytes: &[u8]) -> Result<(), AllocError> {
+        let node = self.add_node(copied(self.alloc, bytes)?, true)?;
+        self.set(path, Some(node))?;
+        self.settle_all();
+        Ok(())
+    }
+
+    /// The bytes at a path, as programs see them.
+    pub fn bytes_at(&self, path: &str) -> Option<&[u8]> {
+        let node = self.nodes.get(self.node_at(path)?)?;
+        Some(node.bytes.as_slice())
+    }
+
+    /// The paths at which something is.
+    pub fn paths(&self) -> Result<Vec<&str>, AllocError> {
+        let mut paths = Vec::new(self.alloc);
+        for name in &self.names {
+            if name.seen.is_some() {
+                paths.push(name.path.as_str())?;
+            }
+        }
+        Ok(paths)
+    }
+
+    /// Has calls fail from now on.
+    pub fn fail(&mut self, fault: Fault) {
+        self.count = 0;
+        self.fault = Some(fault);
+    }
+
+    /// How many calls were made that change something, since calls were asked to fail.
+    pub fn count(&self) -> u64 {
+        self.count
+    }
+
+    /// How many ways there are for a crash to go now.
+    pub fn crashes(&self) -> u64 {
+        let mut crashes = 1u64;
+        for name in &self.names {
+            crashes = crashes.saturating_mul((name.before.len() as u64).saturating_add(1));
+        }
+        for node in &self.nodes {
+            if !node.is_on_disk {
+                crashes = crashes.saturating_mul(STATES);
+            }
+        }
+        crashes
+    }
+
+    /// What a crash leaves that goes in the way of this number, all of it on the disk.
+    pub fn after_crash(&self, way: u64) -> Result<MemoryFolder, AllocError> {
+        let mut left = MemoryFolder::new(self.alloc);
+        let mut way = way;
+        for node in &self.nodes {
+            let bytes = copied(self.alloc, node.bytes.as_slice())?;
+            let bytes = if node.is_on_disk {
+                bytes
+            } else {
+                let state = way % STATES;
+                way /= STATES;
+                torn(bytes, state)
+            };
+            left.add_node(bytes, true)?;
+        }
+        for name in &self.names {
+            let ways = (name.before.len() as u64).saturating_add(1);
+            let chosen = (way % ways) as usize;
+            way /= ways;
+            let node = name.before.get(chosen).copied().unwrap_or(name.seen);
+            left.set(name.path.as_str(), node)?;
+        }
+        left.settle_all();
+        Ok(left)
+    }
+
+    fn add_node(&mut self, bytes: Vec<u8>, is_on_disk: bool) -> Result<usize, AllocError> {
+        let node = self.nodes.len();
+        self.nodes.push(Node { bytes, is_on_disk })?;
+        Ok(node)
+    }
+
+    fn node_at(&self, path: &str) -> Option<usize> {
+        self.names
+            .iter()
+            .find(|name| name.path.as_str() == path)
+            .and_then(|name| name.seen)
+    }
+
+    // Puts a file, or none, at a path, without writing the name to the disk.
+    fn set(&mut self, path: &str, node: Option<usize>) -> Result<(), AllocError> {
+        for name in &mut self.names {
+            if name.path.as_str() == path {
+                name.before.push(name.seen)?;
+                name.seen = node;
+                return Ok(());
+            }
+        }
+        let mut before = Vec::new(self.alloc);
+        before.push(None)?;
+        self.names.push(Name {
+            path: String::from_str(self.alloc, path)?,
+            seen: node,
+            before,
+        })?;
+        Ok(())
+    }
+
+    // Writes all names to the disk.
+    fn settle_all(&mut self) {
+        for name in &mut self.names {
+            name.before.clear();
+        }
+    }
+
+    // Writes the names in a folder to the disk.
+    fn settle(&mut self, folder: &str) {
+        for name in &mut self.names {
+            if is_in(folder, name.path.as_str()) {
+                name.before.clear();
+            }
+        }
+    }
+
+    fn length_of(&self, node: usize) -> usize {
+        match self.nodes.get(node) {
+            Some(node) => node.bytes.len(),
+            None => 0,
+        }
+    }
+
+    // Makes an empty file at a path at which nothing is.
+    fn make(&mut self, path: &str) -> io::Result<(usize, String, Vec<u8>)> {
+        let own = String::from_str(self.alloc, path)?;
+        let node = self.add_node(Vec::new(self.alloc), false)?;
+        self.add(node, path)?;
+        Ok((node, own, Vec::new(self.alloc)))
+    }
+
+    // Writes a file's bytes to the disk, if the call doesn't fail. Programs see them either way.
+    fn write(&mut self, node: usize, bytes: Vec<u8>) -> io::Result<()> {
+        let fails = self.fails();
+        if let Some(node) = self.nodes.get_mut(node) {
+            node.bytes = bytes;
+            node.is_on_disk = fails != Some(false);
+        }
+        match fails {
+            None => Ok(()),
+            Some(_) => Err(io::Error::from(ErrorKind::Other)),
+        }
+    }
+
+    // Counts a call that changes something. Says whether it fails, and then whether it is done all the same.
+    fn fails(&mut self) -> Option<bool> {
+        let call = self.count;
+        self.count = self.count.saturating_add(1);
+        let fault = self.fault?;
+        let is_hit = call == fault.at || (fault.lasts && call > fault.at);
+        is_hit.then_some(fault.is_done && call == fault.at)
+    }
+
+    // Puts a file, or none, at paths, if the call doesn't fail.
+    fn change(&mut self, changes: &[(&str, Option<usize>)]) -> io::Result<()> {
+        let fails = self.fails();
+        if fails != Some(false) {
+            for (path, node) in changes {
+                self.set(path, *node)?;
+            }
+        }
+        match fails {
+            None => Ok(()),
+            Some(_) => Err(io::Error::from(ErrorKind::Other)),
+        }
+    }
+
+    fn note(&mut self, call: &Call<'_>, is_ok: bool)
+        ensures { self.new.past.calls ≡ recorded call.now is_ok ∷ self.old.past.calls }
+    {
+        self.past = Record::with(&self.past, call, is_ok);
+    }
+
+    // Puts a file at a path at which nothing is.
+    fn add(&mut self, node: usize, to: &str) -> io::Result<()> {
+        if self.node_at(to).is_some() {
+            return Err(io::Error::from(ErrorKind::AlreadyExists));
+        }
+        self.change(&[(to, Some(node))])
+    }
+}
+
+impl OpenFile for MemoryOpen {
+    fn status(&self) -> io::Result<Status> {
+        Ok(self.status)
+    }
+
+    fn read_exact_at(&self, from: u64, bytes: &mut [u8]) -> io::Result<()> {
+        let from = (from as usize).min(self.bytes.len());
+        let rest = &self.bytes[from..];
+        if rest.len() < bytes.len() {
+            return Err(io::Error::from(ErrorKind::UnexpectedEof));
+        }
+        for (to, byte) in bytes.iter_mut().zip(rest) {
+            *to = *byte;
+        }
+        Ok(())
+    }
+}
+
+impl NewFile for MemoryNew {
+    ghost written = { λ file. file.written.bytes };
+
+    ghost number = { λ file. length file.made.calls };
+
+    ghost path = { λ file. string_bytes file.path };
+
+    fn made_at(&self) -> &str {
+        self.path.as_str()
+    }
+
+    fn append(&mut self, bytes: &[u8]) -> io::Result<()> {
+        let answer = self.bytes.extend_from_slice(bytes);
+        self.written = Written::with(&self.written, bytes, answer.is_ok());
+        match answer {
+            Ok(()) => Ok(()),
+            Err(error) => Err(io::Error::from(error)),
+        }
+    }
+
+    fn status(&self) -> io::Result<Status> {
+        Ok(status_of(self.node, self.bytes.len()))
+    }
+
+    fn try_lock(&self) -> io::Result<bool> {
+        Ok(true)
+    }
+
+    fn set_owner(&self, _rights: &Rights) -> io::Result<()> {
+        Ok(())
+    }
+
+    fn set_mode(&self, _mode: u32) -> io::Result<()> {
+        Ok(())
+    }
+}
+
+impl WholeFile for MemoryWhole {
+    ghost number = { λ file. length file.made.calls };
+
+    ghost path = { λ file. string_bytes file.path };
+
+    fn made_at(&self) -> &str {
+        self.path.as_str()
+    }
+}
+
+impl Folder for MemoryFolder {
+    type Open = MemoryOpen;
+
+    type New = MemoryNew;
+
+    type Whole = MemoryWhole;
+
+    ghost calls = { λ folder. folder.past.calls };
+
+    fn status(&self, path: &str) -> io::Result<Status> {
+        match self.node_at(path) {
+            Some(node) => Ok(status_of(node, self.length_of(node))),
+            None => Err(io::Error::from(ErrorKind::NotFound)),
+        }
+    }
+
+    fn status_followed(&self, path: &str) -> io::Result<Status> {
+        self.status(path)
+    }
+
+    fn read_link(&self, _path: &str) -> io::Result<String> {
+        Err(io::Error::from(ErrorKind::InvalidInput))
+    }
+
+    fn open(&self, path: &str) -> io::Result<MemoryOpen> {
+        let status = self.status(path)?;
+        let bytes = self.bytes_at(path).unwrap_or(&[]);
+        Ok(MemoryOpen {
+            bytes: copied(self.alloc, bytes)?,
+            status,
+        })
+    }
+
+    fn create_new(&mut self, path: &str, _mode: u32) -> io::Result<MemoryNew> {
+        let answer = self.make(path);
+        self.note(&Call::Make(path), answer.is_ok());
+        let (node, path, bytes) = answer?;
+        Ok(MemoryNew {
+            node,
+            path,
+            bytes,
+            made: self.past.again(),
+            written: Written::new(),
+        })
+    }
+
+    fn sync(&mut self, file: MemoryNew) -> io::Result<MemoryWhole> {
+        let MemoryNew {
+            node,
+            path,
+            bytes,
+            made,
+            written,
+        } = file;
+        let answer = self.write(node, bytes);
+        self.note(&Call::Sync(&made, &written), answer.is_ok());
+        answer?;
+        Ok(MemoryWhole { node, path, made })
+    }
+
+    fn link(&mut self, file: &MemoryWhole, to: &str) -> io::Result<()> {
+        let answer = self.add(file.node, to);
+        self.note(&Call::Link(&file.made, to), answer.is_ok());
+        answer
+    }
+
+    fn link_again(&mut self, from: &str, to: &str) -> io::Result<()> {
+        let answer = match self.node_at(from) {
+            Some(node) => self.add(node, to),
+            None => Err(io::Error::from(ErrorKind::NotFound)),
+        };
+        self.note(&Call::LinkAgain(from, to), answer.is_ok());
+        answer
+    }
+
+    fn rename(&mut self, file: &MemoryWhole, to: &str) -> io::Result<()> {
+        let from = file.path.as_str();
+        let answer = self.change(&[(to, Some(file.node)), (from, None)]);
+        self.note(&Call::Rename(&file.made, from, to), answer.is_ok());
+        answer
+    }
+
+    fn remove(&mut self, path: &str) -> io::Result<()> {
+        let answer = match self.node_at(path) {
+            Some(_) => self.change(&[(path, None)]),
+            None => Err(io::Error::from(ErrorKind::NotFound)),
+        };
+        self.note(&Call::Remove(path), answer.is_ok());
+        answer
+    }
+
+    fn sync_folder(&mut self, path: &str) -> io::Result<()> {
+        let answer = self.change(&[]);
+        if answer.is_ok() {
+            self.settle(path);
+        }
+        self.note(&Call::SyncFolder(path), answer.is_ok());
+        answer
+    }
+}
