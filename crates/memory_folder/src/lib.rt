@@ -13,6 +13,9 @@
 //! ```
 #![tactic(auto)]
 
+mod calls;
+mod handles;
 mod memory;
 
-pub use memory::{Fault, MemoryFolder, MemoryNew, MemoryOpen, MemoryWhole};
+pub use handles::{MemoryNew, MemoryOpen, MemoryWhole};
+pub use memory::{Fault, MemoryFolder};

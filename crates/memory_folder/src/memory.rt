@@ -1,18 +1,15 @@
 //! A file system in memory, for tests: it keeps all that a crash may leave, and fails when it is asked to.
-ghost use Rattle.std.specs.Prelude.{◌≡◌, ◌∷◌, length, string_bytes};
+ghost use Rattle.std.specs.Prelude.{◌≡◌, ◌∷◌, IfOk, string_bytes};
 
-use folders::{
-    Call, Folder, Identity, Kind, NewFile, OpenFile, Record, Rights, Status, Time, WholeFile,
-    Written,
-};
+use folders::{Call, Record};
 use std::alloc::{AllocError, Global};
 use std::io::{self, ErrorKind};
 
 /// Files in memory. What is at a path after a crash is what was put on the disk, or any of what was there since.
 #[derive(Drop)]
 pub struct MemoryFolder {
-    alloc: Global,
-    past: Record,
+    pub(crate) alloc: Global,
+    pub(crate) past: Record,
     nodes: Vec<Node>,
     names: Vec<Name>,
     // How many calls were made that change something.
@@ -47,59 +44,8 @@ struct Name {
     before: Vec<Option<usize>>,
 }
 
-/// A file of a memory folder that is open for reading.
-#[derive(Drop)]
-pub struct MemoryOpen {
-    bytes: Vec<u8>,
-    status: Status,
-}
-
-/// A file of a memory folder that was made.
-#[derive(Drop)]
-pub struct MemoryNew {
-    node: usize,
-    path: String,
-    bytes: Vec<u8>,
-    made: Record,
-    written: Written,
-}
-
-/// A file of a memory folder that was made and is on the disk.
-#[derive(Drop)]
-pub struct MemoryWhole {
-    node: usize,
-    path: String,
-    made: Record,
-}
-
 // What a crash may leave of a file that isn't on the disk: nothing, a half, all, or other bytes.
 const STATES: u64 = 4;
-
-const RIGHTS: Rights = Rights {
-    user: 0,
-    group: 0,
-    mode: 0o600,
-};
-
-const NEVER: Time = Time {
-    seconds: 0,
-    billionths: 0,
-};
-
-fn status_of(node: usize, length: usize) -> Status {
-    Status {
-        kind: Kind::File,
-        length: length as u64,
-        identity: Identity {
-            device: 0,
-            node: node as u64,
-        },
-        rights: RIGHTS,
-        paths: 1,
-        modified: NEVER,
-        changed: NEVER,
-    }
-}
 
 // Whether a path is that of a name in a folder.
 fn is_in(folder: &str, path: &str) -> bool {
@@ -124,7 +70,16 @@ fn torn(bytes: Vec<u8>, way: u64) -> Vec<u8> {
     bytes
 }
 
-fn copied(alloc: Global, bytes: &[u8]) -> Result<Vec<u8>, AllocError> {
+// What a call answers.
+fn answer_of(fails: Option<bool>) -> io::Result<()> {
+    match fails {
+        None => Ok(()),
+        Some(_) => Err(io::Error::from(ErrorKind::Other)),
+    }
+}
+
+/// A copy of bytes.
+pub(crate) fn copied(alloc: Global, bytes: &[u8]) -> Result<Vec<u8>, AllocError> {
     Vec::from_slice(alloc, bytes)
 }
 
@@ -219,13 +174,15 @@ impl MemoryFolder {
         Ok(left)
     }
 
-    fn add_node(&mut self, bytes: Vec<u8>, is_on_disk: bool) -> Result<usize, AllocError> {
+    fn add_node(&mut self, bytes: Vec<u8>, is_on_disk: bool) -> Result<usize, AllocError>
+        ensures { self.new.past.calls ≡ self.old.past.calls }
+    {
         let node = self.nodes.len();
         self.nodes.push(Node { bytes, is_on_disk })?;
         Ok(node)
     }
 
-    fn node_at(&self, path: &str) -> Option<usize> {
+    pub(crate) fn node_at(&self, path: &str) -> Option<usize> {
         self.names
             .iter()
             .find(|name| name.path.as_str() == path)
@@ -233,7 +190,9 @@ impl MemoryFolder {
     }
 
     // Puts a file, or none, at a path, without writing the name to the disk.
-    fn set(&mut self, path: &str, node: Option<usize>) -> Result<(), AllocError> {
+    fn set(&mut self, path: &str, node: Option<usize>) -> Result<(), AllocError>
+        ensures { self.new.past.calls ≡ self.old.past.calls }
+    {
         for name in &mut self.names {
             if name.path.as_str() == path {
                 name.before.push(name.seen)?;
@@ -252,14 +211,18 @@ impl MemoryFolder {
     }
 
     // Writes all names to the disk.
-    fn settle_all(&mut self) {
+    fn settle_all(&mut self)
+        ensures { self.new.past.calls ≡ self.old.past.calls }
+    {
         for name in &mut self.names {
             name.before.clear();
         }
     }
 
     // Writes the names in a folder to the disk.
-    fn settle(&mut self, folder: &str) {
+    fn settle(&mut self, folder: &str)
+        ensures { self.new.past.calls ≡ self.old.past.calls }
+    {
         for name in &mut self.names {
             if is_in(folder, name.path.as_str()) {
                 name.before.clear();
@@ -267,7 +230,7 @@ impl MemoryFolder {
         }
     }
 
-    fn length_of(&self, node: usize) -> usize {
+    pub(crate) fn length_of(&self, node: usize) -> usize {
         match self.nodes.get(node) {
             Some(node) => node.bytes.len(),
             None => 0,
@@ -275,7 +238,10 @@ impl MemoryFolder {
     }
 
     // Makes an empty file at a path at which nothing is.
-    fn make(&mut self, path: &str) -> io::Result<(usize, String, Vec<u8>)> {
+    pub(crate) fn make(&mut self, path: &str) -> io::Result<(usize, String, Vec<u8>)>
+        ensures path { IfOk result (λ made. string_bytes made.1 ≡ path.now) }
+        ensures calls { self.new.past.calls ≡ self.old.past.calls }
+    {
         let own = String::from_str(self.alloc, path)?;
         let node = self.add_node(Vec::new(self.alloc), false)?;
         self.add(node, path)?;
@@ -283,20 +249,21 @@ impl MemoryFolder {
     }
 
     // Writes a file's bytes to the disk, if the call doesn't fail. Programs see them either way.
-    fn write(&mut self, node: usize, bytes: Vec<u8>) -> io::Result<()> {
+    pub(crate) fn write(&mut self, node: usize, bytes: Vec<u8>) -> io::Result<()>
+        ensures { self.new.past.calls ≡ self.old.past.calls }
+    {
         let fails = self.fails();
         if let Some(node) = self.nodes.get_mut(node) {
             node.bytes = bytes;
             node.is_on_disk = fails != Some(false);
         }
-        match fails {
-            None => Ok(()),
-            Some(_) => Err(io::Error::from(ErrorKind::Other)),
-        }
+        answer_of(fails)
     }
 
     // Counts a call that changes something. Says whether it fails, and then whether it is done all the same.
-    fn fails(&mut self) -> Option<bool> {
+    fn fails(&mut self) -> Option<bool>
+        ensures { self.new.past.calls ≡ self.old.past.calls }
+    {
         let call = self.count;
         self.count = self.count.saturating_add(1);
         let fault = self.fault?;
@@ -304,197 +271,53 @@ impl MemoryFolder {
         is_hit.then_some(fault.is_done && call == fault.at)
     }
 
-    // Puts a file, or none, at paths, if the call doesn't fail.
-    fn change(&mut self, changes: &[(&str, Option<usize>)]) -> io::Result<()> {
+    // Puts a file, or none, at a path, if the call doesn't fail.
+    pub(crate) fn change(&mut self, path: &str, node: Option<usize>) -> io::Result<()>
+        ensures { self.new.past.calls ≡ self.old.past.calls }
+    {
         let fails = self.fails();
         if fails != Some(false) {
-            for (path, node) in changes {
-                self.set(path, *node)?;
-            }
+            self.set(path, node)?;
         }
-        match fails {
-            None => Ok(()),
-            Some(_) => Err(io::Error::from(ErrorKind::Other)),
-        }
+        answer_of(fails)
     }
 
-    fn note(&mut self, call: &Call<'_>, is_ok: bool)
+    // Puts a file at a path in place of another path, if the call doesn't fail.
+    pub(crate) fn change_path(&mut self, node: usize, from: &str, to: &str) -> io::Result<()>
+        ensures { self.new.past.calls ≡ self.old.past.calls }
+    {
+        let fails = self.fails();
+        if fails != Some(false) {
+            self.set(to, Some(node))?;
+            self.set(from, None)?;
+        }
+        answer_of(fails)
+    }
+
+    // Writes the names in a folder to the disk, if the call doesn't fail.
+    pub(crate) fn write_names(&mut self, folder: &str) -> io::Result<()>
+        ensures { self.new.past.calls ≡ self.old.past.calls }
+    {
+        let fails = self.fails();
+        if fails != Some(false) {
+            self.settle(folder);
+        }
+        answer_of(fails)
+    }
+
+    pub(crate) fn note(&mut self, call: &Call<'_>, is_ok: bool)
         ensures { self.new.past.calls ≡ recorded call.now is_ok ∷ self.old.past.calls }
     {
         self.past = Record::with(&self.past, call, is_ok);
     }
 
     // Puts a file at a path at which nothing is.
-    fn add(&mut self, node: usize, to: &str) -> io::Result<()> {
+    pub(crate) fn add(&mut self, node: usize, to: &str) -> io::Result<()>
+        ensures { self.new.past.calls ≡ self.old.past.calls }
+    {
         if self.node_at(to).is_some() {
             return Err(io::Error::from(ErrorKind::AlreadyExists));
         }
-        self.change(&[(to, Some(node))])
-    }
-}
-
-impl OpenFile for MemoryOpen {
-    fn status(&self) -> io::Result<Status> {
-        Ok(self.status)
-    }
-
-    fn read_exact_at(&self, from: u64, bytes: &mut [u8]) -> io::Result<()> {
-        let from = (from as usize).min(self.bytes.len());
-        let rest = &self.bytes[from..];
-        if rest.len() < bytes.len() {
-            return Err(io::Error::from(ErrorKind::UnexpectedEof));
-        }
-        for (to, byte) in bytes.iter_mut().zip(rest) {
-            *to = *byte;
-        }
-        Ok(())
-    }
-}
-
-impl NewFile for MemoryNew {
-    ghost written = { λ file. file.written.bytes };
-
-    ghost number = { λ file. length file.made.calls };
-
-    ghost path = { λ file. string_bytes file.path };
-
-    fn made_at(&self) -> &str {
-        self.path.as_str()
-    }
-
-    fn append(&mut self, bytes: &[u8]) -> io::Result<()> {
-        let answer = self.bytes.extend_from_slice(bytes);
-        self.written = Written::with(&self.written, bytes, answer.is_ok());
-        match answer {
-            Ok(()) => Ok(()),
-            Err(error) => Err(io::Error::from(error)),
-        }
-    }
-
-    fn status(&self) -> io::Result<Status> {
-        Ok(status_of(self.node, self.bytes.len()))
-    }
-
-    fn try_lock(&self) -> io::Result<bool> {
-        Ok(true)
-    }
-
-    fn set_owner(&self, _rights: &Rights) -> io::Result<()> {
-        Ok(())
-    }
-
-    fn set_mode(&self, _mode: u32) -> io::Result<()> {
-        Ok(())
-    }
-}
-
-impl WholeFile for MemoryWhole {
-    ghost number = { λ file. length file.made.calls };
-
-    ghost path = { λ file. string_bytes file.path };
-
-    fn made_at(&self) -> &str {
-        self.path.as_str()
-    }
-}
-
-impl Folder for MemoryFolder {
-    type Open = MemoryOpen;
-
-    type New = MemoryNew;
-
-    type Whole = MemoryWhole;
-
-    ghost calls = { λ folder. folder.past.calls };
-
-    fn status(&self, path: &str) -> io::Result<Status> {
-        match self.node_at(path) {
-            Some(node) => Ok(status_of(node, self.length_of(node))),
-            None => Err(io::Error::from(ErrorKind::NotFound)),
-        }
-    }
-
-    fn status_followed(&self, path: &str) -> io::Result<Status> {
-        self.status(path)
-    }
-
-    fn read_link(&self, _path: &str) -> io::Result<String> {
-        Err(io::Error::from(ErrorKind::InvalidInput))
-    }
-
-    fn open(&self, path: &str) -> io::Result<MemoryOpen> {
-        let status = self.status(path)?;
-        let bytes = self.bytes_at(path).unwrap_or(&[]);
-        Ok(MemoryOpen {
-            bytes: copied(self.alloc, bytes)?,
-            status,
-        })
-    }
-
-    fn create_new(&mut self, path: &str, _mode: u32) -> io::Result<MemoryNew> {
-        let answer = self.make(path);
-        self.note(&Call::Make(path), answer.is_ok());
-        let (node, path, bytes) = answer?;
-        Ok(MemoryNew {
-            node,
-            path,
-            bytes,
-            made: self.past.again(),
-            written: Written::new(),
-        })
-    }
-
-    fn sync(&mut self, file: MemoryNew) -> io::Result<MemoryWhole> {
-        let MemoryNew {
-            node,
-            path,
-            bytes,
-            made,
-            written,
-        } = file;
-        let answer = self.write(node, bytes);
-        self.note(&Call::Sync(&made, &written), answer.is_ok());
-        answer?;
-        Ok(MemoryWhole { node, path, made })
-    }
-
-    fn link(&mut self, file: &MemoryWhole, to: &str) -> io::Result<()> {
-        let answer = self.add(file.node, to);
-        self.note(&Call::Link(&file.made, to), answer.is_ok());
-        answer
-    }
-
-    fn link_again(&mut self, from: &str, to: &str) -> io::Result<()> {
-        let answer = match self.node_at(from) {
-            Some(node) => self.add(node, to),
-            None => Err(io::Error::from(ErrorKind::NotFound)),
-        };
-        self.note(&Call::LinkAgain(from, to), answer.is_ok());
-        answer
-    }
-
-    fn rename(&mut self, file: &MemoryWhole, to: &str) -> io::Result<()> {
-        let from = file.path.as_str();
-        let answer = self.change(&[(to, Some(file.node)), (from, None)]);
-        self.note(&Call::Rename(&file.made, from, to), answer.is_ok());
-        answer
-    }
-
-    fn remove(&mut self, path: &str) -> io::Result<()> {
-        let answer = match self.node_at(path) {
-            Some(_) => self.change(&[(path, None)]),
-            None => Err(io::Error::from(ErrorKind::NotFound)),
-        };
-        self.note(&Call::Remove(path), answer.is_ok());
-        answer
-    }
-
-    fn sync_folder(&mut self, path: &str) -> io::Result<()> {
-        let answer = self.change(&[]);
-        if answer.is_ok() {
-            self.settle(path);
-        }
-        self.note(&Call::SyncFolder(path), answer.is_ok());
-        answer
+        self.change(to, Some(node))
     }
 }
