@@ -1,6 +1,6 @@
 //! Repairs over a folder in memory: with each call failing, and with all that a crash at each call may leave.
-use crate::samples::{SHORT, Sample, fragment_of};
-use lrc_code::Place;
+use crate::samples::{SHORT, fragment_of};
+use lrc_code::{Code, Place};
 use memory_folder::{Fault, MemoryFolder};
 use std::alloc::{AllocError, Global};
 use std::process::Abort;
@@ -14,7 +14,7 @@ const SITE: Site<'static> = Site {
     folder: "store",
     target: "store",
     pattern: Pattern::PLAIN,
-    code: SHORT.code,
+    code: Code::Narrow,
     sums: None,
     tag: "",
     links: Links::NotFollowed,
@@ -93,13 +93,14 @@ fn repaired(
 
 // Asserts that each of the sample's fragments is whole, or absent if it is one of those that were lost.
 fn assert_whole_or_absent(
-    rt: &HostRuntime,
+    rt: &impl Abort,
+    alloc: Global,
     files: &MemoryFolder,
     lost: &[Place],
 ) -> Result<(), AllocError> {
     for place in SHORT.code.places() {
         let whole = fragment_of(&SHORT, *place);
-        match files.bytes_at(path_of(rt.alloc(), *place)?.as_str()) {
+        match files.bytes_at(path_of(alloc, *place)?.as_str()) {
             Some(bytes) => assert!(rt; bytes == whole, "{place:?} has {bytes:?}"),
             None => assert!(rt; lost.iter().any(|gone| gone == place), "{place:?} is gone"),
         }
@@ -109,7 +110,7 @@ fn assert_whole_or_absent(
 }
 
 // Asserts that there is nothing but the sample's fragments, the other stripe's, and files under temporary names.
-fn assert_nothing_else(rt: &HostRuntime, files: &MemoryFolder) -> Result<(), AllocError> {
+fn assert_nothing_else(rt: &impl Abort, files: &MemoryFolder) -> Result<(), AllocError> {
     for path in files.paths()? {
         let is_ours = path == "store/b.x0" || path.starts_with("store/.rebuild-store-");
         let is_fragment = path.strip_prefix("store/a.").is_some_and(|rest| {
@@ -145,14 +146,14 @@ fn a_crash_leaves_each_name_absent_or_whole(rt: HostRuntime) -> Result<(), Alloc
             let mut files = folder_without(alloc, &lost, None)?;
             files.fail(Fault { at, lasts, is_done });
             let (_, files) = repaired(&rt, files, false)?;
-            assert_whole_or_absent(&rt, &files, &lost)?;
+            assert_whole_or_absent(&rt, rt.alloc(), &files, &lost)?;
             for way in 0..files.crashes().min(MOST_WAYS) {
                 let left = files.after_crash(way)?;
-                assert_whole_or_absent(&rt, &left, &lost)?;
+                assert_whole_or_absent(&rt, rt.alloc(), &left, &lost)?;
                 assert_nothing_else(&rt, &left)?;
                 let (again, whole) = repaired(&rt, left, false)?;
                 assert!(&rt; again?.findings.is_empty());
-                assert_whole_or_absent(&rt, &whole, &[])?;
+                assert_whole_or_absent(&rt, rt.alloc(), &whole, &[])?;
             }
         }
     }
@@ -168,15 +169,20 @@ fn done_is_on_the_disk(rt: HostRuntime) -> Result<(), AllocError> {
     assert!(&rt; outcome.findings.is_empty());
     assert_eq!(&rt; outcome.rebuilt.len(), 3);
     for way in 0..files.crashes().min(MOST_WAYS) {
-        assert_whole_or_absent(&rt, &files.after_crash(way)?, &[])?;
+        assert_whole_or_absent(&rt, rt.alloc(), &files.after_crash(way)?, &[])?;
     }
     Ok(())
 }
 
 // Asserts that a damaged fragment is under its name, or under its second name with the whole one under its name.
-fn assert_kept(rt: &HostRuntime, files: &MemoryFolder, damaged: Place) -> Result<(), AllocError> {
-    let path = path_of(rt.alloc(), damaged)?;
-    let second = second_path_of(rt.alloc(), damaged)?;
+fn assert_kept(
+    rt: &impl Abort,
+    alloc: Global,
+    files: &MemoryFolder,
+    damaged: Place,
+) -> Result<(), AllocError> {
+    let path = path_of(alloc, damaged)?;
+    let second = second_path_of(alloc, damaged)?;
     let bytes = files.bytes_at(path.as_str());
     let kept = files.bytes_at(second.as_str());
     let is_old = bytes == Some(OTHER);
@@ -200,14 +206,14 @@ fn a_crash_leaves_what_is_replaced(rt: HostRuntime) -> Result<(), AllocError> {
             let mut files = folder_without(alloc, &[], Some(damaged))?;
             files.fail(Fault { at, lasts, is_done });
             let (_, files) = repaired(&rt, files, true)?;
-            assert_kept(&rt, &files, damaged)?;
+            assert_kept(&rt, rt.alloc(), &files, damaged)?;
             for way in 0..files.crashes().min(MOST_WAYS) {
                 let left = files.after_crash(way)?;
-                assert_kept(&rt, &left, damaged)?;
+                assert_kept(&rt, rt.alloc(), &left, damaged)?;
                 assert_nothing_else(&rt, &left)?;
                 let (again, whole) = repaired(&rt, left, true)?;
                 again?;
-                assert_whole_or_absent(&rt, &whole, &[])?;
+                assert_whole_or_absent(&rt, rt.alloc(), &whole, &[])?;
             }
         }
     }
