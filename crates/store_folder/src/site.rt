@@ -1,10 +1,10 @@
 //! Where a store is.
 use crate::links::Links;
-use crate::patterns::Pattern;
-use crate::sums::Sums;
 use lrc_code::{Code, Place};
 use std::alloc::Global;
 use std::io::{self, ErrorKind};
+use store_names::Pattern;
+use store_records::Sums;
 
 /// Where a store is, and how its fragments are named.
 #[derive(Clone, Copy)]

@@ -17,3 +17,19 @@ pub fn path_in(alloc: Global, folder: &str, name: &str) -> Result<String, AllocE
     path.push_str(name)?;
     Ok(path)
 }
+
+/// The folder in the store of a name: `""` is the store's own.
+pub fn folder_in(name: &str) -> &str {
+    match name.rsplit_once('/') {
+        Some((folder, _)) => folder,
+        None => "",
+    }
+}
+
+/// The last part of a name.
+pub fn last_of(name: &str) -> &str {
+    match name.rsplit_once('/') {
+        Some((_, last)) => last,
+        None => name,
+    }
+}
