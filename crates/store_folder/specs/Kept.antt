@@ -7,6 +7,7 @@ use Rattle.folders.specs.Kept.{Keeps}
 use Rattle.folders.specs.Placed.{IsGiven, WasSynced}
 use Rattle.folders.proofs.Runs.{keeps_all}
 use Rattle.lrc_code.specs.declared.places.Place.{Place}
+use Rattle.store_names.specs.Names.{IsNameOf}
 use Rattle.store_repair.specs.Kept.{Given}
 use Rattle.store_folder.specs.declared.links.Links.TheVariants.{NotFollowed}
 use Rattle.store_folder.specs.declared.site.Site.{Site}
@@ -23,10 +24,12 @@ KeepsEach old new = Keeps IsTemporary (λ path bytes. ⊥) old new
 abbrev pub GivesOne : List ℕ → Option (List ℕ) → List Answered → List Answered → Type 0
 GivesOne to written old new = Keeps IsTemporary (IsGiven to written new) old new
 
--- The path of a stripe's fragment at a place: one below the folder that rebuilt ones are written to. Where links are followed, it is the one
--- that its link leads to, of which nothing is said.
+-- The path of a stripe's fragment at a place: its name, below the folder that rebuilt ones are written to. Where links are followed, it is
+-- the one that its link leads to, of which nothing is said.
 abbrev pub IsPathOf : Site → List ℕ → Place → List ℕ → Type 0
-IsPathOf site stripe place path = site.links ≡ NotFollowed → (name : List ℕ) × (path ≡ site.target.now ++ slash ∷ name)
+IsPathOf site stripe place path =
+    site.links ≡ NotFollowed
+    → (name : List ℕ) × (path ≡ site.target.now ++ slash ∷ name) × IsNameOf site.pattern site.code stripe place name
 
 -- the path of a fragment, and bytes that a file was given, which was put on the disk
 pub record IsFragment (site : Site) (stripe : List ℕ) (place : Place) (calls : List Answered) (path bytes : List ℕ) : Type 0 where

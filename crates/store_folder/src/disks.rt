@@ -1,7 +1,4 @@
-//! The folders of a store's fragments: one for each disk, where the pattern of names says so.
-use crate::patterns::Pattern;
-use lrc_code::Code;
-use std::alloc::{AllocError, Global};
+//! Folders of a store that can't be listed.
 use std::io;
 
 /// A folder that couldn't be listed: what is in it counts as lost.
@@ -11,75 +8,4 @@ pub struct Unlisted {
     pub name: String,
     pub path: String,
     pub error: io::Error,
-}
-
-/// The folders in the store that the fragments of a stripe are in, each once, in the order of the code's places: `""` is the store's own.
-pub fn stripe_folders(
-    alloc: Global,
-    pattern: &Pattern<'_>,
-    code: Code,
-    stripe: &str,
-) -> Result<Vec<String>, AllocError> {
-    let mut folders = Vec::new(alloc);
-    for place in code.places() {
-        let Some(name) = pattern.name_of(alloc, code, stripe, *place)? else {
-            continue;
-        };
-        let folder = folder_in(name.as_str());
-        if !has(folders.as_slice(), folder) {
-            folders.push(String::from_str(alloc, folder)?)?;
-        }
-    }
-    Ok(folders)
-}
-
-fn has(folders: &[String], folder: &str) -> bool {
-    folders.iter().any(|other| other.as_str() == folder)
-}
-
-/// The folders in the store that all fragments are in, if they are the same for each stripe and aren't the store's own.
-pub fn disk_folders(
-    alloc: Global,
-    pattern: &Pattern<'_>,
-    code: Code,
-) -> Result<Option<Vec<String>>, AllocError> {
-    let folders = stripe_folders(alloc, pattern, code, "a")?;
-    let others = stripe_folders(alloc, pattern, code, "b")?;
-    let are_same = folders
-        .iter()
-        .zip(others.iter())
-        .all(|(one, other)| one.as_str() == other.as_str());
-    let is_own = |folder: &String| folder.is_empty();
-    if !are_same || folders.len() != others.len() || folders.iter().any(is_own) {
-        return Ok(None);
-    }
-    Ok(Some(folders))
-}
-
-/// Whether fragments of a stripe are in a folder of the store.
-pub fn is_folder_of(
-    alloc: Global,
-    pattern: &Pattern<'_>,
-    code: Code,
-    stripe: &str,
-    folder: &str,
-) -> Result<bool, AllocError> {
-    let folders = stripe_folders(alloc, pattern, code, stripe)?;
-    Ok(has(folders.as_slice(), folder))
-}
-
-/// The folder in the store of a name: `""` is the store's own.
-pub fn folder_in(name: &str) -> &str {
-    match name.rsplit_once('/') {
-        Some((folder, _)) => folder,
-        None => "",
-    }
-}
-
-/// The last part of a name.
-pub fn last_of(name: &str) -> &str {
-    match name.rsplit_once('/') {
-        Some((_, last)) => last,
-        None => name,
-    }
 }

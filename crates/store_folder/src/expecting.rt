@@ -1,11 +1,9 @@
 //! What has to be in a store by what its sums name.
-use crate::described::described_stripe;
-use crate::disks::{folder_in, is_folder_of, last_of};
-use crate::patterns::Pattern;
 use crate::stripe_names::StripeNames;
-use crate::sums::Sums;
 use lrc_code::Code;
 use std::alloc::{AllocError, Global};
+use store_names::{Pattern, described_stripe, folder_in, is_folder_of, last_of};
+use store_records::Sums;
 
 /// Notes that the stripes have to be there of which sums name fragments or descriptions. Says how many of these are named, of all parts.
 pub fn expect_listed(

@@ -6,8 +6,6 @@ ghost use Rattle.store_repair.specs.Store.{never};
 
 use crate::digesting::{Digest, digest_of, digests_of, refusal_of};
 use crate::links::{Links, followed_in, refuse_linked_in, status_at};
-use crate::names::{folder_of, path_in};
-use crate::patterns::KEPT;
 use crate::placing::{Tried, take_after, try_path};
 use crate::site::Site;
 use crate::surviving::{FileFragment, open_fragment_in};
@@ -18,6 +16,7 @@ use folders::{Folder, Rights, SystemFolder, remove_temporary};
 use lrc_code::Place;
 use std::alloc::{AllocError, Global};
 use std::io::{self, ErrorKind};
+use store_names::{KEPT, folder_of, path_in};
 use store_repair::{NameFault, Placed, Refused, Store};
 
 /// A store in a folder, as one thread works in it. Whenever one of its calls ends, by a crash or by itself, each path of the folder has

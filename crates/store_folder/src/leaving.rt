@@ -1,8 +1,7 @@
 //! What runs that were killed may have left in folders that links lead to.
-use crate::names::path_in;
-use crate::unfinished::is_left_by;
 use std::fs;
 use std::io::{self, ErrorKind};
+use store_names::{is_left_by, path_in};
 
 /// The paths of the files in a folder that a run with this tag may have left.
 pub fn left_in(rt: &HostRuntime, folder: &str, tag: &str) -> io::Result<Vec<String>> {

@@ -10,9 +10,6 @@ mod leaving;
 mod links;
 mod listed_descriptions;
 mod listing;
-mod names;
-mod parts;
-mod patterns;
 mod placing;
 mod regular;
 mod separate;
@@ -25,29 +22,29 @@ mod unfinished;
 mod unfinished_file;
 mod watching;
 
-pub use described::{
-    DESCRIPTION, Described, MOST_BYTES, description_names, first_description_name, is_ambiguous,
-    read_description,
-};
+pub use described::read_description;
 pub use digesting::{Digest, digest_of, digests_of};
-pub use disks::{Unlisted, is_folder_of};
+pub use disks::Unlisted;
 pub use expecting::expect_listed;
 pub use folder_store::FolderStore;
 pub use folders::{SystemFolder, SystemNew, SystemOpen};
 pub use leaving::left_in;
 pub use links::{Links, look_at, refuse_linked_folders};
 pub use listing::{Listing, list};
-pub use names::{folder_of, path_in};
-pub use parts::Part;
-pub use patterns::{KEPT, Layout, Pattern, PatternFault};
 pub use placing::{NewFile, place_again, place_new, sync_folder};
 pub use regular::{Identity, RegularFile, is_named, open_as, open_regular};
 pub use separate::{SeparateFile, SeparateStore};
 pub use site::Site;
+pub use store_names::{
+    DESCRIPTION, KEPT, Layout, Part, Pattern, PatternFault, description_names,
+    first_description_name, folder_of, is_ambiguous, is_folder_of, is_left_by, is_of_runs,
+    lock_name, path_in, tag_of_part,
+};
+pub use store_records::{Described, MOST_BYTES, Sums, digits_of};
 pub use store_repair::{Found, Placed, StripeFiles};
 pub use stripe_names::{Alone, Others, StoreStripes, StripeNames};
-pub use sums::{SUMS_NAME, Sums, SumsFault, digits_of, read_sums};
+pub use sums::{SUMS_NAME, SumsFault, read_sums};
 pub use surviving::{FileFragment, open_fragment};
-pub use unfinished::{Leftover, is_left_by, is_of_runs, lock_name, remove_leftover, tag_of_part};
+pub use unfinished::{Leftover, remove_leftover};
 pub use unfinished_file::UnfinishedFile;
 pub use watching::{Foreign, Wanted, Watched};

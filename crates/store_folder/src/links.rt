@@ -1,9 +1,9 @@
 //! Symbolic links below a store's folder.
-use crate::names::{folder_of, path_in};
 use folders::{Folder, Status, SystemFolder};
 use std::alloc::Global;
 use std::fs::{self, Metadata};
 use std::io::{self, ErrorKind};
+use store_names::{folder_of, path_in};
 
 /// How many links to links are followed.
 const MOST_LINKS: usize = 16;

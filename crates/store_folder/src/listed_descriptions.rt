@@ -1,11 +1,10 @@
 //! Descriptions that are met while a store is listed.
-use crate::described::{described_stripe, read_description};
-use crate::disks::{folder_in, is_folder_of, last_of};
+use crate::described::read_description;
 use crate::listing::Listing;
-use crate::names::path_in;
 use crate::watching::Wanted;
 use std::alloc::AllocError;
 use std::io::ErrorKind;
+use store_names::{described_stripe, folder_in, is_folder_of, last_of, path_in};
 
 impl Listing {
     /// Whether a name of the store is that of a description, which then is noted.

@@ -1,17 +1,15 @@
 //! What is in a store: which fragments of which stripes, and how many bytes each has.
-use crate::described::is_ambiguous;
-use crate::disks::{Unlisted, disk_folders, last_of};
+use crate::disks::Unlisted;
 use crate::links::{Links, followed, look_at};
-use crate::names::{folder_of, path_in};
 use crate::regular::Identity;
 use crate::stripe_names::StripeNames;
-use crate::unfinished::is_of_runs;
 use crate::watching::{Foreign, Wanted, is_of_store, may_others_write};
 use std::alloc::{AllocError, Global};
 use std::collections::BTreeSet;
 use std::fs::{self, Metadata};
 use std::io::{self, ErrorKind};
 use std::os::unix::fs::MetadataExt;
+use store_names::{disk_folders, folder_of, is_ambiguous, is_of_runs, last_of, path_in};
 use store_repair::Found;
 
 // The folder that a file system keeps for what it finds of lost files: no store's, and no stripe's.

@@ -1,10 +1,13 @@
 //! Where a store is.
+ghost use Rattle.std.specs.Prelude.{IfOk, string_bytes};
+ghost use Rattle.store_names.specs.Names.{IsNameOf};
+
 use crate::links::Links;
-use crate::patterns::Pattern;
-use crate::sums::Sums;
 use lrc_code::{Code, Place};
 use std::alloc::Global;
 use std::io::{self, ErrorKind};
+use store_names::Pattern;
+use store_records::Sums;
 
 /// Where a store is, and how its fragments are named.
 #[derive(Clone, Copy)]
@@ -23,7 +26,9 @@ pub struct Site<'a> {
 
 impl Site<'_> {
     /// The name of a stripe's fragment at a place.
-    pub(crate) fn name_of(&self, alloc: Global, stripe: &str, place: Place) -> io::Result<String> {
+    pub(crate) fn name_of(&self, alloc: Global, stripe: &str, place: Place) -> io::Result<String>
+        ensures { IfOk result (λ name. IsNameOf self.now.pattern self.now.code stripe.now place (string_bytes name)) }
+    {
         match self.pattern.name_of(alloc, self.code, stripe, place)? {
             Some(name) => Ok(name),
             None => Err(io::Error::from(ErrorKind::InvalidInput)),

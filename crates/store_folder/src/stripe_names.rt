@@ -1,9 +1,9 @@
 //! Which stripes a store has, by the names of its files and by what else says that they should be there.
-use crate::described::MOST_BYTES;
-use crate::parts::Part;
 use lrc_code::{Code, Place};
 use std::alloc::{AllocError, Global};
 use std::collections::{BTreeMap, BTreeSet};
+use store_names::Part;
+use store_records::MOST_BYTES;
 use store_repair::{Found, StripeFiles};
 
 // A stripe that nothing else names has so many fragments at least: a file alone may have such a name by chance.

@@ -11,81 +11,11 @@ use std::fs::{self, TryLockError};
 use std::io::{self, ErrorKind};
 use std::random::RandomSource;
 
-// How the name of a file begins that isn't whole yet.
-const UNFINISHED: &str = ".rebuild-store-";
-
-// What follows in the name of the lock of a part, before its number and after it.
-const PART: &str = "part-";
-
-const OF: &str = "-of-";
-
 // How many digits at random end the name of an unfinished file.
 const RANDOM_DIGITS: usize = 16;
 
 // How many names are tried for a new file.
 const MOST_NAMES: usize = 100;
-
-/// Whether a name has exactly the form of an unfinished file's: `.rebuild-store-`, then `I-N-` if the run worked on part I of N, then
-/// sixteen digits at random.
-pub fn is_unfinished(name: &str) -> bool {
-    let Some(rest) = name.strip_prefix(UNFINISHED) else {
-        return false;
-    };
-    match rest.rsplit_once('-') {
-        Some((part, digits)) => is_part(part, "-") && is_random(digits),
-        None => is_random(rest),
-    }
-}
-
-/// Whether a name is one that runs give to files of their own: that of an unfinished file, or of the lock of a part.
-pub fn is_of_runs(name: &str) -> bool {
-    is_unfinished(name) || is_lock(name)
-}
-
-/// Whether a name is one that a run with this tag may have left: with a tag, that of an unfinished file of its own; without one, any that
-/// runs give.
-pub fn is_left_by(name: &str, tag: &str) -> bool {
-    if tag.is_empty() {
-        return is_of_runs(name);
-    }
-    name.strip_prefix(UNFINISHED)
-        .and_then(|rest| rest.strip_prefix(tag))
-        .is_some_and(is_random)
-}
-
-/// The name of the lock of part I of N.
-pub fn lock_name(alloc: Global, index: u64, of: u64) -> Result<String, AllocError> {
-    format!(in alloc; "{UNFINISHED}{PART}{index}{OF}{of}")
-}
-
-/// What the names of unfinished files of part I of N have before their digits.
-pub fn tag_of_part(alloc: Global, index: u64, of: u64) -> Result<String, AllocError> {
-    format!(in alloc; "{index}-{of}-")
-}
-
-fn is_lock(name: &str) -> bool {
-    name.strip_prefix(UNFINISHED)
-        .and_then(|rest| rest.strip_prefix(PART))
-        .is_some_and(|rest| is_part(rest, OF))
-}
-
-// Whether a text is two numbers, with something between.
-fn is_part(text: &str, between: &str) -> bool {
-    match text.split_once(between) {
-        Some((index, of)) => is_number(index) && is_number(of),
-        None => false,
-    }
-}
-
-// Whether a text is a number from 1 on, without zeros before it.
-fn is_number(text: &str) -> bool {
-    !text.is_empty() && !text.starts_with('0') && text.chars().all(|letter| letter.is_ascii_digit())
-}
-
-fn is_random(text: &str) -> bool {
-    text.len() == RANDOM_DIGITS
-        && text.chars().all(|letter| letter.is_ascii_digit() || ('a' <= letter && letter <= 'f'))
-}
 
 /// A new file under a temporary name. Its lock says for as long as it is open that a run works on it.
 #[derive(Drop)]

@@ -8,6 +8,7 @@ use crate::unfinished::{Unfinished, create_unfinished};
 use folders::{Folder, NewFile};
 use sha2::{Digest as _, Sha256};
 use std::io::{self, ErrorKind};
+use store_names::folder_of;
 use store_repair::NewFragment;
 
 /// A fragment that has no name yet.

@@ -1,16 +1,11 @@
 //! How a store is listed, and what is looked out for meanwhile: a path that may be one of its names, folders that others may write into.
-use crate::described::described_stripe;
-use crate::disks::last_of;
 use crate::links::Links;
-use crate::names::folder_of;
-use crate::parts::Part;
-use crate::patterns::{KEPT, Pattern};
 use crate::regular::Identity;
 use crate::sums::SUMS_NAME;
-use crate::unfinished::is_of_runs;
 use lrc_code::Code;
 use std::fs::{self, Metadata};
 use std::os::unix::fs::MetadataExt;
+use store_names::{KEPT, Part, Pattern, described_stripe, folder_of, is_of_runs, last_of};
 
 // The rights by which others than a file's user may write: of the group, and of everybody.
 const GROUP_WRITES: u32 = 0o020;

@@ -1,6 +1,5 @@
 //! The paths of a store's files.
 ghost use Rattle.std.specs.Prelude.{◌≡◌, ◌∷◌, ◌++◌, IfOk, string_bytes};
-ghost use Rattle.folders.specs.Files.{slash};
 
 use std::alloc::{AllocError, Global};
 
@@ -15,10 +14,26 @@ pub fn folder_of(path: &str) -> &str {
 
 /// The path of a name in a folder.
 pub fn path_in(alloc: Global, folder: &str, name: &str) -> Result<String, AllocError>
-    ensures { IfOk result (λ path. string_bytes path ≡ folder.now ++ slash ∷ name.now) }
+    ensures { IfOk result (λ path. string_bytes path ≡ folder.now ++ 47 ∷ name.now) }
 {
     let mut path = String::from_str(alloc, folder)?;
     path.push('/')?;
     path.push_str(name)?;
     Ok(path)
+}
+
+/// The folder in the store of a name: `""` is the store's own.
+pub fn folder_in(name: &str) -> &str {
+    match name.rsplit_once('/') {
+        Some((folder, _)) => folder,
+        None => "",
+    }
+}
+
+/// The last part of a name.
+pub fn last_of(name: &str) -> &str {
+    match name.rsplit_once('/') {
+        Some((_, last)) => last,
+        None => name,
+    }
 }

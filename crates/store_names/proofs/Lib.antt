@@ -1,0 +1,5 @@
+pub mod AllPlaces
+pub mod Distinct
+pub mod Keys
+pub mod Partition
+pub mod Pieces

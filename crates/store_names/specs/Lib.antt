@@ -1,0 +1,5 @@
+pub mod Laws
+pub mod Layouts
+pub mod Names
+pub mod Parts
+pub mod Patterns

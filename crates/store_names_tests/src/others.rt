@@ -1,0 +1,260 @@
+//! Names of files that runs keep to themselves, of descriptions and of folders; and the parts of a store, by the digests that Python's
+//! hashlib gives.
+use lrc_code::Code;
+use store_names::{
+    Layout, Part, Pattern, described_stripe, description_names, folder_in, folder_of, is_ambiguous,
+    is_left_by, is_of_runs, last_of, lock_name, path_in, tag_of_part,
+};
+
+// A name, and whether runs give it.
+const NAMES: &[(&str, bool)] = &[
+    (".rebuild-store-0123456789abcdef", true),
+    (".rebuild-store-1-2-0123456789abcdef", true),
+    (".rebuild-store-10-16-00000000000000ff", true),
+    (".rebuild-store-part-1-of-2", true),
+    (".rebuild-store-part-12-of-340", true),
+    (".rebuild-store-", false),
+    (".rebuild-store-0123456789abcde", false),
+    (".rebuild-store-0123456789abcdef0", false),
+    (".rebuild-store-0123456789abcdeF", false),
+    (".rebuild-store-0123456789abcdeg", false),
+    ("rebuild-store-0123456789abcdef", false),
+    ("a.rebuild-store-0123456789abcdef", false),
+    (".rebuild-store-1-0123456789abcdef", false),
+    (".rebuild-store-0-2-0123456789abcdef", false),
+    (".rebuild-store-01-2-0123456789abcdef", false),
+    (".rebuild-store-1-2-3-0123456789abcdef", false),
+    (".rebuild-store--2-0123456789abcdef", false),
+    (".rebuild-store-1-a-0123456789abcdef", false),
+    (".rebuild-store-part-1-of-0", false),
+    (".rebuild-store-part-1-of-", false),
+    (".rebuild-store-part--of-2", false),
+    (".rebuild-store-part-1-2", false),
+    (".rebuild-store-part-1-of-2.damaged", false),
+    (".rebuild-store-part-01-of-2", false),
+    ("", false),
+    (".rebuild-store-part-1-of-2-of-3", false),
+];
+
+// A name, a tag, and whether a run with the tag may have left it.
+const LEFT: &[(&str, &str, bool)] = &[
+    (".rebuild-store-1-2-0123456789abcdef", "1-2-", true),
+    (".rebuild-store-1-2-0123456789abcdef", "1-3-", false),
+    (".rebuild-store-0123456789abcdef", "1-2-", false),
+    (".rebuild-store-part-1-of-2", "1-2-", false),
+    (".rebuild-store-part-1-of-2", "", true),
+    (".rebuild-store-1-2-0123456789abcdef", "", true),
+    (".rebuild-store-1-2-0123456789abcde", "1-2-", false),
+    ("a.x0", "", false),
+];
+
+// A path, its folder, its last part, and the folder in the store of a name.
+const PATHS: &[(&str, &str, &str, &str)] = &[
+    ("a", ".", "a", ""),
+    ("a/b", "a", "b", "a"),
+    ("/a", "/", "a", ""),
+    ("a/b/c", "a/b", "c", "a/b"),
+    ("/a/b", "/a", "b", "/a"),
+    ("a/", "a", "", "a"),
+    ("", ".", "", ""),
+];
+
+#[test]
+fn files_of_runs_are_known(rt: HostRuntime) {
+    for (name, wanted) in NAMES {
+        assert_eq!(rt; is_of_runs(name), *wanted, "{name}");
+    }
+    for (name, tag, wanted) in LEFT {
+        assert_eq!(rt; is_left_by(name, tag), *wanted, "{name} {tag}");
+    }
+    for (path, folder, last, inside) in PATHS {
+        assert_eq!(rt;
+            (folder_of(path), last_of(path)),
+            (*folder, *last),
+            "{path}"
+        );
+        assert_eq!(rt; folder_in(path), *inside, "{path}");
+    }
+    let lock = lock_name(rt.alloc(), 3, 16);
+    assert!(rt; matches!(&lock, Ok(name) if name.as_str() == ".rebuild-store-part-3-of-16"));
+    let tag = tag_of_part(rt.alloc(), 3, 16);
+    assert!(rt; matches!(&tag, Ok(tag) if tag.as_str() == "3-16-"));
+    let path = path_in(rt.alloc(), "a/b", "c/d");
+    assert!(rt; matches!(&path, Ok(path) if path.as_str() == "a/b/c/d"));
+}
+
+// The last part of a name, and the stripe that it describes.
+const DESCRIBED: &[(&str, &str)] = &[
+    ("a.file", "a"),
+    ("a.file.copy", "a"),
+    ("a.b.file", "a.b"),
+    ("a.file.file", "a.file"),
+    ("a.file.copy.file", "a.file.copy"),
+];
+
+const UNDESCRIBED: &[&str] = &[
+    "",
+    ".file",
+    ".file.copy",
+    "a.fil",
+    "a.files",
+    "a",
+    "file",
+    "a.copy",
+];
+
+// A pattern, a code, a stripe, and the names of its descriptions.
+const DESCRIPTIONS: &[(&str, Code, &str, &[&str])] = &[
+    (
+        "{stripe}.{place}",
+        Code::Narrow,
+        "a",
+        &["a.file", "a.file.copy"],
+    ),
+    (
+        "fragments/{stripe}.{place}",
+        Code::Wide,
+        "a",
+        &["fragments/a.file", "fragments/a.file.copy"],
+    ),
+    (
+        "{stripe}/{place}",
+        Code::Narrow,
+        "a",
+        &["a/a.file", "a/a.file.copy"],
+    ),
+    (
+        "disk{shard}/{stripe}",
+        Code::Narrow,
+        "n",
+        &[
+            "disk0/n.file",
+            "disk1/n.file",
+            "disk2/n.file",
+            "disk3/n.file",
+            "disk4/n.file",
+            "disk5/n.file",
+            "disk6/n.file",
+            "disk7/n.file",
+            "disk8/n.file",
+            "disk9/n.file",
+        ],
+    ),
+];
+
+// A pattern, and whether it takes the names of descriptions for those of fragments.
+const AMBIGUOUS: &[(&str, bool)] = &[
+    ("{stripe}.{place}", false),
+    ("disk{shard}/{stripe}", true),
+    ("{place}-{stripe}", false),
+    ("{stripe}/{place}", false),
+];
+
+#[test]
+fn descriptions_have_their_names(rt: HostRuntime) {
+    for (last, stripe) in DESCRIBED {
+        assert_eq!(rt; described_stripe(last), Some(*stripe), "{last}");
+    }
+    for last in UNDESCRIBED {
+        assert_eq!(rt; described_stripe(last), None, "{last}");
+    }
+    for (text, code, stripe, wanted) in DESCRIPTIONS {
+        match Pattern::parse(text, Layout::Plain) {
+            Ok(pattern) => match description_names(rt.alloc(), &pattern, *code, stripe) {
+                Ok(names) => {
+                    assert_eq!(rt; names.len(), wanted.len(), "{text}");
+                    for (name, other) in names.iter().zip(wanted.iter()) {
+                        assert_eq!(rt; name.as_str(), *other, "{text}");
+                    }
+                }
+                Err(fault) => panic!(rt; "{text}: {fault:?}"),
+            },
+            Err(fault) => panic!(rt; "{text}: {fault}"),
+        }
+    }
+    for (text, wanted) in AMBIGUOUS {
+        match Pattern::parse(text, Layout::Plain) {
+            Ok(pattern) => {
+                let is = is_ambiguous(rt.alloc(), &pattern, Code::Narrow);
+                assert!(rt; matches!(is, Ok(is) if is == *wanted), "{text}: {is:?}");
+            }
+            Err(fault) => panic!(rt; "{text}: {fault}"),
+        }
+    }
+}
+
+// A stripe, a number of parts, and the part that it is of.
+const PARTS: &[(&str, u64, u64)] = &[
+    ("", 1, 1),
+    ("", 2, 1),
+    ("", 7, 2),
+    ("", 16, 5),
+    ("", 1000, 653),
+    ("", 9223372036854775808, 7183457195969485845),
+    ("", 18446744073709551615, 16406829232824261653),
+    ("a", 1, 1),
+    ("a", 2, 1),
+    ("a", 7, 5),
+    ("a", 16, 11),
+    ("a", 1000, 251),
+    ("a", 9223372036854775808, 5374906597990186443),
+    ("a", 18446744073709551615, 14598278634844962251),
+    ("note", 1, 1),
+    ("note", 2, 2),
+    ("note", 7, 7),
+    ("note", 16, 6),
+    ("note", 1000, 646),
+    ("note", 9223372036854775808, 7905054718640120838),
+    ("note", 18446744073709551615, 17128426755494896646),
+    ("note.tar.gz", 1, 1),
+    ("note.tar.gz", 2, 1),
+    ("note.tar.gz", 7, 3),
+    ("note.tar.gz", 16, 13),
+    ("note.tar.gz", 1000, 157),
+    ("note.tar.gz", 9223372036854775808, 5249944672415930349),
+    ("note.tar.gz", 18446744073709551615, 14473316709270706157),
+    ("ä", 1, 1),
+    ("ä", 2, 1),
+    ("ä", 7, 6),
+    ("ä", 16, 13),
+    ("ä", 1000, 133),
+    ("ä", 9223372036854775808, 3739913210162221133),
+    ("ä", 18446744073709551615, 3739913210162221133),
+    ("stripe-000017", 1, 1),
+    ("stripe-000017", 2, 2),
+    ("stripe-000017", 7, 2),
+    ("stripe-000017", 16, 6),
+    ("stripe-000017", 1000, 926),
+    ("stripe-000017", 9223372036854775808, 7662230359187444118),
+    ("stripe-000017", 18446744073709551615, 16885602396042219926),
+    ("a.x1", 1, 1),
+    ("a.x1", 2, 2),
+    ("a.x1", 7, 3),
+    ("a.x1", 16, 4),
+    ("a.x1", 1000, 228),
+    ("a.x1", 9223372036854775808, 7899990061413238420),
+    ("a.x1", 18446744073709551615, 17123362098268014228),
+    ("0", 1, 1),
+    ("0", 2, 1),
+    ("0", 7, 4),
+    ("0", 16, 9),
+    ("0", 1000, 41),
+    ("0", 9223372036854775808, 6912158355717386041),
+    ("0", 18446744073709551615, 6912158355717386041),
+];
+
+#[test]
+fn parts_go_by_digests(rt: HostRuntime) {
+    for (stripe, of, wanted) in PARTS {
+        let of = *of;
+        for index in [*wanted, 0, of.wrapping_add(1), wanted.wrapping_add(1)] {
+            let part = Part { index, of };
+            assert_eq!(rt;
+                part.has(stripe),
+                index == *wanted,
+                "{stripe} {index} of {of}"
+            );
+        }
+    }
+    assert!(rt; !Part { index: 1, of: 0 }.has("a"));
+}
