@@ -16,15 +16,15 @@ use folders::{Folder, Rights, SystemFolder, remove_temporary};
 use lrc_code::Place;
 use std::alloc::{AllocError, Global};
 use std::io::{self, ErrorKind};
-use store_names::{KEPT, folder_of, path_in};
+use store_names::{folder_of, path_in};
 use store_repair::{NameFault, Placed, Refused, Store};
 
 /// A store in a folder, as one thread works in it. Whenever one of its calls ends, by a crash or by itself, each path of the folder has
 /// what it had, or all the bytes of a file that was put on the disk.
 #[derive(Drop)]
 pub struct FolderStore<'a, F: Folder> {
-    rt: &'a HostRuntime,
-    files: F,
+    pub(crate) rt: &'a HostRuntime,
+    pub(crate) files: F,
     site: Site<'a>,
     // The folders in which names were given since the last time that these were written to the disk.
     touched: Vec<String>,
@@ -152,23 +152,6 @@ impl<'a, F: Folder> FolderStore<'a, F> {
         }
     }
 
-    /// Gives a fragment the name of one that is there, which is kept under its second name; if one is kept there already, the new one is
-    /// discarded. No clause says what a crash leaves.
-    pub fn replace_fragment(
-        &mut self,
-        file: UnfinishedFile<F::New>,
-        stripe: &str,
-        place: Place,
-    ) -> io::Result<Placed> {
-        let mut file = file;
-        let finished = self.finish(&mut file, stripe, place);
-        let UnfinishedFile { unfinished, .. } = file;
-        match finished {
-            Ok(path) => self.exchange(unfinished, path.as_str()),
-            Err(error) => Err(self.given_up(unfinished, error)),
-        }
-    }
-
     /// Removes a fragment that has no name. What can't be removed is said by `sync_names`.
     pub fn discard_fragment(&mut self, file: UnfinishedFile<F::New>)
         ensures site { self.new.site ≡ self.old.site }
@@ -193,7 +176,7 @@ impl<'a, F: Folder> FolderStore<'a, F> {
 
     // Makes a whole file ready for its name, which it says: it has the bytes that it has to have, and the owner and rights of its stripe's
     // other files.
-    fn finish(
+    pub(crate) fn finish(
         &self,
         file: &mut UnfinishedFile<F::New>,
         stripe: &str,
@@ -268,48 +251,8 @@ impl<'a, F: Folder> FolderStore<'a, F> {
         Ok(Placed::Placed)
     }
 
-    // Gives a whole file the name of another one, which is kept.
-    fn exchange(&mut self, new: Unfinished<F::New>, path: &str) -> io::Result<Placed> {
-        let whole = new.refuse_part();
-        let Unfinished { file, made_at, .. } = new;
-        let placed = match whole {
-            Ok(()) => self.rename(file, path),
-            Err(error) => Err(error),
-        };
-        if !matches!(placed, Ok(Placed::Placed)) {
-            self.remove(made_at);
-        }
-        placed
-    }
-
-    // Writes a file to the disk and gives it the name of another one, whose second name is on the disk first.
-    fn rename(&mut self, file: F::New, path: &str) -> io::Result<Placed> {
-        let whole = self.files.sync(file)?;
-        let mut kept = String::from_str(self.rt.alloc(), path)?;
-        kept.push_str(KEPT)?;
-        match self.files.link_again(path, kept.as_str()) {
-            Ok(()) => {}
-            Err(error) if error.kind() == ErrorKind::AlreadyExists => {
-                // A run that was killed between the two steps has left both names on one file.
-                if !self.are_one(path, kept.as_str())? {
-                    return Ok(Placed::IsThere);
-                }
-            }
-            Err(error) => return Err(error),
-        }
-        self.files.sync_folder(folder_of(path))?;
-        self.files.rename(&whole, path)?;
-        self.touch(folder_of(path))?;
-        Ok(Placed::Placed)
-    }
-
-    // Whether two names are of one file.
-    fn are_one(&self, one: &str, other: &str) -> io::Result<bool> {
-        Ok(self.files.status(one)?.identity == self.files.status(other)?.identity)
-    }
-
     // Notes that a name was given in a folder.
-    fn touch(&mut self, folder: &str) -> Result<(), AllocError>
+    pub(crate) fn touch(&mut self, folder: &str) -> Result<(), AllocError>
         ensures site { self.new.site ≡ self.old.site }
         ensures calls { F.calls self.new.files ≡ F.calls self.old.files }
     {
@@ -325,7 +268,7 @@ impl<'a, F: Folder> FolderStore<'a, F> {
     }
 
     // Removes an unfinished file after a failure.
-    fn given_up(&mut self, new: Unfinished<F::New>, error: io::Error) -> io::Error
+    pub(crate) fn given_up(&mut self, new: Unfinished<F::New>, error: io::Error) -> io::Error
         ensures site { self.new.site ≡ self.old.site }
         ensures whenever { KeepsEach (F.calls self.old.files) (F.calls self.new.files) }
     {
@@ -335,7 +278,7 @@ impl<'a, F: Folder> FolderStore<'a, F> {
     }
 
     // Removes an unfinished file. What could not be removed is said when names are written to the disk.
-    fn remove(&mut self, name: String)
+    pub(crate) fn remove(&mut self, name: String)
         requires { is_temporary (string_bytes name) ≡ true }
         ensures site { self.new.site ≡ self.old.site }
         ensures whenever { KeepsEach (F.calls self.old.files) (F.calls self.new.files) }

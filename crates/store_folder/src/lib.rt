@@ -12,6 +12,7 @@ mod listed_descriptions;
 mod listing;
 mod placing;
 mod regular;
+mod replacing;
 mod separate;
 mod site;
 mod stripe_names;

@@ -32,7 +32,8 @@ FitOnly code stripe (Some old) given =
 abbrev pub KeepsOrHas : List ℕ → Given → Files → Files → Type 0
 KeepsOrHas stripe given old new =
     (s : List ℕ) (p : Place) → (new.fragments s p ≡ old.fragments s p)
-    ⊎ ((bytes_eq stripe s ≡ true) × (old.fragments s p ≡ None) × ((bytes : List ℕ) × (given p ≡ Some bytes) × (new.fragments s p ≡ Some bytes)))
+    ⊎ ((bytes_eq stripe s ≡ true) × (old.fragments s p ≡ None)
+    × ((bytes : List ℕ) × (given p ≡ Some bytes) × (new.fragments s p ≡ Some bytes)))
 
 -- where nothing is given, each name has what it had
 pub unchanged : (stripe : List ℕ) (given : Given) (files : Files) → KeepsOrHas stripe given files files

@@ -242,7 +242,8 @@ impl Store for MemoryStore {
         ensures elsewhere { SameElsewhere stripe.now place (Some (files_of self.old)) (Some (files_of self.new)) }
         ensures placed { IfOk result (HasName stripe.now place (Some (bytes_of file)) (Some (files_of self.new))) }
         ensures kept { (given : Given) (from : MemoryStore) → given place ≡ Some (bytes_of file)
-            → KeepsOrHas stripe.now given (files_of from) (files_of self.old) → KeepsOrHas stripe.now given (files_of from) (files_of self.new) }
+            → KeepsOrHas stripe.now given (files_of from) (files_of self.old)
+            → KeepsOrHas stripe.now given (files_of from) (files_of self.new) }
         ensures gives { GivesName result stripe.now place (bytes_of file) (files_of self.old) (files_of self.new) }
     {
         self.give_name(stripe, place, file.bytes)

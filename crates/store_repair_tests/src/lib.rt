@@ -1,5 +1,5 @@
-//! Tests of a stripe's repair over a store in memory and over a folder in memory, with stripes that an independent computation gives. They are in a crate of their
-//! own, so that a check of `store_repair` proves it once and not a second time with its tests.
+//! Tests of a stripe's repair over a store in memory and over a folder in memory, with stripes that an independent computation gives. They
+//! are in a crate of their own, so that a check of `store_repair` proves it once and not a second time with its tests.
 #![tactic(auto)]
 
 #[cfg(test)]

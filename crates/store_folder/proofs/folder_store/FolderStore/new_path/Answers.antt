@@ -4,6 +4,9 @@ use Rattle.store_folder.proofs.folder_store.FolderStore.new_path.Goals as goal
 
 pub returns-in-NotFollowed : goal.returns-in-NotFollowed
 returns-in-NotFollowed g c = λ _.
-    let site = c.args.self.now.site in
-    (_, c.in_ok-named.ensures, subst (IsNameOf site.pattern site.code c.args.stripe.now c.args.place) (sym c.as_str-2.ensures.value)
-    c.in_ok-name.ensures)
+    let site = c.args.self.now.site in (
+      _,
+      c.in_ok-named.ensures,
+      subst (IsNameOf site.pattern site.code c.args.stripe.now c.args.place) (sym c.as_str-2.ensures.value)
+          c.in_ok-name.ensures,
+    )
