@@ -156,7 +156,7 @@ same_key ByShard true (x ∷ xs) a b s t apart la lb is =
     let end = get_or (x ∷ xs) (length xs) 0 in
     let at : length (x ∷ xs) - 1 ≡ length xs = omega arith in
     let other : is_ascii_digit end ≡ false
-        = not_true _ (ap (λ i. not (is_ascii_digit (slice_index (x ∷ xs) i))) (sym at) ∙ (and_parts _ _ apart).1) in
+    = not_true _ (ap (λ i. not (is_ascii_digit (slice_index (x ∷ xs) i))) (sym at) ∙ (and_parts _ _ apart).1) in
     digits_after (s ++ ends.0) (t ++ ends.0) a b end end la lb other other
     (sym (ap (λ w. (s ++ w) ++ a) ends.1 ∙ at_the_end s ends.0 a end) ∙ is ∙ (ap (λ w. (t ++ w) ++ b) ends.1 ∙ at_the_end t ends.0 b end))
 same_key ByShard false [] a b s t apart la lb is = cc

@@ -17,9 +17,9 @@ only_one number of other is =
 
 pub partition : PartsArePartition
 partition stripe of some = record {
-    index = number_of stripe % of + 1;
-    from = omega arith;
-    to = omega arith;
-    is = one_of (number_of stripe) of some;
-    only = only_one (number_of stripe) of;
-  }
+  index = number_of stripe % of + 1;
+  from = omega arith;
+  to = omega arith;
+  is = one_of (number_of stripe) of some;
+  only = only_one (number_of stripe) of;
+}

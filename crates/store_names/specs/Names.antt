@@ -35,7 +35,7 @@ is_stripe stripe = nat_lt 0 (length stripe) && list_all (λ byte. not (byte == 4
 abbrev pub parts : List ℕ → List (List ℕ)
 parts name = slice_split (λ byte. byte == 47) name
 
--- a name that leads nowhere out of the folder that it is in: none of its parts is empty, so that it doesn't begin with '/', or is `..`
+-- a name that leads nowhere out of the folder that it is in: none of its parts is empty, so it doesn't begin with '/', and none is `..`
 abbrev pub is_below : List ℕ → Bool
 is_below name = list_all (λ part. not (bytes_eq part []) && not (bytes_eq part (codes ".."))) (parts name)
 

@@ -14,5 +14,4 @@ pub fn names_differ(pattern: &Pattern<'_>)
 /// Each stripe is of exactly one of the parts 1 to N, whichever N above 0 is.
 pub fn parts_are_partition()
     ensures { PartsArePartition }
-{
-}
+{}

@@ -11,12 +11,12 @@ use Rattle.store_names.proofs.patterns.Pattern.read.Goals as goal
 pub returns-in-Some-clause-gives : goal.returns-in-Some-clause-gives
 returns-in-Some-clause-gives c = λ stripe place is first.
     names_differ c.args.self.now c.args.self.now.apart c.args.code c.in-Some.stripe.now stripe _ place c.args.name.now c.in-Some.ensures
-        is.made
+    is.made
 
 pub loop-place-preserved : goal.loop-place-preserved
 loop-place-preserved c = λ place stripe lt made.
     let none = λ (k : ℕ). (other : Place) (s : List ℕ) → index_of other ≡ k
-        → ¬ IsMade c.args.self.now c.args.code s other c.args.name.now in
+    → ¬ IsMade c.args.self.now c.args.code s other c.args.name.now in
     let i = c.loop-place.place-index in
     below_more none i (λ k below other s is. c.loop-place.invariant other s (omega arith))
     (λ other s is made. c.in_default.ensures s (subst (λ (q : Place). IsMade c.args.self.now c.args.code s q c.args.name.now)
