@@ -6,7 +6,7 @@ use store_repair::NewFragment;
 
 /// Writes a report to what is at a path. A regular file has the whole report or is as it was, and keeps its owner and its rights; where
 /// nothing is, one is made. Anything else, as a device, a FIFO or a link, is opened and written, and stays what it is.
-pub fn write_report(rt: &HostRuntime, path: &str, rows: &str) -> io::Result<()> {
+pub(crate) fn write_report(rt: &HostRuntime, path: &str, rows: &str) -> io::Result<()> {
     match fs::symlink_metadata(rt, path) {
         Ok(there) if there.is_file() => replace(rt, path, &there, rows),
         Ok(_) => write_into(rt, path, rows),

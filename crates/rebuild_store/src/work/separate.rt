@@ -13,7 +13,7 @@ use store_repair::{NameFault, NewFragment, Placed, Refused, Store};
 
 /// A store whose new fragments fail each by itself.
 #[derive(Drop)]
-pub struct SeparateStore<'a> {
+pub(crate) struct SeparateStore<'a> {
     store: FolderStore<'a, SystemFolder<'a>>,
 }
 
@@ -25,7 +25,7 @@ pub struct SeparateFile {
 }
 
 impl<'a> SeparateStore<'a> {
-    pub fn new(store: FolderStore<'a, SystemFolder<'a>>) -> SeparateStore<'a> {
+    pub(crate) fn new(store: FolderStore<'a, SystemFolder<'a>>) -> SeparateStore<'a> {
         SeparateStore { store }
     }
 }

@@ -13,7 +13,7 @@ const MIB: u64 = 1_048_576;
 
 /// What is lost, what of it is done, and since when. Nothing is shown where standard error is no terminal.
 #[derive(Drop)]
-pub struct Progress<'a> {
+pub(crate) struct Progress<'a> {
     rt: &'a HostRuntime,
     start: Option<Instant>,
     fragments: u64,
@@ -27,7 +27,7 @@ pub struct Progress<'a> {
 
 impl<'a> Progress<'a> {
     /// The progress of a repair of these stripes.
-    pub fn new(
+    pub(crate) fn new(
         rt: &'a HostRuntime,
         alloc: Global,
         code: Code,
@@ -57,7 +57,7 @@ impl<'a> Progress<'a> {
     }
 
     /// Counts what became of a stripe, and shows the line if it was shown long enough ago.
-    pub fn count(&self, outcome: &Outcome) {
+    pub(crate) fn count(&self, outcome: &Outcome) {
         let Some(start) = self.start else {
             return;
         };
@@ -105,7 +105,7 @@ impl<'a> Progress<'a> {
     }
 
     /// Takes the line away.
-    pub fn end(&self) {
+    pub(crate) fn end(&self) {
         if self.shown.load(Ordering::SeqCst) > 0 {
             let _ = eprint!(self.rt; "\r\x1b[K");
         }

@@ -1,39 +1,45 @@
 //! Threads that work on stripes side by side.
-use crate::descriptions::{CopyWork, Descriptions, tend_descriptions};
-use crate::plans::without_left;
-use crate::progress::Progress;
-use crate::separate::SeparateStore;
+pub(crate) mod progress;
+mod separate;
+
 use lrc_code::Code;
-use std::alloc::AllocError;
-use std::collections::BTreeSet;
+use progress::Progress;
+use separate::SeparateStore;
+use std::alloc::{AllocError, Global};
 use std::sync::atomic::{AtomicUsize, Ordering};
 use std::thread;
 use std::thread::Threads;
+use store_files::{CopyWork, tend_descriptions};
 use store_folder::{FolderStore, Site};
+use store_opening::OpenStore;
 use store_repair::{Outcome, Repair, Stripe, plan_stripe, repair_stripe, scrub_stripe};
+use store_reports::{Contents, Done, without_left};
 
 /// What is done with each stripe.
 #[derive(Clone, Copy)]
-pub enum Work<'p, 'r> {
+pub(crate) enum Work<'p, 'r> {
     Repair(Repair, &'p Progress<'r>),
     Plan(Repair),
     Scrub(Code),
 }
 
-/// The stripes that are worked on, where they are, and which of them have descriptions.
+/// The stripes of an open store that are worked on, and where they are.
 #[derive(Clone, Copy)]
-pub struct Stripes<'a> {
-    pub site: &'a Site<'a>,
-    pub all: &'a [Stripe<'a>],
-    pub described: &'a BTreeSet<String>,
+pub(crate) struct Stripes<'a> {
+    pub(crate) store: &'a OpenStore,
+    pub(crate) site: &'a Site<'a>,
+    pub(crate) all: &'a [Stripe<'a>],
 }
 
-/// What became of the stripe of an index, and of its descriptions, if it has any.
-#[derive(Drop)]
-pub struct Done {
-    pub index: usize,
-    pub outcome: Outcome,
-    pub descriptions: Option<Descriptions>,
+impl<'a> Stripes<'a> {
+    /// What is in their store.
+    pub(crate) fn contents(&self) -> Contents<'a> {
+        Contents {
+            stripes: self.all,
+            alone: self.store.found.alone.as_slice(),
+            has_unlisted: self.store.has_unlisted,
+        }
+    }
 }
 
 impl Work<'_, '_> {
@@ -52,7 +58,7 @@ impl Work<'_, '_> {
 }
 
 /// Does some work with each stripe, in so many threads at most, and gives the outcomes in the order of the stripes.
-pub fn work_on<R: Threads + Sync>(
+pub(crate) fn work_on<R: Threads + Sync>(
     rt: &R,
     system: &HostRuntime,
     stripes: &Stripes<'_>,
@@ -86,19 +92,8 @@ fn take_stripes(
         let Some(stripe) = stripes.all.get(index) else {
             break;
         };
-        let outcome = match work {
-            Work::Repair(repair, progress) => {
-                let outcome = repair_stripe(system.alloc(), &mut store, &repair, stripe)?;
-                progress.count(&outcome);
-                outcome
-            }
-            Work::Plan(repair) => {
-                let plan = plan_stripe(system.alloc(), &store, &repair, stripe)?;
-                without_left(system.alloc(), &repair, stripe, plan)?
-            }
-            Work::Scrub(code) => scrub_stripe(system.alloc(), &store, code, stripe)?,
-        };
-        let descriptions = if stripes.described.contains(stripe.name) {
+        let outcome = outcome_of(system.alloc(), &mut store, work, stripe)?;
+        let descriptions = if stripes.store.found.described.contains(stripe.name) {
             let copies = work.with_copies();
             Some(tend_descriptions(system, stripes.site, stripe.name, copies)?)
         } else {
@@ -111,4 +106,25 @@ fn take_stripes(
         })?;
     }
     Ok(all)
+}
+
+// Does the work with the fragments of a stripe.
+fn outcome_of(
+    alloc: Global,
+    store: &mut SeparateStore<'_>,
+    work: Work<'_, '_>,
+    stripe: &Stripe<'_>,
+) -> Result<Outcome, AllocError> {
+    match work {
+        Work::Repair(repair, progress) => {
+            let outcome = repair_stripe(alloc, store, &repair, stripe)?;
+            progress.count(&outcome);
+            Ok(outcome)
+        }
+        Work::Plan(repair) => {
+            let plan = plan_stripe(alloc, store, &repair, stripe)?;
+            without_left(alloc, &repair, stripe, plan)
+        }
+        Work::Scrub(code) => scrub_stripe(alloc, store, code, stripe),
+    }
 }
