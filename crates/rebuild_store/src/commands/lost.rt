@@ -1,0 +1,149 @@
+//! The command `lost`: the request list of what is lost.
+use crate::commands::opening_of;
+use crate::output::{say_all, say_alone};
+use std::io::{self, BufWriter, Write};
+use store_arguments::LostOptions;
+use store_files::{CopyWork, tend_descriptions};
+use store_folder::{FolderStore, Site, SystemFolder};
+use store_opening::{OpenStore, Opening, open_store};
+use store_repair::{Reason, Stripe, StripeLength, stripe_length};
+use store_reports::{
+    CopyFinding, DEVICE, DONE, FileFault, LEFT, Rows, device, header_of, listed, request_lines,
+    say, unknown_lines, unlisted_lines,
+};
+
+// What was found of all stripes.
+#[derive(Clone, Copy)]
+struct Counts {
+    lost: u64,
+    // How many of the lost fragments can't be asked for.
+    unlisted: u64,
+    // Whether something isn't as it should be that no count has.
+    is_left: bool,
+    // Whether the system refused to show something.
+    is_device: bool,
+}
+
+/// Writes the request list of what is lost to standard output, and counts to standard error; gives the exit status.
+pub(crate) fn lost(rt: &HostRuntime, options: &LostOptions<'_>) -> Result<u8, FileFault> {
+    let opening = opening_of(&options.store);
+    let store = open_store(rt, &opening)?;
+    let form = if options.json { Rows::Json } else { Rows::Csv };
+    write_requests(rt, &store, &opening, form).map_err(|error| device(
+        rt.alloc(),
+        opening.folder,
+        error,
+    ))
+}
+
+// Writes the request list of an open store.
+fn write_requests<'a>(
+    rt: &'a HostRuntime,
+    store: &'a OpenStore,
+    opening: &Opening<'a>,
+    form: Rows,
+) -> io::Result<u8> {
+    let alloc = rt.alloc();
+    let mut output = BufWriter::new(alloc, io::writer(rt))?;
+    if form == Rows::Csv {
+        output.write_all(header_of(store.code).as_bytes())?;
+    }
+    let stripes = store.stripes(rt)?;
+    let site = store.site_of(opening);
+    let files = FolderStore::new(rt, site);
+    say_alone(rt, store, opening, false);
+    let mut counts = Counts {
+        lost: 0,
+        unlisted: 0,
+        is_left: false,
+        is_device: store.has_unlisted,
+    };
+    for stripe in &stripes {
+        if store.found.described.contains(stripe.name) {
+            counts.is_left = say_descriptions(rt, &site, stripe)? || counts.is_left;
+        }
+        let Some(length) = length_of(rt, &files, &site, stripe)? else {
+            counts.is_left = true;
+            continue;
+        };
+        let requests = requests_of(rt, &site, stripe, length, form, &mut counts)?;
+        output.write_all(requests.as_bytes())?;
+    }
+    output.flush()?;
+    let Counts { lost, unlisted, .. } = counts;
+    say(rt, listed(alloc, stripes.len() as u64, lost, unlisted))?;
+    Ok(status_of(&counts))
+}
+
+// The exit status.
+fn status_of(counts: &Counts) -> u8 {
+    if counts.is_device {
+        DEVICE
+    } else if counts.lost > 0 || counts.is_left {
+        LEFT
+    } else {
+        DONE
+    }
+}
+
+// The requests for what is lost of a stripe, which is counted. What can't be asked for, or looked at, is said.
+fn requests_of(
+    rt: &HostRuntime,
+    site: &Site<'_>,
+    stripe: &Stripe<'_>,
+    length: u64,
+    form: Rows,
+    counts: &mut Counts,
+) -> io::Result<String> {
+    let alloc = rt.alloc();
+    let places = stripe.files.lost(alloc, site.code, length)?;
+    let places = places.as_slice();
+    let count = places.len() as u64;
+    counts.lost = counts.lost.saturating_add(count);
+    let unknown = unknown_lines(alloc, site, stripe, places)?;
+    counts.is_device = counts.is_device || !unknown.is_empty();
+    say_all(rt, unknown)?;
+    match request_lines(alloc, site.code, stripe, length, places, form)? {
+        Some(lines) => Ok(lines),
+        None => {
+            counts.unlisted = counts.unlisted.saturating_add(count);
+            say_all(rt, unlisted_lines(alloc, site, stripe, length, places)?)?;
+            Ok(String::new(alloc))
+        }
+    }
+}
+
+// Says which copies of a stripe's description aren't as they should be, and whether there are any.
+fn say_descriptions(rt: &HostRuntime, site: &Site<'_>, stripe: &Stripe<'_>) -> io::Result<bool> {
+    let descriptions = tend_descriptions(rt, site, stripe.name, CopyWork::Name)?;
+    for CopyFinding { name, reason } in &descriptions.findings {
+        say(
+            rt,
+            format!(in rt.alloc(); "rebuild-store: {name}: {reason}"),
+        )?;
+    }
+    Ok(!descriptions.findings.is_empty())
+}
+
+// How many bytes each fragment of a stripe has, 0 where none is there; none where the files' lengths differ and no check says which is
+// right, which is said.
+fn length_of(
+    rt: &HostRuntime,
+    files: &FolderStore<'_, SystemFolder<'_>>,
+    site: &Site<'_>,
+    stripe: &Stripe<'_>,
+) -> io::Result<Option<u64>> {
+    match stripe_length(rt.alloc(), files, site.code, stripe)? {
+        StripeLength::Known(length) => Ok(Some(length as u64)),
+        StripeLength::NoFiles => Ok(Some(0)),
+        StripeLength::Undecided(lengths) => {
+            let name = stripe.name;
+            let reason = Reason::LengthsDiffer(lengths);
+            say(
+                rt,
+                format!(in rt.alloc(); "rebuild-store: {name}: {reason}"),
+            )?;
+            Ok(None)
+        }
+    }
+}

@@ -1,0 +1,174 @@
+//! The command `repair`.
+use crate::commands::test_opening_of;
+use crate::output::{say_all, say_alone, say_rows, say_summary};
+use crate::work::progress::Progress;
+use crate::work::{Stripes, Work, work_on};
+use lrc_code::Code;
+use std::alloc::{AllocError, Global};
+use std::io;
+use std::thread::Threads;
+use store_arguments::RepairOptions;
+use store_folder::{FolderStore, Part, Site, tag_of_part};
+use store_opening::{
+    Access, OpenStore, Opening, open_store, refuse_other_stores, remove_leftovers,
+};
+use store_repair::{Reads, Repair, Stripe};
+use store_reports::{
+    DEVICE, FileFault, LEFT, Results, device, finding_lines, planned, repaired, say, status_of,
+    status_of_plan, unchecked_lines,
+};
+
+/// Repairs the stripes of a store, says what was done and what is left, and gives the exit status.
+pub(crate) fn repair<R: Threads + Sync>(
+    rt: &R,
+    system: &HostRuntime,
+    options: &RepairOptions<'_>,
+) -> Result<u8, FileFault> {
+    let opening = opening_of(options);
+    let store = open_store(system, &opening)?;
+    let status = repair_all(rt, system, &store, &opening, options);
+    let released = store.locks.release(system);
+    ended(status, released).map_err(|error| device(system.alloc(), opening.folder, error))
+}
+
+// A store that is opened to be repaired, or to plan that.
+fn opening_of<'a>(options: &RepairOptions<'a>) -> Opening<'a> {
+    let access = if options.dry_run {
+        Access::Reads
+    } else {
+        Access::Writes {
+            trusts_writers: options.trusts_writers,
+        }
+    };
+    Opening {
+        to: options.to,
+        access,
+        ..test_opening_of(&options.store, &options.test)
+    }
+}
+
+// How a repair ended whose locks were then given back.
+fn ended(status: io::Result<u8>, released: io::Result<()>) -> io::Result<u8> {
+    let status = status?;
+    released?;
+    Ok(status)
+}
+
+// The begin of the names of unfinished files, by the part of the store that a run works on.
+fn tag_of(alloc: Global, part: Option<Part>) -> Result<String, AllocError> {
+    match part {
+        Some(part) => tag_of_part(alloc, part.index, part.of),
+        None => Ok(String::new(alloc)),
+    }
+}
+
+// Repairs the stripes of an open store.
+fn repair_all<'a, R: Threads + Sync>(
+    rt: &R,
+    system: &HostRuntime,
+    store: &'a OpenStore,
+    opening: &Opening<'a>,
+    options: &RepairOptions<'_>,
+) -> io::Result<u8> {
+    let tag = tag_of(system.alloc(), opening.part)?;
+    let site = Site {
+        target: opening.to.unwrap_or(store.folder.as_str()),
+        tag: tag.as_str(),
+        ..store.site_of(opening)
+    };
+    let stripes = store.stripes(system)?;
+    let stripes = stripes.as_slice();
+    if is_refused(system, store, opening, &site, stripes)? {
+        return Ok(LEFT);
+    }
+    say_alone(system, store, opening, options.dry_run);
+    let target = store.target.as_ref().unwrap_or(&store.listing);
+    let are_removed = options.dry_run || remove_leftovers(system, target, tag.as_str())?;
+    let status = repair_at(rt, system, store, options, &site, stripes)?;
+    if !are_removed {
+        return Ok(DEVICE);
+    }
+    Ok(status)
+}
+
+// Repairs the stripes of a store at a site.
+fn repair_at<'a, R: Threads + Sync>(
+    rt: &R,
+    system: &HostRuntime,
+    store: &'a OpenStore,
+    options: &RepairOptions<'_>,
+    site: &'a Site<'a>,
+    stripes: &'a [Stripe<'a>],
+) -> io::Result<u8> {
+    let alloc = system.alloc();
+    let progress = Progress::new(system, alloc, store.code, stripes)?;
+    let repair = repair_of(store.code, options);
+    let (work, word) = if options.dry_run {
+        (Work::Plan(repair), "would be rebuilt")
+    } else {
+        (Work::Repair(repair, &progress), "rebuilt")
+    };
+    let of_store = Stripes {
+        store,
+        site,
+        all: stripes,
+    };
+    let all = work_on(rt, system, &of_store, work, options.test.workers)?;
+    progress.end();
+    let results = Results::new(alloc, site, of_store.contents(), all.as_slice(), word)?;
+    say_repaired(system, &results, options)
+}
+
+// Whether no stripe fits the code that the places say, which then is said. A code that was given is believed, and a part may have others.
+fn is_refused(
+    rt: &HostRuntime,
+    store: &OpenStore,
+    opening: &Opening<'_>,
+    site: &Site<'_>,
+    stripes: &[Stripe<'_>],
+) -> io::Result<bool> {
+    if opening.code.is_some() || opening.part.is_some() {
+        return Ok(false);
+    }
+    let files = FolderStore::new(rt, *site);
+    match refuse_other_stores(rt.alloc(), store, &files, stripes)? {
+        Some(fault) => {
+            say(rt, format!(in rt.alloc(); "rebuild-store: {fault}"))?;
+            Ok(true)
+        }
+        None => Ok(false),
+    }
+}
+
+// How stripes are repaired, by the options.
+fn repair_of(code: Code, options: &RepairOptions<'_>) -> Repair {
+    Repair {
+        code,
+        reads: options.reads,
+        replace_damaged: options.replace_damaged,
+        assume_one_damaged: options.assume_one_damaged,
+        elsewhere: options.to.is_some(),
+    }
+}
+
+// Says what became of the stripes and, where all survivors were read, what no check covered; gives the exit status.
+fn say_repaired(
+    rt: &HostRuntime,
+    results: &Results<'_>,
+    options: &RepairOptions<'_>,
+) -> io::Result<u8> {
+    let alloc = rt.alloc();
+    for done in results.all {
+        say_all(rt, finding_lines(alloc, results, done)?)?;
+        if options.reads == Reads::All {
+            say_all(rt, unchecked_lines(alloc, results, done)?)?;
+        }
+    }
+    let is_reported = say_rows(rt, results, &options.test)?;
+    if options.dry_run {
+        say_summary(rt, planned(alloc, results)?, options.test.json)?;
+        return Ok(status_of_plan(&results.totals, is_reported));
+    }
+    say_summary(rt, repaired(alloc, results)?, options.test.json)?;
+    Ok(status_of(&results.totals, is_reported))
+}

@@ -1,0 +1,66 @@
+//! What commands say: lines, rows and a summary.
+mod report_file;
+
+use report_file::write_report;
+use std::alloc::AllocError;
+use std::io::{self, ErrorKind};
+use store_arguments::TestOptions;
+use store_opening::{OpenStore, Opening};
+use store_reports::{Results, Rows, alone_lines, rows_of, say, write};
+
+/// Says lines on standard error.
+pub(crate) fn say_all(rt: &HostRuntime, lines: Vec<String>) -> Result<(), AllocError> {
+    for line in lines {
+        say(rt, Ok(line))?;
+    }
+    Ok(())
+}
+
+/// Says how many files are named as fragments and are of no stripe, with the first one's name or with all names. Where memory is refused
+/// the work goes on.
+pub(crate) fn say_alone(rt: &HostRuntime, store: &OpenStore, opening: &Opening<'_>, all: bool) {
+    let files = store.found.alone.as_slice();
+    let lines = alone_lines(rt.alloc(), &opening.pattern, store.code, files, all);
+    let _ = match lines {
+        Ok(lines) => say_all(rt, lines),
+        Err(error) => Err(error),
+    };
+}
+
+/// Says a summary, which is on standard output, but where rows are there.
+pub(crate) fn say_summary(rt: &HostRuntime, summary: String, has_rows: bool) -> io::Result<()> {
+    if has_rows {
+        say(rt, Ok(summary))?;
+        return Ok(());
+    }
+    write(rt, Ok(summary))
+}
+
+/// Writes the rows of a report to where they are asked for. Says whether the report could be written.
+pub(crate) fn say_rows(
+    rt: &HostRuntime,
+    results: &Results<'_>,
+    test: &TestOptions<'_>,
+) -> io::Result<bool> {
+    if test.json {
+        let rows = rows_of(rt.alloc(), results, Rows::Json)?;
+        print!(rt; "{rows}")?;
+    }
+    let Some(path) = test.report else {
+        return Ok(true);
+    };
+    let rows = rows_of(rt.alloc(), results, Rows::Csv)?;
+    match write_report(rt, path, rows.as_str()) {
+        Ok(()) => Ok(true),
+        Err(error) if error.kind() == ErrorKind::OutOfMemory => Err(error),
+        Err(error) => {
+            say(
+                rt,
+                format!(in rt.alloc();
+                    "rebuild-store: {path}: the report can't be written: {error}"
+                ),
+            )?;
+            Ok(false)
+        }
+    }
+}

@@ -1,0 +1,128 @@
+//! Threads that work on stripes side by side.
+pub(crate) mod progress;
+
+use lrc_code::Code;
+use progress::Progress;
+use std::alloc::{AllocError, Global};
+use std::sync::atomic::{AtomicUsize, Ordering};
+use std::thread;
+use std::thread::Threads;
+use store_files::{CopyWork, tend_descriptions};
+use store_folder::{FolderStore, SeparateStore, Site, SystemFolder};
+use store_opening::OpenStore;
+use store_repair::{Outcome, Repair, Stripe, plan_stripe, repair_stripe, scrub_stripe};
+use store_reports::{Contents, Done, without_left};
+
+/// What is done with each stripe.
+#[derive(Clone, Copy)]
+pub(crate) enum Work<'p, 'r> {
+    Repair(Repair, &'p Progress<'r>),
+    Plan(Repair),
+    Scrub(Code),
+}
+
+/// The stripes of an open store that are worked on, and where they are.
+#[derive(Clone, Copy)]
+pub(crate) struct Stripes<'a> {
+    pub(crate) store: &'a OpenStore,
+    pub(crate) site: &'a Site<'a>,
+    pub(crate) all: &'a [Stripe<'a>],
+}
+
+impl<'a> Stripes<'a> {
+    /// What is in their store.
+    pub(crate) fn contents(&self) -> Contents<'a> {
+        Contents {
+            stripes: self.all,
+            alone: self.store.found.alone.as_slice(),
+            has_unlisted: self.store.has_unlisted,
+        }
+    }
+}
+
+impl Work<'_, '_> {
+    // What is done with the copies of descriptions.
+    fn with_copies(&self) -> CopyWork {
+        match self {
+            Work::Repair(repair, _) => CopyWork::Make {
+                replaces: repair.replace_damaged,
+            },
+            Work::Plan(repair) => CopyWork::Plan {
+                replaces: repair.replace_damaged,
+            },
+            Work::Scrub(_) => CopyWork::Name,
+        }
+    }
+}
+
+/// Does some work with each stripe, in so many threads at most, and gives the outcomes in the order of the stripes.
+pub(crate) fn work_on<R: Threads + Sync>(
+    rt: &R,
+    system: &HostRuntime,
+    stripes: &Stripes<'_>,
+    work: Work<'_, '_>,
+    workers: usize,
+) -> Result<Vec<Done>, AllocError> {
+    let next = AtomicUsize::new(0);
+    let worker = |_worker: usize| { take_stripes(system, stripes, work, &next) };
+    let parts = thread::map_indices(rt, system.alloc(), workers, &worker)?;
+    let mut all = Vec::with_capacity(system.alloc(), stripes.all.len())?;
+    for part in parts {
+        for done in part? {
+            all.push(done)?;
+        }
+    }
+    all.sort_by_key(|done| done.index)?;
+    Ok(all)
+}
+
+// Takes one stripe after the other, each the next that no thread has taken.
+fn take_stripes(
+    system: &HostRuntime,
+    stripes: &Stripes<'_>,
+    work: Work<'_, '_>,
+    next: &AtomicUsize,
+) -> Result<Vec<Done>, AllocError> {
+    let mut all = Vec::new(system.alloc());
+    let mut store = SeparateStore::new(FolderStore::new(system, *stripes.site));
+    for _turn in 0..stripes.all.len() {
+        let index = next.fetch_add(1, Ordering::SeqCst);
+        let Some(stripe) = stripes.all.get(index) else {
+            break;
+        };
+        let outcome = outcome_of(system.alloc(), &mut store, work, stripe)?;
+        let descriptions = if stripes.store.found.described.contains(stripe.name) {
+            let copies = work.with_copies();
+            Some(tend_descriptions(system, stripes.site, stripe.name, copies)?)
+        } else {
+            None
+        };
+        all.push(Done {
+            index,
+            outcome,
+            descriptions,
+        })?;
+    }
+    Ok(all)
+}
+
+// Does the work with the fragments of a stripe.
+fn outcome_of(
+    alloc: Global,
+    store: &mut SeparateStore<'_, SystemFolder<'_>>,
+    work: Work<'_, '_>,
+    stripe: &Stripe<'_>,
+) -> Result<Outcome, AllocError> {
+    match work {
+        Work::Repair(repair, progress) => {
+            let outcome = repair_stripe(alloc, store, &repair, stripe)?;
+            progress.count(&outcome);
+            Ok(outcome)
+        }
+        Work::Plan(repair) => {
+            let plan = plan_stripe(alloc, store, &repair, stripe)?;
+            without_left(alloc, &repair, stripe, plan)
+        }
+        Work::Scrub(code) => scrub_stripe(alloc, store, code, stripe),
+    }
+}

@@ -1,0 +1,82 @@
+//! The program's definition, and the command that its arguments name.
+use crate::encode::{self, EncodeOptions};
+use crate::faults::UsageFault;
+use crate::lost::{self, LostOptions};
+use crate::read::{self, ReadOptions};
+use crate::repair::{self, RepairOptions};
+use crate::scrub::{self, ScrubOptions};
+use clap::error::ErrorKind;
+use clap::{ArgMatches, Command as Definition, Error as ParseError};
+use std::alloc::{AllocError, Global};
+
+const VERSION: &str = "0.1.0";
+
+const ABOUT: &str = "Makes a store of erasure-coded stripes whole after fragments were lost.";
+
+const AFTER_HELP: &str = "\
+A store is a folder with a file <stripe>.<place> for each fragment, as note.x1.
+Places: x0 x1 x2 y0 y1 y2 px py p0 p1; 12-2-2 has x3 x4 x5 y3 y4 y5 too.
+Exit status: 0 the store is whole, 1 something is left, 2 usage, 3 device, 4 memory.";
+
+const NO_COMMAND: &str =
+    "error: rebuild-store takes a command\n\nFor more information, try '--help'.\n";
+
+/// What the arguments ask for.
+#[derive(Debug, Drop)]
+pub enum Command<'a> {
+    Repair(RepairOptions<'a>),
+    Lost(LostOptions<'a>),
+    Scrub(ScrubOptions<'a>),
+    Encode(EncodeOptions<'a>),
+    Read(ReadOptions<'a>),
+    /// To show this text: help, or the version.
+    Help(String),
+}
+
+/// What arguments ask for; the program's name is not among them.
+pub fn read_arguments<'a>(
+    alloc: Global,
+    arguments: &'a [String],
+) -> Result<Command<'a>, UsageFault> {
+    match program(alloc)?.try_get_matches_from(arguments) {
+        Ok(matches) => command_of(alloc, &matches),
+        Err(error) => shown(alloc, &error),
+    }
+}
+
+// The definition of the program.
+fn program<'a>(alloc: Global) -> Result<Definition<'a>, AllocError> {
+    Definition::new(alloc, "rebuild-store")
+        .no_binary_name(true)
+        .version(VERSION)
+        .about(ABOUT)
+        .after_help(AFTER_HELP)
+        .subcommand(repair::definition(alloc)?)?
+        .subcommand(lost::definition(alloc)?)?
+        .subcommand(scrub::definition(alloc)?)?
+        .subcommand(encode::definition(alloc)?)?
+        .subcommand(read::definition(alloc)?)
+}
+
+// The command that matches name.
+fn command_of<'a>(alloc: Global, matches: &ArgMatches<'a>) -> Result<Command<'a>, UsageFault> {
+    match matches.subcommand() {
+        Some(("repair", matches)) => Ok(Command::Repair(RepairOptions::of(matches)?)),
+        Some(("lost", matches)) => Ok(Command::Lost(LostOptions::of(matches)?)),
+        Some(("scrub", matches)) => Ok(Command::Scrub(ScrubOptions::of(matches)?)),
+        Some(("encode", matches)) => Ok(Command::Encode(EncodeOptions::of(alloc, matches)?)),
+        Some(("read", matches)) => Ok(Command::Read(ReadOptions::of(matches)?)),
+        _ => Err(UsageFault::Mistake(String::from_str(alloc, NO_COMMAND)?)),
+    }
+}
+
+// The text of help, of the version or of a mistake.
+fn shown<'a>(alloc: Global, error: &ParseError) -> Result<Command<'a>, UsageFault> {
+    match error.kind() {
+        ErrorKind::OutOfMemory => Err(UsageFault::OutOfMemory),
+        ErrorKind::DisplayHelp | ErrorKind::DisplayVersion => {
+            Ok(Command::Help(format!(in alloc; "{error}")?))
+        }
+        _ => Err(UsageFault::Mistake(format!(in alloc; "{error}")?)),
+    }
+}

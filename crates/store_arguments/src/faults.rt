@@ -1,0 +1,35 @@
+//! Why arguments are refused.
+use std::alloc::{AllocError, AllocFailed};
+use store_folder::PatternFault;
+use thiserror::Error;
+
+/// Why arguments are refused. The text of each is whole, and ends with a line feed.
+#[derive(Debug, Drop, Error)]
+pub enum UsageFault {
+    /// A mistake that the parser finds, or that no command is given.
+    #[error("{0}")]
+    Mistake(String),
+    #[error("error: {0}\n")]
+    BadPattern(PatternFault),
+    /// A pattern of names has the shards' numbers, which only a code gives.
+    #[error("error: names with {{shard}} need --code\n")]
+    NeedsCode,
+    #[error("error: --part takes I/N, with I from 1 to N\n")]
+    BadPart,
+    #[error("error: --workers takes a number from 1 to 16\n")]
+    BadWorkers,
+    #[error("out of memory")]
+    OutOfMemory,
+}
+
+impl From<AllocError> for UsageFault {
+    fn from(_error: AllocError) -> UsageFault {
+        UsageFault::OutOfMemory
+    }
+}
+
+impl<T: Drop> From<AllocFailed<T>> for UsageFault {
+    fn from(_failed: AllocFailed<T>) -> UsageFault {
+        UsageFault::OutOfMemory
+    }
+}

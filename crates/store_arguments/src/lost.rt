@@ -1,0 +1,33 @@
+//! The command `lost`.
+use crate::faults::UsageFault;
+use crate::shared::definitions::flag;
+use crate::shared::store::{StoreOptions, over_store};
+use clap::{ArgMatches, Command as Definition};
+use std::alloc::{AllocError, Global};
+
+const ABOUT: &str = "Writes the request list of what is lost";
+
+const JSON_HELP: &str = "Write the requests as JSON, an object on each line";
+
+/// What `lost` is given.
+#[derive(Clone, Copy, Debug)]
+pub struct LostOptions<'a> {
+    pub store: StoreOptions<'a>,
+    /// Whether requests are JSON, and not a list.
+    pub json: bool,
+}
+
+/// The definition of the command.
+pub(crate) fn definition<'a>(alloc: Global) -> Result<Definition<'a>, AllocError> {
+    over_store(alloc, "lost", ABOUT)?.arg(flag(alloc, "json", JSON_HELP))
+}
+
+impl<'a> LostOptions<'a> {
+    /// What matches ask for.
+    pub(crate) fn of(matches: &ArgMatches<'a>) -> Result<LostOptions<'a>, UsageFault> {
+        Ok(LostOptions {
+            store: StoreOptions::of(matches)?,
+            json: matches.get_flag("json"),
+        })
+    }
+}

@@ -1,0 +1,44 @@
+//! The command `read`.
+use crate::faults::UsageFault;
+use crate::shared::definitions::{follow, store, word};
+use crate::shared::naming::{Naming, links_of, with_names};
+use clap::{ArgMatches, Command as Definition};
+use lrc_code::Code;
+use std::alloc::{AllocError, Global};
+use store_folder::Links;
+
+const ABOUT: &str = "Writes a file to standard output, also while fragments are lost";
+
+const NAME_HELP: &str = "Name of the file";
+
+/// What `read` is given.
+#[derive(Clone, Copy, Debug)]
+pub struct ReadOptions<'a> {
+    /// The path of the store's folder.
+    pub folder: &'a str,
+    /// The name of the file, which is its stripe's.
+    pub name: &'a str,
+    pub naming: Naming<'a>,
+    pub links: Links,
+}
+
+/// The definition of the command.
+pub(crate) fn definition<'a>(alloc: Global) -> Result<Definition<'a>, AllocError> {
+    let read = Definition::new(alloc, "read")
+        .about(ABOUT)
+        .arg(store(alloc))?
+        .arg(word(alloc, "name", "NAME", NAME_HELP))?;
+    with_names(alloc, read)?.arg(follow(alloc))
+}
+
+impl<'a> ReadOptions<'a> {
+    /// What matches ask for. The description says the code, so that names may have the numbers of shards.
+    pub(crate) fn of(matches: &ArgMatches<'a>) -> Result<ReadOptions<'a>, UsageFault> {
+        Ok(ReadOptions {
+            folder: matches.get_str("store").unwrap_or("."),
+            name: matches.get_str("name").unwrap_or(""),
+            naming: Naming::of(matches, Some(Code::Wide))?,
+            links: links_of(matches),
+        })
+    }
+}

@@ -1,0 +1,82 @@
+//! The command `repair`.
+use crate::faults::UsageFault;
+use crate::shared::definitions::{flag, text, trust};
+use crate::shared::store::{StoreOptions, over_store};
+use crate::shared::testing::{TestOptions, with_rows, workers};
+use clap::{ArgMatches, Command as Definition};
+use std::alloc::{AllocError, Global};
+use store_repair::Reads;
+
+const ABOUT: &str = "Rebuilds each lost fragment and puts it in its place";
+
+const DRY_RUN_HELP: &str = "Only say what would be done";
+
+const REPLACE_HELP: &str =
+    "Replace fragments that are damaged or have another length; keep them as <name>.damaged";
+
+const ASSUME_HELP: &str =
+    "Take a fragment for the damaged one if it alone may be, a guess that no check covers";
+
+const TO_HELP: &str = "Write the rebuilt fragments to this folder and not into the store";
+
+const READS_HELP: &str =
+    "The survivors that are read: all, so that damage shows, or as few as are needed";
+
+const READS: &[&str] = &["all", "few"];
+
+/// What `repair` is given.
+#[derive(Clone, Copy, Debug)]
+pub struct RepairOptions<'a> {
+    pub store: StoreOptions<'a>,
+    pub test: TestOptions<'a>,
+    pub reads: Reads,
+    pub dry_run: bool,
+    pub replace_damaged: bool,
+    /// Whether the only survivor without which the others belong together is taken for the damaged one.
+    pub assume_one_damaged: bool,
+    /// The folder that rebuilt fragments are written to, if that isn't the store's.
+    pub to: Option<&'a str>,
+    /// Whether root works in folders that others may write into.
+    pub trusts_writers: bool,
+}
+
+/// The definition of the command.
+pub(crate) fn definition<'a>(alloc: Global) -> Result<Definition<'a>, AllocError> {
+    let reads = text(alloc, "reads", "WHICH", READS_HELP)
+        .value_parser(READS)
+        .default_value("all");
+    let repair = over_store(alloc, "repair", ABOUT)?
+        .arg(workers(alloc))?
+        .arg(flag(alloc, "dry-run", DRY_RUN_HELP))?
+        .arg(flag(alloc, "replace-damaged", REPLACE_HELP))?
+        .arg(flag(alloc, "assume-one-damaged", ASSUME_HELP))?
+        .arg(text(alloc, "to", "FOLDER", TO_HELP))?
+        .arg(trust(alloc))?
+        .arg(reads)?;
+    with_rows(alloc, repair)
+}
+
+impl<'a> RepairOptions<'a> {
+    /// What matches ask for.
+    pub(crate) fn of(matches: &ArgMatches<'a>) -> Result<RepairOptions<'a>, UsageFault> {
+        let test = TestOptions::of(matches)?;
+        Ok(RepairOptions {
+            store: StoreOptions::of(matches)?,
+            test,
+            reads: reads_of(matches.get_str("reads")),
+            dry_run: matches.get_flag("dry-run"),
+            replace_damaged: matches.get_flag("replace-damaged"),
+            assume_one_damaged: matches.get_flag("assume-one-damaged"),
+            to: matches.get_str("to"),
+            trusts_writers: matches.get_flag("trust-writers"),
+        })
+    }
+}
+
+// Which survivors are read, by a name that the parser let pass.
+fn reads_of(name: Option<&str>) -> Reads {
+    match name {
+        Some("few") => Reads::Few,
+        _ => Reads::All,
+    }
+}

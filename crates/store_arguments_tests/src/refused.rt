@@ -1,0 +1,108 @@
+//! Arguments that are refused, each with the whole text that is said.
+use crate::words::words_of;
+use std::io;
+use store_arguments::read_arguments;
+
+// The texts of the parser are those of clap, of whose usage each command's line is one.
+const REFUSALS: [(&str, &str); 20] = [
+    (
+        "",
+        "error: rebuild-store takes a command\n\nFor more information, try '--help'.\n",
+    ),
+    (
+        "mix s",
+        "error: unrecognized subcommand 'mix'\n\nUsage: rebuild-store [COMMAND]\n\nFor more information, try '--help'.\n",
+    ),
+    (
+        "lost",
+        "error: the following required arguments were not provided:\n  <STORE>\n\n\
+         Usage: lost <STORE>\n\nFor more information, try '--help'.\n",
+    ),
+    (
+        "encode s",
+        "error: the following required arguments were not provided:\n  <FILE>...\n\n\
+         Usage: encode <STORE> <FILE>...\n\nFor more information, try '--help'.\n",
+    ),
+    (
+        "read s",
+        "error: the following required arguments were not provided:\n  <NAME>\n\n\
+         Usage: read <STORE> <NAME>\n\nFor more information, try '--help'.\n",
+    ),
+    (
+        "scrub --dry-run s",
+        "error: unexpected argument '--dry-run' found\n\n\x20\
+         \x20tip: to pass '--dry-run' as a value, use '-- --dry-run'\n\n\
+         Usage: scrub [OPTIONS] <STORE>\n\nFor more information, try '--help'.\n",
+    ),
+    (
+        "lost --workers 2 s",
+        "error: unexpected argument '--workers' found\n\n\x20\
+         \x20tip: to pass '--workers' as a value, use '-- --workers'\n\n\
+         Usage: lost [OPTIONS] <STORE>\n\nFor more information, try '--help'.\n",
+    ),
+    (
+        "repair --code 6-3 s",
+        "error: invalid value '6-3' for '--code <CODE>'\n  [possible values: 6-2-2, 12-2-2]\n\nFor more information, try '--help'.\n",
+    ),
+    (
+        "repair --reads some s",
+        "error: invalid value 'some' for '--reads <WHICH>'\n  [possible values: all, few]\n\nFor more information, try '--help'.\n",
+    ),
+    (
+        "read --layout zig s n",
+        "error: invalid value 'zig' for '--layout <LAYOUT>'\n  [possible values: plain, groups]\n\nFor more information, try '--help'.\n",
+    ),
+    (
+        "repair --workers 0 s",
+        "error: --workers takes a number from 1 to 16\n",
+    ),
+    (
+        "scrub --workers=17 s",
+        "error: --workers takes a number from 1 to 16\n",
+    ),
+    (
+        "repair --part 0/3 s",
+        "error: --part takes I/N, with I from 1 to N\n",
+    ),
+    (
+        "lost --part 4/3 s",
+        "error: --part takes I/N, with I from 1 to N\n",
+    ),
+    (
+        "scrub --part 3 s",
+        "error: --part takes I/N, with I from 1 to N\n",
+    ),
+    (
+        "scrub --part a/b s",
+        "error: --part takes I/N, with I from 1 to N\n",
+    ),
+    (
+        "repair --names d{shard}/{stripe} s",
+        "error: names with {shard} need --code\n",
+    ),
+    (
+        "repair --names {stripe} s",
+        "error: the pattern of names needs {stripe} once, and {place} or {shard} once\n",
+    ),
+    (
+        "encode --names /{stripe}.{place} s f",
+        "error: the pattern of names is no name below the store's folder\n",
+    ),
+    (
+        "read --names {stripe}{shard} s n",
+        "error: the pattern of names needs something that is no digit between {stripe} and {shard}\n",
+    ),
+];
+
+#[test]
+fn refusals_say_why(rt: HostRuntime) -> io::Result<()> {
+    for (line, text) in REFUSALS {
+        let words = words_of(rt.alloc(), line)?;
+        let said = match read_arguments(rt.alloc(), words.as_slice()) {
+            Ok(_) => String::new(rt.alloc()),
+            Err(fault) => format!(in rt.alloc(); "{fault}")?,
+        };
+        assert_eq!(rt; said.as_str(), text, "at {line}");
+    }
+    Ok(())
+}

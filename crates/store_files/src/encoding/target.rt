@@ -1,0 +1,54 @@
+//! The store that files are encoded into.
+use lrc_code::{Code, Place};
+use std::alloc::{AllocError, Global};
+use store_folder::{Links, Pattern, Sums, description_names, first_description_name, path_in};
+use store_reports::fragment_name;
+
+/// A store that files are encoded into, and the digests of what is in it.
+#[derive(Drop)]
+pub struct Target<'a> {
+    pub folder: &'a str,
+    pub pattern: Pattern<'a>,
+    pub code: Code,
+    pub sums: Sums,
+    /// Whether the digests are others than those in the store's file of them.
+    pub is_changed: bool,
+    pub links: Links,
+}
+
+impl Target<'_> {
+    /// The names in the store of a stripe's fragments, in the order of the code's places.
+    pub(crate) fn names(&self, alloc: Global, stripe: &str) -> Result<Vec<String>, AllocError> {
+        let mut names = Vec::new(alloc);
+        for place in self.code.places() {
+            names.push(self.name_of(alloc, stripe, *place)?)?;
+        }
+        Ok(names)
+    }
+
+    /// The name in the store of a stripe's fragment at a place.
+    pub(crate) fn name_of(
+        &self,
+        alloc: Global,
+        stripe: &str,
+        place: Place,
+    ) -> Result<String, AllocError> {
+        fragment_name(alloc, &self.pattern, self.code, stripe, place)
+    }
+
+    /// The names in the store of the copies of a stripe's description, also of the one in a store that was made before.
+    pub(crate) fn descriptions(
+        &self,
+        alloc: Global,
+        stripe: &str,
+    ) -> Result<Vec<String>, AllocError> {
+        let mut names = description_names(alloc, &self.pattern, self.code, stripe)?;
+        names.push(first_description_name(alloc, stripe)?)?;
+        Ok(names)
+    }
+
+    /// The path of a name in the store.
+    pub(crate) fn path(&self, alloc: Global, name: &str) -> Result<String, AllocError> {
+        path_in(alloc, self.folder, name)
+    }
+}

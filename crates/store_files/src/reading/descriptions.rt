@@ -1,0 +1,77 @@
+//! What the copies of a file's description say.
+use crate::reading::file::StoredFile;
+use lrc_code::Code;
+use std::alloc::Global;
+use std::io::ErrorKind;
+use store_folder::{
+    Described, description_names, first_description_name, path_in, read_description,
+};
+use store_reports::{FileFault, device, say};
+
+/// What the copies of a file's description say, each once, first what most say.
+pub(crate) fn descriptions_of(
+    rt: &HostRuntime,
+    file: &StoredFile<'_>,
+) -> Result<Vec<Described>, FileFault> {
+    let alloc = rt.alloc();
+    let name = file.name;
+    let mut names = description_names(alloc, &file.pattern, Code::Wide, name)?;
+    let first = first_description_name(alloc, name)?;
+    if !names.iter().any(|other| other.as_str() == first.as_str()) {
+        names.push(first)?;
+    }
+    let mut said = Vec::new(alloc);
+    let mut refused = None;
+    for copy in &names {
+        match description_at(rt, file, copy.as_str()) {
+            Ok(Some(described)) => said.push(described)?,
+            Ok(None) => {}
+            Err(FileFault::OutOfMemory) => return Err(FileFault::OutOfMemory),
+            Err(fault) => {
+                let _ = say(rt, format!(in rt.alloc(); "rebuild-store: {fault}"));
+                refused = Some(fault);
+            }
+        }
+    }
+    match refused {
+        Some(fault) if said.is_empty() => Err(fault),
+        None if said.is_empty() => Err(FileFault::Refused {
+            what: format!(in alloc;
+                "{name}: no description is there, as {name}.file, so nothing says how long it is"
+            )?,
+        }),
+        _ => in_order(alloc, said.as_slice()),
+    }
+}
+
+// What descriptions say, each once, first what most say.
+fn in_order(alloc: Global, said: &[Described]) -> Result<Vec<Described>, FileFault> {
+    let mut order = Vec::new(alloc);
+    for votes in (1..=said.len()).rev() {
+        for described in said {
+            let count = said.iter().filter(|other| **other == *described).count();
+            if count == votes && !order.iter().any(|other| *other == *described) {
+                order.push(*described)?;
+            }
+        }
+    }
+    Ok(order)
+}
+
+// The description in a copy; none where there is none.
+fn description_at(
+    rt: &HostRuntime,
+    file: &StoredFile<'_>,
+    copy: &str,
+) -> Result<Option<Described>, FileFault> {
+    let alloc = rt.alloc();
+    let path = path_in(alloc, file.folder, copy)?;
+    match read_description(rt, path.as_str(), file.links) {
+        Ok(Some(described)) => Ok(Some(described)),
+        Ok(None) => Err(FileFault::Refused {
+            what: format!(in alloc; "{path}: isn't a line with a length, a digest and a code")?,
+        }),
+        Err(error) if error.kind() == ErrorKind::NotFound => Ok(None),
+        Err(error) => Err(device(alloc, path.as_str(), error)),
+    }
+}

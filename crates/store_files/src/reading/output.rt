@@ -1,0 +1,77 @@
+//! The file on standard output.
+ghost use Rattle.std.specs.Prelude.{◌≡◌, None, vec_len};
+
+use crate::reading::file::Sought;
+use crate::reading::fragments::{Fragments, survivors_of};
+use lrc_code::PlaceSet;
+use sha2::{Digest as _, Sha256};
+use std::alloc::Global;
+use std::io::{self, BufWriter, Write};
+use store_repair::{MendFault, NewFragment, read_file};
+use store_reports::{FileFault, device};
+
+// What writes to standard output, and the digest of what was written.
+#[derive(Drop)]
+struct Output<W> {
+    writer: W,
+    digest: Sha256,
+}
+
+impl<W: Write> NewFragment for Output<W> {
+    ghost shown = { λ _. None };
+
+    fn append(&mut self, bytes: &[u8]) -> io::Result<()> {
+        self.digest.update(bytes);
+        self.writer.write_all(bytes)
+    }
+}
+
+/// Writes the file to standard output.
+pub(crate) fn write_out(
+    rt: &HostRuntime,
+    sought: &Sought<'_>,
+    fragments: &Fragments,
+    set: PlaceSet,
+) -> Result<(), FileFault>
+    requires { vec_len fragments.now.opened ≡ 16 }
+{
+    let alloc = rt.alloc();
+    let writer = BufWriter::new(alloc, io::writer(rt)).map_err(|error| device(
+        alloc,
+        "standard output",
+        error,
+    ))?;
+    let mut output = Output {
+        writer,
+        digest: Sha256::new(),
+    };
+    let survivors = survivors_of(sought, fragments, set);
+    let file_bytes = sought.described.length as usize;
+    match read_file(alloc, &survivors, file_bytes, &mut output) {
+        Ok(()) => ended(alloc, sought, output),
+        Err(MendFault::Unwritten { error, .. }) => Err(device(alloc, "standard output", error)),
+        Err(MendFault::Unread { error, .. }) => Err(device(alloc, sought.file.name, error)),
+        Err(_) => Err(FileFault::OutOfMemory),
+    }
+}
+
+// Ends the output, which is the file that is described unless a fragment has changed since it was tested.
+fn ended<W: Write + Drop>(
+    alloc: Global,
+    sought: &Sought<'_>,
+    output: Output<W>,
+) -> Result<(), FileFault> {
+    let Output { writer, digest } = output;
+    let mut writer = writer;
+    writer
+        .flush()
+        .map_err(|error| device(alloc, "standard output", error))?;
+    let written = digest.finalize();
+    if written != sought.described.digest {
+        let error = io::Error::other(
+            "a fragment changed meanwhile: what was written isn't the file",
+        );
+        return Err(device(alloc, sought.file.name, error));
+    }
+    Ok(())
+}

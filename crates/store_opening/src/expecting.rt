@@ -1,0 +1,82 @@
+//! What has to be in a store: what a list of stripes names, and the digests.
+use crate::opening::Opening;
+use std::fs;
+use std::io::{self, BufRead, BufReader, ErrorKind};
+use store_folder::{
+    Links, Listing, SUMS_NAME, Sums, SumsFault, Wanted, expect_listed, look_at, path_in, read_sums,
+};
+use store_reports::{StoreFault, device_fault, say};
+
+/// Notes what has to be there by a list, the digests and what these name, and gives the digests.
+pub(crate) fn expected(
+    rt: &HostRuntime,
+    opening: &Opening<'_>,
+    wanted: &Wanted<'_>,
+    listing: &mut Listing,
+) -> Result<Option<Sums>, StoreFault> {
+    if let Some(path) = opening.stripes {
+        expect_stripes(rt, listing, path)?;
+    }
+    let sums = sums_of(rt, opening)?;
+    if let Some(sums) = &sums {
+        let names = &mut listing.names;
+        let count = expect_listed(rt.alloc(), sums, &wanted.pattern, wanted.code, names)?;
+        say_strange_sums(rt, opening, count);
+    }
+    Ok(sums)
+}
+
+// Says that digests which were given are of no file of the store.
+fn say_strange_sums(rt: &HostRuntime, opening: &Opening<'_>, expected: u64) {
+    if let (Some(path), 0) = (opening.sums, expected) {
+        let _ = say(
+            rt,
+            format!(in rt.alloc(); "rebuild-store: {path}: names no file of the store"),
+        );
+    }
+}
+
+// Adds the stripes that a file names, one on each line.
+fn expect_stripes(rt: &HostRuntime, listing: &mut Listing, path: &str) -> Result<(), StoreFault> {
+    match read_names(rt, listing, path) {
+        Ok(()) => Ok(()),
+        Err(error) => Err(device_fault(String::from_str(rt.alloc(), path)?, error)),
+    }
+}
+
+fn read_names(rt: &HostRuntime, listing: &mut Listing, path: &str) -> io::Result<()> {
+    let alloc = rt.alloc();
+    for line in BufReader::new(alloc, fs::open(rt, path)?)?.lines(alloc) {
+        let line = line?;
+        let name = line.as_str().trim_end_matches('\r');
+        if !name.is_empty() {
+            listing.names.expect(alloc, name)?;
+        }
+    }
+    Ok(())
+}
+
+// The checksums that the opening name, or those in the store.
+fn sums_of(rt: &HostRuntime, opening: &Opening<'_>) -> Result<Option<Sums>, StoreFault> {
+    let alloc = rt.alloc();
+    let (path, links) = match opening.sums {
+        Some(path) => (String::from_str(alloc, path)?, Links::Followed),
+        None => {
+            let path = path_in(alloc, opening.folder, SUMS_NAME)?;
+            match look_at(rt, path.as_str(), opening.links) {
+                Ok(metadata) if metadata.is_file() || metadata.is_symlink() => (
+                    path,
+                    opening.links,
+                ),
+                Ok(_) => return Ok(None),
+                Err(error) if error.kind() == ErrorKind::NotFound => return Ok(None),
+                Err(error) => return Err(device_fault(path, error)),
+            }
+        }
+    };
+    match read_sums(rt, path.as_str(), links) {
+        Ok(sums) => Ok(Some(sums)),
+        Err(SumsFault::OutOfMemory) => Err(StoreFault::OutOfMemory),
+        Err(fault) => Err(StoreFault::BadSums { path, fault }),
+    }
+}

@@ -1,0 +1,58 @@
+//! What runs that were killed have left: it is removed by the next run that writes to the same.
+use std::io;
+use store_folder::{Leftover, Listing, is_left_by, left_in, remove_leftover};
+use store_reports::say;
+
+/// Removes what a killed run with this tag has left in a folder that was listed, and in those that its links lead to. Each file that is
+/// removed, or can't be, is named. Says whether all could be.
+pub fn remove_leftovers(rt: &HostRuntime, listing: &Listing, tag: &str) -> io::Result<bool> {
+    let mut are_removed = true;
+    for path in &listing.leftovers {
+        if is_left_by(last_of(path.as_str()), tag) {
+            are_removed = remove(rt, path.as_str(), true)? && are_removed;
+        }
+    }
+    for folder in &listing.linked {
+        // A folder that isn't there has nothing.
+        let Ok(paths) = left_in(rt, folder.as_str(), tag) else {
+            continue;
+        };
+        for path in &paths {
+            are_removed = remove(rt, path.as_str(), false)? && are_removed;
+        }
+    }
+    Ok(are_removed)
+}
+
+// Removes a file, and says so. Says whether it could be removed, or is to stay.
+fn remove(rt: &HostRuntime, path: &str, is_known_dead: bool) -> io::Result<bool> {
+    match remove_leftover(rt, path, is_known_dead) {
+        Leftover::Removed => {
+            say(
+                rt,
+                format!(in rt.alloc();
+                    "rebuild-store: {path}: was left by a run that was killed, and is removed"
+                ),
+            )?;
+            Ok(true)
+        }
+        Leftover::Kept => Ok(true),
+        Leftover::Refused(error) => {
+            say(
+                rt,
+                format!(in rt.alloc();
+                    "rebuild-store: {path}: is left over, and can't be removed: {error}"
+                ),
+            )?;
+            Ok(false)
+        }
+    }
+}
+
+// The last part of a path.
+fn last_of(path: &str) -> &str {
+    match path.rsplit_once('/') {
+        Some((_, last)) => last,
+        None => path,
+    }
+}

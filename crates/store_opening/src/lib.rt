@@ -1,0 +1,26 @@
+//! Opening a store: its locks, its listing, what has to be in it and its code, and why one is refused; and what killed runs have left.
+//!
+//! ```rust
+//! let store = open_store(&rt, &opening)?;
+//! let stripes = store.stripes(&rt)?;
+//! let site = store.site_of(&opening);
+//! store.locks.release(&rt)?;
+//! ```
+#![tactic(auto)]
+
+mod expecting;
+mod fitting;
+mod leftovers;
+mod locks;
+mod opening;
+mod refusing;
+mod stores;
+mod unlisted;
+
+pub use fitting::refuse_other_stores;
+pub use leftovers::remove_leftovers;
+pub use locks::{Locks, lock_folder};
+pub use opening::{Access, Opening};
+pub use refusing::{other_than, refuse_untrusted};
+pub use stores::{OpenStore, open_store};
+pub use unlisted::say_links;

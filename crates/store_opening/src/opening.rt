@@ -1,0 +1,34 @@
+//! What a store is opened for.
+use lrc_code::Code;
+use store_folder::{Links, Part, Pattern};
+
+/// A store that is to be opened, and for what.
+#[derive(Clone, Copy, Debug)]
+pub struct Opening<'a> {
+    /// The path of its folder.
+    pub folder: &'a str,
+    /// The code that is given; none where the places of the files are to say it.
+    pub code: Option<Code>,
+    /// The pattern of names as it was given.
+    pub names: &'a str,
+    pub pattern: Pattern<'a>,
+    pub links: Links,
+    /// The path of a file of stripes' names.
+    pub stripes: Option<&'a str>,
+    pub part: Option<Part>,
+    /// The path of a file of checksums.
+    pub sums: Option<&'a str>,
+    /// The path of the file that rows are to be written to.
+    pub report: Option<&'a str>,
+    /// The folder that rebuilt fragments are written to, if that isn't the store's.
+    pub to: Option<&'a str>,
+    pub access: Access,
+}
+
+/// Whether a store, or the folder that rebuilt fragments are written to, is written into.
+#[derive(Clone, Copy, Debug, PartialEq, Eq)]
+pub enum Access {
+    Reads,
+    /// It is, so that other runs are kept out. As root, a folder that others may write into is refused unless they are trusted.
+    Writes { trusts_writers: bool },
+}

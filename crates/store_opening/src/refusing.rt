@@ -1,0 +1,87 @@
+//! Why a store that was listed is refused.
+use crate::locks::other_parts_lock;
+use crate::opening::{Access, Opening};
+use lrc_code::Code;
+use std::fs;
+use std::os::unix::fs::MetadataExt;
+use store_folder::{Listing, Others};
+use store_reports::StoreFault;
+
+/// Refuses to write where others may write, or where a run works that divides the store into other parts, if anything is to be written.
+pub(crate) fn refuse_writing(
+    rt: &HostRuntime,
+    opening: &Opening<'_>,
+    listing: &Listing,
+) -> Result<(), StoreFault> {
+    let Access::Writes { trusts_writers } = opening.access else {
+        return Ok(());
+    };
+    if !trusts_writers {
+        refuse_untrusted(rt, listing)?;
+    }
+    let Some(part) = opening.part else {
+        return Ok(());
+    };
+    match other_parts_lock(rt, &part, listing.leftovers.as_slice()) {
+        Some(path) => Err(StoreFault::InUse {
+            folder: String::from_str(rt.alloc(), path)?,
+        }),
+        None => Ok(()),
+    }
+}
+
+/// Refuses a store all of whose stripes are of another code than the one that was given.
+pub(crate) fn refuse_other_code(
+    rt: &HostRuntime,
+    opening: &Opening<'_>,
+    listing: &Listing,
+    code: Code,
+) -> Result<(), StoreFault> {
+    if opening.code.is_none() || listing.names.of_another_code(code) != Others::All {
+        return Ok(());
+    }
+    Err(StoreFault::OtherCode {
+        folder: String::from_str(rt.alloc(), opening.folder)?,
+        other: other_than(code).text(),
+    })
+}
+
+/// The code that isn't this one.
+pub fn other_than(code: Code) -> Code {
+    match code {
+        Code::Narrow => Code::Wide,
+        Code::Wide => Code::Narrow,
+    }
+}
+
+/// Refuses a report that would be written over a file of the store.
+pub(crate) fn refuse_report(
+    rt: &HostRuntime,
+    opening: &Opening<'_>,
+    listing: &Listing,
+    target: Option<&Listing>,
+) -> Result<(), StoreFault> {
+    let is_there = listing.is_watched || target.is_some_and(|target| target.is_watched);
+    match opening.report {
+        Some(path) if is_there => Err(StoreFault::ReportInStore {
+            path: String::from_str(rt.alloc(), path)?,
+        }),
+        _ => Ok(()),
+    }
+}
+
+/// Refuses a folder that others than root may write into, where root runs this.
+pub fn refuse_untrusted(rt: &HostRuntime, listing: &Listing) -> Result<(), StoreFault> {
+    let Some(foreign) = &listing.foreign else {
+        return Ok(());
+    };
+    // Who runs this owns what the system says of the process. Where that can't be seen it may be root.
+    let is_root = fs::metadata(rt, "/proc/self").map_or(true, |process| process.uid() == 0);
+    if !is_root {
+        return Ok(());
+    }
+    Err(StoreFault::Untrusted {
+        folder: String::from_str(rt.alloc(), foreign.folder.as_str())?,
+        user: foreign.user,
+    })
+}

@@ -1,0 +1,192 @@
+//! Stores: a folder, its code, and what is in it.
+use crate::expecting::expected;
+use crate::locks::Locks;
+use crate::opening::{Access, Opening};
+use crate::refusing::{refuse_other_code, refuse_report, refuse_writing};
+use crate::unlisted::{listed, say_unlisted};
+use lrc_code::Code;
+use std::alloc::AllocError;
+use std::mem;
+use store_folder::{
+    DESCRIPTION, Listing, Site, StoreStripes, StripeNames, Sums, Wanted, Watched, is_ambiguous,
+};
+use store_repair::Stripe;
+use store_reports::StoreFault;
+
+/// A store that is open.
+#[derive(Drop)]
+pub struct OpenStore {
+    pub folder: String,
+    pub code: Code,
+    pub listing: Listing,
+    /// Its stripes, and what is of none.
+    pub found: StoreStripes,
+    /// The digests that fragments have to have.
+    pub sums: Option<Sums>,
+    /// Keep other repairs out for as long as the store is open for one.
+    pub locks: Locks,
+    /// What is in the folder that rebuilt fragments are written to, if that isn't the store's.
+    pub target: Option<Listing>,
+    /// Whether a folder couldn't be listed that is there.
+    pub has_unlisted: bool,
+}
+
+/// Opens a store; where it is to be written into, no other run that writes works in it meanwhile. Its code is the one that is given, or
+/// else what the places of the files say: 12-2-2 where one of them is a place of that code alone.
+pub fn open_store(rt: &HostRuntime, opening: &Opening<'_>) -> Result<OpenStore, StoreFault> {
+    let locks = match opening.access {
+        Access::Writes { .. } => {
+            let target = opening.to.unwrap_or(opening.folder);
+            Locks::take(rt, target, opening.part)?
+        }
+        Access::Reads => Locks::none(rt.alloc()),
+    };
+    match open_locked(rt, opening) {
+        Ok(opened) => Ok(opened.with(locks)),
+        Err(fault) => {
+            let _ = locks.release(rt);
+            Err(fault)
+        }
+    }
+}
+
+// A store that is open, but for its locks.
+#[derive(Drop)]
+struct Unlocked {
+    folder: String,
+    code: Code,
+    listing: Listing,
+    found: StoreStripes,
+    target: Option<Listing>,
+    sums: Option<Sums>,
+    has_unlisted: bool,
+}
+
+impl Unlocked {
+    fn with(self, locks: Locks) -> OpenStore {
+        let Unlocked {
+            folder,
+            code,
+            listing,
+            found,
+            target,
+            sums,
+            has_unlisted,
+        } = self;
+        OpenStore {
+            folder,
+            code,
+            listing,
+            found,
+            sums,
+            locks,
+            target,
+            has_unlisted,
+        }
+    }
+}
+
+// Opens a store whose locks are taken.
+fn open_locked(rt: &HostRuntime, opening: &Opening<'_>) -> Result<Unlocked, StoreFault> {
+    let watched = match opening.report {
+        Some(path) => Watched::at(rt, path),
+        None => None,
+    };
+    let wanted = Wanted {
+        pattern: opening.pattern,
+        code: opening.code.unwrap_or(Code::Wide),
+        has_stripes: true,
+        part: opening.part,
+        links: opening.links,
+        watched: watched.as_ref(),
+    };
+    let mut listing = listed(rt, opening.folder, &wanted)?;
+    let target = listed_target(rt, opening, &wanted)?;
+    refuse_report(rt, opening, &listing, target.as_ref())?;
+    refuse_writing(rt, opening, target.as_ref().unwrap_or(&listing))?;
+    let sums = expected(rt, opening, &wanted, &mut listing)?;
+    let code = match opening.code {
+        Some(code) => code,
+        None => listing.names.code(),
+    };
+    refuse_other_code(rt, opening, &listing, code)?;
+    let has_unlisted = say_unlisted(rt, &listing, &opening.pattern, code)?;
+    let found = stripes_of(rt, opening, code, &mut listing)?;
+    Ok(Unlocked {
+        folder: String::from_str(rt.alloc(), opening.folder)?,
+        code,
+        listing,
+        found,
+        target,
+        sums,
+        has_unlisted,
+    })
+}
+
+// What runs have left in the folder that rebuilt fragments are written to, if that isn't the store's.
+fn listed_target(
+    rt: &HostRuntime,
+    opening: &Opening<'_>,
+    wanted: &Wanted<'_>,
+) -> Result<Option<Listing>, StoreFault> {
+    let Some(to) = opening.to else {
+        return Ok(None);
+    };
+    let left = Wanted {
+        has_stripes: false,
+        ..*wanted
+    };
+    Ok(Some(listed(rt, to, &left)?))
+}
+
+// The stripes of a store that was listed; it is refused where there are none.
+fn stripes_of(
+    rt: &HostRuntime,
+    opening: &Opening<'_>,
+    code: Code,
+    listing: &mut Listing,
+) -> Result<StoreStripes, StoreFault> {
+    let alloc = rt.alloc();
+    let names = mem::replace(&mut listing.names, StripeNames::new(alloc, None));
+    let is_empty = names.is_empty();
+    let ending = if is_ambiguous(alloc, &opening.pattern, code)? {
+        Some(DESCRIPTION)
+    } else {
+        None
+    };
+    let found = names.settled(alloc, code, ending)?;
+    if is_empty || (opening.part.is_none() && found.files.is_empty()) {
+        return Err(StoreFault::NoFragments {
+            folder: String::from_str(alloc, opening.folder)?,
+            names: String::from_str(alloc, opening.names)?,
+        });
+    }
+    Ok(found)
+}
+
+impl OpenStore {
+    /// The stripes, in the order of their names.
+    pub fn stripes(&self, rt: &HostRuntime) -> Result<Vec<Stripe<'_>>, AllocError> {
+        let mut stripes = Vec::with_capacity(rt.alloc(), self.found.files.len())?;
+        for (name, files) in self.found.files.iter() {
+            stripes.push(Stripe {
+                name: name.as_str(),
+                files: *files,
+            })?;
+        }
+        Ok(stripes)
+    }
+
+    /// Where the store is for a command that writes nothing into it.
+    pub fn site_of<'a>(&'a self, opening: &Opening<'a>) -> Site<'a> {
+        Site {
+            folder: self.folder.as_str(),
+            target: self.folder.as_str(),
+            pattern: opening.pattern,
+            code: self.code,
+            sums: self.sums.as_ref(),
+            tag: "",
+            links: opening.links,
+        }
+    }
+}

@@ -1,0 +1,67 @@
+//! Listing a folder, and what of it couldn't be listed.
+use lrc_code::Code;
+use std::alloc::AllocError;
+use std::io::ErrorKind;
+use store_folder::{Listing, Pattern, Unlisted, Wanted, is_folder_of, list};
+use store_reports::{StoreFault, device_fault, say};
+
+/// Lists a folder, and says which links weren't followed.
+pub(crate) fn listed(
+    rt: &HostRuntime,
+    folder: &str,
+    wanted: &Wanted<'_>,
+) -> Result<Listing, StoreFault> {
+    match list(rt, folder, wanted) {
+        Ok(listing) => {
+            say_links(rt, &listing);
+            Ok(listing)
+        }
+        Err(error) => Err(device_fault(String::from_str(rt.alloc(), folder)?, error)),
+    }
+}
+
+/// Says which folders couldn't be listed or aren't there, and whether one is there.
+pub(crate) fn say_unlisted(
+    rt: &HostRuntime,
+    listing: &Listing,
+    pattern: &Pattern<'_>,
+    code: Code,
+) -> Result<bool, AllocError> {
+    let mut is_there = false;
+    for Unlisted { name, path, error } in &listing.unlisted {
+        let kind = error.kind();
+        let is_gone = kind == ErrorKind::NotFound || kind == ErrorKind::NotADirectory;
+        if is_gone && !is_folder_of(rt.alloc(), pattern, code, "a", name.as_str())? {
+            continue;
+        }
+        is_there = is_there || !is_gone;
+        let _ = say(
+            rt,
+            format!(in rt.alloc();
+                "rebuild-store: {path}: {error}: what should be in it counts as lost"
+            ),
+        );
+    }
+    Ok(is_there)
+}
+
+/// Says how many links of a store weren't followed.
+pub fn say_links(rt: &HostRuntime, listing: &Listing) {
+    if let Some(path) = &listing.link {
+        let links = listing.links;
+        let _ = match links {
+            1 => say(
+                rt,
+                format!(in rt.alloc();
+                    "rebuild-store: {path}: is a link, and isn't followed without --follow-links"
+                ),
+            ),
+            _ => say(
+                rt,
+                format!(in rt.alloc();
+                    "rebuild-store: {path} and others are links, {links} in all, and aren't followed without --follow-links"
+                ),
+            ),
+        };
+    }
+}

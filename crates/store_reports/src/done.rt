@@ -1,0 +1,11 @@
+//! What became of a stripe.
+use crate::copies::Descriptions;
+use store_repair::Outcome;
+
+/// What became of the stripe of an index, and of its descriptions, if it has any.
+#[derive(Drop)]
+pub struct Done {
+    pub index: usize,
+    pub outcome: Outcome,
+    pub descriptions: Option<Descriptions>,
+}

@@ -1,0 +1,87 @@
+//! Why a file isn't encoded or read.
+use crate::faults::store::StoreFault;
+use crate::statuses::{DEVICE, LEFT, NO_MEMORY};
+use std::alloc::{AllocError, AllocFailed, Global};
+use std::io::{self, ErrorKind};
+use store_repair::MendFault;
+use thiserror::Error;
+
+/// Why a file isn't encoded or read.
+#[derive(Debug, Drop, Error)]
+pub enum FileFault {
+    #[error("out of memory")]
+    OutOfMemory,
+    /// It can't be done with what is there. The text says why.
+    #[error("{what}")]
+    Refused { what: String },
+    /// The system refused to read or write what is at a path.
+    #[error("{path}: {error}")]
+    Device { path: String, error: io::Error },
+    /// The store is refused.
+    #[error("{fault}")]
+    Store { fault: StoreFault },
+}
+
+impl From<AllocError> for FileFault {
+    fn from(_error: AllocError) -> FileFault {
+        FileFault::OutOfMemory
+    }
+}
+
+impl<T: Drop> From<AllocFailed<T>> for FileFault {
+    fn from(_failed: AllocFailed<T>) -> FileFault {
+        FileFault::OutOfMemory
+    }
+}
+
+impl From<StoreFault> for FileFault {
+    fn from(fault: StoreFault) -> FileFault {
+        match fault {
+            StoreFault::OutOfMemory => FileFault::OutOfMemory,
+            fault => FileFault::Store { fault },
+        }
+    }
+}
+
+/// What the system refused at a path.
+pub fn device(alloc: Global, path: &str, error: io::Error) -> FileFault {
+    if error.kind() == ErrorKind::OutOfMemory {
+        return FileFault::OutOfMemory;
+    }
+    match String::from_str(alloc, path) {
+        Ok(path) => FileFault::Device { path, error },
+        Err(AllocError) => FileFault::OutOfMemory,
+    }
+}
+
+/// What the system refused of the file at a path that is encoded, or that it was changed meanwhile.
+pub fn source_fault(alloc: Global, path: &str, error: io::Error) -> FileFault {
+    if error.kind() != ErrorKind::ResourceBusy {
+        return device(alloc, path, error);
+    }
+    match format!(in alloc; "{path}: changed while it was read") {
+        Ok(what) => FileFault::Refused { what },
+        Err(AllocError) => FileFault::OutOfMemory,
+    }
+}
+
+/// What the system refused of a file that is encoded from one path, or of its fragments, at the other.
+pub fn encode_fault(alloc: Global, source: &str, fragments: &str, fault: MendFault) -> FileFault {
+    match fault {
+        MendFault::OutOfMemory | MendFault::Several { .. } => FileFault::OutOfMemory,
+        MendFault::Unread { error, .. } => source_fault(alloc, source, error),
+        MendFault::Unwritten { error, .. } => device(alloc, fragments, error),
+    }
+}
+
+impl FileFault {
+    /// The exit status of a command that a fault ends.
+    pub fn status(&self) -> u8 {
+        match self {
+            FileFault::OutOfMemory => NO_MEMORY,
+            FileFault::Refused { .. } => LEFT,
+            FileFault::Device { .. } => DEVICE,
+            FileFault::Store { fault } => fault.status(),
+        }
+    }
+}

@@ -1,0 +1,53 @@
+//! What a repair would leave, of what it could rebuild.
+ghost use Rattle.std.specs.Prelude.{◌≡◌, ◌+◌, IfOk, vec_len};
+
+use std::alloc::{AllocError, Global};
+use store_folder::Found;
+use store_repair::{Finding, Outcome, Reason, Repair, Stripe};
+
+/// A plan without the fragments that a repair would leave, since something is under their names that it wouldn't replace: each of these is
+/// a finding instead.
+pub fn without_left(
+    alloc: Global,
+    repair: &Repair,
+    stripe: &Stripe<'_>,
+    plan: Outcome,
+) -> Result<Outcome, AllocError>
+    ensures once { IfOk result (λ p. vec_len p.rebuilt + vec_len p.findings ≡ vec_len plan.rebuilt + vec_len plan.findings) }
+{
+    let Outcome {
+        length,
+        survivors,
+        is_checked,
+        rebuilt: planned,
+        findings,
+    } = plan;
+    let mut findings = findings;
+    let mut rebuilt = Vec::new(alloc);
+    'places: for place in &planned {
+        let found = stripe.files.at(*place);
+        if is_left(repair, found, is_checked) {
+            let place = Some(*place);
+            let reason = Reason::of(found);
+            findings.push(Finding { place, reason })?;
+        } else {
+            rebuilt.push(*place)?;
+        }
+    }
+    Ok(Outcome {
+        length,
+        survivors,
+        is_checked,
+        rebuilt,
+        findings,
+    })
+}
+
+// Whether a repair leaves what is under the name of a fragment that it could rebuild.
+fn is_left(repair: &Repair, found: Found, is_checked: bool) -> bool {
+    match found {
+        Found::Absent | Found::Dangling => false,
+        Found::File { .. } => !repair.elsewhere && !(repair.replace_damaged && is_checked),
+        Found::Other | Found::Unknown { .. } => !repair.elsewhere,
+    }
+}

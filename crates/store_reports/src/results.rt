@@ -1,0 +1,56 @@
+//! What became of all stripes.
+use crate::done::Done;
+use crate::totals::{Totals, totals_of};
+use std::alloc::{AllocError, Global};
+use store_folder::{Alone, Site};
+use store_repair::Stripe;
+
+/// What is in a store.
+#[derive(Clone, Copy)]
+pub struct Contents<'a> {
+    pub stripes: &'a [Stripe<'a>],
+    /// The files that are named as fragments and are of no stripe.
+    pub alone: &'a [Alone],
+    /// Whether a folder couldn't be listed that is there.
+    pub has_unlisted: bool,
+}
+
+/// What a command did with the stripes of a store: of each stripe what became of it, and the counts over all.
+#[derive(Drop)]
+pub struct Results<'a> {
+    pub site: &'a Site<'a>,
+    pub stripes: &'a [Stripe<'a>],
+    pub all: &'a [Done],
+    /// The files that are named as fragments and are of no stripe.
+    pub alone: &'a [Alone],
+    /// What rows say of a fragment that was rebuilt, or would be.
+    pub word: &'static str,
+    pub totals: Totals,
+}
+
+impl<'a> Results<'a> {
+    /// The results of a command over what is in a store, counted.
+    pub fn new(
+        alloc: Global,
+        site: &'a Site<'a>,
+        contents: Contents<'a>,
+        all: &'a [Done],
+        word: &'static str,
+    ) -> Result<Results<'a>, AllocError> {
+        let Contents {
+            stripes,
+            alone,
+            has_unlisted,
+        } = contents;
+        let mut totals = totals_of(alloc, site, stripes, all)?;
+        totals.device = totals.device || has_unlisted;
+        Ok(Results {
+            site,
+            stripes,
+            all,
+            alone,
+            word,
+            totals,
+        })
+    }
+}

@@ -1,0 +1,177 @@
+//! The rows of a report.
+use crate::copies::{CopyFinding, Descriptions};
+use crate::findings::ALONE;
+use crate::results::Results;
+use crate::totals::unchecked_places;
+use csv::WriterBuilder;
+use serde_json::Value;
+use std::alloc::{AllocError, Global};
+use std::io::{self, ErrorKind};
+use store_folder::Alone;
+use store_repair::Outcome;
+
+/// The form of a report's rows.
+#[derive(Clone, Copy, Debug, PartialEq, Eq)]
+pub enum Rows {
+    /// A header, and values between commas.
+    Csv,
+    /// An object on each line.
+    Json,
+}
+
+// A row: the stripe, the place if it is of a fragment, what became of it, and a detail.
+#[derive(Drop)]
+struct Row<'a> {
+    stripe: &'a str,
+    place: &'a str,
+    outcome: &'a str,
+    detail: String,
+}
+
+/// The rows of a report: one for each fragment that was rebuilt, one for each finding, and one for each file that is of no stripe.
+pub fn rows_of(alloc: Global, results: &Results<'_>, rows: Rows) -> io::Result<String> {
+    let mut text = String::new(alloc);
+    if rows == Rows::Csv {
+        text.push_str("stripe,place,outcome,detail\n")?;
+    }
+    for done in results.all {
+        if let Some(stripe) = results.stripes.get(done.index) {
+            add_rows(alloc, results, stripe.name, &done.outcome, rows, &mut text)?;
+            if let Some(descriptions) = &done.descriptions {
+                add_descriptions(alloc, results, stripe.name, descriptions, rows, &mut text)?;
+            }
+        }
+    }
+    for Alone { stripe, place } in results.alone {
+        let row = Row {
+            stripe: stripe.as_str(),
+            place: place.name(),
+            outcome: "alone",
+            detail: String::from_str(alloc, ALONE)?,
+        };
+        add_row(alloc, &row, rows, &mut text)?;
+    }
+    Ok(text)
+}
+
+// Adds the rows of a stripe.
+fn add_rows(
+    alloc: Global,
+    results: &Results<'_>,
+    stripe: &str,
+    outcome: &Outcome,
+    rows: Rows,
+    text: &mut String,
+) -> io::Result<()> {
+    let unchecked = unchecked_places(alloc, results.site, stripe, outcome)?;
+    for place in &outcome.rebuilt {
+        let is_unchecked = unchecked.iter().any(|other| *other == *place);
+        let detail = if is_unchecked { "unchecked" } else { "" };
+        let row = Row {
+            stripe,
+            place: place.name(),
+            outcome: results.word,
+            detail: String::from_str(alloc, detail)?,
+        };
+        add_row(alloc, &row, rows, text)?;
+    }
+    for finding in &outcome.findings {
+        let reason = &finding.reason;
+        let row = Row {
+            stripe,
+            place: match finding.place {
+                Some(place) => place.name(),
+                None => "",
+            },
+            outcome: if outcome.is_mended(finding) {
+                "was"
+            } else {
+                "left"
+            },
+            detail: format!(in alloc; "{reason}")?,
+        };
+        add_row(alloc, &row, rows, text)?;
+    }
+    Ok(())
+}
+
+// Adds the rows of a stripe's descriptions.
+fn add_descriptions(
+    alloc: Global,
+    results: &Results<'_>,
+    stripe: &str,
+    descriptions: &Descriptions,
+    rows: Rows,
+    text: &mut String,
+) -> io::Result<()> {
+    for name in &descriptions.made {
+        let row = Row {
+            stripe,
+            place: "file",
+            outcome: results.word,
+            detail: String::from_str(alloc, name.as_str())?,
+        };
+        add_row(alloc, &row, rows, text)?;
+    }
+    for CopyFinding { name, reason } in &descriptions.findings {
+        let row = Row {
+            stripe,
+            place: "file",
+            outcome: "left",
+            detail: format!(in alloc; "{name}: {reason}")?,
+        };
+        add_row(alloc, &row, rows, text)?;
+    }
+    Ok(())
+}
+
+fn add_row(alloc: Global, row: &Row<'_>, rows: Rows, text: &mut String) -> io::Result<()> {
+    match rows {
+        Rows::Csv => add_values(alloc, row, text),
+        Rows::Json => add_object(alloc, row, text),
+    }
+}
+
+// Adds a row's values between commas.
+fn add_values(alloc: Global, row: &Row<'_>, text: &mut String) -> io::Result<()> {
+    let mut values = Vec::new(alloc);
+    values.push(row.stripe.as_bytes())?;
+    values.push(row.place.as_bytes())?;
+    values.push(row.outcome.as_bytes())?;
+    values.push(row.detail.as_bytes())?;
+    match values_text(alloc, values.as_slice()) {
+        Ok(bytes) => {
+            text.push_str(str::from_utf8(bytes.as_slice()).unwrap_or(""))?;
+            Ok(())
+        }
+        Err(_) => Err(io::Error::from(ErrorKind::OutOfMemory)),
+    }
+}
+
+// Values between commas. Only memory can be refused.
+fn values_text(alloc: Global, values: &[&[u8]]) -> Result<Vec<u8>, csv::Error> {
+    let mut writer = WriterBuilder::new().from_writer(Vec::new(alloc));
+    writer.write_fields(values)?;
+    match writer.into_inner() {
+        Ok(text) => Ok(text),
+        Err(error) => Err(error.into_error()),
+    }
+}
+
+// Adds a row as an object.
+fn add_object(alloc: Global, row: &Row<'_>, text: &mut String) -> io::Result<()> {
+    let stripe = quoted(alloc, row.stripe)?;
+    let place = quoted(alloc, row.place)?;
+    let outcome = quoted(alloc, row.outcome)?;
+    let detail = quoted(alloc, row.detail.as_str())?;
+    let line = format!(in alloc;
+        "{{\"stripe\":{stripe},\"place\":{place},\"outcome\":{outcome},\"detail\":{detail}}}\n"
+    )?;
+    text.push_str(line.as_str())?;
+    Ok(())
+}
+
+/// A text as JSON has it.
+pub(crate) fn quoted(alloc: Global, text: &str) -> Result<String, AllocError> {
+    Value::String(String::from_str(alloc, text)?).to_string(alloc)
+}

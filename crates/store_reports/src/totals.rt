@@ -1,0 +1,114 @@
+//! Counts over all stripes, and what no check covers.
+use crate::copies::Descriptions;
+use crate::done::Done;
+use crate::names::fragment_name;
+use lrc_code::Place;
+use std::alloc::{AllocError, Global};
+use store_folder::Site;
+use store_repair::{Finding, Outcome, Reason, Stripe};
+
+/// Counts over all stripes.
+#[derive(Clone, Copy, Default)]
+pub struct Totals {
+    /// How many fragments were rebuilt, and how many bytes they have.
+    pub rebuilt: u64,
+    pub bytes: u64,
+    /// How many of them no check covered.
+    pub unchecked: u64,
+    /// How many survivors are known to be damaged.
+    pub damaged: u64,
+    /// How many copies of descriptions were made.
+    pub described: u64,
+    /// How many findings are not mended.
+    pub left: u64,
+    /// Whether the system refused to read or write something.
+    pub device: bool,
+}
+
+/// The counts over what became of stripes.
+pub(crate) fn totals_of(
+    alloc: Global,
+    site: &Site<'_>,
+    stripes: &[Stripe<'_>],
+    all: &[Done],
+) -> Result<Totals, AllocError> {
+    let mut totals = Totals::default();
+    for done in all {
+        let unchecked = match stripes.get(done.index) {
+            Some(stripe) => unchecked_places(alloc, site, stripe.name, &done.outcome)?.len(),
+            None => 0,
+        };
+        totals.unchecked = totals.unchecked.saturating_add(unchecked as u64);
+        totals.add(&done.outcome);
+        if let Some(descriptions) = &done.descriptions {
+            totals.add_descriptions(descriptions);
+        }
+    }
+    Ok(totals)
+}
+
+/// The places of a stripe whose rebuilt fragments are covered by no check and no digest.
+pub(crate) fn unchecked_places(
+    alloc: Global,
+    site: &Site<'_>,
+    stripe: &str,
+    outcome: &Outcome,
+) -> Result<Vec<Place>, AllocError> {
+    let mut places = Vec::new(alloc);
+    if outcome.is_checked {
+        return Ok(places);
+    }
+    for place in &outcome.rebuilt {
+        let name = fragment_name(alloc, &site.pattern, site.code, stripe, *place)?;
+        let is_covered = match site.sums {
+            Some(sums) => sums.digest_of(name.as_str()).is_some(),
+            None => false,
+        };
+        if !is_covered {
+            places.push(*place)?;
+        }
+    }
+    Ok(places)
+}
+
+/// Why no check covers what was rebuilt of a stripe.
+pub(crate) fn why_unchecked(outcome: &Outcome) -> &'static str {
+    let is_guess = |finding: &Finding| { matches!(finding.reason, Reason::TakenForDamaged) };
+    if outcome.findings.iter().any(is_guess) {
+        "which fragment is damaged was a guess"
+    } else if outcome.length == 0 {
+        "fragments without bytes show nothing"
+    } else {
+        "as many fragments survive as it takes, so damage among them can't show"
+    }
+}
+
+impl Totals {
+    // Counts what became of a stripe's fragments.
+    fn add(&mut self, outcome: &Outcome) {
+        let rebuilt = outcome.rebuilt.len() as u64;
+        let bytes = rebuilt.saturating_mul(outcome.length as u64);
+        self.rebuilt = self.rebuilt.saturating_add(rebuilt);
+        self.bytes = self.bytes.saturating_add(bytes);
+        for finding in &outcome.findings {
+            if finding.reason.is_damage() {
+                self.damaged = self.damaged.saturating_add(1);
+            }
+            if !outcome.is_mended(finding) {
+                self.left = self.left.saturating_add(1);
+            }
+            self.device = self.device || finding.reason.is_of_device();
+        }
+    }
+
+    // Counts what became of a stripe's descriptions.
+    fn add_descriptions(&mut self, descriptions: &Descriptions) {
+        let made = descriptions.made.len() as u64;
+        let left = descriptions.findings.len() as u64;
+        self.described = self.described.saturating_add(made);
+        self.left = self.left.saturating_add(left);
+        for finding in &descriptions.findings {
+            self.device = self.device || finding.reason.is_of_device();
+        }
+    }
+}
