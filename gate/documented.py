@@ -198,7 +198,7 @@ def missing_calls():
     page = (ROOT / "docs/PROOFS.md").read_text()
     yield from gone_calls(page, {call for _, call, *_ in calls()})
     named = set(spans(page))
-    whole = {crate for listed in re.findall(r"of all else of (.*?),", page, re.S) for crate in spans(listed)}
+    whole = {crate for listed in re.findall(r"of all else of ((?:`\w+`(?:,| and)?\s+)+)", page) for crate in spans(listed)}
     for crate, call, clauses, _, says in calls():
         place, _, name = call.rpartition("::")
         if not says:
