@@ -171,7 +171,7 @@ fn a_plan_says_what_would_be_done(rt: HostRuntime) -> io::Result<()> {
             found: [Found::File { length: 2048 }; 16],
         };
         files.found[0] = under;
-        let stripe = Stripe { name: "s", files };
+        let stripes = [Stripe { name: "s", files }];
         let mut plan = Outcome::of(alloc, Vec::new(alloc));
         plan.length = 2048;
         plan.is_checked = is_checked;
@@ -184,11 +184,11 @@ fn a_plan_says_what_would_be_done(rt: HostRuntime) -> io::Result<()> {
             assume_one_damaged: false,
             elsewhere,
         };
-        let plan = without_left(alloc, &repair, &stripe, plan)?;
+        let plan = without_left(alloc, &repair, &stripes[0], plan)?;
         assert_eq!(rt; plan.rebuilt.len(), usize::from(is_rebuilt));
         assert_eq!(rt; plan.findings.len(), usize::from(!is_rebuilt));
         if !is_checked && is_rebuilt {
-            assert_planned(&rt, stripe, plan)?;
+            assert_planned(&rt, stripes.as_slice(), plan)?;
         }
     }
     Ok(())
@@ -197,11 +197,10 @@ fn a_plan_says_what_would_be_done(rt: HostRuntime) -> io::Result<()> {
 // Asserts what is said of a stripe whose x0 would be rebuilt, and the statuses of that.
 fn assert_planned(
     rt: &(impl Abort + AllocGlobal),
-    stripe: Stripe<'_>,
+    stripes: &[Stripe<'_>],
     plan: Outcome,
 ) -> Result<(), AllocError> {
     let alloc = rt.alloc();
-    let stripes = [stripe];
     let mut all = Vec::new(alloc);
     let done = Done {
         index: 0,
@@ -210,7 +209,7 @@ fn assert_planned(
     };
     all.push(done).map_err(|_| AllocError)?;
     let contents = Contents {
-        stripes: stripes.as_slice(),
+        stripes,
         alone: &[],
         has_unlisted: false,
     };
