@@ -88,7 +88,8 @@ fn what_holds_without_options(rt: HostRuntime) -> io::Result<()> {
                     (Links::NotFollowed, PLAIN)
                 );
             }
-            _ => assert!(rt; false, "not a command: {line}"),
+            Ok(Command::Help(_text)) => assert!(rt; false, "no command: {line}"),
+            Err(_fault) => assert!(rt; false, "no command: {line}"),
         }
     }
     Ok(())
