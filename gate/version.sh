@@ -2,7 +2,7 @@
 # Compares the versions that are said. What the built programs say is the version of their sources, of the manual pages and of the newest
 # heading of the changelog; that of the C library's header, which has a number of its own, is what lrc_version answers and
 # what the changelog and the wrapper in Rust say. They are changed in crates/command_line/src/definition.rt and, for rebuild-store, in
-# crates/rebuild_store/src/arguments.rt, and in library/lrc.h.
+# crates/store_arguments/src/commands.rt, and in library/lrc.h.
 set -euo pipefail
 cd "$(dirname "$0")/.."
 scratch=$(mktemp -d)
@@ -29,7 +29,7 @@ for word in --version -V; do
   compare "rebuild-store $word" "$(sed 's/^rebuild-store //' "$scratch/said")"
 done
 compare 'rebuild-lists --version' "$(companion/rebuild-lists --version | sed 's/^rebuild-lists //')"
-compare crates/rebuild_store "$(sed -n 's/^const VERSION: &str = "\(.*\)";$/\1/p' crates/rebuild_store/src/arguments.rt)"
+compare crates/store_arguments "$(sed -n 's/^const VERSION: &str = "\(.*\)";$/\1/p' crates/store_arguments/src/commands.rt)"
 for page in man/*.[15]; do
   compare "$page" "$(sed -n 's/^\.Os rebuild //p' "$page")"
 done
