@@ -8,6 +8,9 @@ and runs that are killed. ceph/test.sh runs it; ceph/tests/store.sh tries the co
 
 REBUILD_CEPH names another program to try."""
 
+import hashlib
+import json
+import lzma
 import os
 import pathlib
 import random
@@ -191,12 +194,107 @@ def full(place):
     osds, store = some(place, 7), place / "store"
     write(osds, range(7), "o", "9'2")
     osds[6].mark("full")
+    osds[6].mark("other")    # shards are read one by one
     said = run("export", store, osds, status=3)
     check(set(fragments(store)) == {f"o.{end}" for end in PLAIN[:6]}, f"a part was exported: {said}")
     check("bytes of o.px came: is the disk full?" in said, said)
     os.remove(osds[6].path("full"))
     said = run("export", store, osds, status=0)
     check(len(fragments(store)) == 7 and len(set(map(len, fragments(store).values()))) == 1, said)
+
+
+def in_one_run(place):
+    """A group's shards come by one run of the tool, whatever their names and lengths, and without what goes back to earlier writes; `put`
+    looks at them so too."""
+    osd, store = Stopped(place / "osd"), place / "store"
+    lengths = [0, 1, 1023, 1024, 1025, 5000, *range(40, 4000, 73)]
+    data = {f"o{number}": random.Random(number).randbytes(length) for number, length in enumerate(lengths)}
+    for oid, of_it in data.items():
+        osd.shard("2.5s0", oid, of_it, "10'7")
+    osd.shard("2.5s0", "o", b"a clone", "10'8", snapid=5, namespace="n/s", key="k")
+    osd.shard("2.5s0", "o1", b"before", "9'1", generation=7)
+    osd.shard("2.6s0", "other", b"of another group")
+    run("export", store, [osd], status=0)
+    found = fragments(store)
+    check(found == {f"{oid}.x0": it for oid, it in data.items()} | {"o%nn%2Fs%kk%s5.x0": b"a clone", "other.x0": b"of another group"},
+          f"other shards came: {sorted(found)}")
+    check(osd.asked("export") == 2 and osd.asked("get-bytes") == osd.asked("dump") == 0, f"{osd.asked('get-bytes')} shards by themselves")
+    (store / "o5.x0").write_bytes(b"rebuilt")
+    said = run("put", store, [osd], status=0)
+    check("put 1 shards, each read back; %d were the same" % (len(data) + 1) in said, said)
+    check(osd.bytes_of(line_of("2.5s0", "o5", 0)) == b"rebuilt" and osd.asked("get-bytes") == 1, "put read shards by themselves")
+
+
+def cut_short(place):
+    """An export that ends at a shard that can't be read, within a shard, or is of another form: what it lacks is read by itself, no part of
+    a shard comes, and the reason is said."""
+    osd, data = Stopped(place / "osd"), {f"o{number}": bytes([number]) * 3000 for number in range(9)}
+    lines = {oid: osd.shard("2.5s0", oid, it) for oid, it in data.items()}
+    damaged = pathlib.Path(f"{osd.file(lines['o4'])}.damaged")
+    damaged.touch()
+    said = run("export", place / "damaged", [osd], status=1)
+    check(fragments(place / "damaged") == {f"{oid}.x0": it for oid, it in data.items() if oid != "o4"}, said)
+    check("its export ends early" in said and "error reading: (5) Input/output error" in said and "o4.x0: " in said, said)
+    check(osd.asked("get-bytes") == 5 and "Read" not in said, f"{osd.asked('get-bytes')} shards by themselves: {said}")
+    damaged.unlink()
+    for mark in ("cut", "other"):
+        osd.mark(mark)
+        said = run("export", place / mark, [osd], status=0)
+        check(fragments(place / mark) == {f"{oid}.x0": it for oid, it in data.items()}, said)
+        check(("it isn't whole" if mark == "cut" else "its head is another") in said, said)
+        os.remove(osd.path(mark))
+
+
+# Of group 2.1s2 of an OSD of 16.2.15, whose `--op export` is group.export.xz: what `--op list`, `dump` and `get-bytes` gave of its shards:
+# name, number of the snapshot, write, and SHA-256 of the bytes.
+OF_CEPH = [
+    ("o3", -2, "44'3", "8a0a9846460872214c6bf47f295bedca0dd55a8a40673ddeaa3f26134c04be2e"),
+    ("o0", -2, "44'1", "ad7facb2586fc6e966c004d7d1d16b024f5805ff7cb47c7a85dabd8b48892ca7"),
+    ("o2", 1, "48'4", "fd68bae0da84814cff302a01652e9cbcae3cf9041b5dcbcef5baee082c3d8b86"),
+    ("o2", -2, "48'5", "ad7facb2586fc6e966c004d7d1d16b024f5805ff7cb47c7a85dabd8b48892ca7"),
+    ("later", -2, "48'6", "2cc4649e541368a415e08caeb0c31b9da2a0ed017b8bd6365c4661dad1206d7c"),
+]
+
+
+def of_ceph(place):
+    """What Ceph's own tool exported."""
+    osd, store = Stopped(place / "osd"), place / "store"
+    osd.group("2.1s2", last="48'6")
+    for oid, snapshot, _, _ in OF_CEPH:
+        osd.shard("2.1s2", oid, b"not these bytes", "1'1", snapid=snapshot)
+    pathlib.Path(osd.path("recorded")).write_bytes(lzma.decompress((HERE / "group.export.xz").read_bytes()))
+    said = run("export", store, [osd], status=0)
+    wanted = {f"{oid}{'' if snapshot < 0 else f'%s{snapshot}'}.x2": (version, digest) for oid, snapshot, version, digest in OF_CEPH}
+    check({name: hashlib.sha256(data).hexdigest() for name, data in fragments(store).items()}
+          == {name: digest for name, (_, digest) in wanted.items()}, said)
+    record = json.loads((store / ".rebuild-ceph.json").read_text())
+    check({f"{stripe}.x2": version for stripe, (_, version) in record["stripes"].items()}
+          == {name: version for name, (version, _) in wanted.items()}, record["stripes"])
+    check(osd.asked("get-bytes") == osd.asked("dump") == 0, "shards were read by themselves")
+
+
+def too_large(place):
+    """A store whose disk takes no more: the status is 3, and no part of a shard is in it."""
+    osd, store = Stopped(place / "osd"), place / "store"
+    osd.shard("2.5s0", "large", bytes(50000))
+    words = ["bash", "-c", 'ulimit -f 20; exec "$@"', "bash", *words_of("export", store, [osd])]
+    ended = subprocess.run(words, capture_output=True, text=True, env=ENVIRONMENT)
+    check(ended.returncode == 3 and "File too large" in ended.stderr and "Traceback" not in ended.stderr, ended.stderr)
+    check(not fragments(store) and not [*store.glob(".rebuild-ceph/*/*")], "a part of a shard was exported")
+    run("export", store, [osd], status=0)
+    check(fragments(store) == {"large.x0": bytes(50000)}, "the next run doesn't export it")
+
+
+def progress(place):
+    """From time to time it says how far it is."""
+    osd = Stopped(place / "osd")
+    for number in range(30):
+        osd.shard("2.5s0", f"o{number}", b"data")
+    text = pathlib.Path(COMMAND).read_text().replace("SECONDS_BETWEEN_LINES = 10 ", "SECONDS_BETWEEN_LINES = 0 ")
+    (place / "often").write_text(text)
+    words = words_of("export", place / "store", [osd])
+    ended = subprocess.run([words[0], place / "often", *words[2:]], capture_output=True, text=True, env=ENVIRONMENT)
+    check(ended.stderr.splitlines() == [f"rebuild-ceph: {count} of 30 shards" for count in range(1, 31)], ended.stderr)
 
 
 def hosts(place):
@@ -509,8 +607,8 @@ def killed(place):
     check(osds[0].bytes_of(lines[0]) == b"10'1 rebuilt", "the shard was not put")
 
 
-TESTS = (names, odd_names, changed, unusable, full, hosts, together, old_store, between, removed, counting, untold, again, recorded,
-         generations, stores, killed)
+TESTS = (names, odd_names, changed, unusable, full, in_one_run, cut_short, of_ceph, too_large, progress, hosts, together, old_store,
+         between, removed, counting, untold, again, recorded, generations, stores, killed)
 
 
 def main():

@@ -29,9 +29,9 @@ int main()
     expect(reports.at(1061, "a") == Lines{"a"}, "in the next minute a line is said again");
     expect((reports.at(9000, "a") == Lines{"a"}), "a minute without more says no count");
     for (int i = 0; i < 15; i++)
-        expect(reports.at(9001, std::to_string(i)) == Lines{std::to_string(i)}, "each of sixteen texts is said");
+        expect(reports.at(9001, std::to_string(i)) == Lines{std::to_string(i)}, "sixteen texts are said");
     for (int i = 15; i < 1000; i++)
         expect(reports.at(9002, std::to_string(i)).empty(), "of more than sixteen none is said");
-    expect((reports.at(9060, "a") == Lines{"985 lines more of other shards weren't said in that minute", "a"}), "they are counted together");
+    expect((reports.at(9060, "a") == Lines{"985 lines more of other shards weren't said in that minute", "a"}), "they are counted");
     printf("reports: %d passed, 0 failed\n", passed);
 }

@@ -12,6 +12,7 @@ import hashlib
 import json
 import os
 import signal
+import struct
 import sys
 import time
 
@@ -70,6 +71,15 @@ class Stopped:
     def mark(self, name):
         """Makes a file that changes what the tool does: `runs`, `aborts`, `ignores`, `slow`, `full`."""
         write(self.path(name), b"")
+
+    def note(self, words):
+        """Keeps what the tool was asked for, a line each."""
+        with open(self.path("asked"), "a", encoding="utf-8", errors="surrogateescape") as file:
+            file.write(" ".join(words[-2:] if words[0] != "--op" else words[:2]) + "\n")
+
+    def asked(self, word):
+        """How often the tool was asked for something."""
+        return sum(word in line for line in read(self.path("asked")).decode(errors="replace").splitlines())
 
     def save(self):
         os.makedirs(self.folder, exist_ok=True)
@@ -142,6 +152,59 @@ def get_bytes(osd, line, file):
     write(file, data[:len(data) // 2] if osd.has("full") else data)    # 16.2.15 answers 0 where the disk takes a part of a write
 
 
+def framed(version, oldest, data):
+    return struct.pack("<BBI", version, oldest, len(data)) + data
+
+
+def counted(data):
+    return struct.pack("<I", len(data)) + data
+
+
+def section(kind, data):
+    """A section of an export; only one that has bytes has a mark after it."""
+    head = framed(1, 1, struct.pack("<BBBBQ", 0xCE, 0xFF, kind, kind, len(data)))
+    return head + data + (framed(1, 1, bytes.fromhex("ceffffec")) if data else b"")
+
+
+def exported(line, version):
+    """The section with which an object begins: its name, and its info with the write that it is of."""
+    shard = json.loads(line)[1]
+    key, oid, space = (counted(shard[it].encode("utf-8", "surrogateescape")) for it in ("key", "oid", "namespace"))
+    name = framed(4, 3, key + oid + struct.pack("<qIB", shard["snapid"], shard["hash"], 0) + space + struct.pack("<q", shard["pool"]))
+    epoch, number = map(int, version.split("'"))
+    place = framed(6, 3, struct.pack("<qi", shard["pool"], -1) + 3 * counted(b""))
+    info = framed(17, 8, name + place + counted(b"") + struct.pack("<QI", number, epoch) + b"what else it has")
+    return framed(3, 1, name + struct.pack("<Qb", shard.get("generation", 2**64 - 1), shard["shard_id"]) + info)
+
+
+def export(osd, name):
+    """Says a group as `--op export` does: bytes come in sections of no more than a mebibyte, which here is a kibibyte. It ends at the first
+    shard that can't be read."""
+    out = sys.stdout.buffer
+    if osd.has("recorded"):
+        out.write(read(osd.path("recorded")))
+        return
+    out.write(bytes.fromhex("ceffceff") + struct.pack("<3I", 3 if osd.has("other") else 2, 18, 10))
+    out.write(section(1, b"the group") + section(9, b"its log"))
+    for line, version in osd.state["shards"].items():
+        if json.loads(line)[0] != name or not json.loads(line)[1]["oid"]:
+            continue
+        print("Read", json.loads(line)[1]["oid"].encode(errors="replace"), file=sys.stderr)
+        data = osd.bytes_of(line)
+        out.write(section(3, exported(line, version)))
+        if os.path.exists(f"{osd.file(line)}.damaged"):
+            sys.exit("export_file: error reading: (5) Input/output error")
+        for at in range(0, len(data), 1024):
+            piece = data[at:at + 1024]
+            out.write(section(5, framed(1, 1, struct.pack("<QQ", at, len(piece)) + counted(piece))))
+            if osd.has("cut"):
+                out.flush()
+                os.kill(os.getpid(), signal.SIGKILL)
+        out.write(section(6, b"its attributes") + section(7, b"its head") + section(4, b""))
+    out.write(section(2, b""))
+    print("Export successful", file=sys.stderr)
+
+
 def set_bytes(osd, line, file):
     """Also says that it has begun, for a run that is to be killed meanwhile."""
     data = read(file)
@@ -172,6 +235,8 @@ def work(osd, words):
         say(text(osd.info(group_named(osd, words[3]))))
     elif words[:3] == ["--op", "log", "--pgid"]:
         say(text(osd.log(group_named(osd, words[3]))))
+    elif words[:3] == ["--op", "export", "--pgid"] and words[4:] == ["--file", "-"]:
+        export(osd, group_named(osd, words[3]))
     elif words[0] not in osd.state["shards"]:
         sys.exit(f"{words[1]}: (2) No such file or directory")
     elif words[1] == "dump":
@@ -194,6 +259,7 @@ def main():
             fcntl.lockf(lock, fcntl.LOCK_EX | fcntl.LOCK_NB)
         except BlockingIOError:
             sys.exit("Mount failed with '(11) Resource temporarily unavailable'")
+        osd.note(words[3:])
         work(osd, words[3:])
 
 
