@@ -96,7 +96,9 @@ def names(place):
         osd.shard(f"2.5s{number}", "", b"the group's own")
     for layout, ends in (("plain", PLAIN), ("groups", GROUPS)):
         store = place / f"store-{layout}"
-        said = run("export", store, osds, "--layout", layout, status=0)
+        for osd in osds:
+            osd.profile(layout=layout)
+        said = run("export", store, osds, status=0)
         check(said.startswith("exported 34 shards "), said)
         wanted = {f"{stripe}.{ends[number]}": f"{oid}{more}{number}".encode() for oid, more, stripe in odd for number in range(2)}
         wanted |= {f"o.{end}": b"o{}%d" % number for number, end in enumerate(ends)} | {f"six.{end}": b"six" for end in ends}
@@ -106,7 +108,8 @@ def names(place):
     wide = Stopped(place / "wide")
     wide.shard("2.5s12", "w", b"w")
     run("export", place / "wide-store", [wide], status=3)
-    run("export", place / "wide-store", [wide], "--code", "12-2-2", status=0)
+    wide.profile(code="12-2-2", k="12")
+    run("export", place / "wide-store", [wide], status=0)
     check(fragments(place / "wide-store") == {"w.px": b"w"}, "shard 12 of the wide code is not px")
     ended = subprocess.run([sys.executable, COMMAND, "export", place / "x"], capture_output=True, text=True, env=ENVIRONMENT)
     check(ended.returncode == 2, "neither a pool nor a group is asked for")
@@ -183,10 +186,48 @@ def unusable(place):
     said = run("export", store, osds, "--pool", 99, status=2)
     check("was exported with another pool, 2" in said, said)
     said = run("put", store, osds, "--layout", "groups", status=2)
+    check("pool 2 is of --layout plain" in said, said)
+    for osd in osds:
+        osd.profile(layout="groups")
+    said = run("put", store, osds, status=2)
     check("was exported with another layout, plain" in said, said)
+    for osd in osds:
+        osd.profile(layout="plain")
     said = run("export", store, osds, "--group", "2.7", status=1)
     check("no OSD here has placement group 2.7" in said, said)
     run("export", store, osds, status=0)
+
+
+def maps(place):
+    """The code and the layout are those of the map of an OSD that can say it: others are refused, and if none can they are asked for."""
+    osds = some(place, 8)
+    write(osds, range(8), "o", "9'2")
+    osds[0].mark("runs")
+    for osd in osds[1:]:
+        osd.profile(layout="groups")
+    said = run("export", place / "one", osds, status=3)
+    check(set(fragments(place / "one")) == {f"o.{end}" for end in GROUPS[1:8]} and "Mount failed" in said, said)
+    os.remove(osds[0].path("runs"))
+    osds[0].profile(layout="groups")
+    for words in (("--layout", "plain"), ("--code", "12-2-2")):
+        said = run("export", place / "two", osds, *words, status=2)
+        check(f"pool 2 is of {words[0]} " in said and f"by the map of {osds[0].folder}" in said and not (place / "two").exists(), said)
+    run("export", place / "two", osds, "--layout", "groups", "--code", "6-2-2", "--group", "2.5", status=0)
+    check(fragments(place / "two").keys() == {f"o.{end}" for end in GROUPS[:8]}, sorted(fragments(place / "two")))
+    wide = Stopped(place / "wide")
+    wide.shard("2.5s15", "w", b"w")
+    wide.profile(code=None, layout=None, k="12")
+    run("export", place / "three", [wide], status=0)
+    check(fragments(place / "three") == {"w.p1": b"w"}, "a profile without the word code, with k of 12, isn't of the wide one")
+    for osd in osds:
+        osd.mark("mapless")
+    said = run("export", place / "four", osds, status=3)
+    check("no OSD here says of which code pool 2 is: give --code and --layout" in said and "Failed to get osdmap#38" in said, said)
+    run("export", place / "four", osds, "--code", "6-2-2", "--layout", "plain", status=0)
+    wide.profile(plugin="jerasure")
+    for words in ((), ("--pool", "1")):
+        said = run("export", place / "five", [wide], *words, status=2)
+        check("isn't one of azure_lrc" in said, said)
 
 
 def full(place):
@@ -607,7 +648,7 @@ def killed(place):
     check(osds[0].bytes_of(lines[0]) == b"10'1 rebuilt", "the shard was not put")
 
 
-TESTS = (names, odd_names, changed, unusable, full, in_one_run, cut_short, of_ceph, too_large, progress, hosts, together, old_store,
+TESTS = (names, odd_names, changed, unusable, maps, full, in_one_run, cut_short, of_ceph, too_large, progress, hosts, together, old_store,
          between, removed, counting, untold, again, recorded, generations, stores, killed)
 
 
@@ -618,7 +659,8 @@ def main():
             with tempfile.TemporaryDirectory() as scratch:
                 place = pathlib.Path(scratch)
                 (place / "bin").mkdir()
-                (place / "bin/ceph-objectstore-tool").symlink_to(HERE / "stopped.py")
+                for name in ("ceph-objectstore-tool", "osdmaptool"):
+                    (place / "bin" / name).symlink_to(HERE / "stopped.py")
                 ENVIRONMENT["PATH"] = f"{place / 'bin'}:{os.environ['PATH']}"
                 (place / "osds").mkdir()
                 test(place / "osds")

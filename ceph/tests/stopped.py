@@ -2,6 +2,8 @@
 """Folders that stand for stopped OSDs, and a program that answers of them as ceph-objectstore-tool 16.2.15 does of an OSD. rebuild-ceph.py
 makes the folders with it, and runs it in the place of that tool.
 
+Called as osdmaptool it says a map that it wrote.
+
 What it prints has the names and the forms that Debian's 16.2.15 printed of the OSDs of a cluster whose daemons were killed while they
 were written to (`--op list`, `list-pgs`, `info`, `log`, `dump`), without the statistics of a group and what BlueStore says of an object.
 It refuses what that one refused, in its words: an OSD that another tool has opened or that runs, a group and an object that aren't there,
@@ -16,6 +18,9 @@ import struct
 import sys
 import time
 
+# What osdmaptool said of a pool's code, of much else. `azure_lrc` in the place of the plugin that the cluster had.
+PROFILE = {"plugin": "azure_lrc", "code": "6-2-2", "layout": "plain", "k": "6", "m": "4", "crush-device-class": "",
+           "crush-failure-domain": "osd", "crush-root": "default"}
 HISTORY = {
     "epoch_created": 1, "epoch_pool_created": 1, "last_epoch_started": 0, "last_interval_started": 0, "last_epoch_clean": 1,
     "last_interval_clean": 1, "last_epoch_split": 0, "last_epoch_marked_full": 0, "same_up_since": 1, "same_interval_since": 1,
@@ -58,7 +63,7 @@ class Stopped:
 
     def __init__(self, folder):
         self.folder = str(folder)
-        self.state = {"groups": {}, "shards": {}}
+        self.state = {"groups": {}, "shards": {}, "profile": PROFILE}
         if self.has("osd.json"):
             self.state = json.loads(read(self.path("osd.json")))
 
@@ -85,6 +90,17 @@ class Stopped:
         os.makedirs(self.folder, exist_ok=True)
         write(self.path("fsid"), hashlib.sha1(self.folder.encode()).hexdigest().encode())
         write(self.path("osd.json"), json.dumps(self.state).encode())
+
+    def profile(self, **words):
+        """Changes words of the pool's profile; None takes one away."""
+        self.state["profile"] = {word: value for word, value in {**self.state["profile"], **words}.items() if value is not None}
+        self.save()
+
+    def map(self):
+        pools = [{"pool": 1, "pool_name": "device_health_metrics", "type": 1, "size": 3, "erasure_code_profile": ""},
+                 {"pool": 2, "pool_name": "coded", "type": 3, "size": 10, "min_size": 7, "erasure_code_profile": "words"}]
+        default = {"k": "2", "m": "2", "plugin": "jerasure", "technique": "reed_sol_van"}
+        return {"epoch": 38, "pools": pools, "erasure_code_profiles": {"default": default, "words": self.state["profile"]}}
 
     def group(self, name, started=10, last="10'5", complete=None, known=None, backfill="MAX", missing=()):
         """A group: the epochs of its own start and of the last that it knows of, its last write, and the objects that it hasn't got yet,
@@ -180,6 +196,7 @@ def exported(line, version):
 def export(osd, name):
     """Says a group as `--op export` does: bytes come in sections of no more than a mebibyte, which here is a kibibyte. It ends at the first
     shard that can't be read."""
+    signal.signal(signal.SIGPIPE, signal.SIG_DFL)
     out = sys.stdout.buffer
     if osd.has("recorded"):
         out.write(read(osd.path("recorded")))
@@ -235,6 +252,11 @@ def work(osd, words):
         say(text(osd.info(group_named(osd, words[3]))))
     elif words[:3] == ["--op", "log", "--pgid"]:
         say(text(osd.log(group_named(osd, words[3]))))
+    elif words[:3] == ["--op", "get-osdmap", "--file"]:
+        if osd.has("mapless"):
+            sys.exit("Failed to get osdmap#38: (2) No such file or directory")
+        write(words[3], json.dumps(osd.map()).encode())
+        say(b"osdmap#38 exported.")
     elif words[:3] == ["--op", "export", "--pgid"] and words[4:] == ["--file", "-"]:
         export(osd, group_named(osd, words[3]))
     elif words[0] not in osd.state["shards"]:
@@ -247,6 +269,10 @@ def work(osd, words):
 
 def main():
     words = [os.fsencode(word).decode("utf-8", "surrogateescape") for word in sys.argv[1:]]
+    if os.path.basename(sys.argv[0]) == "osdmaptool":
+        print(f"osdmaptool: osdmap file '{words[0]}'", file=sys.stderr)
+        say(read(words[0]))
+        return
     if words[:2] != ["--no-mon-config", "--data-path"]:
         sys.exit("it asks the monitors")
     osd = Stopped(words[2])
