@@ -258,7 +258,8 @@ from_source() {
     > "$scratch/said" 2>&1 || { tail "$scratch/said"; fail 'the source package makes no packages'; }
   (cd "$scratch/from" && sed -n '/\.deb$/p' "$out/SHA256SUMS" | sha256sum -c --quiet) || fail 'the source package makes other packages'
   cp "$scratch/one/one-call.so" "$(readlink -f "$at/$symbols.0")"
-  ! (cd "$at" && DEB_RULES_REQUIRES_ROOT=no debian/rules override_dh_makeshlibs) > "$scratch/said" 2>&1 || fail "Debian's list of symbols holds the library to nothing"
+  ! (cd "$at" && DEB_RULES_REQUIRES_ROOT=no debian/rules override_dh_makeshlibs) > "$scratch/said" 2>&1 ||
+    fail "Debian's list of symbols holds the library to nothing"
   grep -q '^+#MISSING: .* lrc_plan_into@Base' "$scratch/said" || fail "a library of one call gives: $(cat "$scratch/said")"
 }
 
