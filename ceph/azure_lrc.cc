@@ -7,14 +7,17 @@
  * places, and memory; it is tested. A code doesn't change after `init`, so threads share it. */
 #include <algorithm>
 #include <cerrno>
+#include <chrono>
 #include <cstdio>
 #include <cstring>
+#include <mutex>
 #include <new>
 #include <ostream>
 #include <syslog.h>
 
 #include "ceph_calls.h"
 #include "lrc.h"
+#include "reports.h"
 
 namespace azure_lrc {
 
@@ -55,7 +58,16 @@ void say(const char *call, const char *what) noexcept
         syslog(LOG_DAEMON | LOG_WARNING, "azure_lrc: %s: %s", call, what);
 }
 
-void say_of_decode(const std::string &what) { say("decode", what.c_str()); }
+/* The same of decodes, of which each of a damaged object has something to say: not all of a minute are said. */
+void say_of_decode(const std::string &what)
+{
+    static std::mutex writing;
+    static Reports reports;
+    const auto now = std::chrono::steady_clock::now().time_since_epoch();
+    const std::lock_guard<std::mutex> alone(writing);
+    for (const std::string &line : reports.at(std::chrono::duration_cast<std::chrono::seconds>(now).count(), what))
+        say("decode", line.c_str());
+}
 
 /* No exception leaves a call. */
 template <class Call> int guarded(Call call, const char *name = __builtin_FUNCTION()) noexcept
@@ -465,7 +477,7 @@ public:
 EXPORTED const char *__erasure_code_version()
 {
     const char *program = ceph_version_to_str();
-    return program != nullptr && std::strncmp(program, "16.2.", 5) == 0 ? program : "azure_lrc for Ceph 16.2 alone";
+    return program != nullptr && std::strncmp(program, "16.2.", 5) == 0 ? program : "for Ceph 16.2 alone (azure_lrc)";
 }
 
 EXPORTED int __erasure_code_init(char *name, char *)

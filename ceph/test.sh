@@ -34,6 +34,9 @@ quietly() {
   "$@" > "$scratch/said" 2>&1 || { cat "$scratch/said"; fail "$what"; }
 }
 
+quietly 'which lines are said' "$compiler" -std=c++17 -Wall -Wextra -Werror -O1 -fsanitize=address,undefined -o "$scratch/reports" \
+  ceph/tests/reports.cc
+"$scratch/reports"
 tools/copy-tree.sh "$scratch/copy"
 for crate in lrc_field lrc_code lrc_plan lrc_c; do
   if [ -d "crates/$crate/out" ]; then
@@ -102,4 +105,5 @@ quietly 'make uninstall-ceph' make -s uninstall-ceph "DESTDIR=$scratch/root"
 [ -z "$(find "$scratch/root" -type f)" ] || fail "what stays is $(find "$scratch/root" -type f)"
 [ "$(nm -D --defined-only "$plain/libec_azure_lrc.so" | awk '{ print $3 }' | sort | tr '\n' ' ')" = \
   '__erasure_code_init __erasure_code_version ' ] || fail 'the plugin shows other names than its two'
+[ "$(strings -a "$plain/libec_azure_lrc.so" | grep -c '^azure_lrc ')" = 1 ] || fail 'the plugin has more than a line on its version'
 echo 'ceph: the plugin rebuilds every set that its codes determine, in both layouts, and answers an error for the others'

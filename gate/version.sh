@@ -34,8 +34,9 @@ for page in man/*.[15]; do
   compare "$page" "$(sed -n 's/^\.Os rebuild //p' "$page")"
 done
 compare CHANGELOG.md "$(sed -n 's/^## //p' CHANGELOG.md | head -n 1)"
-compare README.md "$(sed -n 's/.*bucketuntil_\([0-9.]*\)-1_amd64\.deb.*/\1/p' README.md)"
-compare README.md "$(sed -n 's/.*bucketuntil-\([0-9.]*\)-x86_64-linux\.tar\.gz.*/\1/p' README.md)"
+compare README.md "$(sed -n 's/.*bucketuntil_\([0-9.]*\)+git\*\.deb.*/\1/p' README.md)"
+compare README.md "$(sed -n 's/.*rebuild-lists_\([0-9.]*\)+git\*\.deb.*/\1/p' README.md)"
+compare README.md "$(sed -n 's/.*bucketuntil-\([0-9.]*\)+git\*-x86_64-linux\.tar\.gz.*/\1/p' README.md)"
 echo "version: the programs, their manual pages and the changelog say $version"
 
 library=$(sed -n 's/^#define LRC_VERSION "\(.*\)"$/\1/p' library/lrc.h)
@@ -50,7 +51,7 @@ compare_library() {
 compare_library LRC_VERSION_NUMBER "$(sed -n 's/^#define LRC_VERSION_NUMBER //p' library/lrc.h)" "$number"
 compare_library lrc_version "$(sed -n 's/^    \([0-9]*\)$/\1/p' crates/lrc_c/src/version.rt)" "$number"
 for package in liblrc0 liblrc-dev; do
-  compare_library "README.md of $package" "$(sed -n "s/.*${package}_\([0-9.]*\)-1_amd64\.deb.*/\1/p" README.md)" "$library"
+  compare_library "README.md of $package" "$(sed -n "s/.*${package}_\([0-9.]*\)+git\*\.deb.*/\1/p" README.md)" "$library"
 done
 compare_library library/examples/rust/Cargo.toml "$(sed -n 's/^version = "\(.*\)"$/\1/p' library/examples/rust/Cargo.toml)" "$library"
 compare_library CHANGELOG.md "$(sed -n 's/.*`liblrc` \([0-9.]*[0-9]\).*/\1/p' CHANGELOG.md | head -n 1)" "$library"

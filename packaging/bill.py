@@ -1,10 +1,11 @@
 #!/usr/bin/env python3
-"""Writes what a program or the C library is made of, as a CycloneDX list: bill.py CRATE VERSION COMMIT SECONDS, with the commit's time
-in seconds since 1970."""
+"""Writes what programs or the C library are made of, as a CycloneDX list for each, FOLDER/NAME.cdx.json: bill.py FOLDER COMMIT SECONDS
+CRATE=VERSION.., with the commit's time in seconds since 1970."""
 
 import datetime
 import hashlib
 import json
+import pathlib
 import sys
 import uuid
 
@@ -51,15 +52,15 @@ def dependencies(own, found, top):
     return sorted([*listed, {"ref": top, "dependsOn": [f"bucketuntil:{own[-1].name}"]}], key=lambda it: it["ref"])
 
 
-def main():
-    name, version, commit, seconds = sys.argv[1:]
-    toolchain, own = parts.Toolchain(), parts.own_crates([name])
+def bill(toolchain, name, version, commit, seconds):
+    """The list of a crate."""
+    own = parts.own_crates([name])
     found = parts.parts(toolchain, [name])
     top = f"pkg:generic/bucketuntil/{name}@{version}"
     kind = "application" if own[-1].is_program else "library"
     tool = {"type": "application", "name": "rattle", "version": toolchain.identity,
             "properties": properties((f"rattle:{key}", value) for key, value in sorted(toolchain.identities()))}
-    bill = {
+    return {
         "bomFormat": "CycloneDX", "specVersion": "1.5", "version": 1,
         "serialNumber": f"urn:uuid:{uuid.uuid5(uuid.NAMESPACE_URL, f'bucketuntil {commit} {name}')}",
         "metadata": {
@@ -71,8 +72,15 @@ def main():
         "components": [*(own_component(it, version) for it in own), *(component(it, toolchain.identity) for it in found)],
         "dependencies": dependencies(own, found, top),
     }
-    json.dump(bill, sys.stdout, indent=1, sort_keys=True)
-    print()
+
+
+def main():
+    folder, commit, seconds, *crates = sys.argv[1:]
+    toolchain = parts.Toolchain()
+    for name, version in (it.split("=") for it in crates):
+        text = json.dumps(bill(toolchain, name, version, commit, seconds), indent=1, sort_keys=True)
+        file = pathlib.Path(folder) / f"{name.replace('_', '-').replace('lrc-c', 'liblrc')}.cdx.json"
+        file.write_text(text + "\n", encoding="utf-8")
 
 
 main()

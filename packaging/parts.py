@@ -3,6 +3,7 @@
 The crates of the repository are those of crates.txt. The toolchain has no list of what its crates use, so their sources are read: a crate
 is used where a path begins with its name. What is used and left out by the linker is listed too."""
 
+import functools
 import pathlib
 import re
 import subprocess
@@ -34,6 +35,7 @@ class Toolchain:
     def has(self, name):
         return (self.sources / name / "src").is_dir()
 
+    @functools.lru_cache(maxsize=None)
     def used_by(self, name):
         """The crates of the toolchain whose names begin paths in this one's sources, comments left out."""
         files = sorted((self.sources / name / "src").rglob("*.rt"))

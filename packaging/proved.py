@@ -21,7 +21,14 @@ SAID = """\
 Each crate below was proved by that toolchain from the sources of that commit. With it are the number of functions that its sources define,
 and a sum of its sources, of the toolchain's identity and of the crates below it, which the record of its proof has. `main`, which joins the
 others to the system, is proved only to be memory-safe. The toolchain, the C library, the system and the processor are trusted;
-docs/PROOFS.md of the sources says more. `rebuild-lists` (Python), the completions and the plugin for Ceph (C++) are tested, and not proved.
+docs/PROOFS.md of the sources says more. `rebuild-lists` (Python), the completions, the launcher of the programs (C) and the plugin for Ceph
+(C++) are tested, and not proved.
+"""
+SHOWN = """\
+This page can't show that its sums are those of what the proofs left: it is a text, and the records that it was made from are files of the
+machine where it was made, which anybody could write. A second builder shows it: in a new clone at that commit, on another machine with that
+toolchain and the same release of Debian, `make packages` proves all of it from nothing and gives the same SHA256SUMS, byte by byte. Whoever
+has seen that may sign SHA256SUMS with a key of theirs. A signature, SHA256SUMS.asc, says whose word these sums are, and no more.
 """
 
 
@@ -53,6 +60,7 @@ def main():
     print("\nSHA-256 of what was built:")
     for file in map(pathlib.Path, words[len(levels):]):
         print(f"  {parts.build.sum_of(file)}  {'/'.join(file.parts[-2:])}")
+    print("\n" + textwrap.fill(SHOWN, 100))
     if missing:
         sys.exit(f"packages: no record of a proof from these sources: {' '.join(missing)}")
 

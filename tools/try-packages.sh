@@ -23,11 +23,12 @@ leave() {
 }
 trap leave EXIT
 
-# older: the package of the programs under an older version.
+# older: the package of the programs under the version that all commits once had, when rebuild-lists was in it.
 older() {
   dpkg-deb -R out/packages/bucketuntil_*.deb "$scratch/older"
-  sed -i 's/^Version: .*/Version: 0.0.1-1/' "$scratch/older/DEBIAN/control"
+  sed -i 's/^Version: \([0-9.]*\).*/Version: \1-1/' "$scratch/older/DEBIAN/control"
   echo 'of the older version' > "$scratch/older/usr/share/doc/bucketuntil/OLDER"
+  echo 'of the older version' > "$scratch/older/usr/bin/rebuild-lists"
   dpkg-deb --root-owner-group -b "$scratch/older" "$root/try/older.deb" > /dev/null
 }
 
@@ -67,11 +68,12 @@ apt-get install -y --no-install-recommends ./older.deb > said
 test -e /usr/share/doc/bucketuntil/OLDER
 apt-get install -y --no-install-recommends ./bucketuntil_*.deb ./liblrc0_*.deb ./liblrc-dev_*.deb > said
 test ! -e /usr/share/doc/bucketuntil/OLDER
-dpkg-query -W bucketuntil liblrc0 liblrc-dev
+test ! -e /usr/bin/python3
+apt-get install -y --no-install-recommends ./rebuild-lists_*.deb ./bucketuntil-doc_*.deb > said
+dpkg-query -W bucketuntil rebuild-lists bucketuntil-doc liblrc0 liblrc-dev
 printf 'a x0 1 x1=02 x2=03 px=00\n' | rebuild
 rebuild-store --version
-grep "$(sha256sum < /usr/bin/rebuild | cut -d ' ' -f 1)" PROVED
-grep "$(sha256sum < /usr/bin/rebuild-store | cut -d ' ' -f 1)" PROVED
+for it in /usr/libexec/bucketuntil/*/*; do grep "$(sha256sum < "$it" | cut -d ' ' -f 1)" PROVED; done
 python3 tree/gate/examples.py README.md
 man -P cat rebuild-store | head -n 4
 man -P cat 5 rebuild | head -n 4
@@ -87,7 +89,7 @@ rm fragments.d/x0 fragments.d/y1
 ./fragments rebuild fragments.d
 ./fragments decode fragments.d decoded
 cmp file decoded
-apt-get purge -y bucketuntil liblrc0 liblrc-dev > said
+apt-get purge -y bucketuntil rebuild-lists bucketuntil-doc liblrc0 liblrc-dev > said
 apt-get autoremove -y --purge > said
 set +x
 files > after

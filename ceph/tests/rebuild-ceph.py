@@ -8,6 +8,9 @@ and runs that are killed. ceph/test.sh runs it; ceph/tests/store.sh tries the co
 
 REBUILD_CEPH names another program to try."""
 
+import hashlib
+import json
+import lzma
 import os
 import pathlib
 import random
@@ -93,7 +96,9 @@ def names(place):
         osd.shard(f"2.5s{number}", "", b"the group's own")
     for layout, ends in (("plain", PLAIN), ("groups", GROUPS)):
         store = place / f"store-{layout}"
-        said = run("export", store, osds, "--layout", layout, status=0)
+        for osd in osds:
+            osd.profile(layout=layout)
+        said = run("export", store, osds, status=0)
         check(said.startswith("exported 34 shards "), said)
         wanted = {f"{stripe}.{ends[number]}": f"{oid}{more}{number}".encode() for oid, more, stripe in odd for number in range(2)}
         wanted |= {f"o.{end}": b"o{}%d" % number for number, end in enumerate(ends)} | {f"six.{end}": b"six" for end in ends}
@@ -103,7 +108,8 @@ def names(place):
     wide = Stopped(place / "wide")
     wide.shard("2.5s12", "w", b"w")
     run("export", place / "wide-store", [wide], status=3)
-    run("export", place / "wide-store", [wide], "--code", "12-2-2", status=0)
+    wide.profile(code="12-2-2", k="12")
+    run("export", place / "wide-store", [wide], status=0)
     check(fragments(place / "wide-store") == {"w.px": b"w"}, "shard 12 of the wide code is not px")
     ended = subprocess.run([sys.executable, COMMAND, "export", place / "x"], capture_output=True, text=True, env=ENVIRONMENT)
     check(ended.returncode == 2, "neither a pool nor a group is asked for")
@@ -180,10 +186,48 @@ def unusable(place):
     said = run("export", store, osds, "--pool", 99, status=2)
     check("was exported with another pool, 2" in said, said)
     said = run("put", store, osds, "--layout", "groups", status=2)
+    check("pool 2 is of --layout plain" in said, said)
+    for osd in osds:
+        osd.profile(layout="groups")
+    said = run("put", store, osds, status=2)
     check("was exported with another layout, plain" in said, said)
+    for osd in osds:
+        osd.profile(layout="plain")
     said = run("export", store, osds, "--group", "2.7", status=1)
     check("no OSD here has placement group 2.7" in said, said)
     run("export", store, osds, status=0)
+
+
+def maps(place):
+    """The code and the layout are those of the map of an OSD that can say it: others are refused, and if none can they are asked for."""
+    osds = some(place, 8)
+    write(osds, range(8), "o", "9'2")
+    osds[0].mark("runs")
+    for osd in osds[1:]:
+        osd.profile(layout="groups")
+    said = run("export", place / "one", osds, status=3)
+    check(set(fragments(place / "one")) == {f"o.{end}" for end in GROUPS[1:8]} and "Mount failed" in said, said)
+    os.remove(osds[0].path("runs"))
+    osds[0].profile(layout="groups")
+    for words in (("--layout", "plain"), ("--code", "12-2-2")):
+        said = run("export", place / "two", osds, *words, status=2)
+        check(f"pool 2 is of {words[0]} " in said and f"by the map of {osds[0].folder}" in said and not (place / "two").exists(), said)
+    run("export", place / "two", osds, "--layout", "groups", "--code", "6-2-2", "--group", "2.5", status=0)
+    check(fragments(place / "two").keys() == {f"o.{end}" for end in GROUPS[:8]}, sorted(fragments(place / "two")))
+    wide = Stopped(place / "wide")
+    wide.shard("2.5s15", "w", b"w")
+    wide.profile(code=None, layout=None, k="12")
+    run("export", place / "three", [wide], status=0)
+    check(fragments(place / "three") == {"w.p1": b"w"}, "a profile without the word code, with k of 12, isn't of the wide one")
+    for osd in osds:
+        osd.mark("mapless")
+    said = run("export", place / "four", osds, status=3)
+    check("no OSD here says of which code pool 2 is: give --code and --layout" in said and "Failed to get osdmap#38" in said, said)
+    run("export", place / "four", osds, "--code", "6-2-2", "--layout", "plain", status=0)
+    wide.profile(plugin="jerasure")
+    for words in ((), ("--pool", "1")):
+        said = run("export", place / "five", [wide], *words, status=2)
+        check("isn't one of azure_lrc" in said, said)
 
 
 def full(place):
@@ -191,12 +235,107 @@ def full(place):
     osds, store = some(place, 7), place / "store"
     write(osds, range(7), "o", "9'2")
     osds[6].mark("full")
+    osds[6].mark("other")    # shards are read one by one
     said = run("export", store, osds, status=3)
     check(set(fragments(store)) == {f"o.{end}" for end in PLAIN[:6]}, f"a part was exported: {said}")
     check("bytes of o.px came: is the disk full?" in said, said)
     os.remove(osds[6].path("full"))
     said = run("export", store, osds, status=0)
     check(len(fragments(store)) == 7 and len(set(map(len, fragments(store).values()))) == 1, said)
+
+
+def in_one_run(place):
+    """A group's shards come by one run of the tool, whatever their names and lengths, and without what goes back to earlier writes; `put`
+    looks at them so too."""
+    osd, store = Stopped(place / "osd"), place / "store"
+    lengths = [0, 1, 1023, 1024, 1025, 5000, *range(40, 4000, 73)]
+    data = {f"o{number}": random.Random(number).randbytes(length) for number, length in enumerate(lengths)}
+    for oid, of_it in data.items():
+        osd.shard("2.5s0", oid, of_it, "10'7")
+    osd.shard("2.5s0", "o", b"a clone", "10'8", snapid=5, namespace="n/s", key="k")
+    osd.shard("2.5s0", "o1", b"before", "9'1", generation=7)
+    osd.shard("2.6s0", "other", b"of another group")
+    run("export", store, [osd], status=0)
+    found = fragments(store)
+    check(found == {f"{oid}.x0": it for oid, it in data.items()} | {"o%nn%2Fs%kk%s5.x0": b"a clone", "other.x0": b"of another group"},
+          f"other shards came: {sorted(found)}")
+    check(osd.asked("export") == 2 and osd.asked("get-bytes") == osd.asked("dump") == 0, f"{osd.asked('get-bytes')} shards by themselves")
+    (store / "o5.x0").write_bytes(b"rebuilt")
+    said = run("put", store, [osd], status=0)
+    check("put 1 shards, each read back; %d were the same" % (len(data) + 1) in said, said)
+    check(osd.bytes_of(line_of("2.5s0", "o5", 0)) == b"rebuilt" and osd.asked("get-bytes") == 1, "put read shards by themselves")
+
+
+def cut_short(place):
+    """An export that ends at a shard that can't be read, within a shard, or is of another form: what it lacks is read by itself, no part of
+    a shard comes, and the reason is said."""
+    osd, data = Stopped(place / "osd"), {f"o{number}": bytes([number]) * 3000 for number in range(9)}
+    lines = {oid: osd.shard("2.5s0", oid, it) for oid, it in data.items()}
+    damaged = pathlib.Path(f"{osd.file(lines['o4'])}.damaged")
+    damaged.touch()
+    said = run("export", place / "damaged", [osd], status=1)
+    check(fragments(place / "damaged") == {f"{oid}.x0": it for oid, it in data.items() if oid != "o4"}, said)
+    check("its export ends early" in said and "error reading: (5) Input/output error" in said and "o4.x0: " in said, said)
+    check(osd.asked("get-bytes") == 5 and "Read" not in said, f"{osd.asked('get-bytes')} shards by themselves: {said}")
+    damaged.unlink()
+    for mark in ("cut", "other"):
+        osd.mark(mark)
+        said = run("export", place / mark, [osd], status=0)
+        check(fragments(place / mark) == {f"{oid}.x0": it for oid, it in data.items()}, said)
+        check(("it isn't whole" if mark == "cut" else "its head is another") in said, said)
+        os.remove(osd.path(mark))
+
+
+# Of group 2.1s2 of an OSD of 16.2.15, whose `--op export` is group.export.xz: what `--op list`, `dump` and `get-bytes` gave of its shards:
+# name, number of the snapshot, write, and SHA-256 of the bytes.
+OF_CEPH = [
+    ("o3", -2, "44'3", "8a0a9846460872214c6bf47f295bedca0dd55a8a40673ddeaa3f26134c04be2e"),
+    ("o0", -2, "44'1", "ad7facb2586fc6e966c004d7d1d16b024f5805ff7cb47c7a85dabd8b48892ca7"),
+    ("o2", 1, "48'4", "fd68bae0da84814cff302a01652e9cbcae3cf9041b5dcbcef5baee082c3d8b86"),
+    ("o2", -2, "48'5", "ad7facb2586fc6e966c004d7d1d16b024f5805ff7cb47c7a85dabd8b48892ca7"),
+    ("later", -2, "48'6", "2cc4649e541368a415e08caeb0c31b9da2a0ed017b8bd6365c4661dad1206d7c"),
+]
+
+
+def of_ceph(place):
+    """What Ceph's own tool exported."""
+    osd, store = Stopped(place / "osd"), place / "store"
+    osd.group("2.1s2", last="48'6")
+    for oid, snapshot, _, _ in OF_CEPH:
+        osd.shard("2.1s2", oid, b"not these bytes", "1'1", snapid=snapshot)
+    pathlib.Path(osd.path("recorded")).write_bytes(lzma.decompress((HERE / "group.export.xz").read_bytes()))
+    said = run("export", store, [osd], status=0)
+    wanted = {f"{oid}{'' if snapshot < 0 else f'%s{snapshot}'}.x2": (version, digest) for oid, snapshot, version, digest in OF_CEPH}
+    check({name: hashlib.sha256(data).hexdigest() for name, data in fragments(store).items()}
+          == {name: digest for name, (_, digest) in wanted.items()}, said)
+    record = json.loads((store / ".rebuild-ceph.json").read_text())
+    check({f"{stripe}.x2": version for stripe, (_, version) in record["stripes"].items()}
+          == {name: version for name, (version, _) in wanted.items()}, record["stripes"])
+    check(osd.asked("get-bytes") == osd.asked("dump") == 0, "shards were read by themselves")
+
+
+def too_large(place):
+    """A store whose disk takes no more: the status is 3, and no part of a shard is in it."""
+    osd, store = Stopped(place / "osd"), place / "store"
+    osd.shard("2.5s0", "large", bytes(50000))
+    words = ["bash", "-c", 'ulimit -f 20; exec "$@"', "bash", *words_of("export", store, [osd])]
+    ended = subprocess.run(words, capture_output=True, text=True, env=ENVIRONMENT)
+    check(ended.returncode == 3 and "File too large" in ended.stderr and "Traceback" not in ended.stderr, ended.stderr)
+    check(not fragments(store) and not [*store.glob(".rebuild-ceph/*/*")], "a part of a shard was exported")
+    run("export", store, [osd], status=0)
+    check(fragments(store) == {"large.x0": bytes(50000)}, "the next run doesn't export it")
+
+
+def progress(place):
+    """From time to time it says how far it is."""
+    osd = Stopped(place / "osd")
+    for number in range(30):
+        osd.shard("2.5s0", f"o{number}", b"data")
+    text = pathlib.Path(COMMAND).read_text().replace("SECONDS_BETWEEN_LINES = 10 ", "SECONDS_BETWEEN_LINES = 0 ")
+    (place / "often").write_text(text)
+    words = words_of("export", place / "store", [osd])
+    ended = subprocess.run([words[0], place / "often", *words[2:]], capture_output=True, text=True, env=ENVIRONMENT)
+    check(ended.stderr.splitlines() == [f"rebuild-ceph: {count} of 30 shards" for count in range(1, 31)], ended.stderr)
 
 
 def hosts(place):
@@ -509,8 +648,8 @@ def killed(place):
     check(osds[0].bytes_of(lines[0]) == b"10'1 rebuilt", "the shard was not put")
 
 
-TESTS = (names, odd_names, changed, unusable, full, hosts, together, old_store, between, removed, counting, untold, again, recorded,
-         generations, stores, killed)
+TESTS = (names, odd_names, changed, unusable, maps, full, in_one_run, cut_short, of_ceph, too_large, progress, hosts, together, old_store,
+         between, removed, counting, untold, again, recorded, generations, stores, killed)
 
 
 def main():
@@ -520,7 +659,8 @@ def main():
             with tempfile.TemporaryDirectory() as scratch:
                 place = pathlib.Path(scratch)
                 (place / "bin").mkdir()
-                (place / "bin/ceph-objectstore-tool").symlink_to(HERE / "stopped.py")
+                for name in ("ceph-objectstore-tool", "osdmaptool"):
+                    (place / "bin" / name).symlink_to(HERE / "stopped.py")
                 ENVIRONMENT["PATH"] = f"{place / 'bin'}:{os.environ['PATH']}"
                 (place / "osds").mkdir()
                 test(place / "osds")

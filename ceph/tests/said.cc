@@ -33,15 +33,15 @@ extern "C" void __syslog_chk(int, int, const char *format, ...)
     va_end(arguments);
 }
 
-/* Decodes with a damaged chunk, with this in the place of standard error. */
-static void decode_damaged(const Code &code, int in_place)
+/* Decodes with this chunk damaged, with this in the place of standard error. */
+static void decode_damaged(const Code &code, int damaged, int in_place)
 {
     const int kept = dup(STDERR_FILENO);
     Chunks encoded, decoded;
     if (code->encode(everything(code), random_bytes(20000, 5), &encoded) != 0)
         stop("encode");
     dup2(in_place, STDERR_FILENO);
-    const int r = code->decode({0}, with_damage(without(encoded, {0}), 2), &decoded, 0);
+    const int r = code->decode({0}, with_damage(without(encoded, {0}), damaged), &decoded, 0);
     dup2(kept, STDERR_FILENO);
     close(kept);
     if (r != 0 || !decoded.at(0).contents_equal(encoded.at(0)))
@@ -55,16 +55,20 @@ void said(const std::string &words)
     char text[1000] = "";
     if (pipe(ends) != 0)
         stop("pipe");
-    decode_damaged(code, ends[1]);
+    for (int time = 0; time < 80; time++)
+        decode_damaged(code, 2, ends[1]);
     close(ends[1]);
     const bool came = read(ends[0], text, sizeof text - 1) > 0;
     close(ends[0]);
     const std::string line = text;
     expect(came && line.find("azure_lrc: decode: ") == 0 && line.find("shard 2 is damaged") != line.npos && logged.empty(),
            "a damaged chunk is said on standard error alone");
+    expect(line.find('\n') == line.size() - 1, "it is said once where it comes over and over");
     /* As Ceph leaves standard error where a daemon goes into the background. */
     const int null = open("/dev/null", O_RDONLY);
-    decode_damaged(code, null);
+    decode_damaged(code, 3, null);
     close(null);
-    expect(logged == line, "where that is closed, in the system's log with the same words");
+    std::string other = line;
+    other.replace(other.find("shard 2 is"), 7, "shard 3");
+    expect(logged == other, "where that is closed, in the system's log with the same words");
 }

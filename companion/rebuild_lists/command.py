@@ -15,6 +15,7 @@ from .damaged import damaged
 from .files import said_of
 from .formats import FEEDS, RACKS, REQUESTS, WORKERS, Failed, Refused
 from .merge import merge
+from .program import found
 from .put import put
 from .serve import serve
 from .split import split
@@ -61,7 +62,7 @@ def add(commands: argparse._SubParsersAction[argparse.ArgumentParser], run: Call
 
 
 def add_program(command: argparse.ArgumentParser) -> None:
-    command.add_argument("--program", metavar="PATH", default="rebuild", help="the program [default: rebuild on PATH]")
+    command.add_argument("--program", metavar="PATH", default=found(), help="the program [default: rebuild beside this one, or on PATH]")
 
 
 def add_outs(command: argparse.ArgumentParser) -> None:

@@ -2,10 +2,18 @@
 
 from __future__ import annotations
 
+import os
 import pathlib
 import subprocess
+import sys
 
 from .formats import Refused
+
+
+def found() -> str:
+    """The program that lies beside this one, links to this one followed; where none does, its name, which is then looked for on PATH."""
+    beside = os.path.join(os.path.dirname(os.path.realpath(sys.argv[0])), "rebuild")
+    return beside if os.path.isfile(beside) and os.access(beside, os.X_OK) else "rebuild"
 
 
 def farm(program: str, given: pathlib.Path, out: pathlib.Path, *options: str) -> subprocess.CompletedProcess:
