@@ -108,8 +108,8 @@ module _ (temporary : List ℕ → Type 0) where
       (each_given w (Holds given w old) later (more ++ old) (λ lawful.
       let mid = at_last (λ calls. IsLawful w calls → Holds given w old calls) more old each lawful in
       each_weaker (λ calls. IsLawful w calls → Holds given w (more ++ old) calls) (λ calls. IsLawful w calls → Holds given w old calls)
-      (λ calls holds so. let found = holds so in (found.0, are_kept_after given w old (more ++ old) calls mid.1 found.1)) later (more ++ old)
-      (second mid.0)))
+      (λ calls holds so. let found = holds so in (found.0, are_kept_after given w old (more ++ old) calls mid.1 found.1)) later
+      (more ++ old) (second mid.0)))
 
   pub keeps_after : (given : List ℕ → List ℕ → Type 0) (old mid new : List Answered)
       → Keeps temporary given old mid → Keeps temporary given mid new → Keeps temporary given old new

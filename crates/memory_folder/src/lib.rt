@@ -16,6 +16,8 @@
 mod calls;
 mod handles;
 mod memory;
+mod worlds;
 
 pub use handles::{MemoryNew, MemoryOpen, MemoryWhole};
 pub use memory::{Fault, MemoryFolder};
+pub use worlds::synchronous_is_lawful;
