@@ -12,8 +12,11 @@ import fcntl
 import hashlib
 import os
 import pathlib
+import pty
 import random
+import re
 import shutil
+import signal
 import stat
 import subprocess
 import sys
@@ -1060,6 +1063,45 @@ def test_file_that_changes_while_it_is_read(place, choose):
             fragment.write(bytes(1_000))
         status, said = go_on()
         hold(status == 3 and "changed meanwhile" in said[-200:], f"status {status}: {said[-200:]!r}")
+
+
+def on_terminal(*words, killed=False):
+    """What the program writes to a terminal on its standard error, and its status. It may be killed once it has shown a line."""
+    ours, theirs = pty.openpty()
+    with subprocess.Popen([PROGRAM, *map(str, words)], stdin=subprocess.DEVNULL, stdout=subprocess.DEVNULL, stderr=theirs) as process:
+        os.close(theirs)
+        said = b""
+        # A terminal that nobody writes to any more can't be read.
+        with contextlib.suppress(OSError):
+            while more := os.read(ours, 4_096):
+                said += more
+                if killed and b"left" in said:
+                    process.send_signal(signal.SIGTERM)
+        os.close(ours)
+        return said.decode(), process.wait(timeout=SECONDS)
+
+
+def test_line_on_a_terminal(place, choose):
+    """A repair and a scrub show how far they are on a line that is written anew in its place; a run that is killed leaves the line ended."""
+    store = place / "zeros"
+    store.mkdir()
+    names, size = [f"s{number}" for number in range(80)], 4 * 2**20
+    for name in names:
+        for shard in ("x0", "x1", "x2", "y0", "y1", "y2", "px", "py", "p0", "p1"):
+            # Zeros are a stripe, and those of a sparse file take no room.
+            with open(store / f"{name}.{shard}", "wb") as file:
+                file.truncate(size)
+    line = r"(?:\x1b\[A)?\r\x1b\[K\x1b\[\?7l%s: \d+/%d %s  [\d.]+/%s MiB  \d+ MiB/s  \d+:\d\d left  0 damaged, 0 %s\x1b\[\?7h\r\n"
+    scrub = line % ("scrub", len(names), "stripes", re.escape(f"{len(names) * 40}.0"), "lost")
+    said, status = on_terminal("scrub", store, "--workers", 1)
+    hold(status == 0 and re.fullmatch(f"(?:{scrub})+\x1b\\[A\r\x1b\\[K", said), f"status {status}: {said!r}")
+    said, status = on_terminal("scrub", store, "--workers", 1, killed=True)
+    hold(status == -signal.SIGTERM and re.fullmatch(f"(?:{scrub})+", said), f"status {status}: {said!r}")
+    for name in names:
+        (store / f"{name}.px").unlink()
+    repair = line % ("repair", len(names), "fragments", re.escape(f"{len(names) * 4}.0"), "given up")
+    said, status = on_terminal("repair", store, "--workers", 1)
+    hold(status == 0 and re.fullmatch(f"(?:{repair})+\x1b\\[A\r\x1b\\[K", said), f"status {status}: {said!r}")
 
 
 def main(program=None, only=""):

@@ -2,7 +2,7 @@
 pub(crate) mod progress;
 
 use lrc_code::Code;
-use progress::Progress;
+use progress::{Progress, bytes_of};
 use std::alloc::{AllocError, Global};
 use std::sync::atomic::{AtomicUsize, Ordering};
 use std::thread;
@@ -18,7 +18,7 @@ use store_reports::{Contents, Done, without_left};
 pub(crate) enum Work<'p, 'r> {
     Repair(Repair, &'p Progress<'r>),
     Plan(Repair),
-    Scrub(Code),
+    Scrub(Code, &'p Progress<'r>),
 }
 
 /// The stripes of an open store that are worked on, and where they are.
@@ -50,7 +50,7 @@ impl Work<'_, '_> {
             Work::Plan(repair) => CopyWork::Plan {
                 replaces: repair.replace_damaged,
             },
-            Work::Scrub(_) => CopyWork::Name,
+            Work::Scrub(_, _) => CopyWork::Name,
         }
     }
 }
@@ -116,13 +116,19 @@ fn outcome_of(
     match work {
         Work::Repair(repair, progress) => {
             let outcome = repair_stripe(alloc, store, &repair, stripe)?;
-            progress.count(&outcome);
+            let rebuilt = outcome.rebuilt.len() as u64;
+            let bytes = rebuilt.saturating_mul(outcome.length as u64);
+            progress.count(rebuilt, bytes, &outcome);
             Ok(outcome)
         }
         Work::Plan(repair) => {
             let plan = plan_stripe(alloc, store, &repair, stripe)?;
             without_left(alloc, &repair, stripe, plan)
         }
-        Work::Scrub(code) => scrub_stripe(alloc, store, code, stripe),
+        Work::Scrub(code, progress) => {
+            let outcome = scrub_stripe(alloc, store, code, stripe)?;
+            progress.count(1, bytes_of(code, stripe), &outcome);
+            Ok(outcome)
+        }
     }
 }

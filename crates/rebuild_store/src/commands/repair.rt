@@ -1,7 +1,7 @@
 //! The command `repair`.
 use crate::commands::test_opening_of;
 use crate::output::{say_all, say_alone, say_rows, say_summary};
-use crate::work::progress::Progress;
+use crate::work::progress::{Progress, Task};
 use crate::work::{Stripes, Work, work_on};
 use lrc_code::Code;
 use std::alloc::{AllocError, Global};
@@ -101,7 +101,7 @@ fn repair_at<'a, R: Threads + Sync>(
     stripes: &'a [Stripe<'a>],
 ) -> io::Result<u8> {
     let alloc = system.alloc();
-    let progress = Progress::new(system, alloc, store.code, stripes)?;
+    let progress = Progress::new(system, Task::repair(alloc, store.code, stripes)?);
     let repair = repair_of(store.code, options);
     let (work, word) = if options.dry_run {
         (Work::Plan(repair), "would be rebuilt")

@@ -1,6 +1,7 @@
 //! The command `scrub`.
 use crate::commands::test_opening_of;
 use crate::output::{say_alone, say_rows, say_summary};
+use crate::work::progress::{Progress, Task};
 use crate::work::{Stripes, Work, work_on};
 use std::io;
 use std::thread::Threads;
@@ -39,8 +40,10 @@ fn scrub_all<'a, R: Threads + Sync>(
         site: &site,
         all: stripes.as_slice(),
     };
-    let work = Work::Scrub(store.code);
+    let progress = Progress::new(system, Task::scrub(store.code, of_store.all));
+    let work = Work::Scrub(store.code, &progress);
     let all = work_on(rt, system, &of_store, work, test.workers)?;
+    progress.end();
     let contents = of_store.contents();
     let results = Results::new(system.alloc(), &site, contents, all.as_slice(), "rebuilt")?;
     say_scrubbed(system, &results, test)

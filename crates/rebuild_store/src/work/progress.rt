@@ -1,38 +1,57 @@
-//! The line on a terminal that says how far a repair is.
+//! The line on a terminal that says how far a repair or a scrub is.
 use lrc_code::Code;
 use std::alloc::{AllocError, Global};
 use std::io::{self, IsTerminal};
 use std::sync::atomic::{AtomicU64, Ordering};
 use std::time::Instant;
-use store_repair::{Outcome, Reason, Stripe};
+use store_repair::{Outcome, Stripe};
 
 /// The least time between two lines, in milliseconds.
 const BETWEEN: u64 = 200;
 
 const MIB: u64 = 1_048_576;
 
-/// What is lost, what of it is done, and since when. Nothing is shown where standard error is no terminal.
+// The line is written anew in its place, isn't folded where the terminal is narrower, and ends, so that what is written after a run that was
+// killed begins below it.
+const BEGIN: &str = "\r\x1b[K\x1b[?7l";
+
+const END: &str = "\x1b[?7h\n";
+
+const BACK: &str = "\x1b[A";
+
+/// What a line counts.
+#[derive(Clone, Copy, Debug)]
+pub(crate) struct Task {
+    /// The command.
+    pub(crate) name: &'static str,
+    /// What it has done of each.
+    pub(crate) unit: &'static str,
+    /// What findings of no damage are.
+    pub(crate) others: &'static str,
+    pub(crate) units: u64,
+    pub(crate) bytes: u64,
+}
+
+/// What is to be done, what of it is done, and since when. Nothing is shown where standard error is no terminal.
 #[derive(Drop)]
 pub(crate) struct Progress<'a> {
     rt: &'a HostRuntime,
     start: Option<Instant>,
-    fragments: u64,
-    bytes: u64,
+    task: Task,
     done: AtomicU64,
     done_bytes: AtomicU64,
     damaged: AtomicU64,
-    given_up: AtomicU64,
+    others: AtomicU64,
     shown: AtomicU64,
 }
 
-impl<'a> Progress<'a> {
-    /// The progress of a repair of these stripes.
-    pub(crate) fn new(
-        rt: &'a HostRuntime,
+impl Task {
+    /// The repair of these stripes.
+    pub(crate) fn repair(
         alloc: Global,
         code: Code,
         stripes: &[Stripe<'_>],
-    ) -> Result<Progress<'a>, AllocError> {
+    ) -> Result<Task, AllocError> {
         let mut fragments = 0u64;
         let mut bytes = 0u64;
         for stripe in stripes {
@@ -43,35 +62,67 @@ impl<'a> Progress<'a> {
             fragments = fragments.saturating_add(lost);
             bytes = bytes.saturating_add(lost.saturating_mul(length));
         }
-        Ok(Progress {
-            rt,
-            start: start_of(rt),
-            fragments,
+        Ok(Task {
+            name: "repair",
+            unit: "fragments",
+            others: "given up",
+            units: fragments,
             bytes,
-            done: AtomicU64::new(0),
-            done_bytes: AtomicU64::new(0),
-            damaged: AtomicU64::new(0),
-            given_up: AtomicU64::new(0),
-            shown: AtomicU64::new(0),
         })
     }
 
-    /// Counts what became of a stripe, and shows the line if it was shown long enough ago.
-    pub(crate) fn count(&self, outcome: &Outcome) {
+    /// The scrub of these stripes.
+    pub(crate) fn scrub(code: Code, stripes: &[Stripe<'_>]) -> Task {
+        let mut bytes = 0u64;
+        for stripe in stripes {
+            bytes = bytes.saturating_add(bytes_of(code, stripe));
+        }
+        Task {
+            name: "scrub",
+            unit: "stripes",
+            others: "lost",
+            units: stripes.len() as u64,
+            bytes,
+        }
+    }
+}
+
+/// How many bytes the files of a stripe have together.
+pub(crate) fn bytes_of(code: Code, stripe: &Stripe<'_>) -> u64 {
+    let Some(length) = stripe.files.length() else {
+        return 0;
+    };
+    let files = stripe.files.survivors(code, length).len() as u64;
+    files.saturating_mul(length)
+}
+
+impl<'a> Progress<'a> {
+    /// The progress of a task, of which nothing is done.
+    pub(crate) fn new(rt: &'a HostRuntime, task: Task) -> Progress<'a> {
+        Progress {
+            rt,
+            start: start_of(rt),
+            task,
+            done: AtomicU64::new(0),
+            done_bytes: AtomicU64::new(0),
+            damaged: AtomicU64::new(0),
+            others: AtomicU64::new(0),
+            shown: AtomicU64::new(0),
+        }
+    }
+
+    /// Counts what became of a stripe, of which so much was done, and shows the line if it was shown long enough ago.
+    pub(crate) fn count(&self, units: u64, bytes: u64, outcome: &Outcome) {
         let Some(start) = self.start else {
             return;
         };
-        let rebuilt = outcome.rebuilt.len() as u64;
-        self.done.fetch_add(rebuilt, Ordering::SeqCst);
-        self.done_bytes.fetch_add(
-            rebuilt.saturating_mul(outcome.length as u64),
-            Ordering::SeqCst,
-        );
+        self.done.fetch_add(units, Ordering::SeqCst);
+        self.done_bytes.fetch_add(bytes, Ordering::SeqCst);
         for finding in &outcome.findings {
             if finding.reason.is_damage() {
                 self.damaged.fetch_add(1, Ordering::SeqCst);
             } else if !outcome.is_mended(finding) {
-                self.given_up.fetch_add(1, Ordering::SeqCst);
+                self.others.fetch_add(1, Ordering::SeqCst);
             }
         }
         let Ok(elapsed) = start.elapsed(self.rt) else {
@@ -79,40 +130,53 @@ impl<'a> Progress<'a> {
         };
         let now = u64::try_from(elapsed.as_millis()).unwrap_or(u64::MAX);
         let last = self.shown.load(Ordering::SeqCst);
-        if now.saturating_sub(last) >= BETWEEN {
-            self.shown.store(now, Ordering::SeqCst);
-            let _ = self.show(now);
+        if now.saturating_sub(last) < BETWEEN {
+            return;
+        }
+        let taken = self
+            .shown
+            .compare_exchange(last, now, Ordering::SeqCst, Ordering::SeqCst);
+        if taken.is_ok() {
+            let _ = self.show(now, last > 0);
         }
     }
 
-    // Shows the line, so many milliseconds after the start.
-    fn show(&self, now: u64) -> io::Result<()> {
+    // Shows the line, so many milliseconds after the start, in place of an earlier one.
+    fn show(&self, now: u64, is_again: bool) -> io::Result<()> {
+        let Task {
+            name,
+            unit,
+            others,
+            units,
+            bytes,
+        } = self.task;
         let done = self.done.load(Ordering::SeqCst);
-        let bytes = self.done_bytes.load(Ordering::SeqCst);
-        let speed = bytes.saturating_mul(1_000) / now.max(1);
-        let left = self.bytes.saturating_sub(bytes) / speed.max(1);
+        let done_bytes = self.done_bytes.load(Ordering::SeqCst);
+        let speed = done_bytes.saturating_mul(1_000) / now.max(1);
+        let left = bytes.saturating_sub(done_bytes) / speed.max(1);
         let minutes = left / 60;
         let seconds = left % 60;
-        let fragments = self.fragments;
-        let (done_whole, done_tenth) = tenths_of(bytes);
-        let (all_whole, all_tenth) = tenths_of(self.bytes);
+        let (done_whole, done_tenth) = tenths_of(done_bytes);
+        let (all_whole, all_tenth) = tenths_of(bytes);
         let speed = speed / MIB;
         let damaged = self.damaged.load(Ordering::SeqCst);
-        let given_up = self.given_up.load(Ordering::SeqCst);
-        eprint!(self.rt; "\r\x1b[Krepair: {done}/{fragments} fragments")?;
-        eprint!(self.rt; "  {done_whole}.{done_tenth}/{all_whole}.{all_tenth} MiB  {speed} MiB/s")?;
-        eprint!(self.rt; "  {minutes}:{seconds:02} left  {damaged} damaged, {given_up} given up")
+        let other = self.others.load(Ordering::SeqCst);
+        let back = if is_again { BACK } else { "" };
+        let line = format!(in self.rt.alloc();
+            "{back}{BEGIN}{name}: {done}/{units} {unit}  {done_whole}.{done_tenth}/{all_whole}.{all_tenth} MiB  {speed} MiB/s  {minutes}:{seconds:02} left  {damaged} damaged, {other} {others}{END}"
+        )?;
+        eprint!(self.rt; "{line}")
     }
 
     /// Takes the line away.
     pub(crate) fn end(&self) {
         if self.shown.load(Ordering::SeqCst) > 0 {
-            let _ = eprint!(self.rt; "\r\x1b[K");
+            let _ = eprint!(self.rt; "{BACK}\r\x1b[K");
         }
     }
 }
 
-// When a repair began, if it is to be shown.
+// When a task began, if it is to be shown.
 fn start_of(rt: &HostRuntime) -> Option<Instant> {
     if !rt.stderr().is_terminal() {
         return None;
