@@ -70,7 +70,8 @@ def digests_of(store):
     sums = store / "SHA256SUMS"
     text = sums.read_bytes().decode(errors="surrogateescape") if sums.exists() else ""
     lines = re.findall(r"^(\\?)(\w{64})  (.*)$", text, re.M)
-    return {re.sub(r"\\(.)", lambda it: {"n": "\n", "r": "\r"}.get(it[1], it[1]), name) if mark else name: digest for mark, digest, name in lines}
+    unescaped = lambda name: re.sub(r"\\(.)", lambda it: {"n": "\n", "r": "\r"}.get(it[1], it[1]), name)
+    return {unescaped(name) if mark else name: digest for mark, digest, name in lines}
 
 
 def decoded(store, name, pattern="{stripe}.{place}", layout="plain"):
