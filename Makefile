@@ -36,6 +36,8 @@ LIBRARY_CC := $(if $(TARGET),$(subst -unknown,,$(TARGET))-gcc,$(CC))
 # The programs, each with its crate, in whose out/ it is built; and what is installed: each has a manual page and completions.
 PROGRAMS := rebuild rebuild-store
 COMMANDS := $(PROGRAMS) rebuild-lists
+# The manual pages of what the programs read and write.
+FORM_PAGES := man/rebuild.5 man/rebuild-store.5
 
 # Proves the programs and the crates that they use, and builds crates/rebuild/out/rebuild and crates/rebuild_store/out/rebuild_store.
 # JOBS=N has it use N processors.
@@ -72,7 +74,7 @@ install:
 	install -D -m 755 companion/rebuild-lists "$(PLACE)/bin/rebuild-lists"
 	install -D -m 644 -t "$(PLACE)/$(MODULES)" companion/rebuild_lists/*.py
 	install -D -m 644 "$(NOTICES)" "$(PLACE)/$(DOC)/NOTICES"
-	install -D -m 644 man/rebuild.5 "$(PLACE)/share/man/man5/rebuild.5"
+	install -D -m 644 -t "$(PLACE)/share/man/man5" $(FORM_PAGES)
 	for name in $(COMMANDS); do \
 	  install -D -m 644 man/$$name.1 "$(PLACE)/share/man/man1/$$name.1" && \
 	  install -D -m 644 completions/$$name.bash "$(PLACE)/share/bash-completion/completions/$$name" && \
@@ -84,7 +86,7 @@ install:
 uninstall:
 	rm -f $(patsubst %,"$(PLACE)/bin/%",$(COMMANDS))
 	rm -f $(patsubst companion/rebuild_lists/%,"$(PLACE)/$(MODULES)/%",$(wildcard companion/rebuild_lists/*.py))
-	rm -f "$(PLACE)/share/man/man5/rebuild.5" "$(PLACE)/$(DOC)/NOTICES"
+	rm -f $(patsubst man/%,"$(PLACE)/share/man/man5/%",$(FORM_PAGES)) "$(PLACE)/$(DOC)/NOTICES"
 	-@for folder in "$(PLACE)/$(MODULES)" "$(PLACE)/$(dir $(MODULES))" "$(PLACE)/$(DOC)"; do \
 	  test ! -d "$$folder" || rmdir --ignore-fail-on-non-empty "$$folder"; \
 	done
@@ -161,7 +163,8 @@ AFTER := $(addprefix gate/,refusals.py no-compile.sh reference-lines.sh ends.sh 
   store-strangers.py store-damage.py store-faults.py file-faults.py packages.sh) tools/try.sh tools/demo.sh ceph/test.sh
 
 # What it runs before them, of sources and pages.
-BEFORE := $(addprefix gate/,formatted.sh wrong-bodies.sh architecture.py sweep.py documented.py pages.py) tools/format-page.py
+BEFORE := $(addprefix gate/,formatted.sh wrong-bodies.sh architecture.py sweep.py documented.py pages.py messages.py) \
+  tools/format-page.py
 
 # Last comes a table of the time that all of it took.
 test:

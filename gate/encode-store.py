@@ -12,6 +12,7 @@ import itertools
 import os
 import pathlib
 import random
+import runpy
 import shutil
 import subprocess
 import sys
@@ -26,6 +27,8 @@ from reference import CODES, product
 from store import combined
 
 PROGRAM = pathlib.Path(sys.argv[1] if sys.argv[1:] else ROOT / "crates/rebuild_store/out/rebuild_store").resolve()
+# What reads a file by the manual page of the stores' form alone.
+decoded = runpy.run_path(str(ROOT / "gate/store-decoder.py"))["decoded"]
 WINDOW = 65_536
 # How often a run is killed for each code, and after how many seconds at most.
 KILLS = 15
@@ -136,6 +139,32 @@ def test_losses(folder, code, choose):
     check(output == b"" and "don't give the file" in errors, errors)
     run("encode", folder, folder.with_name(folder.name + "-files") / "f0", "--code", code, status=0)
     check(is_store(folder, code, files), "encoding again didn't bring back what was lost")
+
+
+def test_decoder(folder, code, choose):
+    """A decoder made by the manual page alone reads what was encoded: whole, without each one to three fragments of a file, and beside
+    damage."""
+    sources = folder.with_name(folder.name + "-files")
+    sources.mkdir()
+    files = {f"f{k}": choose.randbytes(length) for k, length in enumerate([0, 1, 5, 6, 7, 100_000])} | {"a\\b\n": b"odd"}
+    for name, data in files.items():
+        (sources / name).write_bytes(data)
+    for pattern, layout in (("{stripe}.{place}", "plain"), ("disk{shard}/{stripe}", "plain"), ("disk{shard}/{stripe}", "groups")):
+        store = folder.with_name(f"{folder.name}-{len(pattern)}-{layout}")
+        for number in range(16 if "disk" in pattern else 0):
+            (store / f"disk{number}").mkdir(parents=True)
+        run("encode", store, *(sources / name for name in files), "--code", code, "--names", pattern, "--layout", layout, status=0)
+        for name, data in files.items():
+            check(decoded(store, name, pattern, layout) == data, f"{name} of {store} isn't decoded")
+            whole = {path: path.read_bytes() for path in store.glob(f"**/{name}*") if ".file" not in path.name}
+            check(len(whole) == len(fragments_of(code, data)), f"{name} has {len(whole)} fragments")
+            lost = [it for count in (1, 2, 3) for it in itertools.combinations(whole, count)]
+            for paths in lost if name == "f4" else choose.sample(lost, 12):
+                for path in paths:
+                    path.unlink() if name != "f3" else path.write_bytes(b"x" + whole[path])
+                check(decoded(store, name, pattern, layout) == data, f"{name} isn't decoded without {paths}")
+                for path in paths:
+                    path.write_bytes(whole[path])
 
 
 def damage(path, choose):
@@ -323,7 +352,8 @@ def main():
     check(PROGRAM.exists(), f"{PROGRAM} isn't built: run 'make store' first")
     choose = random.Random(20261126)
     with tempfile.TemporaryDirectory() as scratch:
-        for test in (test_lengths, test_losses, test_damage, test_names_that_are_there, test_names, test_refusals, test_kills):
+        for test in (test_lengths, test_losses, test_decoder, test_damage, test_names_that_are_there, test_names, test_refusals,
+                     test_kills):
             for code in CODES:
                 test(pathlib.Path(scratch) / f"{test.__name__}-{code}", code, choose)
     print(f"encode-store: {passed} checks passed")

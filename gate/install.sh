@@ -29,6 +29,7 @@ wanted() {
 644 $1/share/man/man1/rebuild-lists.1 man/rebuild-lists.1
 644 $1/share/man/man1/rebuild-store.1 man/rebuild-store.1
 644 $1/share/man/man1/rebuild.1 man/rebuild.1
+644 $1/share/man/man5/rebuild-store.5 man/rebuild-store.5
 644 $1/share/man/man5/rebuild.5 man/rebuild.5
 END
   for module in companion/rebuild_lists/*.py; do

@@ -10,7 +10,8 @@ scratch=$(mktemp -d)
 trap 'rm -rf "$scratch"' EXIT
 
 if command -v mandoc > "$scratch/log"; then
-  mandoc -Tlint -Wwarning man/rebuild.1 man/rebuild-lists.1 man/rebuild-store.1 man/rebuild-ceph.1 man/rebuild.5
+  mandoc -Tlint -Wwarning man/rebuild.1 man/rebuild-lists.1 man/rebuild-store.1 man/rebuild-ceph.1 man/rebuild.5 \
+    man/rebuild-store.5
   echo 'manual: mandoc finds no fault in the pages'
 else
   echo "manual: mandoc is not installed (Debian's mandoc): the form of the pages isn't tested"
@@ -36,7 +37,7 @@ def plain(line):
 
 
 pages = {name: open('man/' + name, encoding='ascii').read() for name in
-         ('rebuild.1', 'rebuild-lists.1', 'rebuild-store.1', 'rebuild.5')}
+         ('rebuild.1', 'rebuild-lists.1', 'rebuild-store.1', 'rebuild.5', 'rebuild-store.5')}
 
 numbers = re.findall(r'^\.It E(\d+)$', pages['rebuild.1'], re.M)
 if sorted(map(int, numbers)) != list(range(1, 30)):

@@ -218,8 +218,9 @@ debian() {
   dpkg --compare-versions "$version-1" lt "$release+git20260101000001.00000000-1" || fail "a later commit's package isn't newer"
   runs "$scratch/root/usr/bin"
   starts "$scratch/root/usr"
-  for it in usr/bin/rebuild-lists usr/share/man/man1/rebuild-store.1.gz usr/share/zsh/vendor-completions/_rebuild-store \
-    usr/share/bash-completion/completions/rebuild-store usr/share/fish/vendor_completions.d/rebuild-store.fish usr/include/lrc.h \
+  for it in usr/bin/rebuild-lists usr/share/man/man{1/rebuild-store.1,5/rebuild-store.5}.gz \
+    usr/share/zsh/vendor-completions/_rebuild-store usr/share/bash-completion/completions/rebuild-store \
+    usr/share/fish/vendor_completions.d/rebuild-store.fish usr/include/lrc.h \
     usr/lib/x86_64-linux-gnu/{liblrc.a,liblrc.so.0,pkgconfig/lrc.pc,glibc-hwcaps/x86-64-v3/liblrc.so.0} \
     usr/lib/systemd/system/rebuild-store-scrub@.{service,timer} $doc/bucketuntil/README.md \
     $doc/{bucketuntil,liblrc0,liblrc-dev}/{copyright,NOTICES} $doc/{bucketuntil,liblrc0}/PROVED; do

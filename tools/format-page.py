@@ -40,7 +40,8 @@ FOOT = """\
 .Sh SEE ALSO
 .Xr rebuild 1 ,
 .Xr rebuild-lists 1 ,
-.Xr rebuild-store 1
+.Xr rebuild-store 1 ,
+.Xr rebuild-store 5
 """
 
 

@@ -77,6 +77,7 @@ for it in /usr/libexec/bucketuntil/*/*; do grep "$(sha256sum < "$it" | cut -d ' 
 python3 tree/gate/examples.py README.md
 man -P cat rebuild-store | head -n 4
 man -P cat 5 rebuild | head -n 4
+man -P cat 5 rebuild-store | head -n 4
 bash -c '. /usr/share/bash-completion/bash_completion; _completion_loader rebuild-store; complete -p rebuild-store'
 zsh -c 'autoload -Uz compinit; compinit -D -u; print $_comps[rebuild-store] $_comps[rebuild]'
 HOME=/try fish -c 'complete -C "rebuild-store scr"'
