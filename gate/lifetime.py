@@ -110,7 +110,10 @@ def test_chain(codes, store):
                                       ("rs-6-4", 10, (6, 6), [1, 1, 1, 1, 0]), ("copies-3", 3, (1, 1), [1, 1, 0])):
         repairs = repairs_by_hand(places, reads, len(kept) - 1)
         found = lifetime.chain(codes[name], store)[0]
-        close(f"the chain of {name}", found, mean_time(places, kept, LIFE, repairs, True))
+        # Also of disks that die so often that each number of lost fragments counts.
+        for life in (LIFE, LIFE / 4000):
+            time = lifetime.chain(codes[name], dataclasses.replace(store, life=life))[0]
+            close(f"the chain of {name} with disks that live {life} seconds", time, mean_time(places, kept, life, repairs, True))
         close(f"the chain of {name} that repairs one at a time", found, mean_time(places, kept, LIFE, repairs, False), ONE_AT_A_TIME)
         # Where repairs are much faster than deaths, the time is 1 over the product of the rates of deaths and the repairs' times.
         first = next(count for count, it in enumerate(kept) if it != 1)
