@@ -11,7 +11,7 @@ use Rattle.folders.specs.Worlds.{World, IsLawful, IsStep, MayChange, KeepsClosed
 use Rattle.folders.specs.Kept.{AtEach, IsSound, IsKept, AreKept, Keeps}
 use Rattle.folders.specs.Placed.{IsGiven}
 use Rattle.folders.proofs.Steps.{IsQuiet, equal, unchanged, unchanged_closed, quiet_sound, quiet_kept}
-use Rattle.folders.proofs.Runs.{are_kept_after}
+use Rattle.folders.proofs.Runs.{all_kept, are_kept_after}
 
 -- two paths are equal or they aren't
 pub same_or_other : (m n : List ℕ) → (m ≡ n) ⊎ (m ≢ n)
@@ -120,12 +120,8 @@ module _ (temporary : List ℕ → Type 0) (w : World) (file : ℕ) (written : O
     synced_kept : AreKept temporary (IsGiven to written linked) w before synced
     synced_kept = quiet_kept temporary w (sync file written) true before lawful.0.1 sound tt (IsGiven to written linked)
 
-    pub linked_kept : AtEach (AreKept temporary (IsGiven to written linked) w before) ((link file to, ok) ∷ (sync file written, true)
-        ∷ []) before
-    linked_kept = (
-      are_kept_after temporary (IsGiven to written linked) w before synced linked synced_kept last_kept,
-      (synced_kept, λ path ours not_temporary. (inl refl, inl refl)),
-    )
+    pub linked_kept : AreKept temporary (IsGiven to written linked) w before linked
+    linked_kept = are_kept_after temporary (IsGiven to written linked) w before synced linked synced_kept last_kept
 
 -- a file goes to the disk and then gets a path, whatever that call answers
 pub keeps_link : (temporary : List ℕ → Type 0) (file : ℕ) (written : Option (List ℕ)) (to : List ℕ) (ok : Bool)
@@ -137,8 +133,18 @@ keeps_link temporary file written to ok old mid new some synced linked =
     subst (λ (calls : List Answered). Keeps temporary (IsGiven to written calls) old calls) (sym whole) (record {
       more = (link file to, ok) ∷ (sync file written, true) ∷ [];
       are = refl;
-      whenever = λ w lawful sound. (
-        linked_sound temporary w file written to ok old some lawful sound,
-        linked_kept temporary w file written to ok old some lawful sound,
+      whenever = λ w sound. (
+        λ lawful. (
+          linked_sound temporary w file written to ok old some lawful sound,
+          linked_kept temporary w file written to ok old some lawful sound,
+        ),
+        (
+          λ lawful. (
+            quiet_sound temporary w (sync file written) true old lawful.1 sound tt,
+            quiet_kept temporary w (sync file written) true old lawful.1 sound tt (IsGiven to written ((link file to, ok)
+                ∷ (sync file written, true) ∷ old)),
+          ),
+          λ lawful. (sound, all_kept temporary _ w old),
+        ),
       );
     })

@@ -31,6 +31,15 @@ module _ (P : List Answered → Type 0) where
     each_after later more old each each_later.1,
   )
 
+-- what holds of each front of a run if what was before it is lawful, holds of each that is lawful
+each_given : (w : World) (P : List Answered → Type 0) (later mid : List Answered)
+    → (IsLawful w mid → AtEach (λ calls. IsLawful w calls → P calls) later mid) → AtEach (λ calls. IsLawful w calls → P calls) later mid
+each_given w P [] mid each = λ lawful. each lawful lawful
+each_given w P (call ∷ later) mid each = (
+  λ lawful. (each (lawful_front w (call ∷ later) mid lawful)).0 lawful,
+  each_given w P later mid (λ lawful. (each lawful).1),
+)
+
 module _ (given : List ℕ → List ℕ → Type 0) where
   kept_after : (shown mid_shown old mid new : Files) (path : List ℕ) → IsKept given shown shown mid_shown path
       → IsKept given shown old mid path
@@ -61,16 +70,19 @@ module _ (temporary : List ℕ → Type 0) where
     kept_weaker given other leads (w.seen old) (w.left old) (w.left new) path a.1,
   )
 
+  -- what is said of each front of a run
+  abbrev pub Holds : (List ℕ → List ℕ → Type 0) → World → List Answered → List Answered → Type 0
+  Holds given w old calls = IsSound temporary w calls × AreKept temporary given w old calls
+
   -- nothing was called
+  pub all_kept : (given : List ℕ → List ℕ → Type 0) (w : World) (calls : List Answered) → AreKept temporary given w calls calls
+  all_kept given w calls path ours not_temporary = (inl refl, inl refl)
+
   pub keeps_all : (given : List ℕ → List ℕ → Type 0) (calls : List Answered) → Keeps temporary given calls calls
   keeps_all given calls = record {
     more = [];
     are = refl;
-    whenever = λ w lawful sound. (
-      sound,
-      λ path ours not_temporary.
-          (inl refl, inl refl),
-    );
+    whenever = λ w sound lawful. (sound, all_kept given w calls);
   }
 
   pub keeps_weaker : (given other : List ℕ → List ℕ → Type 0) → ((path bytes : List ℕ) → given path bytes → other path bytes)
@@ -78,43 +90,38 @@ module _ (temporary : List ℕ → Type 0) where
   keeps_weaker given other leads old new keeps = record {
     more = keeps.more;
     are = keeps.are;
-    whenever = λ w lawful sound. let found = keeps.whenever w lawful sound in (
-      found.0,
-      each_weaker (AreKept temporary given w old) (AreKept temporary other w old)
-          (λ calls are. are_kept_weaker given other leads w old calls are) keeps.more old found.1,
-    );
+    whenever = λ w sound. each_weaker (λ calls. IsLawful w calls → Holds given w old calls) (λ calls. IsLawful w calls → Holds other w old
+        calls)
+        (λ calls holds lawful. let found = holds lawful in (found.0, are_kept_weaker given other leads w old calls found.1)) keeps.more old
+        (keeps.whenever w sound);
   }
 
   -- one run after another
   after : (given : List ℕ → List ℕ → Type 0) (w : World) (later more old : List Answered)
-      → ((lawful : IsLawful w (more ++ old)) → IsSound temporary w old → IsSound temporary w (more ++ old) × AtEach
-      (AreKept temporary given w old) more old)
-      → ((lawful : IsLawful w (later ++ (more ++ old))) → IsSound temporary w (more ++ old)
-      → IsSound temporary w (later ++ (more ++ old)) × AtEach (AreKept temporary given w (more ++ old)) later (more ++ old))
-      → IsLawful w (later ++ (more ++ old)) → IsSound temporary w old
-      → IsSound temporary w (later ++ (more ++ old)) × AtEach (AreKept temporary given w old) (later ++ more) old
-  after given w later more old first second lawful sound =
-      let a = first (lawful_front w later (more ++ old) lawful) sound in let b = second lawful a.0 in (
-        b.0,
-        each_after (AreKept temporary given w old) later more old a.1
-            (each_weaker (AreKept temporary given w (more ++ old)) (AreKept temporary given w old)
-            (λ calls are. are_kept_after given w old (more ++ old) calls (at_last (AreKept temporary given w old) more old a.1) are) later
-            (more ++ old) b.1),
-      )
+      → (IsSound temporary w old → AtEach (λ calls. IsLawful w calls → Holds given w old calls) more old)
+      → (IsSound temporary w (more ++ old)
+      → AtEach (λ calls. IsLawful w calls → Holds given w (more ++ old) calls) later (more ++ old))
+      → IsSound temporary w old → AtEach (λ calls. IsLawful w calls → Holds given w old calls) (later ++ more) old
+  after given w later more old first second sound =
+      let each = first sound in
+      each_after (λ calls. IsLawful w calls → Holds given w old calls) later more old each
+      (each_given w (Holds given w old) later (more ++ old) (λ lawful.
+      let mid = at_last (λ calls. IsLawful w calls → Holds given w old calls) more old each lawful in
+      each_weaker (λ calls. IsLawful w calls → Holds given w (more ++ old) calls) (λ calls. IsLawful w calls → Holds given w old calls)
+      (λ calls holds so. let found = holds so in (found.0, are_kept_after given w old (more ++ old) calls mid.1 found.1)) later (more ++ old)
+      (second mid.0)))
 
   pub keeps_after : (given : List ℕ → List ℕ → Type 0) (old mid new : List Answered)
       → Keeps temporary given old mid → Keeps temporary given mid new → Keeps temporary given old new
   keeps_after given old mid new first second =
       let later = second.more in let more = first.more in
       let whole : new ≡ later ++ (more ++ old) = second.are ∙ ap (λ (calls : List Answered). later ++ calls) first.are in
-      let again = subst (λ (calls : List Answered). (w : World) → IsLawful w (later ++ calls) → IsSound temporary w calls
-      → IsSound temporary w (later ++ calls) × AtEach (AreKept temporary given w calls) later calls) first.are second.whenever in
+      let again = subst (λ (calls : List Answered). (w : World) → IsSound temporary w calls
+      → AtEach (λ so. IsLawful w so → Holds given w calls so) later calls) first.are second.whenever in
       record {
         more = later ++ more;
         are = whole ∙ sym (append_assoc later more old);
-        whenever = subst (λ (calls : List Answered). (w : World) → IsLawful w calls → IsSound temporary w old
-            → IsSound temporary w calls × AtEach (AreKept temporary given w old) (later ++ more) old) (sym (append_assoc later more old))
-            (λ w lawful sound. after given w later more old (first.whenever w) (again w) lawful sound);
+        whenever = λ w sound. after given w later more old (first.whenever w) (again w) sound;
       }
 
   -- one call that changes no path but temporary ones
@@ -123,8 +130,11 @@ module _ (temporary : List ℕ → Type 0) where
   keeps_quiet given call ok old new are quiet = record {
     more = (call, ok) ∷ [];
     are = are;
-    whenever = λ w lawful sound. (
-      quiet_sound temporary w call ok old lawful.1 sound (quiet w),
-      (quiet_kept temporary w call ok old lawful.1 sound (quiet w) given, λ path ours not_temporary. (inl refl, inl refl)),
+    whenever = λ w sound. (
+      λ lawful. (
+        quiet_sound temporary w call ok old lawful.1 sound (quiet w),
+        quiet_kept temporary w call ok old lawful.1 sound (quiet w) given,
+      ),
+      λ lawful. (sound, all_kept given w old),
     );
   }

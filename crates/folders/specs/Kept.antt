@@ -31,12 +31,12 @@ AreKept temporary given w before calls =
     → IsKept given (w.seen before) (w.seen before) (w.seen calls) path × IsKept given (w.seen before) (w.left before) (w.left calls) path
 
 -- Whenever the run from the old calls to the new ones ends, by a crash or by itself, each path that isn't temporary has what it had, or, if
--- it had nothing, the whole bytes of a file that it was given.
+-- it had nothing, the whole bytes of a file that it was given: after each call, in each way in which the run may have gone up to then.
 pub record Keeps (temporary : List ℕ → Type 0) (given : List ℕ → List ℕ → Type 0) (old new : List Answered) : Type 0 where
   pub more : List Answered
   pub are : new ≡ more ++ old
-  pub whenever : (w : World) → IsLawful w (more ++ old) → IsSound temporary w old
-      → IsSound temporary w (more ++ old) × AtEach (AreKept temporary given w old) more old
+  pub whenever : (w : World) → IsSound temporary w old
+      → AtEach (λ calls. IsLawful w calls → IsSound temporary w calls × AreKept temporary given w old calls) more old
 
 -- No path changes but this one, if it is temporary, and other temporary ones.
 abbrev pub KeepsBut : List ℕ → List Answered → List Answered → Type 0
