@@ -1,5 +1,6 @@
 # `make try` runs line mode unproved; `make demo` proves, builds and runs the program on the sample in demo/; `make test` is the gate,
-# `make wrong-bodies` tries the wrong bodies that it leaves out, and `make scale` runs what docs/SCALE.md shows of several jobs.
+# `make wrong-bodies` tries the wrong bodies that it leaves out, `make scale` runs what docs/SCALE.md shows of several jobs, and
+# `make lifetime` draws its plot.
 
 # The processor level that programs are built for: v3 has 32-byte vectors (AVX2), v2 those of 16 bytes.
 CPU := $(shell grep -q avx2 /proc/cpuinfo && echo x86-64-v3 || echo x86-64-v2)
@@ -31,7 +32,7 @@ LIBRARY := crates/lrc_c/$(if $(TARGET),out/$(TARGET),$(BUILT))
 LIBRARY_CC := $(if $(TARGET),$(subst -unknown,,$(TARGET))-gcc,$(CC))
 
 .PHONY: build notices store demo try install uninstall library link-library install-library uninstall-library ceph install-ceph \
-  uninstall-ceph try-ceph ceph-needs test levels wrong-bodies scale bench packages try-packages
+  uninstall-ceph try-ceph ceph-needs test levels wrong-bodies scale lifetime bench packages try-packages
 
 # The programs, each with its crate, in whose out/ it is built; and what is installed: each has a manual page and completions.
 PROGRAMS := rebuild rebuild-store
@@ -163,7 +164,7 @@ AFTER := $(addprefix gate/,refusals.py no-compile.sh reference-lines.sh ends.sh 
   store-strangers.py store-damage.py store-faults.py file-faults.py packages.sh) tools/try.sh tools/demo.sh ceph/test.sh
 
 # What it runs before them, of sources and pages.
-BEFORE := $(addprefix gate/,formatted.sh wrong-bodies.sh architecture.py sweep.py documented.py pages.py messages.py) \
+BEFORE := $(addprefix gate/,formatted.sh wrong-bodies.sh architecture.py sweep.py documented.py pages.py messages.py lifetime.py) \
   tools/format-page.py
 
 # Last comes a table of the time that all of it took.
@@ -197,6 +198,10 @@ levels:
 # GNU parallel and Slurm over the built program, where they are installed. It is no part of the gate.
 scale: build
 	tools/scale.sh
+
+# The plot of docs/SCALE.md, which gate/lifetime.py compares with what this draws.
+lifetime:
+	tools/lifetime.py --svg docs/lifetime.svg
 
 # What users install who have no toolchain: out/packages gets a tarball, Debian packages, what they are made of, what was proved, and sums.
 packages:

@@ -10,7 +10,8 @@ import sys
 
 PAGES = ("README.md", "CHANGELOG.md", "CONTRIBUTING.md", "docs/*.md")
 # What pages have users run, copy or read.
-FILES = ("deploy/*", "demo/**/*", "library/lrc.h", "library/examples/**/*", "tools/store.py", "tools/reference.py")
+FILES = ("deploy/*", "demo/**/*", "library/lrc.h", "library/examples/**/*", "tools/store.py", "tools/reference.py",
+         "tools/lifetime.py", "docs/*.svg")
 LINK = re.compile(r"\[([^\]]*)\]\(([^)\s]+)\)")
 END = """
 ---
