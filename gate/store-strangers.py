@@ -1082,7 +1082,7 @@ def on_terminal(*words, killed=False):
 
 
 def test_line_on_a_terminal(place, choose):
-    """A repair and a scrub show how far they are on a line that is written anew in its place; a run that is killed leaves the line ended."""
+    """A repair and a scrub show how far they are on a line that is written anew in its place, and that ends if the run is killed."""
     store = place / "zeros"
     store.mkdir()
     names, size = [f"s{number}" for number in range(80)], 4 * 2**20

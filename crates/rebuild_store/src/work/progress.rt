@@ -11,8 +11,8 @@ const BETWEEN: u64 = 200;
 
 const MIB: u64 = 1_048_576;
 
-// The line is written anew in its place, isn't folded where the terminal is narrower, and ends, so that what is written after a run that was
-// killed begins below it.
+// The line is written anew in its place, isn't folded where the terminal is narrower, and ends, so that what is written after a run that
+// was killed begins below it.
 const BEGIN: &str = "\r\x1b[K\x1b[?7l";
 
 const END: &str = "\x1b[?7h\n";
@@ -162,9 +162,15 @@ impl<'a> Progress<'a> {
         let damaged = self.damaged.load(Ordering::SeqCst);
         let other = self.others.load(Ordering::SeqCst);
         let back = if is_again { BACK } else { "" };
-        let line = format!(in self.rt.alloc();
-            "{back}{BEGIN}{name}: {done}/{units} {unit}  {done_whole}.{done_tenth}/{all_whole}.{all_tenth} MiB  {speed} MiB/s  {minutes}:{seconds:02} left  {damaged} damaged, {other} {others}{END}"
+        let alloc = self.rt.alloc();
+        let amount = format!(in alloc;
+            "{done_whole}.{done_tenth}/{all_whole}.{all_tenth} MiB  {speed} MiB/s"
         )?;
+        let rest = format!(in alloc;
+            "{minutes}:{seconds:02} left  {damaged} damaged, {other} {others}"
+        )?;
+        let line = format!(in alloc; "{name}: {done}/{units} {unit}  {amount}  {rest}")?;
+        let line = format!(in alloc; "{back}{BEGIN}{line}{END}")?;
         eprint!(self.rt; "{line}")
     }
 
