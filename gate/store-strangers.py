@@ -1067,7 +1067,10 @@ def test_file_that_changes_while_it_is_read(place, choose):
 
 def on_terminal(*words, killed=False):
     """What the program writes to a terminal on its standard error, and its status. It may be killed once it has shown a line."""
-    ours, theirs = pty.openpty()
+    try:
+        ours, theirs = pty.openpty()
+    except OSError as error:
+        raise Skipped(f"no terminal can be made here: {error}") from None
     with subprocess.Popen([PROGRAM, *map(str, words)], stdin=subprocess.DEVNULL, stdout=subprocess.DEVNULL, stderr=theirs) as process:
         os.close(theirs)
         said = b""
