@@ -34,14 +34,19 @@ pub struct FolderStore<'a, F: Folder> {
 
 impl<'a> FolderStore<'a, SystemFolder<'a>> {
     /// A store at a site of the system's file system.
-    pub fn new(rt: &'a HostRuntime, site: Site<'a>) -> FolderStore<'a, SystemFolder<'a>> {
+    pub fn new(rt: &'a HostRuntime, site: Site<'a>) -> FolderStore<'a, SystemFolder<'a>>
+        ensures { result.site ≡ site.entry }
+    {
         FolderStore::over(rt, SystemFolder::new(rt), site)
     }
 }
 
 impl<'a, F: Folder> FolderStore<'a, F> {
     /// A store at a site of a file system.
-    pub fn over(rt: &'a HostRuntime, files: F, site: Site<'a>) -> FolderStore<'a, F> {
+    pub fn over(rt: &'a HostRuntime, files: F, site: Site<'a>) -> FolderStore<'a, F>
+        ensures site { result.site ≡ site.entry }
+        ensures files { result.files ≡ files }
+    {
         FolderStore {
             rt,
             files,
@@ -52,7 +57,9 @@ impl<'a, F: Folder> FolderStore<'a, F> {
     }
 
     /// The file system that it worked on.
-    pub fn into_files(self) -> F {
+    pub fn into_files(self) -> F
+        ensures { result ≡ self.entry.files }
+    {
         self.files
     }
 

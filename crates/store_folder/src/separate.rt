@@ -40,12 +40,16 @@ struct Faulty<N: NewFile> {
 
 impl<'a, F: Folder> SeparateStore<'a, F> {
     /// A store whose fragments are those of this one.
-    pub fn new(store: FolderStore<'a, F>) -> SeparateStore<'a, F> {
+    pub fn new(store: FolderStore<'a, F>) -> SeparateStore<'a, F>
+        ensures { result.store ≡ store.entry }
+    {
         SeparateStore { store }
     }
 
     /// The file system that it worked on.
-    pub fn into_files(self) -> F {
+    pub fn into_files(self) -> F
+        ensures { result ≡ self.entry.store.files }
+    {
         self.store.into_files()
     }
 }
