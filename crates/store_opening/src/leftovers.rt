@@ -1,6 +1,7 @@
 //! What runs that were killed have left: it is removed by the next run that writes to the same.
 use std::io;
 use store_folder::{Leftover, Listing, is_left_by, left_in, remove_leftover};
+use store_names::last_of;
 use store_reports::say;
 
 /// Removes what a killed run with this tag has left in a folder that was listed, and in those that its links lead to. Each file that is
@@ -46,13 +47,5 @@ fn remove(rt: &HostRuntime, path: &str, is_known_dead: bool) -> io::Result<bool>
             )?;
             Ok(false)
         }
-    }
-}
-
-// The last part of a path.
-fn last_of(path: &str) -> &str {
-    match path.rsplit_once('/') {
-        Some((_, last)) => last,
-        None => path,
     }
 }
