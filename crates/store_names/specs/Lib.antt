@@ -3,3 +3,4 @@ pub mod Layouts
 pub mod Names
 pub mod Parts
 pub mod Patterns
+pub mod Temporary

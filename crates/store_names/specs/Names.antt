@@ -1,7 +1,8 @@
 -- The names of fragments: the texts of a pattern round a stripe and the key of a place.
 use Rattle.std.specs.Prelude.{◌≡◌, ℕ, Bool, true, not, ◌&&◌, ◌==◌, nat_lt, List, [], ◌∷◌, ◌++◌, ◌+◌, ◌/◌, ◌%◌, length, Option, Some}
 use Rattle.std.specs.Prelude.{option_map, codes, if◌then◌else◌}
-use Rattle.std.specs.List.{list_all, slice_split}
+use Rattle.std.specs.List.{ends_with, list_all}
+use Rattle.std.proofs.Math.Dec.{eqb}
 use Rattle.std.specs.Str.{bytes_eq}
 use Rattle.lrc_code.specs.declared.places.Place.{Place}
 use Rattle.lrc_code.specs.declared.codes.Code.{Code as CodeName}
@@ -11,6 +12,7 @@ use Rattle.store_names.specs.declared.layouts.Naming.{Naming}
 use Rattle.store_names.specs.declared.layouts.Naming.TheVariants.{ByPlace, ByShard}
 use Rattle.store_names.specs.declared.patterns.Pattern.{Pattern}
 use Rattle.store_names.specs.Layouts.{shard_of}
+use Rattle.store_names.specs.Temporary.{is_free, parts}
 
 -- a number below 100 in decimal digits
 abbrev pub number : ℕ → List ℕ
@@ -31,13 +33,17 @@ name_with p stripe key =
 abbrev pub is_stripe : List ℕ → Bool
 is_stripe stripe = nat_lt 0 (length stripe) && list_all (λ byte. not (byte == 47)) stripe
 
--- what is between the '/' of a name
-abbrev pub parts : List ℕ → List (List ℕ)
-parts name = slice_split (λ byte. byte == 47) name
-
 -- a name that leads nowhere out of the folder that it is in: none of its parts is empty, so it doesn't begin with '/', and none is `..`
 abbrev pub is_below : List ℕ → Bool
 is_below name = list_all (λ part. not (bytes_eq part []) && not (bytes_eq part (codes ".."))) (parts name)
+
+-- the second name of a fragment that was replaced and is kept
+abbrev pub is_second : List ℕ → Bool
+is_second name = ends_with eqb name (codes ".damaged")
+
+-- a name that a fragment may have: it leads nowhere out of the store's folder, no unfinished file has it, and it is no second name
+abbrev pub is_for_fragments : List ℕ → Bool
+is_for_fragments name = is_below name && is_free name && not (is_second name)
 
 -- a pattern makes this name of a stripe and a place
 pub record IsMade (p : Pattern) (code : CodeName) (stripe : List ℕ) (place : Place) (name : List ℕ) : Type 0 where
@@ -46,12 +52,7 @@ pub record IsMade (p : Pattern) (code : CodeName) (stripe : List ℕ) (place : P
   pub is : name ≡ name_with p stripe key
   pub is_stripe : is_stripe stripe ≡ true
 
--- and the name leads nowhere out of the store's folder: it is the name of the stripe's fragment at the place
+-- and a fragment may have the name: it is that of the stripe's fragment at the place
 pub record IsNameOf (p : Pattern) (code : CodeName) (stripe : List ℕ) (place : Place) (name : List ℕ) : Type 0 where
   pub made : IsMade p code stripe place name
-  pub below : is_below name ≡ true
-
--- the second name of a fragment that was replaced and is kept
-pub record IsSecond (name : List ℕ) : Type 0 where
-  pub first : List ℕ
-  pub is : name ≡ first ++ codes ".damaged"
+  pub may_be : is_for_fragments name ≡ true

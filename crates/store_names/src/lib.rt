@@ -33,4 +33,4 @@ pub use names::KEPT;
 pub use parts::Part;
 pub use paths::{folder_in, folder_of, last_of, path_in};
 pub use patterns::{Pattern, PatternFault};
-pub use temporary::{is_left_by, is_of_runs, lock_name, tag_of_part};
+pub use temporary::{is_free, is_left_by, is_of_runs, is_unfinished, lock_name, tag_of_part};

@@ -2,10 +2,11 @@
 ghost use Rattle.std.specs.Prelude.{◌≡◌, ◌≢◌, ◌++◌, ℕ, List, Option, IfOk, IfSome, MatchOption, not, ◌==◌, option_map, string_bytes};
 ghost use Rattle.std.specs.List.{list_all};
 ghost use Rattle.lrc_code.specs.declared.places.Place.{Place};
-ghost use Rattle.store_names.specs.Names.{IsMade, IsNameOf, IsSecond, is_below, is_stripe, key_of, name_with};
+ghost use Rattle.store_names.specs.Names.{IsMade, IsNameOf, is_below, is_for_fragments, is_second, is_stripe, key_of, name_with};
 
 use crate::layouts::Naming;
 use crate::patterns::Pattern;
+use crate::temporary::is_free;
 use crate::texts::{after, until};
 use lrc_code::{Code, Place};
 use std::alloc::{AllocError, Global};
@@ -39,9 +40,25 @@ fn leads_below(name: &str) -> bool
     name.split('/').all(|part| part != "" && part != "..")
 }
 
+// Whether a name is the second one of a fragment.
+fn is_second(name: &str) -> bool
+    ensures { result ≡ is_second name.now }
+{
+    name.ends_with(KEPT)
+}
+
+// Whether a fragment may have a name: it leads nowhere out of the store's folder, runs give it to no file of their own that isn't whole yet,
+// and it is no second name.
+fn is_for_fragments(name: &str) -> bool
+    ensures { result ≡ is_for_fragments name.now }
+{
+    leads_below(name) && is_free(name) && !is_second(name)
+}
+
 impl Pattern<'_> {
     /// The name of a stripe's fragment at a place. There is none where the code has no shard at the place, where the stripe's name is
-    /// empty or has a `/`, and where the name would lead out of the store's folder, as `{stripe}/{place}` does for a stripe `..`.
+    /// empty or has a `/`, and where no fragment may have the name: where it would lead out of the store's folder, as `{stripe}/{place}`
+    /// does for a stripe `..`, where unfinished files have it, and where it is the second name of a fragment that was replaced.
     pub fn name_of(
         &self,
         alloc: Global,
@@ -59,7 +76,7 @@ impl Pattern<'_> {
             return Ok(None);
         }
         let name = self.name_with(alloc, stripe, key)?;
-        if !leads_below(name.as_str()) {
+        if !is_for_fragments(name.as_str()) {
             return Ok(None);
         }
         Ok(Some(name))
@@ -93,13 +110,13 @@ impl Pattern<'_> {
         }
     }
 
-    /// The stripe and the place of which a name is that of the fragment. The second name of a fragment that was replaced says none.
+    /// The stripe and the place of which a name is that of the fragment, if there are such.
     pub fn read<'n>(&self, code: Code, name: &'n str) -> Option<(&'n str, Place)>
-        ensures takes { IfSome result (λ read. IsNameOf self.now code read.0.now read.1 name.now × ¬ IsSecond name.now) }
-        ensures gives { (stripe : List ℕ) (place : Place) → IsNameOf self.now code stripe place name.now → ¬ IsSecond name.now
+        ensures takes { IfSome result (λ read. IsNameOf self.now code read.0.now read.1 name.now) }
+        ensures gives { (stripe : List ℕ) (place : Place) → IsNameOf self.now code stripe place name.now
             → MatchOption result ⊥ (λ read. (read.0.now ≡ stripe) × (read.1 ≡ place)) }
     {
-        if until(name, KEPT).is_some() || !leads_below(name) {
+        if !is_for_fragments(name) {
             return None;
         }
         for place in &Place::ALL {

@@ -1,4 +1,9 @@
 //! The names of files that runs keep to themselves: those that aren't whole yet, and the locks of parts.
+ghost use Rattle.std.specs.Prelude.{◌≡◌, codes};
+ghost use Rattle.std.specs.List.{list_all, starts_with};
+ghost use Rattle.std.proofs.Math.Dec.{eqb};
+ghost use Rattle.store_names.specs.Temporary.{ends_in_digits, is_digit, is_free, is_unfinished};
+
 use std::alloc::{AllocError, Global};
 
 // How the name of a file begins that isn't whole yet.
@@ -12,9 +17,51 @@ const OF: &str = "-of-";
 // How many digits at random end the name of an unfinished file.
 const RANDOM_DIGITS: usize = 16;
 
+fn is_digit(byte: u8) -> bool
+    ensures { result ≡ is_digit byte }
+{
+    (b'0' <= byte && byte <= b'9') || (b'a' <= byte && byte <= b'f')
+}
+
+fn are_digits(text: &[u8]) -> bool
+    ensures { result ≡ list_all is_digit text.now }
+{
+    text.iter().all(|byte| is_digit(*byte))
+}
+
+fn ends_in_digits(name: &[u8]) -> bool
+    ensures { result ≡ ends_in_digits name.now }
+{
+    if name.len() < RANDOM_DIGITS {
+        return false;
+    }
+    are_digits(&name[name.len() - RANDOM_DIGITS..])
+}
+
+fn begins_as_unfinished(name: &str) -> bool
+    ensures { result ≡ starts_with eqb name.now (codes ".rebuild-store-") }
+{
+    name.starts_with(UNFINISHED)
+}
+
+/// Whether a name is such as unfinished files have, whichever part the run worked on: it begins with `.rebuild-store-` and ends in sixteen
+/// digits. No fragment has it.
+pub fn is_unfinished(name: &str) -> bool
+    ensures { result ≡ is_unfinished name.now }
+{
+    begins_as_unfinished(name) && ends_in_digits(name.as_bytes())
+}
+
+/// Whether no part of a path is such a name.
+pub fn is_free(path: &str) -> bool
+    ensures { result ≡ is_free path.now }
+{
+    path.split('/').all(|part| !is_unfinished(part))
+}
+
 // Whether a name has exactly the form of an unfinished file's: `.rebuild-store-`, then `I-N-` if the run worked on part I of N, then
 // sixteen digits at random.
-fn is_unfinished(name: &str) -> bool {
+fn is_of_unfinished(name: &str) -> bool {
     let Some(rest) = name.strip_prefix(UNFINISHED) else {
         return false;
     };
@@ -26,7 +73,7 @@ fn is_unfinished(name: &str) -> bool {
 
 /// Whether a name is one that runs give to files of their own: that of an unfinished file, or of the lock of a part.
 pub fn is_of_runs(name: &str) -> bool {
-    is_unfinished(name) || is_lock(name)
+    is_of_unfinished(name) || is_lock(name)
 }
 
 /// Whether a name is one that a run with this tag may have left: with a tag, that of an unfinished file of its own; without one, any that

@@ -9,7 +9,7 @@ use Rattle.store_names.proofs.Distinct.{names_differ}
 use Rattle.store_names.proofs.patterns.Pattern.read.Goals as goal
 
 pub returns-in-Some-clause-gives : goal.returns-in-Some-clause-gives
-returns-in-Some-clause-gives c = λ stripe place is first.
+returns-in-Some-clause-gives c = λ stripe place is.
     names_differ c.args.self.now c.args.self.now.apart c.args.code c.in-Some.stripe.now stripe _ place c.args.name.now c.in-Some.ensures
     is.made
 
@@ -24,5 +24,5 @@ loop-place-preserved c = λ place stripe lt made.
     (index_of place) lt place stripe refl made
 
 pub returns-clause-gives : goal.returns-clause-gives
-returns-clause-gives c = λ stripe place is first.
+returns-clause-gives c = λ stripe place is.
     let below = index_below place in c.loop-place.invariant place stripe (omega arith) is.made
