@@ -1,4 +1,6 @@
 pub mod Answers
 pub mod Links
+pub mod LastNames
 pub mod Runs
+pub mod Staying
 pub mod Steps

@@ -21,7 +21,7 @@ same_or_other m n = elim (cases_Bool (bytes_eq m n)) [
 ]
 
 -- a file that was written to the disk by the last call
-closed_now : (file : ℕ) (written : Option (List ℕ)) (calls : List Answered) → is_closed file ((sync file written, true) ∷ calls) ≡ true
+pub closed_now : (file : ℕ) (written : Option (List ℕ)) (calls : List Answered) → is_closed file ((sync file written, true) ∷ calls) ≡ true
 closed_now file written calls = or_left _ _ (equal file)
 
 module _ (temporary : List ℕ → Type 0) (w : World) (file : ℕ) (written : Option (List ℕ)) (to : List ℕ) (ok : Bool) (before : List Answered)
@@ -147,4 +147,5 @@ keeps_link temporary file written to ok old mid new some synced linked =
           λ lawful. (sound, all_kept temporary _ w old),
         ),
       );
+      takes = (tt, (tt, tt));
     })

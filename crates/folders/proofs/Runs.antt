@@ -1,11 +1,20 @@
 -- Runs of calls that keep what they have to keep: none, one more, and one after another.
-use Rattle.std.proofs.Common.{◌≡◌, ◌⊎◌, inl, inr, ℕ, List, [], ◌∷◌, ◌++◌, Bool, true, Option, Some, None, refl, sym, ◌∙◌, ap, subst}
+use Rattle.std.proofs.Common.{◌≡◌, ◌⊎◌, inl, inr, ℕ, List, [], ◌∷◌, ◌++◌, Bool, true, false, Option, Some, None, refl, sym, ◌∙◌, ap, subst}
 use Rattle.std.proofs.lemmas.List.{append_assoc}
-use Rattle.folders.specs.Calls.{Call, Answered}
+use Rattle.folders.specs.Calls.{Call, Answered, make, sync, link, link_again, rename, remove, sync_folder}
 use Rattle.folders.specs.Files.{Files, under}
 use Rattle.folders.specs.Worlds.{World, IsLawful}
-use Rattle.folders.specs.Kept.{AtEach, IsSound, IsKept, AreKept, Keeps}
+use Rattle.folders.specs.Kept.{AtEach, IsSound, IsKept, AreKept, Keeps, TakeNone, TakesNone}
 use Rattle.folders.proofs.Steps.{IsQuiet, quiet_sound, quiet_kept}
+
+-- no paths and no files
+nowhere : World
+nowhere =
+    let none : Files = record { named = λ path. None; bytes = λ file. [] } in record {
+      ours = λ path. false;
+      seen = λ calls. none;
+      left = λ calls. none;
+    }
 
 -- a front of a lawful run is lawful
 pub lawful_front : (w : World) (more old : List Answered) → IsLawful w (more ++ old) → IsLawful w old
@@ -83,6 +92,7 @@ module _ (temporary : List ℕ → Type 0) where
     more = [];
     are = refl;
     whenever = λ w sound lawful. (sound, all_kept given w calls);
+    takes = tt;
   }
 
   pub keeps_weaker : (given other : List ℕ → List ℕ → Type 0) → ((path bytes : List ℕ) → given path bytes → other path bytes)
@@ -94,6 +104,7 @@ module _ (temporary : List ℕ → Type 0) where
         calls)
         (λ calls holds lawful. let found = holds lawful in (found.0, are_kept_weaker given other leads w old calls found.1)) keeps.more old
         (keeps.whenever w sound);
+    takes = keeps.takes;
   }
 
   -- one run after another
@@ -111,6 +122,20 @@ module _ (temporary : List ℕ → Type 0) where
       (λ calls holds so. let found = holds so in (found.0, are_kept_after given w old (more ++ old) calls mid.1 found.1)) later
       (more ++ old) (second mid.0)))
 
+  -- runs that take nothing away, one after another
+  pub take_after : (later more : List Answered) → TakeNone temporary later → TakeNone temporary more → TakeNone temporary (later ++ more)
+  take_after [] more none takes = takes
+  take_after (call ∷ later) more some takes = (some.0, take_after later more some.1 takes)
+
+  quiet_takes : (w : World) (call : Call) → IsQuiet temporary w call → TakesNone temporary call
+  quiet_takes w (make path) quiet = quiet
+  quiet_takes w (sync file bytes) quiet = tt
+  quiet_takes w (link file to) quiet = tt
+  quiet_takes w (link_again from to) quiet = quiet
+  quiet_takes w (rename file from to) quiet = quiet
+  quiet_takes w (remove path) quiet = quiet
+  quiet_takes w (sync_folder path) quiet = tt
+
   pub keeps_after : (given : List ℕ → List ℕ → Type 0) (old mid new : List Answered)
       → Keeps temporary given old mid → Keeps temporary given mid new → Keeps temporary given old new
   keeps_after given old mid new first second =
@@ -122,6 +147,7 @@ module _ (temporary : List ℕ → Type 0) where
         more = later ++ more;
         are = whole ∙ sym (append_assoc later more old);
         whenever = λ w sound. after given w later more old (first.whenever w) (again w) sound;
+        takes = take_after later more second.takes first.takes;
       }
 
   -- one call that changes no path but temporary ones
@@ -137,4 +163,5 @@ module _ (temporary : List ℕ → Type 0) where
       ),
       λ lawful. (sound, all_kept given w old),
     );
+    takes = (quiet_takes nowhere call (quiet nowhere), tt);
   }

@@ -14,12 +14,12 @@ pub equal : (n : ℕ) → (n == n) ≡ true
 equal n = grind arith
 
 -- a file that a path leads to before a call that makes one is another one
-other_file : (w : World) (calls : List Answered) (call : Call) (files : Files) (path : List ℕ) (file : ℕ) → w.ours path ≡ true
+pub other_file : (w : World) (calls : List Answered) (call : Call) (files : Files) (path : List ℕ) (file : ℕ) → w.ours path ≡ true
     → IsNew w.ours (suc (length calls)) files → files.named path ≡ Some file → file ≢ suc (length calls)
 other_file w calls call files path file ours new leads same = new path ours (leads ∙ ap (λ (n : ℕ). Some n) same)
 
 -- a file that can't be appended to stays so, if a call that makes a file makes another one
-stays_closed : (call : Call) (ok : Bool) (calls : List Answered) (file : ℕ) → ((path : List ℕ) → call ≡ make path → file ≢ suc
+pub stays_closed : (call : Call) (ok : Bool) (calls : List Answered) (file : ℕ) → ((path : List ℕ) → call ≡ make path → file ≢ suc
     (length calls))
     → is_closed file calls ≡ true → is_closed file ((call, ok) ∷ calls) ≡ true
 stays_closed (make path) ok calls file other closed = and_from _ _ (differs file (suc (length calls)) (other path refl)) closed
@@ -30,7 +30,7 @@ stays_closed (rename f from to) ok calls file other closed = closed
 stays_closed (remove path) ok calls file other closed = closed
 stays_closed (sync_folder path) ok calls file other closed = closed
 
-new_seen : (w : World) (call : Call) (calls : List Answered) (path : List ℕ) → Makes w call calls → call ≡ make path → IsNew w.ours (suc
+pub new_seen : (w : World) (call : Call) (calls : List Answered) (path : List ℕ) → Makes w call calls → call ≡ make path → IsNew w.ours (suc
     (length calls)) (w.seen calls)
 new_seen w (make p) calls path makes same = makes.0
 new_seen w (sync f bytes) calls path makes same = cc

@@ -1,6 +1,6 @@
 -- What a run of calls keeps of what is at the paths of files, whenever it ends.
 use Rattle.std.specs.Prelude.{◌≡◌, ◌⊎◌, ℕ, List, [], ◌∷◌, ◌++◌, Bool, true, Option, Some, None}
-use Rattle.folders.specs.Calls.{Answered}
+use Rattle.folders.specs.Calls.{Call, Answered, make, sync, link, link_again, rename, remove, sync_folder}
 use Rattle.folders.specs.Files.{Files, under}
 use Rattle.folders.specs.Worlds.{World, IsLawful, is_closed}
 
@@ -30,6 +30,20 @@ AreKept temporary given w before calls =
     (path : List ℕ) → w.ours path ≡ true → (temporary path → ⊥)
     → IsKept given (w.seen before) (w.seen before) (w.seen calls) path × IsKept given (w.seen before) (w.left before) (w.left calls) path
 
+-- a call that takes no path away but temporary ones, and leads none to another file: what is at a path stays there
+abbrev pub TakesNone : (List ℕ → Type 0) → Call → Type 0
+TakesNone temporary (make path) = temporary path
+TakesNone temporary (sync file bytes) = Unit {0}
+TakesNone temporary (link file to) = Unit {0}
+TakesNone temporary (link_again from to) = ⊥
+TakesNone temporary (rename file from to) = ⊥
+TakesNone temporary (remove path) = temporary path
+TakesNone temporary (sync_folder path) = Unit {0}
+
+abbrev pub TakeNone : (List ℕ → Type 0) → List Answered → Type 0
+TakeNone temporary [] = Unit {0}
+TakeNone temporary (call ∷ more) = TakesNone temporary call.0 × TakeNone temporary more
+
 -- Whenever the run from the old calls to the new ones ends, by a crash or by itself, each path that isn't temporary has what it had, or, if
 -- it had nothing, the whole bytes of a file that it was given: after each call, in each way in which the run may have gone up to then.
 pub record Keeps (temporary : List ℕ → Type 0) (given : List ℕ → List ℕ → Type 0) (old new : List Answered) : Type 0 where
@@ -37,6 +51,7 @@ pub record Keeps (temporary : List ℕ → Type 0) (given : List ℕ → List �
   pub are : new ≡ more ++ old
   pub whenever : (w : World) → IsSound temporary w old
       → AtEach (λ calls. IsLawful w calls → IsSound temporary w calls × AreKept temporary given w old calls) more old
+  pub takes : TakeNone temporary more
 
 -- No path changes but this one, if it is temporary, and other temporary ones.
 abbrev pub KeepsBut : List ℕ → List Answered → List Answered → Type 0

@@ -1,4 +1,5 @@
 pub mod Calls
+pub mod Disk
 pub mod Files
 pub mod Kept
 pub mod Placed

@@ -1,8 +1,7 @@
 -- What is said of a new file that gets a path.
 use Rattle.std.specs.Prelude.{◌≡◌, ◌⊎◌, ℕ, List, [], ◌∷◌, true, Option, Some, IfSome}
 use Rattle.folders.specs.Calls.{Answered, make, sync, link, link_again, rename, remove, sync_folder}
-use Rattle.folders.specs.Files.{under}
-use Rattle.folders.specs.Worlds.{World, IsLawful}
+use Rattle.folders.specs.Disk.{HasWhole}
 
 -- a file was put on the disk, to which these bytes were appended and no append failed
 abbrev pub WasSynced : List ℕ → List Answered → Type 0
@@ -21,7 +20,6 @@ pub record IsGiven (to : List ℕ) (written : Option (List ℕ)) (calls : List A
   pub whole : written ≡ Some bytes
   pub synced : WasSynced bytes calls
 
--- in each lawful run of these calls the path is seen to have the bytes
+-- the path leads to the file, all of whose bytes are on the disk
 abbrev pub HasPath : List ℕ → Option (List ℕ) → List Answered → Type 0
-HasPath to written calls =
-    (w : World) → IsLawful w calls → w.ours to ≡ true → IfSome written (λ whole. under (w.seen calls) to ≡ Some whole)
+HasPath to written calls = IfSome written (λ bytes. HasWhole to bytes calls)

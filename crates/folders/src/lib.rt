@@ -14,6 +14,7 @@
 #![tactic(auto)]
 
 mod folder;
+mod paths;
 mod placing;
 mod record;
 mod status;
@@ -21,6 +22,7 @@ mod system;
 mod temporary;
 
 pub use folder::{Folder, NewFile, OpenFile, WholeFile};
+pub use paths::folder_of;
 pub use placing::{Placed, place};
 pub use record::{Call, Record, Written};
 pub use status::{Identity, Kind, Rights, Status, Time};
