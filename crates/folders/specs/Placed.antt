@@ -1,5 +1,5 @@
 -- What is said of a new file that gets a path.
-use Rattle.std.specs.Prelude.{◌≡◌, ◌⊎◌, ℕ, List, [], ◌∷◌, true, Option, Some, IfSome}
+use Rattle.std.specs.Prelude.{◌≡◌, ◌⊎◌, ℕ, List, [], ◌∷◌, true, false, Option, Some, IfSome}
 use Rattle.folders.specs.Calls.{Answered, make, sync, link, link_again, rename, remove, sync_folder}
 use Rattle.folders.specs.Disk.{HasWhole}
 
@@ -23,3 +23,14 @@ pub record IsGiven (to : List ℕ) (written : Option (List ℕ)) (calls : List A
 -- the path leads to the file, all of whose bytes are on the disk
 abbrev pub HasPath : List ℕ → Option (List ℕ) → List Answered → Type 0
 HasPath to written calls = IfSome written (λ bytes. HasWhole to bytes calls)
+
+-- a path that a file was to get and didn't
+abbrev pub WasRefused : List ℕ → List Answered → Type 0
+WasRefused path [] = ⊥
+WasRefused path ((link file to, ok) ∷ calls) = ((to ≡ path) × (ok ≡ false)) ⊎ WasRefused path calls
+WasRefused path ((make to, ok) ∷ calls) = WasRefused path calls
+WasRefused path ((sync file written, ok) ∷ calls) = WasRefused path calls
+WasRefused path ((link_again from to, ok) ∷ calls) = WasRefused path calls
+WasRefused path ((rename file from to, ok) ∷ calls) = WasRefused path calls
+WasRefused path ((remove to, ok) ∷ calls) = WasRefused path calls
+WasRefused path ((sync_folder to, ok) ∷ calls) = WasRefused path calls

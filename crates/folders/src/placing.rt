@@ -1,8 +1,8 @@
 //! A new file gets the path at which others look for it: only once it is whole and on the disk.
-ghost use Rattle.std.specs.Prelude.{◌≡◌, ℕ, List, Bool, true, IfOk, IsSome};
+ghost use Rattle.std.specs.Prelude.{◌≡◌, ℕ, List, Bool, true, IfOk, IsSome, MatchResult};
 ghost use Rattle.folders.specs.Files.{under};
 ghost use Rattle.folders.specs.Kept.{Keeps};
-ghost use Rattle.folders.specs.Placed.{IsGiven, HasPath};
+ghost use Rattle.folders.specs.Placed.{IsGiven, HasPath, WasRefused};
 
 use crate::folder::Folder;
 use std::io;
@@ -15,7 +15,8 @@ pub struct Placed<W> {
 }
 
 /// Writes a file to the disk and gives it a path at which nothing is, beside the one at which it was made. Whenever that ends, each path
-/// but temporary ones has what it had, or, if it had nothing and is this one, all the bytes of the file.
+/// but temporary ones has what it had, or, if it had nothing and is this one, all the bytes of the file. If it got the path, that leads to
+/// the file, whose bytes are on the disk.
 ///
 /// # Errors
 ///
@@ -27,7 +28,8 @@ pub fn place<F: Folder>(folder: &mut F, file: F::New, to: &str) -> io::Result<Pl
         (F.calls folder.new) }
     ensures path { IfOk result (λ placed. F.Whole.path placed.file ≡ F.New.path file) }
     ensures number { IfOk result (λ placed. F.Whole.number placed.file ≡ F.New.number file) }
-    ensures given { IfOk result (λ placed. IfOk placed.answer (λ _. HasPath to.now (F.New.written file) (F.calls folder.new))) }
+    ensures given { IfOk result (λ placed. MatchResult placed.answer (λ _. HasPath to.now (F.New.written file) (F.calls folder.new))
+        (λ _. WasRefused to.now (F.calls folder.new))) }
 {
     let whole = folder.sync(file)?;
     let answer = folder.link(&whole, to);

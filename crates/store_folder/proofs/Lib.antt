@@ -1,2 +1,3 @@
+pub mod Done
 pub mod Kept
 pub mod Temporary

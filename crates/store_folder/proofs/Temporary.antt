@@ -1,10 +1,12 @@
--- A path in which a name begins as those of unfinished files do.
-use Rattle.std.proofs.Common.{◌≡◌, ℕ, List, [], ◌∷◌, ◌++◌, take, Bool, true, ◌||◌, refl}
-use Rattle.std.specs.Prelude.{bytes_eq, codes}
-use Rattle.std.proofs.lemmas.Bool.{or_left, or_right}
-use Rattle.store_folder.specs.Temporary.{unfinished, is_temporary}
+-- A name as unfinished files have it, in a folder.
+use Rattle.std.proofs.Common.{◌≡◌, ◌∙◌, ap, ℕ, List, ◌∷◌, ◌++◌, Bool, true, false, not, ◌&&◌, refl}
+use Rattle.store_names.specs.Temporary.{is_free}
+use Rattle.store_names.proofs.Free.{free_in}
+use Rattle.store_folder.specs.Temporary.{is_temporary}
 
-pub is_made : (folder name : List ℕ) → is_temporary ((folder ++ unfinished) ++ name) ≡ true
-is_made [] name = or_left (bytes_eq (take 16 (unfinished ++ name)) unfinished) (is_temporary (codes ".rebuild-store-" ++ name)) refl
-is_made (letter ∷ folder) name = or_right (bytes_eq (take 16 (letter ∷ (folder ++ unfinished) ++ name)) unfinished) (is_temporary
-    ((folder ++ unfinished) ++ name)) (is_made folder name)
+and_false : (b : Bool) → (b && false) ≡ false
+and_false true = refl
+and_false false = refl
+
+pub is_made : (folder name : List ℕ) → is_free name ≡ false → is_temporary (folder ++ 47 ∷ name) ≡ true
+is_made folder name is = ap not (free_in folder name ∙ ap (λ b. is_free folder && b) is ∙ and_false (is_free folder))

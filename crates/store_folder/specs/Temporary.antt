@@ -1,11 +1,7 @@
 -- The paths of files that aren't whole yet.
-use Rattle.std.specs.Prelude.{ℕ, List, [], ◌∷◌, length, take, codes, bytes_eq, Bool, false, ◌||◌}
+use Rattle.std.specs.Prelude.{ℕ, List, Bool, not}
+use Rattle.store_names.specs.Temporary.{is_free}
 
--- how the last name of such a path begins
-abbrev pub unfinished : List ℕ
-unfinished = codes "/.rebuild-store-"
-
--- somewhere in the path a name begins so
+-- some part of the path is a name as unfinished files have it
 abbrev pub is_temporary : List ℕ → Bool
-is_temporary [] = false
-is_temporary (letter ∷ path) = bytes_eq (take 16 (letter ∷ path)) unfinished || is_temporary path
+is_temporary path = not (is_free path)

@@ -1,5 +1,9 @@
 //! A store in a folder. A fragment has no name that another one can have until it is whole and on the disk.
-ghost use Rattle.std.specs.Prelude.{◌≡◌, [], true, ℕ, List, IfOk, IsSome, Some, string_bytes};
+ghost use Rattle.std.specs.Prelude.{◌≡◌, ◌⊎◌, [], true, false, ℕ, List, IfOk, IfSome, OnOk, IsSome, Some, string_bytes};
+ghost use Rattle.folders.specs.Disk.{IsOnDisk};
+ghost use Rattle.folders.specs.Files.{IsIn};
+ghost use Rattle.folders.specs.Placed.{WasRefused};
+ghost use Rattle.store_folder.specs.Done.{HasFolderOf, HaveFoldersOf, IsDue, IsNamed};
 ghost use Rattle.store_folder.specs.Kept.{GivesIn, GivesOne, IsKeptIn, IsPathOf, KeepsEach, none_kept};
 ghost use Rattle.store_folder.specs.Temporary.{is_temporary};
 ghost use Rattle.store_repair.specs.Store.{never};
@@ -9,14 +13,14 @@ use crate::links::{Links, followed_in, refuse_linked_in, status_at};
 use crate::placing::{Tried, take_after, try_path};
 use crate::site::Site;
 use crate::surviving::{FileFragment, open_fragment_in};
-use crate::syncing::sync_folders;
+use crate::syncing::Touched;
 use crate::unfinished::Unfinished;
 use crate::unfinished_file::{UnfinishedFile, create_file};
-use folders::{Folder, Rights, SystemFolder, remove_temporary};
+use folders::{Folder, Rights, SystemFolder, folder_of, remove_temporary};
 use lrc_code::Place;
 use std::alloc::{AllocError, Global};
 use std::io::{self, ErrorKind};
-use store_names::{folder_of, path_in};
+use store_names::{is_free, path_in};
 use store_repair::{NameFault, Placed, Refused, Store};
 
 /// A store in a folder, as one thread works in it. Whenever one of its calls ends, by a crash or by itself, each path of the folder has
@@ -26,8 +30,7 @@ pub struct FolderStore<'a, F: Folder> {
     pub(crate) rt: &'a HostRuntime,
     pub(crate) files: F,
     site: Site<'a>,
-    // The folders in which names were given since the last time that these were written to the disk.
-    touched: Vec<String>,
+    touched: Touched,
     // An unfinished file that could not be removed, and why.
     leftover: Option<NameFault>,
 }
@@ -51,7 +54,7 @@ impl<'a, F: Folder> FolderStore<'a, F> {
             rt,
             files,
             site,
-            touched: Vec::new(rt.alloc()),
+            touched: Touched::new(rt.alloc()),
             leftover: None,
         }
     }
@@ -114,6 +117,7 @@ impl<'a, F: Folder> FolderStore<'a, F> {
     /// A new fragment for a place of a stripe, in a file under a temporary name.
     pub fn new_fragment(&mut self, stripe: &str, place: Place) -> io::Result<UnfinishedFile<F::New>>
         ensures site { self.new.site ≡ self.old.site }
+        ensures touched { self.new.touched ≡ self.old.touched }
         ensures whenever { KeepsEach (F.calls self.old.files) (F.calls self.new.files) }
         ensures empty { IfOk result (λ new. F.New.written new.unfinished.file ≡ Some []) }
     {
@@ -125,6 +129,18 @@ impl<'a, F: Folder> FolderStore<'a, F> {
 
     // The path that a new fragment is to have.
     fn new_path(&self, stripe: &str, place: Place) -> io::Result<String>
+        ensures path { IfOk result (λ path. IsPathOf self.now.site stripe.now place (string_bytes path)) }
+        ensures lasting { IfOk result (λ path. is_temporary (string_bytes path) ≡ false) }
+    {
+        let path = self.named_path(stripe, place)?;
+        if is_free(path.as_str()) {
+            return Ok(path);
+        }
+        Err(io::Error::other("unfinished files have such paths"))
+    }
+
+    // The path of a fragment that is to be made.
+    fn named_path(&self, stripe: &str, place: Place) -> io::Result<String>
         ensures { IfOk result (λ path. IsPathOf self.now.site stripe.now place (string_bytes path)) }
     {
         let alloc = self.rt.alloc();
@@ -139,7 +155,8 @@ impl<'a, F: Folder> FolderStore<'a, F> {
     }
 
     /// Gives a fragment its name, if nothing is there, and else discards it. Whenever that ends, each path but temporary ones has what it
-    /// had, or, if it had nothing and is the fragment's, all the bytes of the file, which was put on the disk before.
+    /// had, or, if it had nothing and is the fragment's, all the bytes of the file, which was put on the disk before. If it got its name,
+    /// `sync_names` puts that on the disk.
     pub fn place_fragment(
         &mut self,
         file: UnfinishedFile<F::New>,
@@ -149,6 +166,9 @@ impl<'a, F: Folder> FolderStore<'a, F> {
         ensures site { self.new.site ≡ self.old.site }
         ensures whenever { GivesIn self.old.site stripe.now place (F.New.written file.unfinished.file) (F.calls self.old.files)
             (F.calls self.new.files) }
+        ensures touched { HaveFoldersOf self.old.touched.folders.items self.new.touched.folders.items }
+        ensures named { IfOk result (λ placed. placed ≡ Placed.Placed → IsNamed self.old.site stripe.now place
+            (F.New.written file.unfinished.file) self.new.touched.folders.items (F.calls self.new.files)) }
     {
         let mut file = file;
         let finished = self.finish(&mut file, stripe, place);
@@ -162,6 +182,7 @@ impl<'a, F: Folder> FolderStore<'a, F> {
     /// Removes a fragment that has no name. What can't be removed is said by `sync_names`.
     pub fn discard_fragment(&mut self, file: UnfinishedFile<F::New>)
         ensures site { self.new.site ≡ self.old.site }
+        ensures touched { self.new.touched ≡ self.old.touched }
         ensures whenever { KeepsEach (F.calls self.old.files) (F.calls self.new.files) }
     {
         let UnfinishedFile { unfinished, .. } = file;
@@ -173,8 +194,10 @@ impl<'a, F: Folder> FolderStore<'a, F> {
     pub fn sync_names(&mut self) -> Result<(), NameFault>
         ensures site { self.new.site ≡ self.old.site }
         ensures whenever { KeepsEach (F.calls self.old.files) (F.calls self.new.files) }
+        ensures done { OnOk result ((path bytes : List ℕ) → is_temporary path ≡ false
+            → IsDue self.old.touched.folders.items (F.calls self.old.files) path bytes → IsOnDisk path bytes (F.calls self.new.files)) }
     {
-        sync_folders(&mut self.files, &mut self.touched)?;
+        self.touched.sync(&mut self.files)?;
         match self.leftover.take() {
             Some(fault) => Err(fault),
             None => Ok(()),
@@ -191,6 +214,7 @@ impl<'a, F: Folder> FolderStore<'a, F> {
     ) -> io::Result<String>
         ensures same { file.new.unfinished ≡ file.old.unfinished }
         ensures path { IfOk result (λ path. IsPathOf self.now.site stripe.now place (string_bytes path)) }
+        ensures lasting { IfOk result (λ path. is_temporary (string_bytes path) ≡ false) }
     {
         file.refuse_part()?;
         if let Some(rights) = self.rights_of(stripe)? {
@@ -203,6 +227,10 @@ impl<'a, F: Folder> FolderStore<'a, F> {
     fn link(&mut self, new: Unfinished<F::New>, path: &str) -> io::Result<Placed>
         ensures site { self.new.site ≡ self.old.site }
         ensures whenever { GivesOne path.now (F.New.written new.file) (F.calls self.old.files) (F.calls self.new.files) }
+        ensures touched { HaveFoldersOf self.old.touched.folders.items self.new.touched.folders.items }
+        ensures due { IfOk result (λ placed. placed ≡ Placed.Placed → is_temporary path.now ≡ false
+            → WasRefused path.now (F.calls self.new.files)
+            ⊎ IfSome (F.New.written new.file) (IsDue self.new.touched.folders.items (F.calls self.new.files) path.now)) }
     {
         let Tried { made_at, placed } = try_path(&mut self.files, new, path);
         match placed {
@@ -227,56 +255,53 @@ impl<'a, F: Folder> FolderStore<'a, F> {
     fn outcome(&mut self, answer: io::Result<()>, made_at: &str, path: &str) -> io::Result<Placed>
         ensures site { self.new.site ≡ self.old.site }
         ensures calls { F.calls self.new.files ≡ F.calls self.old.files }
+        ensures touched { HaveFoldersOf self.old.touched.folders.items self.new.touched.folders.items }
+        ensures noted { IfOk result (λ placed. placed ≡ Placed.Placed → HasFolderOf path.now self.new.touched.folders.items) }
     {
-        match answer {
-            Ok(()) => {
-                self.touch(folder_of(path))?;
-                Ok(Placed::Placed)
-            }
-            Err(error) if error.kind() == ErrorKind::AlreadyExists => self.beside(made_at, path),
-            Err(error) => Err(error),
-        }
-    }
-
-    // What became of a file under whose name something is. A run that was killed may have given the name to a file with the same bytes.
-    fn beside(&mut self, made_at: &str, path: &str) -> io::Result<Placed>
-        ensures site { self.new.site ≡ self.old.site }
-        ensures calls { F.calls self.new.files ≡ F.calls self.old.files }
-    {
-        let alloc = self.rt.alloc();
-        let length = self.files.status(made_at)?.length;
-        let links = Links::NotFollowed;
-        let made = open_fragment_in(&self.files, made_at, length, links)?;
-        let Ok(there) = open_fragment_in(&self.files, path, length, links) else {
-            return Ok(Placed::IsThere);
-        };
-        let digest = digest_of(alloc, &made, length as usize)?;
-        if digest_of(alloc, &there, length as usize)? != digest {
+        if !self.has_name(answer, made_at, path)? {
             return Ok(Placed::IsThere);
         }
         self.touch(folder_of(path))?;
         Ok(Placed::Placed)
     }
 
+    // Whether a file has its name, by what the system answered, or something that is there is the same: a run that was killed may have given
+    // the name to a file with the same bytes.
+    fn has_name(&self, answer: io::Result<()>, made_at: &str, path: &str) -> io::Result<bool> {
+        match answer {
+            Ok(()) => Ok(true),
+            Err(error) if error.kind() == ErrorKind::AlreadyExists => self.is_same(made_at, path),
+            Err(error) => Err(error),
+        }
+    }
+
+    // Whether what is at a path is a regular file with the bytes of this one.
+    fn is_same(&self, made_at: &str, path: &str) -> io::Result<bool> {
+        let alloc = self.rt.alloc();
+        let length = self.files.status(made_at)?.length;
+        let links = Links::NotFollowed;
+        let made = open_fragment_in(&self.files, made_at, length, links)?;
+        let Ok(there) = open_fragment_in(&self.files, path, length, links) else {
+            return Ok(false);
+        };
+        let digest = digest_of(alloc, &made, length as usize)?;
+        Ok(digest_of(alloc, &there, length as usize)? == digest)
+    }
+
     // Notes that a name was given in a folder.
     pub(crate) fn touch(&mut self, folder: &str) -> Result<(), AllocError>
         ensures site { self.new.site ≡ self.old.site }
         ensures calls { F.calls self.new.files ≡ F.calls self.old.files }
+        ensures touched { HaveFoldersOf self.old.touched.folders.items self.new.touched.folders.items }
+        ensures noted { IfOk result (λ _. (path : List ℕ) → IsIn folder.now path → HasFolderOf path self.new.touched.folders.items) }
     {
-        if !self
-            .touched
-            .iter()
-            .any(|touched| touched.as_str() == folder)
-        {
-            self.touched
-                .push(String::from_str(self.rt.alloc(), folder)?)?;
-        }
-        Ok(())
+        self.touched.note(self.rt.alloc(), folder)
     }
 
     // Removes an unfinished file after a failure.
     pub(crate) fn given_up(&mut self, new: Unfinished<F::New>, error: io::Error) -> io::Error
         ensures site { self.new.site ≡ self.old.site }
+        ensures touched { self.new.touched ≡ self.old.touched }
         ensures whenever { KeepsEach (F.calls self.old.files) (F.calls self.new.files) }
     {
         let Unfinished { made_at, .. } = new;
@@ -288,6 +313,7 @@ impl<'a, F: Folder> FolderStore<'a, F> {
     pub(crate) fn remove(&mut self, name: String)
         requires { is_temporary (string_bytes name) ≡ true }
         ensures site { self.new.site ≡ self.old.site }
+        ensures touched { self.new.touched ≡ self.old.touched }
         ensures whenever { KeepsEach (F.calls self.old.files) (F.calls self.new.files) }
     {
         if let Err(error) = remove_temporary(&mut self.files, name.as_str()) {

@@ -28,7 +28,7 @@ pub use digesting::{Digest, digest_of, digests_of};
 pub use disks::Unlisted;
 pub use expecting::expect_listed;
 pub use folder_store::FolderStore;
-pub use folders::{SystemFolder, SystemNew, SystemOpen};
+pub use folders::{SystemFolder, SystemNew, SystemOpen, folder_of};
 pub use leaving::left_in;
 pub use links::{Links, look_at, refuse_linked_folders};
 pub use listing::{Listing, list};
@@ -38,7 +38,7 @@ pub use separate::{SeparateFile, SeparateStore};
 pub use site::Site;
 pub use store_names::{
     DESCRIPTION, KEPT, Layout, Part, Pattern, PatternFault, description_names,
-    first_description_name, folder_of, is_ambiguous, is_folder_of, is_left_by, is_of_runs,
+    first_description_name, is_ambiguous, is_folder_of, is_left_by, is_of_runs,
     lock_name, path_in, tag_of_part,
 };
 pub use store_records::{Described, MOST_BYTES, Sums, digits_of};

@@ -1,9 +1,9 @@
 //! Symbolic links below a store's folder.
-use folders::{Folder, Status, SystemFolder};
+use folders::{Folder, Status, SystemFolder, folder_of};
 use std::alloc::Global;
 use std::fs::{self, Metadata};
 use std::io::{self, ErrorKind};
-use store_names::{folder_of, path_in};
+use store_names::path_in;
 
 /// How many links to links are followed.
 const MOST_LINKS: usize = 16;

@@ -9,7 +9,8 @@ use std::collections::BTreeSet;
 use std::fs::{self, Metadata};
 use std::io::{self, ErrorKind};
 use std::os::unix::fs::MetadataExt;
-use store_names::{disk_folders, folder_of, is_ambiguous, is_of_runs, last_of, path_in};
+use folders::folder_of;
+use store_names::{disk_folders, is_ambiguous, is_of_runs, last_of, path_in};
 use store_repair::Found;
 
 // The folder that a file system keeps for what it finds of lost files: no store's, and no stripe's.

@@ -1,5 +1,6 @@
 //! Putting new files in their places. A file has no name that a fragment can have until it is whole and on the disk.
-ghost use Rattle.std.specs.Prelude.{◌≡◌, IfOk, IsSome, None, true, string_bytes};
+ghost use Rattle.std.specs.Prelude.{◌≡◌, IfOk, IsSome, MatchResult, None, true, string_bytes};
+ghost use Rattle.folders.specs.Placed.{HasPath, WasRefused};
 ghost use Rattle.store_folder.specs.Kept.{GivesOne};
 ghost use Rattle.store_folder.specs.Temporary.{is_temporary};
 
@@ -104,7 +105,9 @@ pub(crate) fn try_path<F: Folder>(
     new: Unfinished<F::New>,
     path: &str,
 ) -> Tried<F::Whole>
-    ensures { GivesOne path.now (F.New.written new.file) (F.calls files.old) (F.calls files.new) }
+    ensures whenever { GivesOne path.now (F.New.written new.file) (F.calls files.old) (F.calls files.new) }
+    ensures given { IfOk result.placed (λ placed. MatchResult placed.answer (λ _. HasPath path.now (F.New.written new.file)
+        (F.calls files.new)) (λ _. WasRefused path.now (F.calls files.new))) }
 {
     let whole = new.refuse_part();
     let Unfinished { file, made_at, .. } = new;
@@ -120,7 +123,9 @@ fn place_whole<F: Folder>(
     path: &str,
 ) -> io::Result<folders::Placed<F::Whole>>
     requires { IfOk whole (λ _. IsSome (F.New.written file)) }
-    ensures { GivesOne path.now (F.New.written file) (F.calls files.old) (F.calls files.new) }
+    ensures whenever { GivesOne path.now (F.New.written file) (F.calls files.old) (F.calls files.new) }
+    ensures given { IfOk result (λ placed. MatchResult placed.answer (λ _. HasPath path.now (F.New.written file) (F.calls files.new))
+        (λ _. WasRefused path.now (F.calls files.new))) }
 {
     match whole {
         Ok(()) => place(files, file, path),

@@ -2,10 +2,10 @@
 use crate::folder_store::FolderStore;
 use crate::unfinished::Unfinished;
 use crate::unfinished_file::UnfinishedFile;
-use folders::Folder;
+use folders::{Folder, folder_of};
 use lrc_code::Place;
 use std::io::{self, ErrorKind};
-use store_names::{KEPT, folder_of};
+use store_names::KEPT;
 use store_repair::Placed;
 
 impl<F: Folder> FolderStore<'_, F> {

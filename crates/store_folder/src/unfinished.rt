@@ -10,6 +10,7 @@ use std::alloc::{AllocError, Global};
 use std::fs::{self, TryLockError};
 use std::io::{self, ErrorKind};
 use std::random::RandomSource;
+use store_names::{is_free, path_in};
 
 // How many digits at random end the name of an unfinished file.
 const RANDOM_DIGITS: usize = 16;
@@ -91,7 +92,7 @@ fn try_name<F: Folder>(
     })
 }
 
-// A path for a new file.
+// A path for a new file, of which is seen that no fragment can have it.
 fn new_path(rt: &HostRuntime, folder: &str, tag: &str) -> io::Result<String>
     ensures { IfOk result (λ path. is_temporary (string_bytes path) ≡ true) }
 {
@@ -99,18 +100,11 @@ fn new_path(rt: &HostRuntime, folder: &str, tag: &str) -> io::Result<String>
     let mut bytes = [0u8; RANDOM_DIGITS / 2];
     rt.fill_bytes(&mut bytes)?;
     let digits = hex::encode(alloc, bytes.as_slice())?;
-    let name = format!(in alloc; "{tag}{digits}")?;
-    Ok(temporary_path(alloc, folder, name.as_str())?)
-}
-
-// The path of an unfinished file in a folder.
-fn temporary_path(alloc: Global, folder: &str, name: &str) -> Result<String, AllocError>
-    ensures { IfOk result (λ path. is_temporary (string_bytes path) ≡ true) }
-{
-    let mut path = String::from_str(alloc, folder)?;
-    path.push_str("/.rebuild-store-")?;
-    path.push_str(name)?;
-    Ok(path)
+    let name = format!(in alloc; ".rebuild-store-{tag}{digits}")?;
+    if is_free(name.as_str()) {
+        return Err(io::Error::from(ErrorKind::InvalidInput));
+    }
+    Ok(path_in(alloc, folder, name.as_str())?)
 }
 
 /// What became of a file that has the name of one that a run which was killed has left.

@@ -5,10 +5,9 @@ ghost use Rattle.store_folder.specs.Kept.{KeepsEach};
 use crate::digesting::Digest;
 use crate::placing::PRIVATE;
 use crate::unfinished::{Unfinished, create_unfinished};
-use folders::{Folder, NewFile};
+use folders::{Folder, NewFile, folder_of};
 use sha2::{Digest as _, Sha256};
 use std::io::{self, ErrorKind};
-use store_names::folder_of;
 use store_repair::NewFragment;
 
 /// A fragment that has no name yet.

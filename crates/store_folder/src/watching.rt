@@ -5,7 +5,8 @@ use crate::sums::SUMS_NAME;
 use lrc_code::Code;
 use std::fs::{self, Metadata};
 use std::os::unix::fs::MetadataExt;
-use store_names::{KEPT, Part, Pattern, described_stripe, folder_of, is_of_runs, last_of};
+use folders::folder_of;
+use store_names::{KEPT, Part, Pattern, described_stripe, is_of_runs, last_of};
 
 // The rights by which others than a file's user may write: of the group, and of everybody.
 const GROUP_WRITES: u32 = 0o020;

@@ -31,6 +31,6 @@ pub use layouts::Layout;
 pub use name_laws::names_differ;
 pub use names::KEPT;
 pub use parts::Part;
-pub use paths::{folder_in, folder_of, last_of, path_in};
+pub use paths::{folder_in, last_of, path_in};
 pub use patterns::{Pattern, PatternFault};
 pub use temporary::{is_free, is_left_by, is_of_runs, is_unfinished, lock_name, tag_of_part};

@@ -1,8 +1,9 @@
 //! Names of files that runs keep to themselves, of descriptions and of folders; and the parts of a store, by the digests that Python's
 //! hashlib gives.
+use folders::folder_of;
 use lrc_code::Code;
 use store_names::{
-    Layout, Part, Pattern, described_stripe, description_names, folder_in, folder_of, is_ambiguous,
+    Layout, Part, Pattern, described_stripe, description_names, folder_in, is_ambiguous,
     is_left_by, is_of_runs, last_of, lock_name, path_in, tag_of_part,
 };
 

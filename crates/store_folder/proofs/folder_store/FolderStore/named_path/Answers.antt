@@ -1,6 +1,6 @@
 use Rattle.std.proofs.Common.{string_bytes, subst, sym}
 use Rattle.store_names.specs.Names.{IsNameOf}
-use Rattle.store_folder.proofs.folder_store.FolderStore.new_path.Goals as goal
+use Rattle.store_folder.proofs.folder_store.FolderStore.named_path.Goals as goal
 
 pub returns-in-NotFollowed : goal.returns-in-NotFollowed
 returns-in-NotFollowed g c = λ _.
