@@ -812,6 +812,38 @@ const NAMES: &[(&str, Layout, Code, &str, Place, &str)] = &[
         Place::P1,
         "9x2/note.tar.gz.d",
     ),
+    (
+        "disk{shard}/{stripe}",
+        Layout::Plain,
+        Code::Narrow,
+        ".rebuild-store-0123456789abcde",
+        Place::X0,
+        "disk0/.rebuild-store-0123456789abcde",
+    ),
+    (
+        "disk{shard}/{stripe}",
+        Layout::Plain,
+        Code::Narrow,
+        ".rebuild-store-0123456789abcdeg",
+        Place::X0,
+        "disk0/.rebuild-store-0123456789abcdeg",
+    ),
+    (
+        "{stripe}.{place}",
+        Layout::Plain,
+        Code::Narrow,
+        ".rebuild-store-0123456789abcdef",
+        Place::X0,
+        ".rebuild-store-0123456789abcdef.x0",
+    ),
+    (
+        "{stripe}.{place}",
+        Layout::Plain,
+        Code::Narrow,
+        "a.damaged",
+        Place::X0,
+        "a.damaged.x0",
+    ),
 ];
 
 #[test]
@@ -917,6 +949,26 @@ const UNNAMED: &[(&str, Code, &str, Place)] = &[
     ("disk{shard}/{stripe}", Code::Narrow, "a", Place::X3),
     ("disk{shard}/{stripe}", Code::Narrow, "a", Place::Y5),
     ("{shard}/{stripe}", Code::Narrow, "../a", Place::X1),
+    (
+        "disk{shard}/{stripe}",
+        Code::Narrow,
+        ".rebuild-store-0123456789abcdef",
+        Place::X0,
+    ),
+    (
+        "disk{shard}/{stripe}",
+        Code::Narrow,
+        ".rebuild-store-3-16-0123456789abcdef",
+        Place::X0,
+    ),
+    (
+        "{stripe}/{place}",
+        Code::Narrow,
+        ".rebuild-store-0123456789abcdef",
+        Place::X0,
+    ),
+    ("{place}-{stripe}", Code::Narrow, "a.damaged", Place::X0),
+    ("{place}{stripe}", Code::Narrow, ".damaged", Place::X0),
 ];
 
 #[test]

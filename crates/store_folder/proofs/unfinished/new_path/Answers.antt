@@ -3,5 +3,5 @@ use Rattle.store_folder.specs.Temporary.{is_temporary}
 use Rattle.store_folder.proofs.Temporary.{is_made}
 use Rattle.store_folder.proofs.unfinished.new_path.Goals as goal
 
-pub returns-in_ok-path : goal.returns-in_ok-path
-returns-in_ok-path c = ?
+pub returns : goal.returns
+returns c = ?
