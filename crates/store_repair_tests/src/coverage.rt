@@ -3,7 +3,7 @@ use crate::samples::{NARROW, Sample, WIDE, fragment_of, is_there, plan, put_with
 use lrc_code::{Code, Group, Place, PlaceSet};
 use std::alloc::{AllocError, Global};
 use std::process::Abort;
-use store_repair::{MemoryStore, is_covered};
+use store_repair::{MemoryStore, Reads, Repair, is_covered};
 
 // Whether both lost fragments are right though two others are damaged, by the code's equations (`tools/store.py`): where one is of each
 // group, parities among them, and neither is a global parity.
@@ -67,7 +67,14 @@ fn assert_checked(
 ) -> Result<(), AllocError> {
     let mut store = MemoryStore::new(alloc);
     put_without(&mut store, sample, &lost)?;
-    let planned = plan(alloc, &store, sample)?;
+    let all = Repair {
+        code: sample.code,
+        reads: Reads::All,
+        replace_damaged: false,
+        assume_one_damaged: false,
+        elsewhere: false,
+    };
+    let planned = plan(alloc, &store, sample, &all)?;
     assert_eq!(rt; planned.rebuilt.len(), 2);
     assert_eq!(rt; planned.is_checked_at(sample.code, lost[0]), is_checked);
     let outcome = repair(alloc, &mut store, sample, false)?;
