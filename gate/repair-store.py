@@ -24,7 +24,7 @@ sys.dont_write_bytecode = True
 ROOT = pathlib.Path(__file__).resolve().parent.parent
 sys.path.append(str(ROOT / "tools"))
 from reference import code_of, eliminated
-from store import stripe
+from store import is_covered, stripe
 
 PROGRAM = pathlib.Path(sys.argv[1] if sys.argv[1:] else ROOT / "crates/rebuild_store/out/rebuild_store").resolve()
 CODES = ("6-2-2", "12-2-2")
@@ -72,20 +72,23 @@ def test_losses(folder, code, choose):
     """Up to three fragments of each stripe are lost, of lengths around a window's; all come back."""
     lengths = [1, 2, 1000, WINDOW - 1, WINDOW, WINDOW + 1, 3 * WINDOW + 7, *(choose.randrange(1, 5000) for _ in range(20))]
     stripes = make(folder, code, lengths, choose)
-    lost = 0
+    lost = open_to_two = 0
     for name, fragments in stripes.items():
-        for place in choose.sample(list(fragments), choose.randrange(4)):
+        places = choose.sample(list(fragments), choose.randrange(4))
+        for place in places:
             (folder / f"{name}.{place}").unlink()
-            lost += 1
+        lost += len(places)
+        open_to_two += sum(not is_covered(code, places, place) for place in places)
     before = sorted(path.name for path in folder.iterdir())
     output, _ = run("repair", folder, "--dry-run", "--code", code, status=1)
-    held = re.fullmatch(rf"27 stripes of {code}, 1 byte to 192 KiB; {lost} lost in \d+; {lost} can be rebuilt \(0 without any check\), "
+    held = re.fullmatch(rf"27 stripes of {code}, 1 byte to 192 KiB; {lost} lost in \d+; {lost} can be rebuilt \({open_to_two} unchecked\), "
                         r"0 can't; reads [\d.]+ MiB, writes [\d.]+ [MK]iB\n", output)
     check(held, output)
     check(sorted(path.name for path in folder.iterdir()) == before, "a dry run changed the store")
     output, errors = run("repair", folder, "--code", code, "--workers", choose.choice([1, 4, 16]), status=0)
-    check(output.startswith(f"repaired {lost} fragments, ") and output.endswith("(0 unchecked); damaged: 0; not possible: 0\n"),
-          output + errors)
+    check(output.startswith(f"repaired {lost} fragments, ") and f" ({open_to_two} unchecked" in output
+          and output.endswith("); damaged: 0; not possible: 0\n"), output + errors)
+    check(errors.count(": rebuilt unchecked: so many are lost that") == open_to_two, errors)
     check(is_whole(folder, stripes), "the store isn't what it was")
     run("scrub", folder, "--code", code, status=0)
     output, _ = run("repair", folder, "--code", code, status=0)
@@ -130,7 +133,7 @@ def test_fewest(folder, code, choose):
     stripes["whole"] = dict.fromkeys(places, bytes(1024))
     many = sum(map(len, losses))
     output, _ = run("repair", folder, "--code", code, "--reads", "few", "--dry-run", status=1)
-    check(f"; {many} lost in {len(losses)}; {many} can be rebuilt ({many} without any check), 0 can't; reads {sum(least)} KiB, "
+    check(f"; {many} lost in {len(losses)}; {many} can be rebuilt ({many} unchecked), 0 can't; reads {sum(least)} KiB, "
           f"writes {many} KiB\n" in output, f"{output}, and {sum(least)} KiB are the least")
     wrong = folder / "whole.y1"
     wrong.write_bytes(b"damaged!" * 128)

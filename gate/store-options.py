@@ -23,7 +23,7 @@ import tempfile
 sys.dont_write_bytecode = True
 ROOT = pathlib.Path(__file__).resolve().parent.parent
 sys.path.append(str(ROOT / "tools"))
-from store import stripe
+from store import is_covered, stripe
 
 PROGRAM = pathlib.Path(sys.argv[1] if sys.argv[1:] else ROOT / "crates/rebuild_store/out/rebuild_store").resolve()
 # The places of each code in the order of their shards, in the two layouts.
@@ -94,11 +94,14 @@ def test_disks(folder, code, choose):
         options = [store, "--code", code, "--names", "disk{shard}/{stripe}", "--layout", layout]
         output, _ = run("scrub", *options, status=0)
         check(output == "scrubbed 3 stripes: 0 damaged, 0 lost or contradictory, 0 stripes without any check\n", output)
-        for number in choose.sample(range(len(places)), 2):
+        lost = choose.sample(range(len(places)), 2)
+        for number in lost:
             for path in (store / f"disk{number}").iterdir():
                 path.unlink()
         output, errors = run("repair", *options, status=0)
-        check(output == "repaired 6 fragments, 1.7 KiB (0 unchecked); damaged: 0; not possible: 0\n", output + errors)
+        unchecked = 0 if is_covered(code, [places[number] for number in lost], places[lost[0]]) else 6
+        check(output.startswith(f"repaired 6 fragments, 1.7 KiB ({unchecked} unchecked"), output + errors)
+        check(output.endswith("); damaged: 0; not possible: 0\n"), output + errors)
         hold_whole(store, stripes, name_of)
         (store / "disk0/a").unlink()
         (store / "disk0").rename(store / "gone")

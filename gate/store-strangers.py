@@ -983,11 +983,11 @@ def test_sums_given(place, choose):
     for name in lost:
         (store / name).unlink()
     said = run("repair", store, "--sums", sums, "--report", report, status=0)
-    hold("(0 unchecked)" in said and "without any check" not in said and "unchecked" not in report.read_text(), said)
+    hold("(0 unchecked)" in said and "rebuilt unchecked" not in said and "unchecked" not in report.read_text(), said)
     for name in lost:
         (store / name).unlink()
     said = run("repair", store, "--report", report, status=0)
-    hold("(4 unchecked" in said and said.count("without any check") == 4 and report.read_text().count("unchecked") == 4, said)
+    hold("(4 unchecked" in said and said.count("rebuilt unchecked") == 4 and report.read_text().count("unchecked") == 4, said)
     hold(there(store) == files, "the store isn't what it was")
     for option in ("--sums", "--stripes"):
         hold("nothere: No such file" in run("scrub", store, option, place / "nothere", status=3), f"{option} isn't named")
@@ -1030,13 +1030,13 @@ def test_dry_run(place, choose):
     store, report = place / "dry", place / "report.csv"
     lay(store, choose, names=("a", "b"))
     (store / "a.x0").unlink()
-    (store / "a.x1").write_bytes(b"short")
+    (store / "a.y1").write_bytes(b"short")
     (store / "b.y0").unlink()
     (store / "b.y0").mkdir()
     before = below(store)
     for options, count, left in (([], 1, 2), (["--replace-damaged"], 2, 1)):
         said = run("repair", store, "--dry-run", "--report", report, *options, status=1)
-        hold(f"; {count} can be rebuilt (0 without any check), {left} can't" in said, said)
+        hold(f"; {count} can be rebuilt (0 unchecked), {left} can't" in said, said)
         rows = report.read_text()
         hold(rows.count(",would be rebuilt,") == count and ",rebuilt," not in rows, rows)
         hold(below(store) == before, "a dry run changed the store")

@@ -13,13 +13,14 @@ that the store hasn't.
 makes FOLDER/store with stripes of this code, 6-2-2 or 12-2-2, each of which has lost up to three fragments, and FOLDER/whole, the same
 stripes with all fragments."""
 
+import itertools
 import pathlib
 import random
 import sys
 
 # No compiled copy of the module is left beside it.
 sys.dont_write_bytecode = True
-from reference import CODES, product
+from reference import CODES, code_of, eliminated, product
 
 PRODUCTS = [bytes(product(a, b) for b in range(256)) for a in range(256)]
 
@@ -38,6 +39,15 @@ def stripe(code, length, choose):
     data = [choose.randbytes(length) for _ in places]
     rows = [[int(p[0] == "x") for p in places], [int(p[0] == "y") for p in places], first, [product(c, c) for c in first]]
     return dict(zip(places + ["px", "py", "p0", "p1"], data + [combined(row, data, length) for row in rows]))
+
+
+def is_covered(code, lost, place):
+    """Whether without each two of the fragments that aren't lost the others determine the one at a lost place."""
+    places, equations = code_of(code)
+    numbers = [places.index(name) for name in lost if name != place]
+    others = [k for k, name in enumerate(places) if name not in lost]
+    pairs = itertools.combinations(others, 2) if len(others) > 1 else [others]
+    return all(places.index(place) in eliminated(equations, [*numbers, *pair, places.index(place)])[1] for pair in pairs)
 
 
 def make_lossy(folder, number, greatest, code, choose):

@@ -2,11 +2,16 @@ pub mod WindowLemmas
 pub mod MendLemmas
 pub mod DamageLemmas
 pub mod SuspectLemmas
+pub mod CoverLemmas
 pub mod LossLemmas
+pub mod LostLemmas
 pub mod CheckLemmas
 pub mod OpenedLemmas
 pub mod KeptLemmas
+pub mod NamedLemmas
 pub mod RepairLemmas
+pub mod PutLemmas
+pub mod WholeLemmas
 pub mod ScrubLemmas
 pub mod LengthLemmas
 pub mod CombiningLemmas

@@ -2,7 +2,7 @@
 use Rattle.std.proofs.Common.{◌≡◌, ◌∙◌, ◌<◌, ◌≤◌, ◌+◌, ◌-◌, ℕ, suc, List, [], ◌∷◌, ◌++◌, Bool, true, false, refl, sym, ap, subst, arith}
 use Rattle.std.proofs.Common.{inl, inr, take}
 use Rattle.std.proofs.Common.{All, get_or, length, length-append, filter}
-use Rattle.std.proofs.lemmas.List.{get_or-append_right, get_or_append_left}
+use Rattle.std.proofs.lemmas.List.{get_or-append_right, get_or_append_left, get_or_default}
 use Rattle.std.specs.Prelude.{◌&&◌, ◌||◌, ltb}
 use Rattle.std.proofs.Math.Seq.{take-suc}
 use Rattle.std.proofs.Common.{append-nil}
@@ -102,3 +102,12 @@ module _ (xs : List Place) (k : ℕ) (p : Place) (here : index_of p ≡ k) (befo
 
 pub before_next : (xs : List Place) (k : ℕ) → All (λ q. index_of q < k) xs → All (λ q. index_of q < k + 1) xs
 before_next xs k before i d lt = let less = before i d lt in omega (arith, less)
+
+-- what holds of each place listed before an index, and of the one at the index, holds of each before the next
+pub each_more : (P : Place → Type 0) (places : List Place) (n : ℕ) (p e : Place) → n < length places → get_or places n e ≡ p
+    → ((k : ℕ) (d : Place) → k < n → P (get_or places k d)) → P p → (k : ℕ) (d : Place) → k < n + 1 → P (get_or places k d)
+each_more P places n p e within here before this k d lt = elim (cases_lt k n) as (λ _. P (get_or places k d)) [
+  | inl less ↦ before k d less
+  | inr le ↦ (let at : k ≡ n = omega (arith, lt, le) in
+      subst P (sym (ap (λ j. get_or places j d) at ∙ get_or_default places n d e within ∙ here)) this)
+]

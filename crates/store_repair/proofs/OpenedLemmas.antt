@@ -2,7 +2,7 @@
 use Rattle.std.proofs.Common.{◌≡◌, ◌∙◌, ◌<◌, ◌≤◌, ◌-◌, ℕ, zero, suc, List, [], ◌∷◌, ◌++◌, Bool, true, false, refl, sym, ap, ap₂}
 use Rattle.std.proofs.Common.{subst, arith, inl, inr}
 use Rattle.std.proofs.Common.{get_or, length, map, cond, Option, Some, None, All, length-append}
-use Rattle.std.specs.Prelude.{◌&&◌, ◌||◌, ◌==◌, not, is_some, unwrap_or}
+use Rattle.std.specs.Prelude.{IfSome, ◌&&◌, ◌||◌, ◌==◌, not, is_some, unwrap_or}
 use Rattle.std.proofs.lemmas.Bool.{cases_lt, eq-eqb, ne_eqb}
 use Rattle.std.proofs.lemmas.List.{get_or-append_right, get_or_append_left, get_or_past}
 use Rattle.std.proofs.Math.ListN.{get_or-map}
@@ -14,7 +14,7 @@ use Rattle.lrc_code.specs.Places.{index_of, same_place}
 use Rattle.lrc_code.specs.Sets.{is_in}
 use Rattle.lrc_code.proofs.PlaceSums.{index_of-lt, place_at}
 use Rattle.lrc_plan.specs.Stripes.{at_place, AreWhole}
-use Rattle.store_repair.specs.Opened.{AreOpened, IsOpenedAt, nth_place}
+use Rattle.store_repair.specs.Opened.{AreOpened, IsOpenedAt, IsThereWith, nth_place}
 use Rattle.store_repair.specs.Shown.{AreShown, shown_of}
 use Rattle.store_repair.specs.Store.{Files, ShownFiles}
 
@@ -143,3 +143,17 @@ module _ {F : Type 0} (shown : F → Option (List ℕ)) (code : CodeName) (strip
 
     pub are_from : (q : Place) → is_in set q ≡ true → old.fragments stripe q ≡ Some (at_place at q)
     are_from q is = rw (at_is q) (from_at q (get_or xs (index_of q) None) (sym (opened.set_of q) ∙ is) (each_at q))
+
+-- a fragment that was opened has its name, and so many bytes
+there_at : {F : Type 0} (shown : F → Option (List ℕ)) (code : CodeName) (stripe : List ℕ) (len : ℕ) (old : Files) (p : Place) (x : Option F)
+    → is_some x ≡ true → IsOpenedAt shown code stripe len (Some old) p x → IsThereWith stripe len old p
+there_at shown code stripe len old p None on opened = absurd (cc)
+there_at shown code stripe len old p (Some f) on (has, (bytes, is, long, are, e)) = (bytes, is, long)
+
+pub are_there : {F : Type 0} (shown : F → Option (List ℕ)) (code : CodeName) (stripe : List ℕ) (len : ℕ) (files : ShownFiles)
+    (set : List Bool) (xs : List (Option F)) → length xs ≡ 16 → AreOpened shown code stripe len files set xs
+    → IfSome files (λ old. (p : Place) → is_in set p ≡ true → IsThereWith stripe len old p)
+are_there shown code stripe len None set xs sixteen opened = tt
+are_there shown code stripe len (Some old) set xs sixteen opened = λ p on.
+    there_at shown code stripe len old p (get_or xs (index_of p) None) (sym (opened.set_of p) ∙ on)
+    (each_at shown code stripe len old set xs sixteen opened p)

@@ -16,12 +16,13 @@ use Rattle.lrc_code.specs.Sets.{is_in}
 use Rattle.lrc_code.proofs.PlaceSums.{index_of-lt, place_at}
 use Rattle.lrc_plan.specs.Stripes.{AreWhole}
 use Rattle.store_repair.specs.Damage.{all_but}
-use Rattle.store_repair.specs.Mended.{IsMended, IsMendedStripe}
+use Rattle.store_repair.specs.Mended.{AreLost, IsMended, IsMendedStripe}
 use Rattle.store_repair.specs.Opened.{AreApart, AreMade, AreOnlyOnes, AreOpened, AreRebuilt, IsOnlyOne, IsOpenedAt, IsPutOf}
 use Rattle.store_repair.specs.Opened.{IsRebuiltAt, nth_place}
 use Rattle.store_repair.specs.Shown.{AreShown}
 use Rattle.store_repair.specs.Store.{AreUntouched, Files, HasName, IsUntouched, SameElsewhere, ShownFiles}
 use Rattle.store_repair.specs.declared.store.Placed.TheVariants as placed
+use Rattle.store_repair.proofs.ScrubLemmas.{of_one_stripe}
 use Rattle.store_repair.proofs.OpenedLemmas.{are_from, are_shown, are_whole, at}
 
 -- ---- what is untouched
@@ -111,12 +112,18 @@ module _ {F N : Type 0} (survivor : F → Option (List ℕ)) (shown : N → Opti
       (are_whole survivor code stripe len old set fragments sixteen opened)).1 k d e lt)
 
   pub are_made : (files : ShownFiles) → AreOpened survivor code stripe len files set fragments → length made ≡ length places
-      → AreApart places → (0 < length made → (q : Place) × (is_in set q ≡ true))
+      → AreApart places → AreLost code (is_in set) places → (0 < length made → (q : Place) × (is_in set q ≡ true))
       → ((xs : List (List ℕ)) → AreShown survivor fragments xs → AreWhole code (is_in set) xs len
       → IsMendedStripe shown code (is_in set) xs len places made true)
       → AreMade shown code (is_in set) len stripe files places made
-  are_made files opened long apart used mended =
-      record { lengths = long; apart = apart; used = used; only = only files opened mended }
+  are_made files opened long apart lost used mended = record {
+    lengths = long;
+    apart = apart;
+    lost = lost;
+    used = used;
+    possible = of_one_stripe survivor code stripe len set fragments sixteen files opened (λ xs are whole. (mended xs are whole).0);
+    only = only files opened mended;
+  }
 
 -- ---- fragments that are left out
 

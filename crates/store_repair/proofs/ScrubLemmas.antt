@@ -1,19 +1,17 @@
 -- What findings say of damage.
 use Rattle.std.proofs.Common.{◌≡◌, ◌≢◌, ◌∙◌, ℕ, List, [], ◌∷◌, ◌++◌, Bool, Option, None, Some, ap, arith, length, length-append, sym}
-use Rattle.std.proofs.Common.{All, append-nil, suc, zero, append_assoc}
+use Rattle.std.proofs.Common.{All, append-nil, append_assoc}
 use Rattle.std.specs.Prelude.{IfSome}
 use Rattle.lrc_code.specs.declared.places.Place.{Place}
 use Rattle.lrc_code.specs.declared.codes.Code.{Code as CodeName}
 use Rattle.lrc_code.specs.Codes.{tables_of}
 use Rattle.lrc_code.specs.Sets.{is_in}
 use Rattle.lrc_plan.specs.Stripes.{at_place, AreWhole, IsPossible}
-use Rattle.store_repair.specs.Damage.{IsDamage, IsLocated}
+use Rattle.store_repair.specs.Damage.{IsLocated}
 use Rattle.store_repair.specs.Opened.{AreOpened}
-use Rattle.store_repair.specs.Scrubbed.{AreOfOneStripe, damaged_at, damaged_by, IsDamagedFragment, said_damaged}
+use Rattle.store_repair.specs.Scrubbed.{AreOfOneStripe, damaged_by, IsDamagedFragment, said_damaged}
 use Rattle.store_repair.specs.Shown.{AreShown}
 use Rattle.store_repair.specs.Store.{Files, ShownFiles}
-use Rattle.store_repair.specs.declared.damage.Damage.{Damage}
-use Rattle.store_repair.specs.declared.damage.Damage.TheVariants as damage
 use Rattle.store_repair.specs.declared.outcomes.Finding.{Finding}
 use Rattle.store_repair.proofs.OpenedLemmas.{are_from, are_shown, are_whole, at}
 

@@ -28,7 +28,7 @@ not_true true e = absurd (cc)
 not_true false e = refl
 
 -- a place that is in a set and is another one than p
-stays : (survives : Place → Bool) (p q : Place) → survives q ≡ true → same_place p q ≡ false → all_but survives p q ≡ true
+pub stays : (survives : Place → Bool) (p q : Place) → survives q ≡ true → same_place p q ≡ false → all_but survives p q ≡ true
 stays survives p q there apart = and_from (survives q) (not (same_place p q)) there (not_from_false (same_place p q) apart)
 
 stayed : (survives : Place → Bool) (p q : Place) → all_but survives p q ≡ true → (survives q ≡ true) × (same_place p q ≡ false)
@@ -36,7 +36,7 @@ stayed survives p q h =
     let parts = and_parts (survives q) (not (same_place p q)) h in
     (parts.0, not_true (same_place p q) parts.1)
 
-in_without : (code : CodeName) (survives : Place → Bool) (p q : Place) → without code survives p q ≡ true
+pub in_without : (code : CodeName) (survives : Place → Bool) (p q : Place) → without code survives p q ≡ true
     → (has_place (tables_of code) q ≡ true) × (survives q ≡ true) × (same_place p q ≡ false)
 in_without code survives p q h =
     let parts = and_parts (has_place (tables_of code) q) (all_but survives p q) h in
@@ -72,7 +72,7 @@ is_combined row at len = record {
 }
 
 -- stripes that keep the same bytes have the same bytes where these determine them
-agree : (code : CodeName) (survives : Place → Bool) (at : List (List ℕ)) (len : ℕ) → AreWhole code survives at len → All AreBytes at
+pub agree : (code : CodeName) (survives : Place → Bool) (at : List (List ℕ)) (len : ℕ) → AreWhole code survives at len → All AreBytes at
     → length at ≡ 16 → (p : Place) → has_place (tables_of code) p ≡ true → IsDetermined code survives p → (s t : Place → List ℕ)
     → Keeps (tables_of code) survives (at_place at) len s → Keeps (tables_of code) survives (at_place at) len t → s p ≡ t p
 agree code survives at len whole small sixteen p has (row, value) s t of_s of_t =

@@ -4,6 +4,7 @@ pub mod Mended
 pub mod Damage
 pub mod Store
 pub mod Losses
+pub mod Findings
 pub mod Opened
 pub mod Kept
 pub mod Repaired

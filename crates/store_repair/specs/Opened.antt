@@ -9,6 +9,8 @@ use Rattle.lrc_code.specs.Codes.{tables_of}
 use Rattle.lrc_code.specs.Places.{all_places, index_of, same_place}
 use Rattle.lrc_code.specs.Sets.{is_in}
 use Rattle.lrc_plan.specs.Stripes.{at_place, IsRebuilt}
+use Rattle.store_repair.specs.Mended.{AreLost}
+use Rattle.store_repair.specs.Scrubbed.{AreOfOneStripe}
 use Rattle.store_repair.specs.Store.{Files, HasName, IsOpened, ShownFiles}
 use Rattle.store_repair.specs.declared.store.Placed.TheVariants as placed
 
@@ -31,6 +33,10 @@ pub record AreOpened {F : Type 0} (shown : F → Option (List ℕ)) (code : Code
   pub set_of : IsSetOf set fragments
   pub each : (k : ℕ) → k < length fragments → IsOpenedAt shown code stripe len files (nth_place k) (slice_index_or fragments k None)
 
+-- a name has so many bytes
+abbrev pub IsThereWith : List ℕ → ℕ → Files → Place → Type 0
+IsThereWith stripe len files p = (bytes : List ℕ) × (files.fragments stripe p ≡ Some bytes) × (length bytes ≡ len)
+
 -- no place is listed twice
 abbrev pub AreApart : List Place → Type 0
 AreApart places = AllPairs (λ p q. same_place p q ≡ false) places
@@ -48,13 +54,15 @@ AreOnlyOnes shown code survives len stripe old places files =
     (k : ℕ) (d : Place) (e : _) → k < length files
     → IfSome (shown (slice_index_or files k e)) (IsOnlyOne code survives len stripe old (slice_index_or places k d))
 
--- Files that were made for places of a stripe: where the store's files are shown, each holds the only bytes that fit the survivors, of
--- which there is one.
+-- Files that were made for lost places of a stripe: where the store's files are shown, the survivors, of which there is one, are those of
+-- one stripe, and each file holds the only bytes that fit them.
 pub record AreMade {N : Type 0} (shown : N → Option (List ℕ)) (code : CodeName) (survives : Place → Bool) (len : ℕ) (stripe : List ℕ)
     (files : ShownFiles) (places : List Place) (made : List N) : Type 0 where
   pub lengths : length made ≡ length places
   pub apart : AreApart places
+  pub lost : AreLost code survives places
   pub used : 0 < length made → (q : Place) × (survives q ≡ true)
+  pub possible : IfSome files (AreOfOneStripe code survives len stripe)
   pub only : IfSome files (λ old. AreOnlyOnes shown code survives len stripe old places made)
 
 -- a name has the bytes of the file at the index of its place, where these are shown

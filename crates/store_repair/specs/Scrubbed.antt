@@ -6,6 +6,7 @@ use Rattle.lrc_code.specs.Code.{IsInCode}
 use Rattle.lrc_code.specs.Codes.{tables_of}
 use Rattle.lrc_plan.specs.Stripes.{at_place}
 use Rattle.store_repair.specs.Damage.{IsLocated}
+use Rattle.store_repair.specs.Findings.{named_by}
 use Rattle.store_repair.specs.Store.{Files}
 use Rattle.store_repair.specs.declared.damage.Damage.{Damage}
 use Rattle.store_repair.specs.declared.damage.Damage.TheVariants as damage
@@ -15,7 +16,7 @@ use Rattle.store_repair.specs.declared.outcomes.Reason.TheVariants as reason
 
 -- the place of a finding that says that its fragment is damaged
 abbrev pub damaged_by : ReasonName → Option Place → List Place
-damaged_by reason.Damaged (Some p) = p ∷ []
+damaged_by reason.Damaged place = named_by place
 damaged_by reason place = []
 
 -- the places of the fragments that are said to be damaged

@@ -5,16 +5,16 @@ ghost use Rattle.lrc_code.specs.Code.{AreBytes, has_place};
 ghost use Rattle.lrc_code.specs.Codes.{tables_of};
 ghost use Rattle.lrc_code.specs.Sets.{is_in};
 ghost use Rattle.lrc_plan.specs.Stripes.{AreWhole, IsContradiction, at_place};
-ghost use Rattle.store_repair.specs.Damage.{AreFits, AreSuspects, FitWithout, IsCleared, IsDamage, IsDamaged, IsDetermined, IsFit};
+ghost use Rattle.store_repair.specs.Damage.{AreFits, AreSuspects, FitWithout, IsCleared, IsDamage, IsDamaged, IsFit};
 ghost use Rattle.store_repair.specs.Damage.{IsOneDetermined, all_but, without};
 ghost use Rattle.store_repair.specs.Shown.{AreShown};
 
 use crate::consistency::are_consistent;
+use crate::losses::determine;
 use crate::mending::{MendFault, Survivors};
 use crate::store::Fragment;
 use crate::stripes::nth_place;
 use lrc_code::{Code, Place, PlaceSet};
-use lrc_plan::{reduce_by_lost, value_from};
 use std::alloc::Global;
 use std::fmt::{self, Display, Formatter, Write};
 
@@ -202,17 +202,6 @@ fn determine_one(code: Code, set: PlaceSet, one: Place, other: Place) -> bool
     ensures { result ≡ true → IsOneDetermined code (is_in set) one other }
 {
     determine(code, set, one) || determine(code, set, other)
-}
-
-// Whether the fragments at the places of a set determine the one at another place of the code.
-fn determine(code: Code, set: PlaceSet, place: Place) -> bool
-    ensures { result ≡ true → IsDetermined code (is_in set) place }
-{
-    if !code.has(place) || set.has(place) {
-        return false;
-    }
-    let reduced = reduce_by_lost(code, set);
-    value_from(code, &reduced, set, place).is_some()
 }
 
 /// The places of a code that are in a set, but one.

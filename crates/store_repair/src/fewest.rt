@@ -1,12 +1,14 @@
 //! Repairing a stripe from as few of its survivors as determine what is lost.
-ghost use Rattle.std.specs.Prelude.{◌≡◌, IfOk, IfSome, true};
+ghost use Rattle.std.specs.Prelude.{◌≡◌, All, IfOk, IfSome, true};
+ghost use Rattle.lrc_code.specs.declared.places.Place.{Place};
+ghost use Rattle.store_repair.specs.Damage.{IsDetermined};
 ghost use Rattle.store_repair.specs.Losses.{AreChecked};
 ghost use Rattle.lrc_code.specs.Sets.{is_in};
 ghost use Rattle.store_repair.specs.Kept.{Given};
 ghost use Rattle.store_repair.specs.Opened.{AreMade};
 
 use crate::damage::without;
-use crate::losses::{is_lost_and, lost_places};
+use crate::losses::{is_determined, lost_places};
 use crate::making::{Attempt, Made, make_from};
 use crate::opening::open_survivors;
 use crate::outcomes::Finding;
@@ -75,7 +77,10 @@ pub(crate) fn to_be_read<'a>(
 
 // As few of the survivors as determine the fragments at these places. Four columns of a code's equations are dependent only within a group
 // with the globals, and three never are, so that one of two orders of leaving places out gives the fewest.
-fn fewest(code: Code, survivors: PlaceSet, places: &[Place]) -> PlaceSet {
+fn fewest(code: Code, survivors: PlaceSet, places: &[Place]) -> PlaceSet
+    ensures own { (p : Place) → is_in result p ≡ true → is_in survivors p ≡ true }
+    ensures enough { All (IsDetermined code (is_in survivors)) places.now → All (IsDetermined code (is_in result)) places.now }
+{
     let x_first = thinned(code, survivors, places, Group::X);
     let y_first = thinned(code, survivors, places, Group::Y);
     if y_first.len() < x_first.len() {
@@ -86,20 +91,24 @@ fn fewest(code: Code, survivors: PlaceSet, places: &[Place]) -> PlaceSet {
 }
 
 // The survivors without those that can be left out: of the globals first, then of a group, then of the other.
-fn thinned(code: Code, survivors: PlaceSet, places: &[Place], first: Group) -> PlaceSet {
+fn thinned(code: Code, survivors: PlaceSet, places: &[Place], first: Group) -> PlaceSet
+    ensures own { (p : Place) → is_in result p ≡ true → is_in survivors p ≡ true }
+    ensures enough { All (IsDetermined code (is_in survivors)) places.now → All (IsDetermined code (is_in result)) places.now }
+{
     let other = match first {
         Group::X => Group::Y,
         Group::Y => Group::X,
     };
-    let mut left = survivors;
-    for group in [None, Some(first), Some(other)] {
-        left = without_group(code, left, places, group);
-    }
-    left
+    let locals = without_group(code, survivors, places, None);
+    let of_other = without_group(code, locals, places, Some(first));
+    without_group(code, of_other, places, Some(other))
 }
 
 // The set without those of the places of a group, or of the globals, that can be left out.
-fn without_group(code: Code, set: PlaceSet, places: &[Place], group: Option<Group>) -> PlaceSet {
+fn without_group(code: Code, set: PlaceSet, places: &[Place], group: Option<Group>) -> PlaceSet
+    ensures own { (p : Place) → is_in result p ≡ true → is_in set p ≡ true }
+    ensures enough { All (IsDetermined code (is_in set)) places.now → All (IsDetermined code (is_in result)) places.now }
+{
     let mut left = set;
     for place in &Place::ALL {
         if left.has(*place) && place.group() == group {
@@ -113,11 +122,12 @@ fn without_group(code: Code, set: PlaceSet, places: &[Place], group: Option<Grou
 }
 
 // Whether the fragments at the places of a set determine those at all of some places.
-fn determine_all(code: Code, set: PlaceSet, places: &[Place]) -> bool {
+fn determine_all(code: Code, set: PlaceSet, places: &[Place]) -> bool
+    ensures { result ≡ true → All (IsDetermined code (is_in set)) places.now }
+{
     let reduced = reduce_by_lost(code, set);
-    let lost = code.others(set);
     for place in places {
-        if !is_lost_and(code, &reduced, set, lost, *place, true) {
+        if !is_determined(code, &reduced, set, *place) {
             return false;
         }
     }

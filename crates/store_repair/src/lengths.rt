@@ -1,5 +1,5 @@
 //! How many bytes the fragments of a stripe have. Where its files don't agree their checks decide, and never their number.
-ghost use Rattle.std.specs.Prelude.{◌≡◌, ℕ, true, IfOk, IfSome, MatchOption, OnOk};
+ghost use Rattle.std.specs.Prelude.{◌≡◌, ◌≢◌, ℕ, [], true, IfNone, IfOk, IfSome, MatchOption, OnOk};
 ghost use Rattle.store_repair.specs.Lengths.{HasLengthAt, HaveOneLength, IfKnown, IsConfirmed, IsStripeLength};
 ghost use Rattle.store_repair.specs.Scrubbed.{said_damaged};
 
@@ -10,7 +10,7 @@ use crate::mending::{MendFault, Survivors};
 use crate::opening::open_survivors;
 use crate::outcomes::{Finding, Reason, note, note_no_survivor};
 use crate::store::Store;
-use crate::stripes::{Found, Stripe, StripeFiles, nth_place};
+use crate::stripes::{Found, Stripe, StripeFiles, is_in_common, nth_place};
 use lrc_code::{Code, Place};
 use std::alloc::{AllocError, Global};
 
@@ -90,16 +90,6 @@ fn length_at(code: Code, files: &StripeFiles, place: Place) -> Option<u64>
     }
 }
 
-// Whether a length is the one before, if there is one.
-fn is_in_common(common: Option<u64>, length: u64) -> bool
-    ensures { result ≡ true → IfSome common (λ other. other ≡ length) }
-{
-    match common {
-        Some(other) => other == length,
-        None => true,
-    }
-}
-
 /// How many bytes each fragment of a stripe has; where that isn't known, why is noted.
 pub(crate) fn length_or_note<S: Store>(
     alloc: Global,
@@ -108,7 +98,8 @@ pub(crate) fn length_or_note<S: Store>(
     stripe: &Stripe<'_>,
     findings: &mut Vec<Finding>,
 ) -> Result<Option<usize>, AllocError>
-    ensures { OnOk result (said_damaged findings.new.items ≡ said_damaged findings.old.items) }
+    ensures said { OnOk result (said_damaged findings.new.items ≡ said_damaged findings.old.items) }
+    ensures some { IfOk result (λ o. IfNone o (findings.new.items ≢ [])) }
 {
     match stripe_length(alloc, store, code, stripe)? {
         StripeLength::Known(length) => return Ok(Some(length)),

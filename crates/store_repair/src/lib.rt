@@ -5,6 +5,7 @@
 
 mod combining;
 mod consistency;
+mod coverage;
 mod damage;
 mod encoding;
 mod fewest;
@@ -29,6 +30,7 @@ mod stripes;
 mod windows;
 
 pub use consistency::are_consistent;
+pub use coverage::is_covered;
 pub use damage::{Damage, Suspects, find_damaged, without};
 pub use encoding::encode;
 pub use file_reading::read_file;

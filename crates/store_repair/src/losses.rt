@@ -1,11 +1,13 @@
 //! The lost places of a stripe: which of them the survivors determine, and whether the survivors can be checked.
-ghost use Rattle.std.specs.Prelude.{◌≡◌, ◌<◌, IfOk, length, true, false, not};
+ghost use Rattle.std.specs.Prelude.{◌≡◌, ◌<◌, ◌⊎◌, All, Contains, IfOk, length, true, false, not};
 ghost use Rattle.lrc_code.specs.declared.places.Place.{Place};
 ghost use Rattle.lrc_code.specs.Code.{has_place};
 ghost use Rattle.lrc_code.specs.Codes.{tables_of};
 ghost use Rattle.lrc_code.specs.Reduction.{IsReduction};
 ghost use Rattle.lrc_code.specs.Sets.{is_in};
-ghost use Rattle.store_repair.specs.Losses.{AreChecked, CanContradict, HasTerm};
+ghost use Rattle.lrc_plan.specs.Planned.{ExtensionsDiffer};
+ghost use Rattle.store_repair.specs.Damage.{IsDetermined};
+ghost use Rattle.store_repair.specs.Losses.{AreChecked, CanContradict, HasAny, HasTerm, IsLostAmong};
 ghost use Rattle.store_repair.specs.Mended.{AreLost};
 ghost use Rattle.store_repair.specs.Opened.{AreApart};
 
@@ -33,69 +35,91 @@ pub fn lost_places(
 ) -> Result<LostPlaces, AllocError>
     ensures determined { IfOk result (λ lost. AreLost code (is_in survivors) lost.determined.items) }
     ensures apart { IfOk result (λ lost. AreApart lost.determined.items) }
-    ensures used { IfOk result (λ lost. 0 < length lost.determined.items → (q : Place) × (is_in survivors q ≡ true)) }
+    ensures used { IfOk result (λ lost. 0 < length lost.determined.items → HasAny (is_in survivors)) }
     ensures several { IfOk result (λ lost. AreLost code (is_in survivors) lost.several.items) }
+    ensures given { IfOk result (λ lost. All (IsDetermined code (is_in survivors)) lost.determined.items) }
+    ensures differ { IfOk result (λ lost. HasAny (is_in survivors)
+        → All (ExtensionsDiffer (tables_of code) (is_in survivors)) lost.several.items) }
+    ensures all { IfOk result (λ lost. (p : Place) → IsLostAmong code (is_in survivors) (is_in among) p
+        → Contains lost.determined.items p ⊎ Contains lost.several.items p) }
 {
-    Ok(LostPlaces {
-        determined: places_where(alloc, code, survivors, among, true)?,
-        several: places_where(alloc, code, survivors, among, false)?,
-    })
-}
-
-// The lost places among some at which the survivors determine the fragment, or those at which they don't.
-fn places_where(
-    alloc: Global,
-    code: Code,
-    survivors: PlaceSet,
-    among: PlaceSet,
-    determined: bool,
-) -> Result<Vec<Place>, AllocError>
-    ensures lost { IfOk result (λ v. AreLost code (is_in survivors) v.items) }
-    ensures apart { IfOk result (λ v. AreApart v.items) }
-    ensures used { IfOk result (λ v. determined ≡ true → 0 < length v.items → (q : Place) × (is_in survivors q ≡ true)) }
-{
-    if determined && !has_any(survivors) {
-        return Ok(Vec::new(alloc));
-    }
     let reduced = reduce_by_lost(code, survivors);
-    let mut places = Vec::new(alloc);
+    let mut determined = Vec::new(alloc);
+    let mut several = Vec::new(alloc);
     for index in 0..16 {
         let place = nth_place(index);
-        if is_lost_and(code, &reduced, survivors, among, place, determined) {
-            places.push(place)?;
+        if is_lost(code, survivors, among, place) {
+            if is_given(code, &reduced, survivors, place) {
+                determined.push(place)?;
+            } else {
+                several.push(place)?;
+            }
         }
     }
-    Ok(places)
+    Ok(LostPlaces {
+        determined,
+        several,
+    })
 }
 
 // Whether any fragment survives. None determine nothing.
 fn has_any(survivors: PlaceSet) -> bool
-    ensures { result ≡ true → (q : Place) × (is_in survivors q ≡ true) }
+    ensures some { result ≡ true → HasAny (is_in survivors) }
+    ensures none { result ≡ false → (q : Place) → is_in survivors q ≡ false }
 {
-    for place in &Place::ALL {
-        if survivors.has(*place) {
+    for index in 0..16 {
+        if survivors.has(nth_place(index)) {
             return true;
         }
     }
     false
 }
 
-/// Whether a place among some is lost, and the survivors determine its fragment or don't.
-pub(crate) fn is_lost_and(
+// Whether a place among some is the code's and lost.
+fn is_lost(code: Code, survivors: PlaceSet, among: PlaceSet, place: Place) -> bool
+    ensures lost { result ≡ true → (has_place (tables_of code) place ≡ true) × (is_in survivors place ≡ false) }
+    ensures other { result ≡ false → ¬ IsLostAmong code (is_in survivors) (is_in among) place }
+{
+    code.has(place) && !survivors.has(place) && among.has(place)
+}
+
+// Whether the survivors, of which there has to be one, determine the fragment at a lost place.
+fn is_given(code: Code, reduced: &Reduced, survivors: PlaceSet, place: Place) -> bool
+    requires { IsReduction (tables_of code) (λ p. not (is_in survivors p)) reduced.now }
+    ensures some { result ≡ true → HasAny (is_in survivors) }
+    ensures yes { result ≡ true → IsDetermined code (is_in survivors) place }
+    ensures no { result ≡ false → HasAny (is_in survivors) → has_place (tables_of code) place ≡ true → is_in survivors place ≡ false
+        → ExtensionsDiffer (tables_of code) (is_in survivors) place }
+{
+    has_any(survivors) && is_determined(code, reduced, survivors, place)
+}
+
+/// Whether a place of the code is lost, and the survivors determine its fragment.
+pub(crate) fn is_determined(
     code: Code,
     reduced: &Reduced,
     survivors: PlaceSet,
-    among: PlaceSet,
     place: Place,
-    determined: bool,
 ) -> bool
     requires { IsReduction (tables_of code) (λ p. not (is_in survivors p)) reduced.now }
-    ensures { result ≡ true → (has_place (tables_of code) place ≡ true) × (is_in survivors place ≡ false) }
+    ensures yes { result ≡ true → IsDetermined code (is_in survivors) place }
+    ensures no { result ≡ false → has_place (tables_of code) place ≡ true → is_in survivors place ≡ false
+        → ExtensionsDiffer (tables_of code) (is_in survivors) place }
 {
-    if !code.has(place) || survivors.has(place) || !among.has(place) {
+    if !code.has(place) || survivors.has(place) {
         return false;
     }
-    value_from(code, reduced, survivors, place).is_some() == determined
+    value_from(code, reduced, survivors, place).is_some()
+}
+
+/// The same, from the survivors' places alone.
+pub(crate) fn determine(code: Code, survivors: PlaceSet, place: Place) -> bool
+    ensures yes { result ≡ true → IsDetermined code (is_in survivors) place }
+    ensures no { result ≡ false → has_place (tables_of code) place ≡ true → is_in survivors place ≡ false
+        → ExtensionsDiffer (tables_of code) (is_in survivors) place }
+{
+    let reduced = reduce_by_lost(code, survivors);
+    is_determined(code, &reduced, survivors, place)
 }
 
 /// Whether survivors are more than a stripe is determined by, so that some contradict each other if one is damaged.

@@ -1,11 +1,16 @@
 //! Making files for the lost fragments of a stripe, from all survivors that belong together.
-ghost use Rattle.std.specs.Prelude.{◌≡◌, ◌&&◌, ℕ, List, not, IfOk, IfSome, length, true};
-ghost use Rattle.store_repair.specs.Losses.{AreChecked};
+ghost use Rattle.std.specs.Prelude.{◌≡◌, ◌≢◌, ◌&&◌, ℕ, List, [], not, All, Contains, IfNone, IfOk, IfSome, OnOk, length, true};
+ghost use Rattle.lrc_code.specs.declared.places.Place.{Place};
+ghost use Rattle.lrc_code.specs.Code.{has_place};
+ghost use Rattle.lrc_code.specs.Codes.{tables_of};
+ghost use Rattle.store_repair.specs.Findings.{named};
+ghost use Rattle.store_repair.specs.declared.settings.Reads.TheVariants.{All as ReadsAll, Few as ReadsFew};
+ghost use Rattle.store_repair.specs.Losses.{AreChecked, has_file};
 ghost use Rattle.lrc_code.specs.Sets.{is_in};
 ghost use Rattle.store_repair.specs.Kept.{Given};
 ghost use Rattle.store_repair.specs.Mended.{AreEmpty};
 ghost use Rattle.store_repair.specs.Opened.{AreMade, AreOpened};
-ghost use Rattle.store_repair.specs.Repaired.{IfMade, IsNotMade};
+ghost use Rattle.store_repair.specs.Repaired.{IfMade, IfNotMade, IsAccountedFor, IsNotMade};
 
 use crate::damage::{Damage, Suspects, find_damaged};
 use crate::losses::{are_checked, lost_places};
@@ -55,10 +60,13 @@ pub(crate) fn make<S: Store>(
         stripe.now.name.now (S.files store.old) made.places.items made.files.items)) }
     ensures checked { IfOk result (λ o. IfSome o (λ made. made.is_checked ≡ true
         → AreChecked repair.now.code (is_in made.set) opened.length)) }
+    ensures all { repair.now.reads ≡ ReadsAll → IfOk result (λ o. IfSome o (λ made. (p : Place)
+        → IsAccountedFor repair.now.code (is_in made.set) made.places.items findings.new.items p)) }
+    ensures said { IfOk result (λ o. IfNone o (findings.new.items ≢ [])) }
 {
     let mut left = opened;
     let mut has_guessed = false;
-    'attempts: for _attempt in 0..16 {
+    'attempts: for _attempt in 0..16u8 {
         match make_from(alloc, store, repair, stripe, &left, findings)? {
             Attempt::Made(made) => return Ok(Some(held(made, has_guessed))),
             Attempt::LeaveOut { place, is_guess } => {
@@ -105,6 +113,9 @@ pub(crate) fn make_from<S: Store>(
         (S.files store.old) made.places.items made.files.items)) }
     ensures checked { IfOk result (IfMade (λ made. made.is_checked ≡ true → AreChecked repair.now.code (is_in made.set)
         opened.now.length)) }
+    ensures all { repair.now.reads ≡ ReadsAll → IfOk result (IfMade (λ made. (p : Place)
+        → IsAccountedFor repair.now.code (is_in made.set) made.places.items findings.new.items p)) }
+    ensures said { IfOk result (IfNotMade (findings.new.items ≢ [])) }
 {
     let code = repair.code;
     let survivors = Survivors {
@@ -144,11 +155,12 @@ pub(crate) fn make_from<S: Store>(
 }
 
 /// The places whose fragments are to be rebuilt: where few survivors are read, the others are there all the same.
-pub(crate) fn to_be_rebuilt<F>(
-    repair: &Repair,
-    stripe: &Stripe<'_>,
-    opened: &Opened<F>,
-) -> PlaceSet {
+pub(crate) fn to_be_rebuilt<F>(repair: &Repair, stripe: &Stripe<'_>, opened: &Opened<F>) -> PlaceSet
+    ensures all { repair.now.reads ≡ ReadsAll → (p : Place)
+        → is_in result p ≡ (has_place (tables_of repair.now.code) p && not (is_in opened.now.set p)) }
+    ensures few { repair.now.reads ≡ ReadsFew → (p : Place)
+        → is_in result p ≡ (has_place (tables_of repair.now.code) p && not (has_file stripe.now.files.found opened.now.length p)) }
+{
     let code = repair.code;
     match repair.reads {
         Reads::All => code.others(opened.set),
@@ -156,8 +168,10 @@ pub(crate) fn to_be_rebuilt<F>(
     }
 }
 
-// Notes the places whose fragments the survivors don't determine.
-fn note_all(places: &[Place], findings: &mut Vec<Finding>) -> Result<(), AllocError> {
+/// Notes the places whose fragments the survivors don't determine.
+pub(crate) fn note_all(places: &[Place], findings: &mut Vec<Finding>) -> Result<(), AllocError>
+    ensures { OnOk result (All (Contains (named findings.new.items)) places.now) }
+{
     for place in places {
         note(findings, Some(*place), Reason::Several)?;
     }
@@ -177,6 +191,7 @@ fn new_files<S: Store>(
         → S.kept stripe.now.name.now given from store.new }
     ensures many { IfOk result (λ o. IfSome o (λ files. length files.items ≡ length places.now)) }
     ensures empty { IfOk result (λ o. IfSome o (λ files. AreEmpty S.New.shown files.items)) }
+    ensures said { IfOk result (λ o. IfNone o (findings.new.items ≢ [])) }
 {
     let mut files = Vec::with_capacity(alloc, places.len())?;
     'files: while files.len() < places.len() {
@@ -200,6 +215,7 @@ pub(crate) fn discard_all<S: Store>(
     findings: &mut Vec<Finding>,
 ) -> Result<(), AllocError>
     ensures same { S.files store.new ≡ S.files store.old }
+    ensures some { OnOk result (findings.old.items ≢ [] → findings.new.items ≢ []) }
     ensures kept { (stripe : List ℕ) (given : Given) (from : S) → S.kept stripe given from store.old → S.kept stripe given from store.new }
 {
     let mut left = files;
@@ -216,6 +232,8 @@ pub(crate) fn discard<S: Store>(
     findings: &mut Vec<Finding>,
 ) -> Result<(), AllocError>
     ensures same { S.files store.new ≡ S.files store.old }
+    ensures named { OnOk result (named findings.new.items ≡ named findings.old.items) }
+    ensures some { OnOk result (findings.old.items ≢ [] → findings.new.items ≢ []) }
     ensures kept { (stripe : List ℕ) (given : Given) (from : S) → S.kept stripe given from store.old → S.kept stripe given from store.new }
 {
     match store.discard(file) {
@@ -232,7 +250,8 @@ fn after_contradiction<F: Fragment, N>(
     findings: &mut Vec<Finding>,
 ) -> Result<Attempt<N>, AllocError>
     requires { length survivors.now.fragments.now ≡ 16 }
-    ensures { IfOk result IsNotMade }
+    ensures not_made { IfOk result IsNotMade }
+    ensures said { OnOk result (findings.new.items ≢ []) }
 {
     match find_damaged(alloc, survivors) {
         Ok(Damage::At(place)) => {
@@ -257,7 +276,8 @@ fn after_suspicion<N>(
     suspects: Suspects,
     findings: &mut Vec<Finding>,
 ) -> Result<Attempt<N>, AllocError>
-    ensures { IfOk result IsNotMade }
+    ensures not_made { IfOk result IsNotMade }
+    ensures said { OnOk result (findings.new.items ≢ []) }
 {
     if repair.assume_one_damaged {
         if let Some(place) = suspects.single {
@@ -278,7 +298,8 @@ fn after_fault<N>(
     places: &[Place],
     findings: &mut Vec<Finding>,
 ) -> Result<Attempt<N>, AllocError>
-    ensures { IfOk result IsNotMade }
+    ensures not_made { IfOk result IsNotMade }
+    ensures said { OnOk result (findings.new.items ≢ []) }
 {
     match fault {
         MendFault::OutOfMemory => Err(AllocError),

@@ -1,8 +1,12 @@
 //! What becomes of a stripe.
-ghost use Rattle.std.specs.Prelude.{◌≡◌, ◌≢◌, ◌++◌, [], false, Option, IfOk, OnOk};
+ghost use Rattle.std.specs.Prelude.{◌≡◌, ◌≢◌, ◌++◌, ◌↔◌, [], true, false, Contains, IsTrue, Option, IfOk, OnOk};
 ghost use Rattle.lrc_code.specs.declared.places.Place.{Place};
+ghost use Rattle.lrc_code.specs.Sets.{is_in};
+ghost use Rattle.store_repair.specs.Findings.{IsMendedBy, differing_by, named, named_by, said_differing};
+ghost use Rattle.store_repair.specs.Losses.{IsCovered};
 ghost use Rattle.store_repair.specs.Scrubbed.{damaged_by, said_damaged};
 
+use crate::coverage::is_covered;
 use crate::damage::Suspects;
 use crate::length_groups::Lengths;
 use crate::store::NameFault;
@@ -87,7 +91,10 @@ impl Reason {
     }
 
     /// Whether the fragment is damaged, is taken for damaged, or differs from the checksums.
-    pub fn is_damage(&self) -> bool {
+    pub fn is_damage(&self) -> bool
+        ensures damaged { (p : Place) → Contains (damaged_by self.now (Some p)) p → result ≡ true }
+        ensures differs { (p : Place) → Contains (differing_by self.now (Some p)) p → result ≡ true }
+    {
         matches!(
             self,
             Reason::Damaged | Reason::TakenForDamaged | Reason::Differs
@@ -131,6 +138,7 @@ impl Outcome {
         ensures rebuilt { result.rebuilt.items ≡ [] }
         ensures findings { result.findings.items ≡ findings.items }
         ensures checked { result.is_checked ≡ false }
+        ensures survivors { (p : Place) → is_in result.survivors p ≡ false }
     {
         Outcome {
             length: 0,
@@ -141,10 +149,103 @@ impl Outcome {
         }
     }
 
+    /// Whether the fragment that was rebuilt at a place is checked: the survivors are, and they cover it, so that it is right though two of
+    /// them are damaged.
+    pub fn is_checked_at(&self, code: Code, place: Place) -> bool
+        ensures checked { result ≡ true → self.now.is_checked ≡ true }
+        ensures covered { result ≡ true → IsCovered code (is_in self.now.survivors) place }
+    {
+        self.is_checked && is_covered(code, self.survivors, place)
+    }
+
     /// Whether a finding is mended: its fragment was rebuilt.
-    pub fn is_mended(&self, finding: &Finding) -> bool {
+    pub fn is_mended(&self, finding: &Finding) -> bool
+        ensures yes { result ≡ true → IsMendedBy self.now.rebuilt.items finding.now.place }
+        ensures no { result ≡ false → ¬ IsMendedBy self.now.rebuilt.items finding.now.place }
+    {
         match finding.place {
-            Some(place) => self.rebuilt.iter().any(|rebuilt| *rebuilt == place),
+            Some(place) => is_among(self.rebuilt.as_slice(), place),
+            None => false,
+        }
+    }
+}
+
+// Whether a place is listed.
+fn is_among(places: &[Place], place: Place) -> bool
+    ensures yes { result ≡ true → Contains places.now place }
+    ensures no { result ≡ false → ¬ Contains places.now place }
+{
+    for other in places {
+        if other.index() == place.index() {
+            return true;
+        }
+    }
+    false
+}
+
+/// Whether findings say of the fragment at a place that it is damaged.
+pub(crate) fn is_said_damaged(findings: &[Finding], place: Place) -> bool
+    ensures { result ≡ true → Contains (said_damaged findings.now) place }
+{
+    for finding in findings {
+        if finding.is_of_damage(place) {
+            return true;
+        }
+    }
+    false
+}
+
+/// Whether findings say of the fragment at a place that it differs from the store's checksums.
+pub(crate) fn is_said_to_differ(findings: &[Finding], place: Place) -> bool
+    ensures { result ≡ true → Contains (said_differing findings.now) place }
+{
+    for finding in findings {
+        if finding.is_of_checksums(place) {
+            return true;
+        }
+    }
+    false
+}
+
+/// Whether findings name the fragment at a place.
+pub(crate) fn is_named(findings: &[Finding], place: Place) -> bool
+    ensures { result ≡ true → Contains (named findings.now) place }
+{
+    for finding in findings {
+        if finding.names(place) {
+            return true;
+        }
+    }
+    false
+}
+
+impl Finding {
+    // Whether it says of the fragment at a place that it is damaged.
+    fn is_of_damage(&self, place: Place) -> bool
+        ensures { result ≡ true → Contains (damaged_by self.now.reason self.now.place) place }
+    {
+        match self.reason {
+            Reason::Damaged => self.names(place),
+            _ => false,
+        }
+    }
+
+    // Whether it says of the fragment at a place that it differs from the store's checksums.
+    fn is_of_checksums(&self, place: Place) -> bool
+        ensures { result ≡ true → Contains (differing_by self.now.reason self.now.place) place }
+    {
+        match self.reason {
+            Reason::Differs => self.names(place),
+            _ => false,
+        }
+    }
+
+    // Whether it is of the fragment at a place.
+    fn names(&self, place: Place) -> bool
+        ensures { result ≡ true → Contains (named_by self.now.place) place }
+    {
+        match self.place {
+            Some(own) => own.index() == place.index(),
             None => false,
         }
     }
@@ -157,6 +258,7 @@ pub(crate) fn note(
     reason: Reason,
 ) -> Result<(), AllocError>
     ensures said { OnOk result (said_damaged findings.new.items ≡ said_damaged findings.old.items ++ damaged_by reason place) }
+    ensures named { OnOk result (named findings.new.items ≡ named findings.old.items ++ named_by place) }
     ensures some { OnOk result (findings.new.items ≢ []) }
 {
     findings.push(Finding { place, reason })?;
@@ -169,7 +271,8 @@ pub(crate) fn note_no_survivor(
     stripe: &Stripe<'_>,
     findings: &mut Vec<Finding>,
 ) -> Result<(), AllocError>
-    ensures { OnOk result (said_damaged findings.new.items ≡ said_damaged findings.old.items) }
+    ensures said { OnOk result (said_damaged findings.new.items ≡ said_damaged findings.old.items) }
+    ensures some { OnOk result (findings.new.items ≢ []) }
 {
     note(findings, None, Reason::NoSurvivor)?;
     note_unknown(code, stripe, findings)
@@ -181,7 +284,8 @@ pub(crate) fn note_unknown(
     stripe: &Stripe<'_>,
     findings: &mut Vec<Finding>,
 ) -> Result<(), AllocError>
-    ensures { OnOk result (said_damaged findings.new.items ≡ said_damaged findings.old.items) }
+    ensures said { OnOk result (said_damaged findings.new.items ≡ said_damaged findings.old.items) }
+    ensures some { OnOk result (findings.old.items ≢ [] → findings.new.items ≢ []) }
 {
     for place in code.places() {
         let found = stripe.files.at(*place);

@@ -1,23 +1,44 @@
 //! What a repair of a stripe would do.
+ghost use Rattle.std.specs.Prelude.{◌≡◌, All, IfOk, IfSome, true};
+ghost use Rattle.lrc_code.specs.declared.places.Place.{Place};
+ghost use Rattle.lrc_code.specs.Sets.{is_in};
+ghost use Rattle.store_repair.specs.Damage.{IsDetermined};
+ghost use Rattle.store_repair.specs.Losses.{AreChecked, HasAny};
+ghost use Rattle.store_repair.specs.Mended.{AreLost};
+ghost use Rattle.store_repair.specs.Opened.{AreApart, IsThereWith};
+ghost use Rattle.store_repair.specs.Repaired.{IsAccountedFor};
+ghost use Rattle.store_repair.specs.declared.settings.Reads.TheVariants.{All as ReadsAll};
+
 use crate::fewest::to_be_read;
 use crate::lengths::length_or_note;
 use crate::losses::{are_checked, lost_places};
-use crate::making::to_be_rebuilt;
+use crate::making::{note_all, to_be_rebuilt};
 use crate::opening::open_survivors;
-use crate::outcomes::{Outcome, Reason, note};
+use crate::outcomes::Outcome;
 use crate::settings::Repair;
 use crate::store::Store;
 use crate::stripes::Stripe;
 use std::alloc::{AllocError, Global};
 
 /// What a repair of a stripe would do: the places whose fragments it would rebuild, if the survivors that can be opened don't contradict
-/// each other, and what it couldn't. No fragment is read, but where the files' lengths differ.
+/// each other, and what it couldn't: the survivors are those that it would open, which determine each of these places, and each other place
+/// of the code is named by a finding. No fragment is read, but where the files' lengths differ. Whether what is under a name stays, as
+/// `repair_stripe` would find, isn't looked at.
 pub fn plan_stripe<S: Store>(
     alloc: Global,
     store: &S,
     repair: &Repair,
     stripe: &Stripe<'_>,
-) -> Result<Outcome, AllocError> {
+) -> Result<Outcome, AllocError>
+    ensures lost { IfOk result (λ o. AreLost repair.now.code (is_in o.survivors) o.rebuilt.items) }
+    ensures apart { IfOk result (λ o. AreApart o.rebuilt.items) }
+    ensures determined { IfOk result (λ o. All (IsDetermined repair.now.code (is_in o.survivors)) o.rebuilt.items) }
+    ensures all { repair.now.reads ≡ ReadsAll → IfOk result (λ o. HasAny (is_in o.survivors) → (p : Place)
+        → IsAccountedFor repair.now.code (is_in o.survivors) o.rebuilt.items o.findings.items p) }
+    ensures opened { IfOk result (λ o. IfSome (S.files store.now) (λ files. (p : Place) → is_in o.survivors p ≡ true
+        → IsThereWith stripe.now.name.now o.length files p)) }
+    ensures checked { IfOk result (λ o. o.is_checked ≡ true → AreChecked repair.now.code (is_in o.survivors) o.length) }
+{
     let code = repair.code;
     let mut findings = Vec::new(alloc);
     let known = length_or_note(alloc, store, code, stripe, &mut findings)?;
@@ -28,9 +49,7 @@ pub fn plan_stripe<S: Store>(
     let opened = open_survivors(alloc, store, code, &read, length, &mut findings)?;
     let among = to_be_rebuilt(repair, stripe, &opened);
     let lost = lost_places(alloc, code, opened.set, among)?;
-    for place in &lost.several {
-        note(&mut findings, Some(*place), Reason::Several)?;
-    }
+    note_all(lost.several.as_slice(), &mut findings)?;
     Ok(Outcome {
         length,
         survivors: opened.set,

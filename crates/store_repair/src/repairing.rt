@@ -1,5 +1,9 @@
 //! Repairing a stripe of a store: each lost fragment is rebuilt, with all checks that the survivors allow, and gets its name.
-ghost use Rattle.std.specs.Prelude.{◌≡◌, IfOk, IfSome, false, true};
+ghost use Rattle.std.specs.Prelude.{◌≡◌, ◌≢◌, [], IfNone, IfOk, IfSome, false, true};
+ghost use Rattle.lrc_code.specs.declared.places.Place.{Place};
+ghost use Rattle.store_repair.specs.declared.settings.Reads.TheVariants.{All as ReadsAll};
+ghost use Rattle.store_repair.specs.Findings.{AreAllMended};
+ghost use Rattle.store_repair.specs.Repaired.{IsAccountedFor, IsWhole, MayReplace, OnlyReplaces};
 ghost use Rattle.store_repair.specs.Kept.{Given, IsRepaired};
 ghost use Rattle.store_repair.specs.Losses.{AreChecked};
 ghost use Rattle.lrc_code.specs.Sets.{is_in};
@@ -11,7 +15,7 @@ use crate::lengths::length_or_note;
 use crate::making::{Made, discard_all, make};
 use crate::opening::open_survivors;
 use crate::outcomes::{Finding, Outcome, Reason, note_unknown};
-use crate::putting::{put_all, settle};
+use crate::putting::{Known, put_all, settle};
 use crate::settings::{Reads, Repair};
 use crate::store::Store;
 use crate::stripes::Stripe;
@@ -31,6 +35,10 @@ pub fn repair_stripe<S: Store>(
     ensures checked { IfOk result (λ o. o.is_checked ≡ true → AreChecked repair.now.code (is_in o.survivors) o.length) }
     ensures kept { repair.now.replace_damaged ≡ false
         → IsRepaired S.kept repair.now.code stripe.now.name.now (S.files store.old) store.old store.new }
+    ensures replaced { IfOk result (λ o. OnlyReplaces (MayReplace repair.now.replace_damaged repair.now.code (is_in o.survivors)
+        o.is_checked o.length stripe.now.files.found o.findings.items) stripe.now.name.now (S.files store.old) (S.files store.new)) }
+    ensures whole { repair.now.reads ≡ ReadsAll → IfOk result (λ o. AreAllMended o.findings.items o.rebuilt.items
+        → IsWhole repair.now.code o.length stripe.now.name.now (S.files store.new)) }
     ensures rebuilt { IfOk result (λ o. AreRebuilt repair.now.code (is_in o.survivors) o.length stripe.now.name.now (S.files store.old)
         (S.files store.new) o.rebuilt.items) }
 {
@@ -52,7 +60,15 @@ pub fn repair_stripe<S: Store>(
     }
     let survivors = made.set;
     let is_checked = made.is_checked;
-    let rebuilt = put_all(alloc, store, repair, stripe, made, &mut findings)?;
+    let known = Known {
+        length,
+        survivors,
+        is_checked,
+        findings: findings.as_slice(),
+    };
+    let mut later = Vec::new(alloc);
+    let rebuilt = put_all(alloc, store, repair, stripe, &known, made, &mut later)?;
+    findings.append(&mut later)?;
     Ok(Outcome {
         length,
         survivors,
@@ -63,7 +79,9 @@ pub fn repair_stripe<S: Store>(
 }
 
 // Whether a survivor was changed while it was read.
-fn has_changed(findings: &[Finding]) -> bool {
+fn has_changed(findings: &[Finding]) -> bool
+    ensures { result ≡ true → findings.now ≢ [] }
+{
     findings
         .iter()
         .any(|finding| matches!(finding.reason, Reason::Changed))
@@ -84,8 +102,11 @@ fn make_lost<S: Store>(
     ensures made { IfOk result (λ o. IfSome o (λ made. AreMade S.New.shown repair.now.code (is_in made.set) length stripe.now.name.now
         (S.files store.old) made.places.items made.files.items)) }
     ensures checked { IfOk result (λ o. IfSome o (λ made. made.is_checked ≡ true → AreChecked repair.now.code (is_in made.set) length)) }
+    ensures all { repair.now.reads ≡ ReadsAll → IfOk result (λ o. IfSome o (λ made. (p : Place)
+        → IsAccountedFor repair.now.code (is_in made.set) made.places.items findings.new.items p)) }
+    ensures said { IfOk result (λ o. IfNone o (findings.new.items ≢ [])) }
 {
-    if repair.reads == Reads::Few {
+    if matches!(repair.reads, Reads::Few) {
         if let Some(made) = make_from_fewest(alloc, store, repair, stripe, length, findings)? {
             return Ok(Some(made));
         }

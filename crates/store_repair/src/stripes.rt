@@ -1,11 +1,12 @@
 //! Stripes of a store: what is under the names of their fragments.
-ghost use Rattle.std.specs.Prelude.{◌≡◌, ◌&&◌, ◌<◌, filter, not, IfOk};
+ghost use Rattle.std.specs.Prelude.{◌≡◌, ◌≢◌, ◌&&◌, ◌<◌, ℕ, filter, not, true, false, IfOk, IfSome, IsSomeAnd, MatchOption};
 ghost use Rattle.lrc_code.specs.declared.places.Place.{Place};
 ghost use Rattle.lrc_code.specs.Code.{has_place};
 ghost use Rattle.lrc_code.specs.Codes.{tables_of};
 ghost use Rattle.lrc_code.specs.Places.{all_places, index_of};
 ghost use Rattle.lrc_code.specs.Sets.{is_in};
-ghost use Rattle.store_repair.specs.Losses.{has_file};
+ghost use Rattle.store_repair.specs.Lengths.{IsLengthOf};
+ghost use Rattle.store_repair.specs.Losses.{has_file, has_other_file};
 
 use lrc_code::{Code, Place, PlaceSet};
 use std::alloc::{AllocError, Global};
@@ -49,9 +50,22 @@ pub(crate) fn nth_place(index: usize) -> Place
     }
 }
 
+/// Whether a length is the one before, if there is one.
+pub(crate) fn is_in_common(common: Option<u64>, length: u64) -> bool
+    ensures yes { result ≡ true → IfSome common (λ other. other ≡ length) }
+    ensures no { result ≡ false → IsSomeAnd common (λ other. other ≢ length) }
+{
+    match common {
+        Some(other) => other == length,
+        None => true,
+    }
+}
+
 impl Stripe<'_> {
     /// How many bytes each of the stripe's files has, as [`StripeFiles::length`], if memory can be as long.
-    pub fn length(&self) -> Option<usize> {
+    pub fn length(&self) -> Option<usize>
+        ensures { IfSome result (IsLengthOf self.now.files.found) }
+    {
         usize::try_from(self.files.length()?).ok()
     }
 }
@@ -82,11 +96,13 @@ impl StripeFiles {
 
     /// How many bytes each of the stripe's files has; none where it has no files, or where these differ in length. How many bytes the
     /// stripe's fragments have then, [`stripe_length`](crate::stripe_length) says.
-    pub fn length(&self) -> Option<u64> {
+    pub fn length(&self) -> Option<u64>
+        ensures { MatchOption result ((len : ℕ) → ¬ IsLengthOf self.now.found len) (IsLengthOf self.now.found) }
+    {
         let mut common = None;
         for found in &self.found {
             if let Found::File { length } = *found {
-                if common.is_some_and(|other| other != length) {
+                if !is_in_common(common, length) {
                     return None;
                 }
                 common = Some(length);
@@ -101,6 +117,17 @@ impl StripeFiles {
     {
         match self.found[place.index()] {
             Found::File { length: found } => found == length,
+            _ => false,
+        }
+    }
+
+    /// Whether there is a file at a place that has another number of bytes.
+    pub fn has_other(&self, place: Place, length: u64) -> bool
+        ensures { result ≡ has_other_file self.now.found length place }
+    {
+        let found = self.found[place.index()];
+        match found {
+            Found::File { length: other } => other != length,
             _ => false,
         }
     }

@@ -71,7 +71,7 @@ pub fn unchecked_lines(
     let why = why_unchecked(&done.outcome);
     for place in unchecked_places(alloc, results.site, stripe.name, &done.outcome)? {
         let name = file_of(alloc, results.site, stripe, place)?;
-        lines.push(format!(in alloc; "{name}: rebuilt without any check: {why}")?)?;
+        lines.push(format!(in alloc; "{name}: rebuilt unchecked: {why}")?)?;
     }
     Ok(lines)
 }

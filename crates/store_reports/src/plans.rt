@@ -1,9 +1,10 @@
 //! What a repair would leave, of what it could rebuild.
 ghost use Rattle.std.specs.Prelude.{◌≡◌, ◌+◌, IfOk, vec_len};
 
+use lrc_code::Place;
 use std::alloc::{AllocError, Global};
 use store_folder::Found;
-use store_repair::{Finding, Outcome, Reason, Repair, Stripe};
+use store_repair::{Finding, Outcome, Reason, Repair, Stripe, is_covered};
 
 /// A plan without the fragments that a repair would leave, since something is under their names that it wouldn't replace: each of these is
 /// a finding instead.
@@ -26,7 +27,9 @@ pub fn without_left(
     let mut rebuilt = Vec::new(alloc);
     'places: for place in &planned {
         let found = stripe.files.at(*place);
-        if is_left(repair, found, is_checked) {
+        let is_sure = differs(findings.as_slice(), *place)
+            || is_covered(repair.code, survivors, *place);
+        if is_left(repair, found, is_checked && is_sure) {
             let place = Some(*place);
             let reason = Reason::of(found);
             findings.push(Finding { place, reason })?;
@@ -50,4 +53,10 @@ fn is_left(repair: &Repair, found: Found, is_checked: bool) -> bool {
         Found::File { .. } => !repair.elsewhere && !(repair.replace_damaged && is_checked),
         Found::Other | Found::Unknown { .. } => !repair.elsewhere,
     }
+}
+
+// Whether a finding says that the fragment at a place differs from the checksums, to which the store then holds what replaces it.
+fn differs(findings: &[Finding], place: Place) -> bool {
+    findings.iter().any(|finding| finding.place == Some(place)
+        && matches!(finding.reason, Reason::Differs))
 }

@@ -164,7 +164,7 @@ pub fn planned(alloc: Global, results: &Results<'_>) -> Result<String, AllocErro
     let writes = size_of(alloc, bytes)?;
     let first = format!(in alloc; "{count} of {code}, {lengths}; {lost} lost in {lossy}")?;
     format!(in alloc;
-        "{first}; {rebuilt} can be rebuilt ({unchecked} without any check), {left} can't; reads {reads}, writes {writes}{described}"
+        "{first}; {rebuilt} can be rebuilt ({unchecked} unchecked), {left} can't; reads {reads}, writes {writes}{described}"
     )
 }
 

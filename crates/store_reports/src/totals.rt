@@ -55,10 +55,10 @@ pub(crate) fn unchecked_places(
     outcome: &Outcome,
 ) -> Result<Vec<Place>, AllocError> {
     let mut places = Vec::new(alloc);
-    if outcome.is_checked {
-        return Ok(places);
-    }
     for place in &outcome.rebuilt {
+        if outcome.is_checked_at(site.code, *place) {
+            continue;
+        }
         let name = fragment_name(alloc, &site.pattern, site.code, stripe, *place)?;
         let is_covered = match site.sums {
             Some(sums) => sums.digest_of(name.as_str()).is_some(),
@@ -71,13 +71,15 @@ pub(crate) fn unchecked_places(
     Ok(places)
 }
 
-/// Why no check covers what was rebuilt of a stripe.
+/// Why no check covers what was rebuilt of a stripe, where none does.
 pub(crate) fn why_unchecked(outcome: &Outcome) -> &'static str {
     let is_guess = |finding: &Finding| { matches!(finding.reason, Reason::TakenForDamaged) };
     if outcome.findings.iter().any(is_guess) {
         "which fragment is damaged was a guess"
     } else if outcome.length == 0 {
         "fragments without bytes show nothing"
+    } else if outcome.is_checked {
+        "so many are lost that damage among the others may not show"
     } else {
         "as many fragments survive as it takes, so damage among them can't show"
     }

@@ -40,8 +40,8 @@ const FOUND: [&str; 3] = [
 ];
 
 const UNCHECKED: [&str; 2] = [
-    "a,b.x0: rebuilt without any check: as many fragments survive as it takes, so damage among them can't show",
-    "a,b.p1: rebuilt without any check: as many fragments survive as it takes, so damage among them can't show",
+    "a,b.x0: rebuilt unchecked: as many fragments survive as it takes, so damage among them can't show",
+    "a,b.p1: rebuilt unchecked: as many fragments survive as it takes, so damage among them can't show",
 ];
 
 const ALONE: &str = "rebuild-store: z.y2: is named as a fragment, and of no stripe";
@@ -161,7 +161,7 @@ const PLANS: [(Found, bool, bool, bool, bool); 8] = [
 ];
 
 const PLANNED: &str =
-    "1 stripe of 6-2-2, 2 KiB; 1 lost in 1; 1 can be rebuilt (1 without any check), 0 can't; reads 4 KiB, writes 2 KiB";
+    "1 stripe of 6-2-2, 2 KiB; 1 lost in 1; 1 can be rebuilt (1 unchecked), 0 can't; reads 4 KiB, writes 2 KiB";
 
 #[test]
 fn a_plan_says_what_would_be_done(rt: HostRuntime) -> io::Result<()> {
@@ -175,7 +175,11 @@ fn a_plan_says_what_would_be_done(rt: HostRuntime) -> io::Result<()> {
         let mut plan = Outcome::of(alloc, Vec::new(alloc));
         plan.length = 2048;
         plan.is_checked = is_checked;
-        plan.survivors = PlaceSet::empty().with(Place::X1).with(Place::X2);
+        plan.survivors = if is_checked {
+            Code::Narrow.others(PlaceSet::empty().with(Place::X0))
+        } else {
+            PlaceSet::empty().with(Place::X1).with(Place::X2)
+        };
         plan.rebuilt.push(Place::X0).map_err(|_| AllocError)?;
         let repair = Repair {
             code: Code::Narrow,

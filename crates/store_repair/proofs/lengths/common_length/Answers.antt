@@ -14,7 +14,7 @@ loop-index-preserved c =
     let after = HaveOneLengthBefore code files (n + 1) in
     elim c.match-length_at.branch [
       | in-Some+else-not-is_in_common w ↦ subst after (sym w.common-is)
-          (next_file code files n p c.nth_place.ensures common w.in-Some.length (w.is_in_common.ensures w.if-not-is_in_common.false)
+          (next_file code files n p c.nth_place.ensures common w.in-Some.length (w.is_in_common.ensures.yes w.if-not-is_in_common.false)
           w.in-Some.ensures c.loop-index.invariant)
       | in_default w ↦ subst after (sym w.common-is)
           (next_none code files n p c.nth_place.ensures common w.in_default.ensures c.loop-index.invariant)

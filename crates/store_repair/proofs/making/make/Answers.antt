@@ -1,11 +1,14 @@
-use Rattle.std.proofs.Common.{◌≡◌, ◌∙◌, ap, length, subst, sym, true, not}
+use Rattle.std.specs.Prelude.{◌⊎◌, Contains}
+use Rattle.std.proofs.Common.{◌≡◌, ◌≢◌, ◌∙◌, [], ap, arith, length, subst, sym, true, false, not}
+use Rattle.lrc_code.specs.declared.places.Place.{Place}
+use Rattle.store_repair.specs.Findings.{named}
 use Rattle.std.proofs.lemmas.Bool.{and_parts}
 use Rattle.std.proofs.lemmas.List.{length-set}
 use Rattle.lrc_code.specs.Places.{index_of}
 use Rattle.lrc_code.specs.Sets.{is_in}
 use Rattle.store_repair.specs.Losses.{AreChecked}
 use Rattle.store_repair.specs.Opened.{AreOpened}
-use Rattle.store_repair.specs.Repaired.{IfMade}
+use Rattle.store_repair.specs.Repaired.{IfMade, IfNotMade, IsAccountedFor}
 use Rattle.store_repair.proofs.RepairLemmas.{opened_less}
 use Rattle.store_repair.proofs.making.make.Goals as goal
 
@@ -21,6 +24,7 @@ attempts-preserved g c =
     record {
       same = c.make_from.ensures.same ∙ so.same;
       kept = λ given from before. c.make_from.ensures.kept given from (so.kept given from before);
+      said = λ some. subst (IfNotMade (c.make_from.new.findings.items ≢ [])) c.in-LeaveOut.is c.in_ok-made.ensures.said;
       sixteen = ap length c.leave_out.ensures.fragments ∙ length-set old.fragments.items (index_of c.in-LeaveOut.place) _ ∙ so.sixteen;
       long = c.leave_out.ensures.length ∙ so.long;
       opened = rw (c.leave_out.ensures.length, c.make_from.ensures.same)
@@ -38,3 +42,15 @@ returns-in-Made-clause-checked g c = λ on.
     let of = subst (IfMade (λ m. m.is_checked ≡ true → AreChecked code (is_in m.set) len)) c.in-Made.is c.in_ok-made.ensures.checked in
     subst (λ set. AreChecked code (is_in set) c.args.opened.length) (sym c.held.ensures.set)
     (subst (AreChecked code (is_in made.set)) c.attempts.invariant.long (of own))
+
+pub returns-in-Made-clause-all : goal.returns-in-Made-clause-all
+returns-in-Made-clause-all g c = λ reads p has out.
+    let code = c.args.repair.now.code in
+    let new = c.make_from.new.findings.items in
+    let of = subst (IfMade (λ m. (q : Place) → IsAccountedFor code (is_in m.set) m.places.items new q)) c.in-Made.is
+    (c.in_ok-made.ensures.all reads) in
+    subst (λ places. Contains places.items p ⊎ Contains (named new) p) (sym c.held.ensures.places)
+    (of p has (subst (λ set. is_in set p ≡ false) c.held.ensures.set out))
+
+pub returns-clause-said : goal.returns-clause-said
+returns-clause-said g c = c.attempts.invariant.said (let end = c.attempts-test.false in omega (arith, end))

@@ -1,4 +1,4 @@
-use Rattle.std.proofs.Common.{◌≡◌, length}
+use Rattle.std.proofs.Common.{◌≡◌, ◌≢◌, ◌<◌, [], length}
 use Rattle.store_repair.specs.Opened.{AreOpened}
 use Rattle.store_repair.specs.Kept.{Given}
 use Rattle.store_repair.proofs.making.make.Given as goal
@@ -9,6 +9,7 @@ invariant-attempts g l =
       same : g.S.Store.files l.store ≡ g.S.Store.files l.fn.store;
       kept : (given : Given) (from : _) → g.S.Store.kept l.fn.stripe.name.now given from l.fn.store
           → g.S.Store.kept l.fn.stripe.name.now given from l.store;
+      said : 0 < l._attempt → l.findings.items ≢ [];
       sixteen : length l.left.fragments.items ≡ 16;
       long : l.left.length ≡ l.fn.opened.length;
       opened : AreOpened g.S.Survivor.Fragment.shown l.fn.repair.code l.fn.stripe.name.now l.left.length (g.S.Store.files l.store)

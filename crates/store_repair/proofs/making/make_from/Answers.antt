@@ -1,4 +1,7 @@
-use Rattle.std.proofs.Common.{◌≡◌, IfSome, List, ap, arith, length, rules, subst, sym}
+use Rattle.std.specs.Prelude.{◌⊎◌, Contains}
+use Rattle.std.proofs.Common.{◌≡◌, All, IfSome, List, ap, arith, inl, inr, length, refl, rules, subst, sym, true}
+use Rattle.std.proofs.lemmas.List.Elements.{All-contains}
+use Rattle.store_repair.specs.Findings.{named}
 use Rattle.lrc_code.specs.declared.places.Place.{Place}
 use Rattle.std.proofs.lemmas.List.{with_items_is, places}
 use Rattle.lrc_code.specs.Sets.{is_in}
@@ -23,8 +26,21 @@ returns-in-Ok-true-clause-made g c =
     let long : length new ≡ length lost = omega (arith, c.mend.auto.files, lent, many, of) in
     rw items (are_made g.S.Survivor.Fragment.shown shown code stripe opened.length opened.set opened.fragments.items
     c.requires.sixteen lost new (g.S.Store.files c.args.store.now) c.requires.opened long c.in_ok-lost.ensures.apart
+    c.in_ok-lost.ensures.determined
     (λ lt. c.in_ok-lost.ensures.used (omega (arith, lt, long)))
     (λ xs are whole. subst (λ b. IsMendedStripe shown code (is_in opened.set) xs opened.length lost new b) c.in-Ok-true.field-0-test
     (subst (λ ps. IsMendedStripe shown code (is_in opened.set) xs opened.length ps new c.in-Ok-true.field-0) c.as_slice-3.ensures.value
     (c.in-Ok-true.ensures.mended xs
     (subst (λ fs. AreShown g.S.Survivor.Fragment.shown fs xs) (sym c.as_slice.ensures.value) are) whole))))
+
+pub returns-in-Ok-true-clause-all : goal.returns-in-Ok-true-clause-all
+returns-in-Ok-true-clause-all g c = λ reads p has out.
+    let lost = c.in_ok-lost.lost in
+    let new = named c.note_all.new.findings.items in
+    let own : is_in c.to_be_rebuilt-among.result p ≡ true = rw (c.to_be_rebuilt-among.ensures.all reads p, has, out) refl in
+    elim (c.in_ok-lost.ensures.all p (record { of_code = has; lost = out; own = own })) as
+    (λ _. Contains lost.determined.items p ⊎ Contains new p) [
+      | inl is ↦ inl is
+      | inr is ↦ inr (All-contains (Contains new) lost.several.items p
+          (subst (All (Contains new)) c.as_slice-in-Ok-true.ensures.value c.in_ok-note_all-in-Ok-true.ensures) is)
+    ]

@@ -1,5 +1,7 @@
 use Rattle.std.proofs.Common.{◌∙◌, ap, sym}
 use Rattle.store_repair.specs.Scrubbed.{said_damaged}
+use Rattle.store_repair.specs.Findings.{named}
+use Rattle.store_repair.proofs.NamedLemmas.{named_push}
 use Rattle.store_repair.proofs.ScrubLemmas.{push_some, said_push}
 use Rattle.store_repair.proofs.outcomes.note.Goals as goal
 
@@ -10,3 +12,7 @@ returns-clause-said c =
 
 pub returns-clause-some : goal.returns-clause-some
 returns-clause-some c = λ none. push_some c.args.findings.now.items _ (sym c.in_ok-push.ensures.items ∙ none)
+
+pub returns-clause-named : goal.returns-clause-named
+returns-clause-named c =
+    ap named c.in_ok-push.ensures.items ∙ named_push c.args.findings.now.items (record { place = c.args.place; reason = c.args.reason })

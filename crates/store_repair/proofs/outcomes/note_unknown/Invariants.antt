@@ -1,6 +1,9 @@
-use Rattle.std.proofs.Common.{◌≡◌}
+use Rattle.std.proofs.Common.{◌≡◌, ◌≢◌, []}
 use Rattle.store_repair.specs.Scrubbed.{said_damaged}
 use Rattle.store_repair.proofs.outcomes.note_unknown.Given as goal
 
 abbrev pub invariant-loop-place : goal.invariant-loop-place
-invariant-loop-place l = said_damaged l.findings.items ≡ said_damaged l.fn.findings.items
+invariant-loop-place l = record {
+  said : said_damaged l.findings.items ≡ said_damaged l.fn.findings.items;
+  some : l.fn.findings.items ≢ [] → l.findings.items ≢ [];
+}

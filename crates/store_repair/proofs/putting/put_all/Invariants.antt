@@ -4,7 +4,11 @@ use Rattle.lrc_code.specs.declared.places.Place.{Place}
 use Rattle.lrc_code.specs.Places.{same_place}
 use Rattle.store_repair.specs.Kept.{given_by}
 use Rattle.store_repair.specs.Opened.{IsPutOf}
+use Rattle.lrc_code.specs.Sets.{is_in}
+use Rattle.store_repair.specs.Findings.{named}
+use Rattle.store_repair.specs.Repaired.{MayReplace, OnlyReplaces, SameBeside}
 use Rattle.store_repair.specs.Store.{AreUntouched}
+use Rattle.store_repair.proofs.PutLemmas.{IsSaid}
 use Rattle.store_repair.proofs.putting.put_all.Given as goal
 
 abbrev pub invariant-files : goal.invariant-files
@@ -12,9 +16,14 @@ invariant-files g l =
     let files = g.S.Store.files in
     let made = l.fn.made.files.items in
     record {
-      untouched : AreUntouched (l.fn.repair.replace_damaged && l.fn.made.is_checked) l.fn.stripe.name.now (files l.fn.store)
+      untouched : AreUntouched (l.fn.repair.replace_damaged && l.fn.known.is_checked) l.fn.stripe.name.now (files l.fn.store)
           (files l.store);
-      kept : (l.fn.repair.replace_damaged && l.fn.made.is_checked) ≡ false → (from : _)
+      replaced : OnlyReplaces (MayReplace l.fn.repair.replace_damaged l.fn.repair.code (is_in l.fn.known.survivors) l.fn.known.is_checked
+          l.fn.known.length l.fn.stripe.files.found l.fn.known.findings.now) l.fn.stripe.name.now (files l.fn.store) (files l.store);
+      beside : SameBeside l.fn.made.places.items l.fn.stripe.name.now (files l.fn.store) (files l.store);
+      all : (k : ℕ) (d : Place) → vec_len l.left ≤ k → k < length l.fn.made.places.items
+          → IsSaid (named l.fn.known.findings.now) l.put.items (named l.later.items) (get_or l.fn.made.places.items k d);
+      kept : (l.fn.repair.replace_damaged && l.fn.known.is_checked) ≡ false → (from : _)
           → g.S.Store.kept l.fn.stripe.name.now (given_by g.S.New.NewFragment.shown l.fn.made.places.items made) from l.fn.store
           → g.S.Store.kept l.fn.stripe.name.now (given_by g.S.New.NewFragment.shown l.fn.made.places.items made) from l.store;
       places : l.places.items ≡ l.fn.made.places.items;

@@ -1,4 +1,10 @@
-use Rattle.std.proofs.Common.{IfSome, subst, false}
+use Rattle.std.proofs.Common.{◌≢◌, [], ◌++◌, All, IfSome, subst, sym, false}
+use Rattle.std.specs.Prelude.{◌⊎◌, Contains, IfNone}
+use Rattle.lrc_code.specs.declared.places.Place.{Place}
+use Rattle.store_repair.specs.Findings.{AreAllMended, named}
+use Rattle.store_repair.specs.Repaired.{IsAccountedFor, MayReplace, OnlyReplaces, SameBeside}
+use Rattle.store_repair.proofs.NamedLemmas.{none_mended}
+use Rattle.store_repair.proofs.WholeLemmas.{is_whole, may_later, replaces_weaker}
 use Rattle.lrc_code.specs.Sets.{is_in}
 use Rattle.store_repair.specs.Opened.{AreMade}
 use Rattle.store_repair.specs.Store.{AreUntouched}
@@ -89,6 +95,19 @@ returns-in_err-rebuilt-clause-kept g c = λ off.
     c.in-Some-made.is c.in_ok-made.ensures.made)
     c.make_lost.ensures.kept (c.put_all.ensures.kept (off_with c.args.repair.now.replace_damaged made.is_checked off))
 
+pub returns-in_err-append-clause-kept : goal.returns-in_err-append-clause-kept
+returns-in_err-append-clause-kept g c = λ off.
+    let made = c.in-Some-made.made in
+    let code = c.args.repair.now.code in
+    let stripe = c.args.stripe.now.name.now in
+    let old = g.S.Store.files c.args.store.now in
+    let shown = g.S.New.NewFragment.shown in
+    some_given g.S.Store.kept g.S.Store.kept_same code stripe old c.args.store.now c.put_all.new.store shown (is_in made.set)
+    c.in-Some.length made.places.items made.files.items c.make_lost.new.store
+    (subst (λ o. IfSome o (λ m. AreMade shown code (is_in m.set) c.in-Some.length stripe old m.places.items m.files.items))
+    c.in-Some-made.is c.in_ok-made.ensures.made)
+    c.make_lost.ensures.kept (c.put_all.ensures.kept (off_with c.args.repair.now.replace_damaged made.is_checked off))
+
 pub returns-clause-kept : goal.returns-clause-kept
 returns-clause-kept g c = λ off.
     let made = c.in-Some-made.made in
@@ -101,3 +120,68 @@ returns-clause-kept g c = λ off.
     (subst (λ o. IfSome o (λ m. AreMade shown code (is_in m.set) c.in-Some.length stripe old m.places.items m.files.items))
     c.in-Some-made.is c.in_ok-made.ensures.made)
     c.make_lost.ensures.kept (c.put_all.ensures.kept (off_with c.args.repair.now.replace_damaged made.is_checked off))
+
+pub returns-clause-replaced : goal.returns-clause-replaced
+returns-clause-replaced g c =
+    let files = g.S.Store.files in
+    let r = c.args.repair.now.replace_damaged in
+    let code = c.args.repair.now.code in
+    let s = c.args.stripe.now.name.now in
+    let found = c.args.stripe.now.files.found in
+    let made = c.in-Some-made.made in
+    let len = c.in-Some.length in
+    let first = c.make_lost.new.findings.items in
+    let later = c.put_all.new.later.items in
+    let new = files c.put_all.new.store in
+    let May = MayReplace r code (is_in made.set) made.is_checked len found in
+    subst (λ findings. OnlyReplaces (May findings) s (files c.args.store.now) new) (sym c.in_ok-append.ensures.items)
+    (subst (λ old. OnlyReplaces (May (first ++ later)) s old new) c.make_lost.ensures.same
+    (replaces_weaker s (May first) (May (first ++ later)) (files c.make_lost.new.store) new
+    (may_later r code (is_in made.set) made.is_checked len found first later)
+    (subst (λ findings. OnlyReplaces (May findings) s (files c.make_lost.new.store) new) c.as_slice-2.ensures.value
+    c.put_all.ensures.replaced)))
+
+pub returns-clause-whole : goal.returns-clause-whole
+returns-clause-whole g c = λ reads mended.
+    let files = g.S.Store.files in
+    let code = c.args.repair.now.code in
+    let s = c.args.stripe.now.name.now in
+    let made = c.in-Some-made.made in
+    let len = c.in-Some.length in
+    let places = made.places.items in
+    let shown = g.S.New.NewFragment.shown in
+    let first = c.make_lost.new.findings.items in
+    let later = c.put_all.new.later.items in
+    let rebuilt = c.in_ok-rebuilt.rebuilt.items in
+    let old = files c.args.store.now in
+    let new = files c.put_all.new.store in
+    let are = subst (λ o. IfSome o (λ m. AreMade shown code (is_in m.set) len s old m.places.items m.files.items)) c.in-Some-made.is
+    c.in_ok-made.ensures.made in
+    is_whole shown code (is_in made.set) len s places made.files.items old new first later rebuilt are
+    (are_rebuilt shown code (is_in made.set) len s places made.files.items old new rebuilt are
+    (λ f. g.met.S.Store.new_shown c.put_all.new.store f) c.in_ok-rebuilt.ensures.put)
+    (subst (λ files. SameBeside places s files new) c.make_lost.ensures.same c.put_all.ensures.beside)
+    (subst (λ o. IfSome o (λ m. (p : Place) → IsAccountedFor code (is_in m.set) m.places.items first p)) c.in-Some-made.is
+    (c.in_ok-made.ensures.all reads))
+    (subst (λ findings. All (λ p. Contains rebuilt p ⊎ Contains (named findings ++ named later) p) places) c.as_slice-2.ensures.value
+    c.in_ok-rebuilt.ensures.all)
+    (subst (λ findings. AreAllMended findings rebuilt) c.in_ok-append.ensures.items mended)
+
+pub returns-in_default-clause-whole : goal.returns-in_default-clause-whole
+returns-in_default-clause-whole g c = λ reads mended. absurd (none_mended c.length_or_note.new.findings.items c.of.result.findings.items
+    c.of.result.rebuilt.items c.of.ensures.findings c.of.ensures.rebuilt
+    (subst (λ o. IfNone o (c.length_or_note.new.findings.items ≢ [])) c.in_default.is c.in_ok-known.ensures.some) mended)
+
+pub returns-in_default-made-clause-whole : goal.returns-in_default-made-clause-whole
+returns-in_default-made-clause-whole g c = λ reads mended. absurd (none_mended c.settle.new.findings.items
+    c.of-in_default-made.result.findings.items c.of-in_default-made.result.rebuilt.items c.of-in_default-made.ensures.findings
+    c.of-in_default-made.ensures.rebuilt
+    (c.in_ok-settle.ensures.some (c.in_ok-note_unknown.ensures.some
+    (subst (λ o. IfNone o (c.make_lost.new.findings.items ≢ [])) c.in_default-made.is c.in_ok-made.ensures.said))) mended)
+
+pub returns-then-has_changed-clause-whole : goal.returns-then-has_changed-clause-whole
+returns-then-has_changed-clause-whole g c = λ reads mended. absurd (none_mended c.settle-then-has_changed.new.findings.items
+    c.of-then-has_changed.result.findings.items c.of-then-has_changed.result.rebuilt.items c.of-then-has_changed.ensures.findings
+    c.of-then-has_changed.ensures.rebuilt
+    (c.in_ok-settle-2.ensures.some (c.in_ok-discard_all.ensures.some
+    (subst (λ fs. fs ≢ []) c.as_slice.ensures.value (c.has_changed.ensures c.if-has_changed.true)))) mended)
