@@ -1,16 +1,16 @@
 -- A file that is on the disk gets a path.
-use Rattle.std.proofs.Common.{◌≡◌, ◌⊎◌, inl, inr, ℕ, suc, List, [], ◌∷◌, ◌++◌, length, Bool, true, false, ◌==◌, ◌&&◌, ◌||◌, Option, Some}
+use Rattle.std.proofs.Common.{◌≡◌, ◌⊎◌, inl, inr, ℕ, suc, List, [], ◌∷◌, length, Bool, true, Option, Some}
 use Rattle.std.proofs.Common.{None, option_map, IfSome, IsSome, refl, sym, ◌∙◌, ap, subst}
 use Rattle.std.proofs.lemmas.Bool.{or_left}
 use Rattle.std.proofs.lemmas.Slice.Eq.{bytes_eq-Decides}
 use Rattle.std.specs.Prelude.{bytes_eq, ◌≢◌}
 use Rattle.std.proofs.lemmas.Bool.{cases_Bool}
-use Rattle.folders.specs.Calls.{Call, Answered, make, sync, link}
+use Rattle.folders.specs.Calls.{Answered, sync, link}
 use Rattle.folders.specs.Files.{Files, under}
-use Rattle.folders.specs.Worlds.{World, IsLawful, IsStep, MayChange, KeepsClosed, is_closed}
-use Rattle.folders.specs.Kept.{AtEach, IsSound, IsKept, AreKept, Keeps}
+use Rattle.folders.specs.Worlds.{World, IsLawful, MayChange, KeepsClosed, is_closed}
+use Rattle.folders.specs.Kept.{IsSound, IsKept, AreKept, Keeps}
 use Rattle.folders.specs.Placed.{IsGiven}
-use Rattle.folders.proofs.Steps.{IsQuiet, equal, unchanged, unchanged_closed, quiet_sound, quiet_kept}
+use Rattle.folders.proofs.Steps.{equal, unchanged, quiet_sound, quiet_kept}
 use Rattle.folders.proofs.Runs.{all_kept, are_kept_after}
 
 -- two paths are equal or they aren't
@@ -21,7 +21,7 @@ same_or_other m n = elim (cases_Bool (bytes_eq m n)) [
 ]
 
 -- a file that was written to the disk by the last call
-pub closed_now : (file : ℕ) (written : Option (List ℕ)) (calls : List Answered) → is_closed file ((sync file written, true) ∷ calls) ≡ true
+closed_now : (file : ℕ) (written : Option (List ℕ)) (calls : List Answered) → is_closed file ((sync file written, true) ∷ calls) ≡ true
 closed_now file written calls = or_left _ _ (equal file)
 
 module _ (temporary : List ℕ → Type 0) (w : World) (file : ℕ) (written : Option (List ℕ)) (to : List ℕ) (ok : Bool) (before : List Answered)

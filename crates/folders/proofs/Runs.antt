@@ -1,8 +1,8 @@
 -- Runs of calls that keep what they have to keep: none, one more, and one after another.
-use Rattle.std.proofs.Common.{◌≡◌, ◌⊎◌, inl, inr, ℕ, List, [], ◌∷◌, ◌++◌, Bool, true, false, Option, Some, None, refl, sym, ◌∙◌, ap, subst}
+use Rattle.std.proofs.Common.{◌≡◌, inl, inr, ℕ, List, [], ◌∷◌, ◌++◌, Bool, false, Some, None, refl, sym, ◌∙◌, ap, subst}
 use Rattle.std.proofs.lemmas.List.{append_assoc}
 use Rattle.folders.specs.Calls.{Call, Answered, make, sync, link, link_again, rename, remove, sync_folder}
-use Rattle.folders.specs.Files.{Files, under}
+use Rattle.folders.specs.Files.{Files}
 use Rattle.folders.specs.Worlds.{World, IsLawful}
 use Rattle.folders.specs.Kept.{AtEach, IsSound, IsKept, AreKept, Keeps, TakeNone, TakesNone}
 use Rattle.folders.proofs.Steps.{IsQuiet, quiet_sound, quiet_kept}

@@ -1,5 +1,5 @@
 -- What is at a path, and on the disk, stays over calls that take nothing away.
-use Rattle.std.proofs.Common.{◌≡◌, ◌≢◌, ◌⊎◌, inl, inr, ℕ, suc, List, [], ◌∷◌, ◌++◌, length, Bool, true, false, refl, sym, ◌∙◌, ap, subst}
+use Rattle.std.proofs.Common.{◌≡◌, inl, inr, ℕ, suc, List, [], ◌∷◌, ◌++◌, length, Bool, true, refl, sym, ◌∙◌, ap, subst}
 use Rattle.std.proofs.Common.{Option, Some, None}
 use Rattle.folders.specs.Calls.{Call, Answered, make, sync, link, link_again, rename, remove, sync_folder}
 use Rattle.folders.specs.Files.{Files, IsIn}
@@ -7,7 +7,7 @@ use Rattle.folders.specs.Worlds.{World, IsLawful, IsStep, MayChange, is_closed}
 use Rattle.folders.specs.Kept.{TakesNone, TakeNone}
 use Rattle.folders.specs.Disk.{IsWhole, HasWhole, IsHeld, IsOnDisk}
 use Rattle.folders.proofs.Steps.{new_seen, other_file, stays_closed}
-use Rattle.folders.proofs.Links.{same_or_other, closed_now}
+use Rattle.folders.proofs.Links.{same_or_other}
 use Rattle.folders.proofs.Runs.{lawful_front}
 
 none_or_some : (file : ℕ) (o : Option ℕ) → o ≡ Some file → o ≡ None → ⊥
@@ -81,20 +81,6 @@ module _ (temporary : List ℕ → Type 0) (path bytes : List ℕ) (lasting : te
       → IsOnDisk path bytes new
   on_disk_over more old new are takes held = subst (IsOnDisk path bytes) (sym are) (λ w lawful ours.
       held_over temporary w path ours lasting more old bytes takes lawful (held w (lawful_front w more old lawful) ours))
-
--- a file that was written to the disk and then got a path
-pub linked_whole : (file : ℕ) (to bytes : List ℕ) (calls : List Answered)
-    → HasWhole to bytes ((link file to, true) ∷ (sync file (Some bytes), true) ∷ calls)
-linked_whole file to bytes calls w lawful ours =
-    let step = lawful.1 in
-    let synced = lawful.0.1.done refl in
-    let closed = closed_now file (Some bytes) calls in record {
-      file = file;
-      leads = (step.done refl ours).1;
-      closed = closed;
-      seen = step.seen_bytes file closed closed ∙ synced.0;
-      left = step.left_bytes file closed closed ∙ synced.1;
-    }
 
 -- the names in the path's folder were written to the disk
 pub settled : (folder path bytes : List ℕ) (calls : List Answered) → IsIn folder path → HasWhole path bytes calls

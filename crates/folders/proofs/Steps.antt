@@ -1,11 +1,11 @@
 -- What one more call keeps.
-use Rattle.std.proofs.Common.{◌≡◌, ◌≢◌, ◌⊎◌, inl, inr, ℕ, suc, List, [], ◌∷◌, ◌++◌, length, Bool, true, false, not, ◌==◌, ◌&&◌, ◌||◌}
+use Rattle.std.proofs.Common.{◌≡◌, ◌≢◌, inl, ℕ, suc, List, ◌∷◌, length, Bool, true, not, ◌==◌}
 use Rattle.std.proofs.Common.{Option, Some, None, option_map, refl, sym, ◌∙◌, ap, subst, arith}
-use Rattle.std.proofs.lemmas.Bool.{and_from, or_left, or_right}
+use Rattle.std.proofs.lemmas.Bool.{and_from, or_right}
 use Rattle.folders.specs.Calls.{Call, Answered, make, sync, link, link_again, rename, remove, sync_folder}
 use Rattle.folders.specs.Files.{Files, under}
-use Rattle.folders.specs.Worlds.{World, IsLawful, IsStep, SameBut, MayChange, Makes, IsNew, KeepsClosed, is_closed}
-use Rattle.folders.specs.Kept.{AreClosed, IsSound, IsKept, AreKept}
+use Rattle.folders.specs.Worlds.{World, IsStep, MayChange, Makes, IsNew, KeepsClosed, is_closed}
+use Rattle.folders.specs.Kept.{IsSound, AreKept}
 
 differs : (m n : ℕ) → m ≢ n → not (m == n) ≡ true
 differs m n other = grind arith

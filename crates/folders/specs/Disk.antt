@@ -1,5 +1,5 @@
 -- What is on the disk.
-use Rattle.std.specs.Prelude.{◌≡◌, ℕ, List, true, Option, Some}
+use Rattle.std.specs.Prelude.{◌≡◌, ℕ, List, true, Some}
 use Rattle.folders.specs.Calls.{Answered}
 use Rattle.folders.specs.Worlds.{World, IsLawful, is_closed}
 

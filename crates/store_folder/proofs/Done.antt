@@ -26,24 +26,36 @@ has_last : (path : List ℕ) (front : List (String Global)) (last : String Globa
 has_last path [] last (inl here) = inr here
 has_last path [] last (inr none) = absurd none
 has_last path (folder ∷ front) last (inl here) = inl (inl here)
-has_last path (folder ∷ front) last (inr more) = elim (has_last path front last more) [ | inl there ↦ inl (inr there) | inr here ↦ inr here ]
+has_last path (folder ∷ front) last (inr more) = elim (has_last path front last more) [ inl there ↦ inl (inr there) | inr here ↦ inr here ]
+
+-- one more folder's names were written to the disk
+module _ (path bytes : List ℕ) (folder : String Global) (old new : List Answered) (lasting : is_temporary path ≡ false)
+    (are : new ≡ (sync_folder (string_bytes folder), true) ∷ old) where
+  more : List Answered
+  more = (sync_folder (string_bytes folder), true) ∷ []
+
+  whole_still : HasWhole path bytes old → HasWhole path bytes new
+  unfolding more
+  whole_still whole = has_whole_over IsTemporary path bytes (lasts path lasting) more old new are (tt, tt) whole
+
+  on_disk_still : IsOnDisk path bytes old → IsOnDisk path bytes new
+  unfolding more
+  on_disk_still held = on_disk_over IsTemporary path bytes (lasts path lasting) more old new are (tt, tt) held
 
 -- the names in the last of the folders were written to the disk
-pub due_after : (path bytes : List ℕ) (front : List (String Global)) (last : String Global) (old new : List Answered) → is_temporary path ≡ false
-    → new ≡ (sync_folder (string_bytes last), true) ∷ old → IsDue (front ++ last ∷ []) old path bytes → IsDue front new path bytes
+pub due_after : (path bytes : List ℕ) (front : List (String Global)) (last : String Global) (old new : List Answered)
+    → is_temporary path ≡ false → new ≡ (sync_folder (string_bytes last), true) ∷ old → IsDue (front ++ last ∷ []) old path bytes
+    → IsDue front new path bytes
 due_after path bytes front last old new lasting are (inl held) =
-    inl (on_disk_over IsTemporary path bytes (lasts path lasting) ((sync_folder (string_bytes last), true) ∷ []) old new are (tt, tt) held)
+    inl (on_disk_still path bytes last old new lasting are held)
 due_after path bytes front last old new lasting are (inr due) = elim (has_last path front last due.1) [
-  | inl there ↦ inr (
-      has_whole_over IsTemporary path bytes (lasts path lasting) ((sync_folder (string_bytes last), true) ∷ []) old new are (tt, tt) due.0,
-      there,
-    )
+  | inl there ↦ inr (whole_still path bytes last old new lasting are due.0, there)
   | inr here ↦ inl (subst (IsOnDisk path bytes) (sym are) (settled (string_bytes last) path bytes old here due.0))
 ]
 
 -- all were
-pub all_done : (path bytes : List ℕ) (folders : List (String Global)) (calls : List Answered) → folders ≡ [] → IsDue folders calls path bytes
-    → IsOnDisk path bytes calls
+pub all_done : (path bytes : List ℕ) (folders : List (String Global)) (calls : List Answered) → folders ≡ []
+    → IsDue folders calls path bytes → IsOnDisk path bytes calls
 all_done path bytes folders calls none (inl held) = held
 all_done path bytes folders calls none (inr due) = absurd (let no : ⊥ = subst (HasFolderOf path) none due.1 in no)
 
@@ -59,8 +71,8 @@ due_over given path bytes folders more old new lasting had keeps (inr due) = inr
 )
 
 -- a folder that is noted already
-pub noted : (folder path : List ℕ) (folders : List (String Global)) → list_any (λ other. bytes_eq (string_bytes other) folder) folders ≡ true
-    → IsIn folder path → HasFolderOf path folders
+pub noted : (folder path : List ℕ) (folders : List (String Global))
+    → list_any (λ other. bytes_eq (string_bytes other) folder) folders ≡ true → IsIn folder path → HasFolderOf path folders
 noted folder path [] is here = absurd (let no : false ≡ true = is in cc)
 noted folder path (other ∷ folders) is here = elim (cases_Bool (bytes_eq (string_bytes other) folder)) [
   | inl same ↦ inl (subst (λ (f : List ℕ). IsIn f path) (sym ((bytes_eq-Decides (string_bytes other) folder).0 same)) here)
@@ -68,7 +80,8 @@ noted folder path (other ∷ folders) is here = elim (cases_Bool (bytes_eq (stri
 ]
 
 -- one more
-pub had : (path : List ℕ) (folders : List (String Global)) (folder : String Global) → HasFolderOf path folders → HasFolderOf path (folders ++ folder ∷ [])
+pub had : (path : List ℕ) (folders : List (String Global)) (folder : String Global) → HasFolderOf path folders
+    → HasFolderOf path (folders ++ folder ∷ [])
 had path [] folder none = absurd none
 had path (other ∷ folders) folder (inl here) = inl here
 had path (other ∷ folders) folder (inr more) = inr (had path folders folder more)

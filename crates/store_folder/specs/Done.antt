@@ -23,7 +23,8 @@ HaveFoldersOf folders others = (path : List ℕ) → HasFolderOf path folders �
 abbrev pub IsDue : List (String Global) → List Answered → List ℕ → List ℕ → Type 0
 IsDue folders calls path bytes = IsOnDisk path bytes calls ⊎ (HasWhole path bytes calls × HasFolderOf path folders)
 
--- The path of a fragment at a place leads to a whole file of these bytes. Or something else was there when it was to lead to that, and stays.
+-- The path of a fragment at a place leads to a whole file of these bytes. Or something else was there when it was to lead to that, and
+-- stays.
 pub record IsNamed (site : Site) (stripe : List ℕ) (place : Place) (written : Option (List ℕ)) (folders : List (String Global))
     (calls : List Answered) : Type 0 where
   pub path : List ℕ

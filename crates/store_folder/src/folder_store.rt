@@ -136,7 +136,7 @@ impl<'a, F: Folder> FolderStore<'a, F> {
         if is_free(path.as_str()) {
             return Ok(path);
         }
-        Err(io::Error::other("unfinished files have such paths"))
+        Err(io::Error::from(ErrorKind::InvalidInput))
     }
 
     // The path of a fragment that is to be made.
@@ -265,8 +265,8 @@ impl<'a, F: Folder> FolderStore<'a, F> {
         Ok(Placed::Placed)
     }
 
-    // Whether a file has its name, by what the system answered, or something that is there is the same: a run that was killed may have given
-    // the name to a file with the same bytes.
+    // Whether a file has its name, by what the system answered, or something that is there is the same: a run that was killed may have
+    // given the name to a file with the same bytes.
     fn has_name(&self, answer: io::Result<()>, made_at: &str, path: &str) -> io::Result<bool> {
         match answer {
             Ok(()) => Ok(true),

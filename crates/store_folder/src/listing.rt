@@ -4,12 +4,12 @@ use crate::links::{Links, followed, look_at};
 use crate::regular::Identity;
 use crate::stripe_names::StripeNames;
 use crate::watching::{Foreign, Wanted, is_of_store, may_others_write};
+use folders::folder_of;
 use std::alloc::{AllocError, Global};
 use std::collections::BTreeSet;
 use std::fs::{self, Metadata};
 use std::io::{self, ErrorKind};
 use std::os::unix::fs::MetadataExt;
-use folders::folder_of;
 use store_names::{disk_folders, is_ambiguous, is_of_runs, last_of, path_in};
 use store_repair::Found;
 

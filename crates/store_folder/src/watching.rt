@@ -2,10 +2,10 @@
 use crate::links::Links;
 use crate::regular::Identity;
 use crate::sums::SUMS_NAME;
+use folders::folder_of;
 use lrc_code::Code;
 use std::fs::{self, Metadata};
 use std::os::unix::fs::MetadataExt;
-use folders::folder_of;
 use store_names::{KEPT, Part, Pattern, described_stripe, is_of_runs, last_of};
 
 // The rights by which others than a file's user may write: of the group, and of everybody.

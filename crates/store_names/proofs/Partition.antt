@@ -1,8 +1,8 @@
 -- Each stripe is of one part.
-use Rattle.std.proofs.Common.{◌≡◌, ◌∙◌, sym, ap, refl, ℕ, suc, ◌+◌, ◌-◌, ◌%◌, ◌<◌, ◌≤◌, arith, Bool, true, ◌&&◌, List, nat_lt, ◌==◌}
+use Rattle.std.proofs.Common.{◌≡◌, ℕ, ◌+◌, ◌-◌, ◌%◌, ◌<◌, arith, true, ◌&&◌, nat_lt, ◌==◌}
 use Rattle.std.proofs.lemmas.Bool.{and_parts, and_from, eqb-true, eq-eqb, ltb-true, lt-ltb}
-use Rattle.store_names.specs.Parts.{is_of_part, number_of}
-use Rattle.store_names.specs.Laws.{HasOnePart, PartsArePartition}
+use Rattle.store_names.specs.Parts.{number_of}
+use Rattle.store_names.specs.Laws.{PartsArePartition}
 
 one_of : (number of : ℕ) → 0 < of → (nat_lt 0 of && nat_lt 0 (number % of + 1) && number % of == number % of + 1 - 1) ≡ true
 one_of number of some =

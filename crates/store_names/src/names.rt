@@ -47,8 +47,8 @@ fn is_second(name: &str) -> bool
     name.ends_with(KEPT)
 }
 
-// Whether a fragment may have a name: it leads nowhere out of the store's folder, runs give it to no file of their own that isn't whole yet,
-// and it is no second name.
+// Whether a fragment may have a name: it leads nowhere out of the store's folder, runs give it to no file of their own that isn't whole
+// yet, and it is no second name.
 fn is_for_fragments(name: &str) -> bool
     ensures { result ≡ is_for_fragments name.now }
 {

@@ -1,6 +1,5 @@
-use Rattle.std.proofs.Common.{◌≡◌, ◌∙◌, ap, ℕ, List, ◌∷◌, true, false}
+use Rattle.std.proofs.Common.{◌≡◌, ◌∙◌, ap, ℕ, ◌∷◌, true, false}
 use Rattle.folders.specs.Calls.{sync, link}
-use Rattle.folders.specs.Placed.{IsGiven}
 use Rattle.folders.proofs.Answers.{answered}
 use Rattle.folders.proofs.Links.{keeps_link}
 use Rattle.folders.proofs.Runs.{keeps_quiet}

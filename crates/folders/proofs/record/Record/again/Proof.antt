@@ -2,21 +2,19 @@
 use Rattle.std.proofs.Common.{[], ◌∷◌, refl}
 use Rattle.std.proofs.raw_atomic.Walks.{proved}
 use mir.Syntax.{named}
-use mir.Val.{Val, vstruct, vnil}
+use mir.Val.{vstruct, vnil}
 use base.Fml.{ftrue}
 use types.Kit.{‵, raw, ◌⊛◌, ◌$◌, ◌∵◌, !, qed, move, keep, split, suffices, done}
 use types.Part.{agg}
 use types.Run.{enter, no_more, returns}
 use types.ByLocal.{alloc_all, pass_all, free_all, look_at, sets}
-use denote.Builtin.{bool}
 use denote.Exit.{yes}
-use denote.Plain.{bool_vals, bool_Tells}
 use denote.RattleType.{owns}
 use denote.Ref.{shr_vals, shr_Tells}
 use denote.Shadow.{pure_i}
-use denote.Signature.{plain, types_at, named_lft}
+use denote.Signature.{plain, types_at}
 use denote.Triple.Entry.{alive}
-use denote.Triple.Walked.{Stays, walk_of, says, ends_at, stay_none, stay_none_ref, Goes-none, Goes-none_ref}
+use denote.Triple.Walked.{Stays, walk_of, says, ends_at, stay_none_ref, Goes-none_ref}
 use Rattle.folders.specs.contracts.record.Record.{the_row as R}
 use Rattle.folders.specs.contracts.record.Record.again as f
 use Rattle.folders.proofs.record.Record.again.Statement.{statement}

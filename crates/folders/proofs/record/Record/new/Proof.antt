@@ -1,7 +1,7 @@
 -- The record that is made has no bytes, so the walk chooses its list: none.
 use Rattle.std.proofs.Common.{[], ◌∷◌, refl}
 use Rattle.std.proofs.raw_atomic.Walks.{proved}
-use mir.Val.{Val, vstruct, vnil}
+use mir.Val.{vstruct, vnil}
 use base.Fml.{ftrue}
 use types.Kit.{‵, raw, ◌⊛◌, ◌$◌, ◌∵◌, !, qed, move, keep, split, suffices, done}
 use types.Part.{agg}

@@ -25,7 +25,7 @@ returns-in-Ok-clause-due g c =
     let tried = g.F.Folder.calls c.try_path-made_at.new.files in
     let calls = g.F.Folder.calls c.remove.new.self.files in
     let given = subst (λ r. IfOk r (λ placed. MatchResult placed.answer (λ _. HasPath path written tried) (λ _. WasRefused path tried)))
-        c.in-Ok.is c.try_path-made_at.ensures.given in
+    c.in-Ok.is c.try_path-made_at.ensures.given in
     if_ok c.outcome-placed.result _ _ c.outcome-placed.ensures.noted (λ placed noted is lasting.
     subst (λ t. WasRefused path calls ⊎ IfSome written (IsDue t.folders.items calls path)) (sym c.remove.ensures.touched)
     (linked path written c.in-Ok.field-0.answer _ _ _ _ given c.outcome-placed.ensures.calls (noted is) c.remove.ensures.whenever lasting))

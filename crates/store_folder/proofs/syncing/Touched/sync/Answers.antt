@@ -24,4 +24,5 @@ returns-clause-whenever g c = c.folders.invariant.keeps
 
 pub returns-clause-done : goal.returns-clause-done
 returns-clause-done g c = λ path bytes lasting due. all_done path bytes c.folders.self.folders.items _
-    (nil_from_length c.folders.self.folders.items (omega (arith, c.in_default.ensures.cases.0, c.folders.self.folders.ok.0))) (c.folders.invariant.due path bytes lasting due)
+    (nil_from_length c.folders.self.folders.items (omega (arith, c.in_default.ensures.cases.0, c.folders.self.folders.ok.0)))
+    (c.folders.invariant.due path bytes lasting due)

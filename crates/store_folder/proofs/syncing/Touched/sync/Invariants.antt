@@ -8,7 +8,7 @@ abbrev pub invariant-folders : goal.invariant-folders
 invariant-folders g l = let calls = g.F.Folder.calls in record {
   keeps : KeepsEach (calls l.fn.files) (calls l.files);
   due : (path bytes : List ℕ) → is_temporary path ≡ false → IsDue l.fn.self.folders.items (calls l.fn.files) path bytes
-      → IsDue l.self.folders.items (calls l.files) path bytes
+      → IsDue l.self.folders.items (calls l.files) path bytes;
 }
 
 abbrev pub decreases-folders : goal.decreases-folders
