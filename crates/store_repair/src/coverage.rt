@@ -15,9 +15,9 @@ use crate::stripes::nth_place;
 use lrc_code::{Code, Place, PlaceSet};
 
 /// Whether a lost fragment is covered: without any two of the survivors the others determine it. So it is rebuilt right, from survivors
-/// that belong together, though two of them are damaged. Where one fragment of a stripe is lost, or one of each group, each of these is
-/// covered; where two are lost of a group, or one of a group and a global parity, none is: two others of them may be damaged so that the
-/// survivors belong together.
+/// that belong together, though two of them are damaged. Where one fragment of a stripe is lost, or one of each group, parities among
+/// them, each of these is covered. Where others are lost, none is: two survivors may be damaged so that they belong together with the
+/// others, and give other fragments.
 pub fn is_covered(code: Code, survivors: PlaceSet, place: Place) -> bool
     ensures covered { result ≡ true → IsCovered code (is_in survivors) place }
     ensures right { result ≡ true → IsRightDespiteTwo code (is_in survivors) place }
