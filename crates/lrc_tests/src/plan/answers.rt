@@ -142,10 +142,10 @@ fn assert_remembered(
     Ok(())
 }
 
-// There are more cases than plans that are remembered, so some are forgotten and made again.
+// The program answers by more plans than are remembered in gate/reference-lines.sh.
 #[test]
 fn worked_requests_are_answered_by_remembered_plans(rt: HostRuntime) -> Result<(), AllocError> {
-    let mut plans = RememberedPlans::new();
+    let mut plans = RememberedPlans::new(rt.alloc());
     for _ in 0..2u8 {
         assert_remembered(&rt, rt.alloc(), &mut plans, &CASES)?;
         assert_remembered(&rt, rt.alloc(), &mut plans, &WIDE_CASES)?;
