@@ -1,8 +1,8 @@
 #!/usr/bin/env python3
 """The time of the program grows with its work and not faster: four times the lines, and four times the requests of a rack with four
 feeds, take the processor less than ten times as long. Work that is done anew for each line, reply or row would take it sixteen
-times as long. And line mode remembers the plans of sixteen questions: lines that ask sixteen in turn take less time than lines that
-ask seventeen, each of which is forgotten before it is asked again. It runs what was built last: crates/rebuild/out/rebuild."""
+times as long. And line mode remembers plans: lines that ask 2,000 questions in turn take less time than lines that ask 10,240, each of
+which is forgotten before it is asked again. It runs what was built last: crates/rebuild/out/rebuild."""
 
 import pathlib
 import resource
@@ -17,8 +17,8 @@ PROGRAM = ROOT / "crates/rebuild/out/rebuild"
 MOST = 10
 RUNS = 12
 
-# How many plans line mode remembers, and how much longer lines take at least of which each wants a new one.
-REMEMBERED = 16
+# How many questions line mode remembers and how many it doesn't, and how much longer lines take at least of which each wants a new plan.
+REMEMBERED, FORGOTTEN = 2_000, 10_240
 LEAST = 1.3
 
 LINES = 100_000
@@ -49,11 +49,18 @@ def lines(count):
     return seconds([PROGRAM], b"a x0 1 x1=02 x2=03 px=00\n" * count, b"rebuilt 01\n" * count)
 
 
+def all_questions():
+    """A line for each of 10,240 questions that have no answer: three fragments of a group are lost, and both sums over it but one."""
+    kept = "x3 x4 x5 y0 y1 y2 y3 y4 y5 py p0".split()
+    sets = ["".join(f" {place}=00" for k, place in enumerate(kept) if chosen >> k & 1) for chosen in range(1 << len(kept))]
+    return [f"code=12-2-2 a {target} 1{words}\n" for words in sets for target in ["x0", "x1", "x2", "px", "p1"]]
+
+
 def questions(count):
-    """As many lines that ask for one lost fragment after another of so many, where all are lost; the last is of the other code."""
-    places = "x0 x1 x2 x3 x4 x5 y0 y1 y2 y3 y4 y5 px py p0 p1".split()
-    asked = b"".join(([b"code=12-2-2 a %s 1\n" % place.encode() for place in places] + [b"a x0 1\n"])[:count])
-    return seconds([PROGRAM], asked * (LINES // count), b"several\n" * (LINES // count * count)) / (LINES // count * count)
+    """A line of so many that ask different questions in turn."""
+    asked = "".join(all_questions()[:count])
+    turns = LINES // count
+    return seconds([PROGRAM], (asked * turns).encode(), b"several\n" * (turns * count)) / (turns * count)
 
 
 def feeds(count):
@@ -80,10 +87,10 @@ def compare(what, run, count):
 
 
 def compare_questions():
-    few, many = questions(REMEMBERED), questions(REMEMBERED + 1)
+    few, many = questions(REMEMBERED), questions(FORGOTTEN)
     if many < LEAST * few:
-        sys.exit(f"growth: a line takes {few * 1e9:.0f} ns where {REMEMBERED} questions take turns, and {many * 1e9:.0f} ns with one more")
-    print(f"growth: {REMEMBERED} plans are remembered: with one question more a line takes {many / few:.1f} times as long")
+        sys.exit(f"growth: a line takes {few * 1e9:.0f} ns where {REMEMBERED} questions take turns, {many * 1e9:.0f} ns with {FORGOTTEN}")
+    print(f"growth: {REMEMBERED} plans are remembered: where {FORGOTTEN} take turns a line takes {many / few:.1f} times as long")
 
 
 def main():

@@ -5,8 +5,10 @@ Products are carry-less products reduced by x^8 + x^4 + x^3 + x^2 + 1, and a req
 the code's equations over its lost places, position by position. It is slow, and meant for comparison alone.
 
 With the arguments `lines NUMBER SEED` it writes so many random lines instead: whole and damaged stripes of both codes, and
-lines that are refused."""
+lines that are refused. With `questions SEED` it writes a line for each question where one to four fragments are lost, as many as the
+codes have parities, and for each other one of the (6,2,2) code, in random order."""
 
+import itertools
 import random
 import re
 import sys
@@ -181,7 +183,23 @@ def random_line(choose):
     return choose.choice(['', '', ' ', '  ']) + choose.choice([' ', ' ', '  ']).join(line) + choose.choice(['', '', ' '])
 
 
+def all_questions(choose):
+    """A line for each lost fragment of each set of survivors: of the (6,2,2) code, and of the (12,2,2) code where up to four are lost."""
+    lines = []
+    for name, most in [('6-2-2', 10), ('12-2-2', 4)]:
+        fragments = stripe(name, 1, choose)
+        for count in range(1, most + 1):
+            for lost in itertools.combinations(fragments, count):
+                words = [place + '=' + fragments[place].hex() for place in fragments if place not in lost]
+                lines += [' '.join(['code=' + name, 'a', target, '1'] + words) for target in lost]
+    choose.shuffle(lines)
+    return lines
+
+
 def main():
+    if sys.argv[1:2] == ['questions']:
+        print(*all_questions(random.Random(int(sys.argv[2]))), sep='\n')
+        return
     if sys.argv[1:2] == ['lines']:
         choose = random.Random(int(sys.argv[3]))
         for _ in range(int(sys.argv[2])):

@@ -1,13 +1,14 @@
 -- Laws of rows and tables of replies.
 use Rattle.std.proofs.Common.{ℕ, ◌≡◌, List, [], ◌∷◌, ◌++◌, length, get_or, map, replicate, arith, refl, sym, ap, ◌∙◌, subst, suc, zero}
-use Rattle.std.proofs.Common.{Option, Some, None}
+use Rattle.std.proofs.Common.{Option, Some, None, Vec, Global}
 use Rattle.std.specs.Option.{option_map}
 use Rattle.std.specs.List.{AllZip}
 use Rattle.std.proofs.Math.ListN.{get_or-map}
 use Rattle.farm_orders.specs.Orders.{before_close, served}
 use Rattle.farm_orders.proofs.Members.{all_zip_push}
 use Rattle.farm_core.specs.Replies.{Entry, entries, Answers, HasShape, IsGap, entry_of, Replied}
-use Rattle.farm_core.specs.Boards.{filled}
+use Rattle.farm_core.specs.Boards.{filled, IsOutcomeOf}
+use Rattle.farm_core.specs.RunFeeds.{slot_feed}
 use Rattle.lrc_code.specs.Answers.{IsAnswer}
 use Rattle.farm_core.specs.declared.replies.ReplyResult.TheVariants.{Done}
 use Rattle.std.proofs.lemmas.List.{map-append}
@@ -64,4 +65,29 @@ outcomes_more R cells cell reply os os' o was is one grown = (
   map-append (option_map entry_of) cells (cell ∷ []) ∙ (ap (λ (l : List (Option Entry)). l ++ option_map entry_of cell ∷ []) was.1
       ∙ (ap (λ (x : Option Replied). map Some was.0 ++ option_map entry_of x ∷ []) is ∙ sym (map-append Some was.0 (entry_of reply ∷ [])))),
   subst (λ l. AllZip R (was.0 ++ entry_of reply ∷ []) l) (sym grown) (all_zip_push R was.0 os (entry_of reply) o was.2 one),
+)
+
+-- the outcomes of answers with their feeds
+pub outcomes_without : (es : List Entry) (answers : List (ℕ × Outcome)) → AllZip IsOutcomeOf es answers
+    → AllZip (λ (e : Entry) (o : Outcome). IsOutcomeOf e (slot_feed e.rack, o)) es (map (λ (answer : ℕ × Outcome). answer.1) answers)
+outcomes_without [] [] all = tt
+outcomes_without [] (a ∷ more) all = absurd all
+outcomes_without (e ∷ es) [] all = absurd all
+outcomes_without (e ∷ es) (a ∷ more) all = ((refl, all.0.1, all.0.2), outcomes_without es more all.1)
+
+pub rows_without : (table : List (List (Option Entry))) (rows : List (Vec (ℕ × Outcome) Global)) (all : List (Vec Outcome Global))
+    → AllZip (λ (row : List (Option Entry)) (answers : Vec (ℕ × Outcome) Global). AllZip IsOutcomeOf (filled row) answers.items) table rows
+    → AllZip (λ (row : Vec (ℕ × Outcome) Global) (answers : Vec Outcome Global).
+    answers.items ≡ map (λ (answer : ℕ × Outcome). answer.1) row.items) rows all
+    → AllZip (λ (row : List (Option Entry)) (answers : Vec Outcome Global).
+    AllZip (λ (e : Entry) (o : Outcome). IsOutcomeOf e (slot_feed e.rack, o)) (filled row) answers.items) table all
+rows_without [] [] [] are same = tt
+rows_without [] [] (a ∷ all) are same = absurd same
+rows_without [] (r ∷ rows) all are same = absurd are
+rows_without (row ∷ table) [] all are same = absurd are
+rows_without (row ∷ table) (r ∷ rows) [] are same = absurd same
+rows_without (row ∷ table) (r ∷ rows) (a ∷ all) are same = (
+  subst (λ (l : List Outcome). AllZip (λ (e : Entry) (o : Outcome). IsOutcomeOf e (slot_feed e.rack, o)) (filled row) l) (sym same.0)
+      (outcomes_without (filled row) r.items are.0),
+  rows_without table rows all are.1 same.1,
 )

@@ -74,7 +74,7 @@ pub(crate) fn reply_to_lines(alloc: Global, input: &[u8]) -> Result<Replies, All
     ensures { IfOk result (Answers input.now) }
 {
     let mut replies = Replies::new(alloc);
-    let mut plans = RememberedPlans::new();
+    let mut plans = RememberedPlans::new(alloc);
     for line in Lines::new(input) {
         if !is_blank(line) {
             replies.add(alloc, &reply_to_line(alloc, &mut plans, line)?)?;

@@ -1,5 +1,5 @@
 //! Runs of line mode over texts, and assertions on what they write and answer.
-use line_mode::{LineCount, LineFault, line_mode, line_mode_in_threads};
+use line_mode::{LineCount, LineFault, line_mode, line_mode_in_threads, line_status};
 use std::alloc::{AllocError, Global};
 use std::io::{Read, Write};
 use std::process::Abort;
@@ -30,8 +30,8 @@ impl Mode {
     }
 }
 
-/// What line mode writes for an input, and what it answers.
-pub(crate) fn run<T: Threads + Sync>(
+// What line mode writes for an input, and what it answers.
+fn run<T: Threads + Sync>(
     rt: &T,
     mode: Mode,
     alloc: Global,
@@ -43,7 +43,8 @@ pub(crate) fn run<T: Threads + Sync>(
     (output, answer)
 }
 
-/// Asserts that line mode replies to an input by a text, and that it counts so many answered and refused lines.
+/// Asserts that line mode replies to an input by a text, that it counts so many answered and refused lines, and that its status says
+/// whether a line was refused.
 pub(crate) fn assert_replies(
     rt: &(impl Abort + AllocGlobal + Threads + Sync),
     input: &[u8],
@@ -51,6 +52,7 @@ pub(crate) fn assert_replies(
     answered: u64,
     refused: u64,
 ) {
+    let status = if refused == 0 { 0 } else { 1 };
     for mode in MODES {
         let (output, answer) = run(rt, mode, rt.alloc(), input);
         let given = str::from_utf8(input);
@@ -60,8 +62,8 @@ pub(crate) fn assert_replies(
             "{mode:?} {given:?}"
         );
         assert_eq!(rt;
-            answer,
-            Ok(LineCount { answered, refused }),
+            (answer, line_status(&answer)),
+            (Ok(LineCount { answered, refused }), status),
             "{mode:?} {given:?}"
         );
     }

@@ -1,9 +1,7 @@
 //! Lines and their replies, each worked out by hand.
-use crate::asserting::{MODES, assert_replies, assert_reply, run};
+use crate::asserting::{assert_replies, assert_reply};
 use line_mode::{LineFault, line_status};
 use std::alloc::AllocError;
-use std::process::Abort;
-use std::thread::Threads;
 
 // Lines that are answered, and their answers. Stripe a has the data 01 02 03 04 05 06.
 static ANSWERED: [(&[u8], &[u8]); 24] = [
@@ -163,24 +161,6 @@ fn cuts_lines(rt: HostRuntime) {
     assert_replies(&rt, blank_lines, b"several\n", 1, 0);
     assert_replies(&rt, b"\r", b"refused E22\n", 0, 1);
     assert_replies(&rt, b" \r\r\n", b"refused E22\n", 0, 1);
-}
-
-// Asserts the status of line mode after an input.
-fn assert_status(rt: &(impl Abort + AllocGlobal + Threads + Sync), input: &[u8], status: u8) {
-    for mode in MODES {
-        let (_, answer) = run(rt, mode, rt.alloc(), input);
-        assert_eq!(rt; line_status(&answer), status, "{mode:?}");
-    }
-}
-
-// Whether a line was refused decides between the statuses 0 and 1.
-#[test]
-fn gives_statuses(rt: HostRuntime) {
-    assert_status(&rt, b"", 0);
-    assert_status(&rt, b"\n", 0);
-    assert_status(&rt, b"a x0 1", 0);
-    assert_status(&rt, b"a x0 1\na x0 0\n", 1);
-    assert_status(&rt, b"?", 1);
 }
 
 // Each fault, its text, its number and its status.

@@ -1,6 +1,6 @@
 //! The farm's own collection of replies: those to the requests of racks' feeds, by the numbers that the feeds drew, in whatever order they
 //! come. For racks of one list each, numbered as listed, callers have `Collector`.
-ghost use Rattle.std.specs.Prelude.{◌≡◌, ◌≤◌, IfOk, IfErr, OnOk, OnErr, None, length, ◌++◌, ◌∷◌, [], List};
+ghost use Rattle.std.specs.Prelude.{◌≡◌, ◌≤◌, IfOk, IfErr, OnOk, OnErr, None, length, map, ◌++◌, ◌∷◌, [], List};
 ghost use Rattle.std.specs.List.{AllZip};
 ghost use Rattle.farm_core.specs.Boards.{HoldsNothing, HasRooms, IsHeldToo, filled, most_served, IsOutcomeOf, IsNotHeld, HasHeld};
 ghost use Rattle.farm_core.specs.Replies.{entry_of, Replied};
@@ -92,8 +92,8 @@ impl<'a> Board<'a> {
         ensures { IfOk result (λ v. AllZip (λ row answers. AllZip (λ e o. IsOutcomeOf e (slot_feed e.rack, o))
             (filled row) answers.items) self.entry.table v.items) }
     {
-        let Board { lists: _, rows } = self;
-        all_filled(alloc, rows)
+        let answers = self.by_feed(alloc)?;
+        without_feeds(alloc, answers)
     }
 }
 
@@ -108,16 +108,25 @@ fn all_by_feed(alloc: Global, rows: Vec<Row>) -> Result<Vec<Vec<(usize, Outcome)
     Ok(all)
 }
 
-// The answers, row by row.
-fn all_filled(alloc: Global, rows: Vec<Row>) -> Result<Vec<Vec<Outcome>>, AllocError>
-    ensures { IfOk result (λ v. AllZip (λ row answers. AllZip (λ e o. IsOutcomeOf e (slot_feed e.rack, o))
-        (filled row) answers.items) rows.entry.items v.items) }
+// The answers without their feeds' numbers, row by row.
+fn without_feeds(
+    alloc: Global,
+    rows: Vec<Vec<(usize, Outcome)>>,
+) -> Result<Vec<Vec<Outcome>>, AllocError>
+    ensures { IfOk result (λ v. AllZip (λ row answers. answers.items ≡ map (λ answer. answer.1) row.items) rows.items v.items) }
 {
     let mut all = Vec::with_capacity(alloc, rows.len())?;
     for row in rows {
-        all.push_reserved(row.filled(alloc)?);
+        all.push_reserved(outcomes_of(alloc, row)?);
     }
     Ok(all)
+}
+
+// The answers of one row.
+fn outcomes_of(alloc: Global, row: Vec<(usize, Outcome)>) -> Result<Vec<Outcome>, AllocError>
+    ensures { IfOk result (λ v. v.items ≡ map (λ answer. answer.1) row.items) }
+{
+    row.into_iter().map(|(_, outcome)| outcome).collect(alloc)
 }
 
 /// What the collector's thread gives back.

@@ -96,24 +96,6 @@ impl<'a> Row<'a> {
         Ok(all)
     }
 
-    /// The answers before the first gap, if none of these replies says that memory was refused.
-    pub(crate) fn filled(self, alloc: Global) -> Result<Vec<Outcome>, AllocError>
-        ensures { IfOk result (λ v. AllZip (λ e o. IsOutcomeOf e (slot_feed e.rack, o)) (filled self.entry) v.items) }
-    {
-        let Row { cells } = self;
-        let mut all = Vec::with_capacity(alloc, cells.len())?;
-        for cell in cells {
-            let Some(reply) = cell else {
-                return Ok(all);
-            };
-            let Some(outcome) = reply.into_outcome() else {
-                return Err(AllocError);
-            };
-            all.push_reserved(outcome);
-        }
-        Ok(all)
-    }
-
     /// The answers before the first gap, each with the feed of its slot, if none of these replies says that memory was refused.
     pub(crate) fn filled_by_feed(self, alloc: Global) -> Result<Vec<(usize, Outcome)>, AllocError>
         ensures { IfOk result (λ v. AllZip IsOutcomeOf (filled self.entry) v.items) }

@@ -147,9 +147,11 @@ fn two_workers_meet(rt: HostRuntime) -> Result<(), AllocError> {
     )
 }
 
-const TWICE: &[&[Entry]] = &[&[LOCAL, LOCAL, SEVERAL], &[LOCAL, LOCAL, SEVERAL]];
+/// Two racks that each ask for one fragment twice, and for one that several stripes fit.
+pub(crate) const TWICE: &[&[Entry]] = &[&[LOCAL, LOCAL, SEVERAL], &[LOCAL, LOCAL, SEVERAL]];
 
-const ANSWERS_OF_TWICE: &[&[Option<u8>]] = &[
+/// Their answers, as `assert_racks` takes them.
+pub(crate) const ANSWERS_OF_TWICE: &[&[Option<u8>]] = &[
     &[Some(0x01), Some(0x01), None],
     &[Some(0x01), Some(0x01), None],
 ];

@@ -2,6 +2,7 @@
 //! refusal, and else with the answers.
 use crate::farm::collecting::gathered;
 use crate::farm::feeding::{answers_of_feeds, assert_feed, assert_raced, feeds_of};
+use crate::farm::held::{ANSWERS_OF_TWICE, TWICE};
 use crate::farm::requests::{
     ANSWERS_OF_ONE, Entry, GLOBAL, LOCAL, ONE, SEVERAL, assert_racks, racks_of,
 };
@@ -13,34 +14,14 @@ use std::process::Abort;
 use std::sync::Wait;
 use std::thread::Threads;
 
-// Two racks that each ask for one fragment twice, and for one that several stripes fit.
-const TWO_RACKS: &[&[Entry]] = &[&[LOCAL, LOCAL, SEVERAL], &[LOCAL, LOCAL, SEVERAL]];
-
-const ANSWERS_OF_TWO: &[&[Option<u8>]] = &[
-    &[Some(0x01), Some(0x01), None],
-    &[Some(0x01), Some(0x01), None],
-];
-
-fn runs_two_racks<R: Abort + Threads + Wait + Sync>(
-    rt: &R,
-    alloc: Global,
-    workers: usize,
-    queue: usize,
-) -> Result<(), AllocError> {
-    let racks = racks_of(rt, alloc, TWO_RACKS)?;
-    let answers = answers_of(rt, alloc, &racks, settings_of(rt, workers, queue), &NoPause)?;
-    assert_racks(rt, answers.as_slice(), ANSWERS_OF_TWO);
-    Ok(())
-}
-
-#[test]
-fn sixteen_workers_answer_two_racks(rt: HostRuntime) -> Result<(), AllocError> {
-    runs_two_racks(&rt, rt.alloc(), 16, 1024)
-}
-
+// Sixteen workers answer the same two racks in `held`.
 #[test]
 fn two_workers_answer_two_racks(rt: HostRuntime) -> Result<(), AllocError> {
-    runs_two_racks(&rt, rt.alloc(), 2, 1)
+    let alloc = rt.alloc();
+    let racks = racks_of(&rt, alloc, TWICE)?;
+    let answers = answers_of(&rt, alloc, &racks, settings_of(&rt, 2, 1), &NoPause)?;
+    assert_racks(&rt, answers.as_slice(), ANSWERS_OF_TWICE);
+    Ok(())
 }
 
 // A rack of four feeds without a close, and one of two feeds that both have one.

@@ -11,10 +11,12 @@ use crate::plans::planning::plan_in;
 use crate::solving::answer_by;
 use lrc_code::{Code, Outcome, Place, PlaceSet, Request};
 use std::alloc::{AllocError, Global};
+use std::collections::HashMap;
 use std::marker::Model;
 
-// How many plans are remembered: with one fragment lost of each stripe, a plan for each place that it may have had.
-const MOST_PLANS: usize = 16;
+// How many plans are remembered at most: as many as there are questions where one to four of the sixteen fragments of the (12,2,2) code are
+// lost; of the (6,2,2) code there are 5,120 in all. Those take 11 MB.
+const MOST_PLANS: usize = 9_216;
 
 // A plan, and what it is the plan for.
 #[derive(Drop)]
@@ -55,39 +57,48 @@ impl Known {
     }
 }
 
-/// The plans of the last sixteen different questions: of a code, survivors and a target.
+/// The plans of the questions so far: of a code, survivors and a target. One question more than 9,216 different ones has all of them
+/// forgotten. Contracts see nothing of them, since they change no answer.
 #[derive(Drop)]
 pub struct RememberedPlans {
-    known: [Option<Known>; 16],
-    // Where the next plan goes, in place of the oldest.
-    next: usize,
+    known: HashMap<u32, Known>,
+}
+
+impl Model for RememberedPlans {
+    ghost Value = { Unit };
+
+    ghost view = { λ _. tt };
 }
 
 impl RememberedPlans {
-    /// No plans.
-    pub fn new() -> RememberedPlans {
+    /// No plans. Takes no memory yet.
+    pub fn new(alloc: Global) -> RememberedPlans {
         RememberedPlans {
-            known: [
-                None, None, None, None, None, None, None, None, None, None, None, None, None, None,
-                None, None,
-            ],
-            next: 0,
+            known: HashMap::new(alloc),
         }
     }
 
-    // Puts a plan in place of the oldest.
-    fn remember(&mut self, code: Code, survivors: PlaceSet, target: Place, plan: Plan<Global>)
+    // Puts a plan beside the others, or in place of all of them where there are as many as there may be.
+    fn remember(
+        &mut self,
+        code: Code,
+        survivors: PlaceSet,
+        target: Place,
+        plan: Plan<Global>,
+    ) -> Result<(), AllocError>
         requires { IsPlan (tables_of code) (is_in survivors) target (value_form plan) (check_forms plan) }
     {
+        if self.known.len() >= MOST_PLANS {
+            self.known.clear();
+        }
         let known = Known {
             code,
             survivors,
             target,
             plan,
         };
-        let index = self.next % MOST_PLANS;
-        self.known[index] = Some(known);
-        self.next = index + 1;
+        self.known.insert(key_of(code, survivors, target), known)?;
+        Ok(())
     }
 
     // The plan for these, where it is remembered.
@@ -95,14 +106,9 @@ impl RememberedPlans {
         ensures { IfSome result (λ plan.
             IsPlan (tables_of code) (is_in survivors) target (value_form plan.now) (check_forms plan.now)) }
     {
-        for index in 0..MOST_PLANS {
-            if let Some(known) = &self.known[index] {
-                if let Some(plan) = known.plan_for(code, survivors, target) {
-                    return Some(plan);
-                }
-            }
-        }
-        None
+        self.known
+            .get(&key_of(code, survivors, target))?
+            .plan_for(code, survivors, target)
     }
 
     /// The answer to a request, as `solve`, whose two calls it makes, the first once for equal questions. The plans are in `alloc`.
@@ -118,7 +124,19 @@ impl RememberedPlans {
         }
         let plan = plan_in(alloc, code, survivors, target)?;
         let outcome = answer_by(alloc, &plan, request)?;
-        self.remember(code, survivors, target, plan);
+        self.remember(code, survivors, target, plan)?;
         Ok(outcome)
     }
+}
+
+// A number for each question: its code, its survivors and its target.
+fn key_of(code: Code, survivors: PlaceSet, target: Place) -> u32 {
+    let start = match code {
+        Code::Narrow => target.index() as u32,
+        Code::Wide => target.index() as u32 + 16,
+    };
+    Place::ALL.iter().fold(
+        start,
+        |key, place| (key << 1) | u32::from(survivors.has(*place)),
+    )
 }

@@ -324,3 +324,9 @@ pub fn scaled_leaf<A: Allocator>(
 ) -> Result<Tree<A>, AllocError> {
     Ok(Tree::Scale(Gf::new(scalar), Box::new(alloc, Tree::Leaf(place))?))
 }
+
+/// 03 * (x1 + x2)
+pub fn sample<A: Allocator + Clone>(alloc: A) -> Result<Tree<A>, AllocError> {
+    let sum = sum_of_leaves(alloc.clone()?, Place::X1, Place::X2)?;
+    Ok(Tree::Scale(Gf::new(0x03), Box::new(alloc, sum)?))
+}

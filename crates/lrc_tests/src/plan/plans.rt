@@ -1,8 +1,8 @@
 //! Plans and grafts against a table, in the global allocator and in an arena.
-use super::fixtures::{are_same, scaled_leaf, set_of, sum_of_leaves};
+use super::fixtures::{scaled_leaf, set_of, sum_of_leaves};
 use bumpalo::Bump;
 use lrc_code::{Code, Place, PlaceSet};
-use lrc_plan::{Tree, plan, plan_in};
+use lrc_plan::{plan, plan_in};
 use std::alloc::{AllocError, Allocator, Global};
 
 // Whether the plan of x0 is local, of three leaves, with so many checks.
@@ -46,11 +46,16 @@ fn local_plans<A: Allocator + Clone>(alloc: &A) -> Result<bool, AllocError> {
     Ok(is_local(alloc.clone()?, &three, 0)? && is_local(alloc.clone()?, &nine, 3)?)
 }
 
-// A scaled leaf put in the place of both leaves x1 of a sum: x1 + x1 is 00, and so is the graft.
-fn grafts<A: Allocator + Clone>(alloc: &A) -> Result<bool, AllocError> {
+// Whether a scaled leaf of x2, put in the place of these leaves of x1 + x1, leaves two leaves of one place, whose sum is 00. Where the host
+// lacks the place it comes back.
+fn grafts_at<A: Allocator + Clone>(
+    alloc: &A,
+    place: Place,
+    leaf: Place,
+) -> Result<bool, AllocError> {
     let host = sum_of_leaves(alloc.clone()?, Place::X1, Place::X1)?;
     let scion = scaled_leaf(alloc.clone()?, 0x02, Place::X2)?;
-    let Ok(tree) = host.graft(alloc.clone()?, Place::X1, scion) else {
+    let Ok(tree) = host.graft(alloc.clone()?, place, scion) else {
         return Err(AllocError);
     };
     let leaves = tree.leaves();
@@ -58,33 +63,25 @@ fn grafts<A: Allocator + Clone>(alloc: &A) -> Result<bool, AllocError> {
     Ok(
         tree.leaf_count() == 2
             && leaves.len() == 1
-            && leaves.has(Place::X2)
+            && leaves.has(leaf)
             && coefficients.iter().all(|c| c.byte() == 0),
     )
 }
 
-// A place that the host hasn't: the host comes back.
-fn grafts_nothing<A: Allocator + Clone>(alloc: &A) -> Result<bool, AllocError> {
-    let host = sum_of_leaves(alloc.clone()?, Place::X1, Place::X1)?;
-    let same = sum_of_leaves(alloc.clone()?, Place::X1, Place::X1)?;
-    let scion = scaled_leaf(alloc.clone()?, 0x02, Place::X2)?;
-    let Ok(tree) = host.graft(alloc.clone()?, Place::Y0, scion) else {
-        return Err(AllocError);
-    };
-    Ok(are_same(&tree, &same))
+fn plans_and_grafts<A: Allocator + Clone>(alloc: &A) -> Result<bool, AllocError> {
+    Ok(
+        local_plans(alloc)?
+            && grafts_at(alloc, Place::X1, Place::X2)?
+            && grafts_at(alloc, Place::Y0, Place::X1)?,
+    )
 }
 
 #[test]
 fn plans_are_local_and_grafts_replace_each_leaf(rt: HostRuntime) -> Result<(), AllocError> {
     let alloc = rt.alloc();
-    assert!(&rt; local_plans(&alloc)?, "local plans in the heap");
-    assert!(&rt; grafts(&alloc)?, "a graft in the heap");
-    assert!(&rt; grafts_nothing(&alloc)?, "no graft in the heap");
+    assert!(&rt; plans_and_grafts(&alloc)?, "in the heap");
     let bump = Bump::new(alloc);
-    let arena = &bump;
-    assert!(&rt; local_plans(&arena)?, "local plans in an arena");
-    assert!(&rt; grafts(&arena)?, "a graft in an arena");
-    assert!(&rt; grafts_nothing(&arena)?, "no graft in an arena");
+    assert!(&rt; plans_and_grafts(&&bump)?, "in an arena");
     Ok(())
 }
 

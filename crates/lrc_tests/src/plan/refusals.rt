@@ -1,7 +1,9 @@
 //! Each allocation refused in turn, by heaps that grow until nothing is refused. The allocations of a call are
 //! numbered from 0; how many fit a heap is measured, and number k is the refused one where exactly k fit.
 use super::answers::is_outcome;
-use super::fixtures::{Answer, CASES, Case, are_same, request_of, scaled_leaf, sum_of_leaves};
+use super::fixtures::{
+    Answer, CASES, Case, are_same, request_of, sample, scaled_leaf, sum_of_leaves,
+};
 use super::wide_cases::WIDE_CASES;
 use linked_list_allocator::LocalHeap;
 use lrc_code::{Code, Place, PlaceSet, Request};
@@ -86,12 +88,6 @@ fn are_same_plans<A: Allocator, B: Allocator>(one: &Plan<A>, other: &Plan<B>) ->
             .iter()
             .zip(other.checks.iter())
             .all(|(one, other)| are_same(one, other))
-}
-
-// 03 * (x1 + x2)
-fn sample<A: Allocator + Clone>(alloc: A) -> Result<Tree<A>, AllocError> {
-    let sum = sum_of_leaves(alloc.clone()?, Place::X1, Place::X2)?;
-    Ok(Tree::Scale(Gf::new(0x03), Box::new(alloc, sum)?))
 }
 
 // How a call ended in a heap.
@@ -196,32 +192,6 @@ fn graft_refused_gives_both_trees_back(rt: HostRuntime) -> Result<(), AllocError
     Ok(())
 }
 
-// Whether the plan is refused at each of its allocations in turn, and then is the same as without refusal.
-fn plans_in_turn(
-    alloc: Global,
-    code: Code,
-    survivors: PlaceSet,
-    target: Place,
-) -> Result<bool, AllocError> {
-    if survivors.has(target) || !code.has(target) {
-        return Ok(false);
-    }
-    let same = plan_in(alloc, code, survivors, target)?;
-    let mut refused = Refused { next: 0 };
-    for size in (0..LARGEST).step_by(8) {
-        let Ok(heap) = LocalHeap::new(alloc, size) else {
-            continue;
-        };
-        let number = fitting(&heap, same.checks.len());
-        match plan_in_heap(&heap, code, survivors, target, &same) {
-            Ended::Granted => return Ok(refused.next == allocations(&same)),
-            Ended::Refused if refused.follows(number) => {}
-            _ => return Ok(false),
-        }
-    }
-    Ok(false)
-}
-
 // How planning ends in this heap, where the plan is to be the same as another.
 fn plan_in_heap<A: Allocator>(
     heap: &LocalHeap,
@@ -240,25 +210,6 @@ fn plan_in_heap<A: Allocator>(
     }
 }
 
-// Whether the plan of a case is.
-fn case_in_turn(alloc: Global, case: &Case) -> Result<bool, AllocError> {
-    match request_of(alloc, case)? {
-        Some(request) => plans_in_turn(alloc, case.code, request.survivors(), case.target),
-        None => Ok(false),
-    }
-}
-
-#[test]
-fn refused_plan_answers_out_of_memory(rt: HostRuntime) -> Result<(), AllocError> {
-    for case in &CASES {
-        assert!(&rt; case_in_turn(rt.alloc(), case)?, "{}", case.name);
-    }
-    for case in &WIDE_CASES {
-        assert!(&rt; case_in_turn(rt.alloc(), case)?, "{}", case.name);
-    }
-    Ok(())
-}
-
 // How solving ends with its plan in this heap.
 fn solve_in_heap(alloc: Global, heap: &LocalHeap, request: &Request, answer: Answer) -> Ended {
     match solve(alloc, heap, request) {
@@ -268,7 +219,8 @@ fn solve_in_heap(alloc: Global, heap: &LocalHeap, request: &Request, answer: Ans
     }
 }
 
-// Whether a case's request is refused at each allocation of its plan in turn, and then is answered.
+// Whether a case's plan is refused at each of its allocations in turn, and then is the same as without refusal, and its request is refused
+// at the same ones, and then is answered.
 fn solves_in_turn(alloc: Global, case: &Case) -> Result<bool, AllocError> {
     let Some(request) = request_of(alloc, case)? else {
         return Ok(false);
@@ -284,9 +236,10 @@ fn solves_in_turn(alloc: Global, case: &Case) -> Result<bool, AllocError> {
             continue;
         };
         let number = fitting(&heap, same.checks.len());
-        match solve_in_heap(alloc, &heap, &request, case.answer) {
-            Ended::Granted => return Ok(refused.next == allocations(&same)),
-            Ended::Refused if refused.follows(number) => {}
+        let planned = plan_in_heap(&heap, case.code, survivors, case.target, &same);
+        match (planned, solve_in_heap(alloc, &heap, &request, case.answer)) {
+            (Ended::Granted, Ended::Granted) => return Ok(refused.next == allocations(&same)),
+            (Ended::Refused, Ended::Refused) if refused.follows(number) => {}
             _ => return Ok(false),
         }
     }

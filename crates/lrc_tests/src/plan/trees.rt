@@ -5,22 +5,13 @@ ghost use Rattle.lrc_plan.specs.Form.{Leaf, Sum};
 ghost use Rattle.lrc_plan.specs.Evaluation.{CanEvaluate};
 ghost use Rattle.lrc_plan.specs.Tree.{form_of};
 
-use super::fixtures::{Answer, CASES, Case, are_same, request_of, scaled_leaf, sum_of_leaves};
+use super::fixtures::{Answer, CASES, Case, are_same, request_of, sample, sum_of_leaves};
 use super::wide_cases::WIDE_CASES;
 use bumpalo::Bump;
 use lrc_code::{Place, Request};
-use lrc_field::Gf;
 use lrc_plan::{Tree, evaluate, evaluate_both, plan_in};
 use std::alloc::{AllocError, Allocator, Global};
 use std::thread::Threads;
-
-// 03 * (x1 + x2) + 02 * p0
-fn sample<A: Allocator + Clone>(alloc: A) -> Result<Tree<A>, AllocError> {
-    let sum = sum_of_leaves(alloc.clone()?, Place::X1, Place::X2)?;
-    let left = Tree::Scale(Gf::new(0x03), Box::new(alloc.clone()?, sum)?);
-    let right = scaled_leaf(alloc.clone()?, 0x02, Place::P0)?;
-    Ok(Tree::Sum(Box::new(alloc.clone()?, left)?, Box::new(alloc, right)?))
-}
 
 // The sample in the heap, copied out of an arena that then ends; nothing where the copy differs.
 fn copied_sample(alloc: Global) -> Result<Option<Tree<Global>>, AllocError> {
@@ -36,7 +27,7 @@ fn copied_sample(alloc: Global) -> Result<Option<Tree<Global>>, AllocError> {
 // Whether a tree has the coefficients of the sample.
 fn has_coefficients(tree: &Tree<Global>) -> bool {
     let coefficients = tree.coefficients();
-    let bytes = [0, 3, 3, 0, 0, 0, 0, 0, 2, 0];
+    let bytes = [0, 3, 3, 0, 0, 0, 0, 0, 0, 0];
     for index in 0..10usize {
         if coefficients[index].byte() != bytes[index] {
             return false;
