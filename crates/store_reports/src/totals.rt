@@ -19,8 +19,9 @@ pub struct Totals {
     pub damaged: u64,
     /// How many copies of descriptions were made.
     pub described: u64,
-    /// How many findings are not mended.
+    /// How many findings are not mended, and how many of these would be if damaged fragments and descriptions were replaced.
     pub left: u64,
+    pub replaceable: u64,
     /// Whether the system refused to read or write something.
     pub device: bool,
 }
@@ -47,6 +48,17 @@ pub(crate) fn totals_of(
     Ok(totals)
 }
 
+/// The places whose fragments were rebuilt, in the order of all places.
+pub(crate) fn rebuilt_places(alloc: Global, outcome: &Outcome) -> Result<Vec<Place>, AllocError> {
+    let mut places = Vec::new(alloc);
+    for place in &Place::ALL {
+        if outcome.rebuilt.iter().any(|rebuilt| *rebuilt == *place) {
+            places.push(*place)?;
+        }
+    }
+    Ok(places)
+}
+
 /// The places of a stripe whose rebuilt fragments are covered by no check and no digest.
 pub(crate) fn unchecked_places(
     alloc: Global,
@@ -58,14 +70,14 @@ pub(crate) fn unchecked_places(
     if outcome.is_checked {
         return Ok(places);
     }
-    for place in &outcome.rebuilt {
-        let name = fragment_name(alloc, &site.pattern, site.code, stripe, *place)?;
+    for place in rebuilt_places(alloc, outcome)? {
+        let name = fragment_name(alloc, &site.pattern, site.code, stripe, place)?;
         let is_covered = match site.sums {
             Some(sums) => sums.digest_of(name.as_str()).is_some(),
             None => false,
         };
         if !is_covered {
-            places.push(*place)?;
+            places.push(place)?;
         }
     }
     Ok(places)
@@ -83,6 +95,21 @@ pub(crate) fn why_unchecked(outcome: &Outcome) -> &'static str {
     }
 }
 
+// Whether a fragment is left that would be replaced if that were asked for: it is damaged or has another length, a check covers what would
+// replace it, and nothing else is said of it.
+fn is_replaceable(outcome: &Outcome, finding: &Finding) -> bool {
+    let Some(place) = finding.place else {
+        return false;
+    };
+    let is_of_place = |other: &&Finding| other.place == Some(place);
+    let is_other = matches!(
+        finding.reason,
+        Reason::Damaged | Reason::Differs | Reason::OtherLength
+    );
+    let is_alone = outcome.findings.iter().filter(is_of_place).count() == 1;
+    is_other && is_alone && outcome.is_checked && !outcome.is_mended(finding)
+}
+
 impl Totals {
     // Counts what became of a stripe's fragments.
     fn add(&mut self, outcome: &Outcome) {
@@ -97,6 +124,9 @@ impl Totals {
             if !outcome.is_mended(finding) {
                 self.left = self.left.saturating_add(1);
             }
+            if is_replaceable(outcome, finding) {
+                self.replaceable = self.replaceable.saturating_add(1);
+            }
             self.device = self.device || finding.reason.is_of_device();
         }
     }
@@ -107,6 +137,7 @@ impl Totals {
         let left = descriptions.findings.len() as u64;
         self.described = self.described.saturating_add(made);
         self.left = self.left.saturating_add(left);
+        self.replaceable = self.replaceable.saturating_add(descriptions.replaceable);
         for finding in &descriptions.findings {
             self.device = self.device || finding.reason.is_of_device();
         }

@@ -35,12 +35,29 @@ pub(crate) fn write_out(
 ) -> Result<(), FileFault>
     requires { vec_len fragments.now.opened ≡ 16 }
 {
-    let alloc = rt.alloc();
-    let writer = BufWriter::new(alloc, io::writer(rt)).map_err(|error| device(
-        alloc,
+    write_into(
+        rt,
+        sought,
+        fragments,
+        set,
+        io::writer(rt),
         "standard output",
-        error,
-    ))?;
+    )
+}
+
+/// Writes the file to a writer of this name.
+pub(crate) fn write_into<W: Write + Drop>(
+    rt: &HostRuntime,
+    sought: &Sought<'_>,
+    fragments: &Fragments,
+    set: PlaceSet,
+    writer: W,
+    name: &str,
+) -> Result<(), FileFault>
+    requires { vec_len fragments.now.opened ≡ 16 }
+{
+    let alloc = rt.alloc();
+    let writer = BufWriter::new(alloc, writer).map_err(|error| device(alloc, name, error))?;
     let mut output = Output {
         writer,
         digest: Sha256::new(),
@@ -48,8 +65,8 @@ pub(crate) fn write_out(
     let survivors = survivors_of(sought, fragments, set);
     let file_bytes = sought.described.length as usize;
     match read_file(alloc, &survivors, file_bytes, &mut output) {
-        Ok(()) => ended(alloc, sought, output),
-        Err(MendFault::Unwritten { error, .. }) => Err(device(alloc, "standard output", error)),
+        Ok(()) => ended(alloc, sought, output, name),
+        Err(MendFault::Unwritten { error, .. }) => Err(device(alloc, name, error)),
         Err(MendFault::Unread { error, .. }) => Err(device(alloc, sought.file.name, error)),
         Err(_) => Err(FileFault::OutOfMemory),
     }
@@ -60,18 +77,20 @@ fn ended<W: Write + Drop>(
     alloc: Global,
     sought: &Sought<'_>,
     output: Output<W>,
+    name: &str,
 ) -> Result<(), FileFault> {
     let Output { writer, digest } = output;
     let mut writer = writer;
-    writer
-        .flush()
-        .map_err(|error| device(alloc, "standard output", error))?;
+    writer.flush().map_err(|error| device(alloc, name, error))?;
     let written = digest.finalize();
     if written != sought.described.digest {
-        let error = io::Error::other(
-            "a fragment changed meanwhile: what was written isn't the file",
-        );
-        return Err(device(alloc, sought.file.name, error));
+        return Err(changed_meanwhile(alloc, sought));
     }
     Ok(())
+}
+
+/// That a fragment has changed since the fragments were found to give the file.
+pub(crate) fn changed_meanwhile(alloc: Global, sought: &Sought<'_>) -> FileFault {
+    let error = io::Error::other("a fragment changed meanwhile: what was written isn't the file");
+    device(alloc, sought.file.name, error)
 }
