@@ -1,11 +1,11 @@
 //! Encoding a file into a store: the fragments of its stripe, and its description.
 pub(crate) mod descriptions;
-pub(crate) mod folders;
 pub(crate) mod fragments;
 pub(crate) mod placing;
 pub(crate) mod replacing;
 pub(crate) mod source;
 pub(crate) mod spool;
+pub(crate) mod subfolders;
 pub(crate) mod sums;
 pub(crate) mod target;
 
@@ -13,7 +13,6 @@ use crate::digesting::digest_at;
 use crate::limits::refuse_over_limit;
 use crate::staging::{is_staged, is_there};
 use descriptions::place_descriptions;
-use folders::make_folders;
 use fragments::make_fragments;
 use lrc_code::{Code, Place};
 use placing::{discard_all, is_there_already, place_fragments};
@@ -23,11 +22,12 @@ use std::fs::Metadata;
 use store_folder::{DESCRIPTION, Described, KEPT, Links, is_ambiguous, path_in, read_description};
 use store_repair::fragment_length;
 use store_reports::{FileFault, fragment_name, source_fault};
+use subfolders::make_folders;
 use target::Target;
 
 /// A file that is encoded.
 #[derive(Clone, Copy, Debug)]
-pub struct Source<'a> {
+pub struct SourceFile<'a> {
     pub path: &'a str,
     /// The name that it gets in the store, if that isn't its own.
     pub name: Option<&'a str>,
@@ -38,7 +38,7 @@ pub struct Source<'a> {
 pub fn encode_file(
     rt: &HostRuntime,
     target: &mut Target<'_>,
-    source: &Source<'_>,
+    source: &SourceFile<'_>,
 ) -> Result<(), FileFault> {
     let alloc = rt.alloc();
     let path = source.path;

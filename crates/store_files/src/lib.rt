@@ -2,7 +2,7 @@
 //! description.
 //!
 //! ```rust
-//! encode_file(&rt, &mut target, &Source { path: "notes.txt", name: None })?;
+//! encode_file(&rt, &mut target, &SourceFile { path: "notes.txt", name: None })?;
 //! read_file(&rt, &StoredFile { folder, pattern, name: "notes.txt", links }, None)?;
 //! let descriptions = tend_descriptions(&rt, &site, &stripe, CopyWork::Name)?;
 //! ```
@@ -20,7 +20,7 @@ pub use copies::{CopyWork, DescribedStripe, tend_descriptions};
 pub use encoding::spool::Spool;
 pub use encoding::sums::{stored_sums, write_new_sums};
 pub use encoding::target::Target;
-pub use encoding::{Source, encode_file};
+pub use encoding::{SourceFile, encode_file};
 pub use limits::{most_file_bytes, refuse_over_limit};
 pub use reading::descriptions::first_described;
 pub use reading::file::StoredFile;

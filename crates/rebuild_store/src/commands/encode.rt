@@ -5,7 +5,7 @@ use std::fs;
 use std::io::ErrorKind;
 use std::thread::Threads;
 use store_arguments::EncodeOptions;
-use store_files::{Source, Spool, Target, encode_file, stored_sums, write_new_sums};
+use store_files::{SourceFile, Spool, Target, encode_file, stored_sums, write_new_sums};
 use store_folder::{Listing, Others, Wanted, list};
 use store_opening::{
     lock_folder, other_than, refuse_unmounted, refuse_untrusted, remove_leftovers, say_links,
@@ -95,10 +95,10 @@ fn encode_one(
 ) -> Result<(), FileFault> {
     let name = options.name;
     if path != "-" {
-        return encode_file(rt, target, &Source { path, name });
+        return encode_file(rt, target, &SourceFile { path, name });
     }
     let spool = Spool::fill(rt, target.folder)?;
-    let source = Source {
+    let source = SourceFile {
         path: spool.path(),
         name,
     };

@@ -1,7 +1,7 @@
 //! Replacing a file of a store by one that has other bytes. The new one is encoded first, as a stripe of a name of its own. Once its
 //! description is there, all of it is on the disk, and reading gives the new file. Then each of its files gets its name beside that, in
 //! place of the old one, and at last the names of its own go. So at any moment the store has all of the old file or all of the new one.
-use crate::encoding::folders::make_folders;
+use crate::encoding::subfolders::make_folders;
 use crate::encoding::sums::write_new_sums;
 use crate::encoding::target::Target;
 use crate::encoding::{Given, encode_as};
