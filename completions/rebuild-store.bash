@@ -6,7 +6,7 @@ _rebuild_store_place() {
   place=0
   while ((index < COMP_CWORD)); do
     case ${COMP_WORDS[index]} in
-      --code | --names | --layout | --stripes | --part | --workers | --sums | --report | --to | --reads)
+      --code | --names | --layout | --stripes | --part | --workers | --sums | --report | --to | --reads | --as | --output | -j | -o)
         # The shell cuts --workers=4 into three words.
         [ "${COMP_WORDS[index + 1]}" != = ] || ((index++))
         ((index++))
@@ -20,7 +20,7 @@ _rebuild_store_place() {
 
 _rebuild_store() {
   local current=${COMP_WORDS[COMP_CWORD]} before=${COMP_WORDS[COMP_CWORD - 1]} offered='' options='' kinds='' place=0
-  local commands='repair lost scrub encode read'
+  local commands='repair lost scrub encode read list verify remove'
   COMPREPLY=()
   if [ "$COMP_CWORD" = 1 ]; then
     case $current in
@@ -35,12 +35,17 @@ _rebuild_store() {
   case ${COMP_WORDS[1]} in
     repair)
       kinds='folder'
-      options+=' --stripes --part --workers --sums --report --json --dry-run --replace-damaged --assume-one-damaged --to --reads --trust-writers'
+      options+=' --stripes --part --workers --sums --report --json --dry-run --replace-damaged --assume-one-damaged --to --reads --trust-writers --allow-unmounted --quiet -n -j -q'
       ;;
-    lost) kinds='folder' options+=' --stripes --part --json' ;;
-    scrub) kinds='folder' options+=' --stripes --part --workers --sums --report --json' ;;
-    encode) kinds='folder file+' options+=' --trust-writers' ;;
-    read) kinds='folder name' options='--names --layout --follow-links' ;;
+    lost | list) kinds='folder' options+=' --stripes --part --json' ;;
+    scrub) kinds='folder' options+=' --stripes --part --workers --sums --report --json --quiet -j -q' ;;
+    encode)
+      kinds='folder file+'
+      options+=' --trust-writers --allow-unmounted --as --make-folders --replace --quiet -q'
+      ;;
+    read) kinds='folder name' options='--names --layout --follow-links --output --quiet -o -q' ;;
+    verify) kinds='folder name+' options='--names --layout --follow-links --quiet -q' ;;
+    remove) kinds='folder name+' options+=' --trust-writers --quiet -q' ;;
     help)
       [ "$COMP_CWORD" != 2 ] || mapfile -t COMPREPLY < <(compgen -W "$commands" -- "$current")
       return
@@ -56,9 +61,9 @@ _rebuild_store() {
     --code) offered='6-2-2 12-2-2' ;;
     --layout) offered='plain groups' ;;
     --reads) offered='all few' ;;
-    --workers) offered='1 2 3 4 5 6 7 8 9 10 11 12 13 14 15 16' ;;
-    --names | --part) return ;;
-    --stripes | --sums | --report) kinds=file ;;
+    --workers | -j) offered='1 2 3 4 5 6 7 8 9 10 11 12 13 14 15 16' ;;
+    --names | --part | --as) return ;;
+    --stripes | --sums | --report | --output | -o) kinds=file ;;
     --to) kinds=folder ;;
     *)
       _rebuild_store_place

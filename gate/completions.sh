@@ -9,8 +9,9 @@ completions=$PWD/completions
 scratch=$(mktemp -d)
 trap 'rm -rf "$scratch"' EXIT
 workers='1 2 3 4 5 6 7 8 9 10 11 12 13 14 15 16'
-repair='--assume-one-damaged --code --dry-run --follow-links --help --json --layout --names --part --reads --replace-damaged --report'
-repair+=' --stripes --sums --to --trust-writers --workers -h'
+repair='--allow-unmounted --assume-one-damaged --code --dry-run --follow-links --help --json --layout --names --part --quiet --reads'
+encode='--allow-unmounted --as --code --follow-links --help --layout --make-folders --names --quiet --replace --trust-writers -h -q'
+repair+=' --replace-damaged --report --stripes --sums --to --trust-writers --workers -h -j -n -q'
 
 # Each line, up to where the key is pressed, and what is offered there: the folder below has two folders and a file.
 mkdir -p "$scratch/here/lists" "$scratch/here/served"
@@ -72,10 +73,10 @@ rebuild-lists damaged :lists served
 rebuild-lists damaged lists s:
 rebuild-lists damaged -:--feed --help --program -h
 rebuild-lists damaged --feed :0 1 2 3
-rebuild-store :encode help lost read repair scrub
-rebuild-store r:read repair
+rebuild-store :encode help list lost read remove repair scrub verify
+rebuild-store r:read remove repair
 rebuild-store -:--help --version -V -h
-rebuild-store help :encode lost read repair scrub
+rebuild-store help :encode list lost read remove repair scrub verify
 rebuild-store help repair :
 rebuild-store repair :lists served
 rebuild-store repair lists s:
@@ -97,17 +98,26 @@ rebuild-store lost l:lists
 rebuild-store lost -:--code --follow-links --help --json --layout --names --part --stripes -h
 rebuild-store lost --stripes l:list.csv lists
 rebuild-store scrub l:lists
-rebuild-store scrub -:--code --follow-links --help --json --layout --names --part --report --stripes --sums --workers -h
+rebuild-store scrub -:--code --follow-links --help --json --layout --names --part --quiet --report --stripes --sums --workers -h -j -q
 rebuild-store scrub --sums list.:list.csv
 rebuild-store encode :lists served
 rebuild-store encode lists :list.csv lists served
 rebuild-store encode lists list.csv :list.csv lists served
-rebuild-store encode -:--code --follow-links --help --layout --names --trust-writers -h
+rebuild-store encode -:$encode
 rebuild-store encode --layout :groups plain
 rebuild-store read l:lists
 rebuild-store read lists :
-rebuild-store read -:--follow-links --help --layout --names -h
+rebuild-store read -:--follow-links --help --layout --names --output --quiet -h -o -q
 rebuild-store read --layout :groups plain
+rebuild-store read -o l:list.csv lists
+rebuild-store list l:lists
+rebuild-store list -:--code --follow-links --help --json --layout --names --part --stripes -h
+rebuild-store verify l:lists
+rebuild-store verify lists name :
+rebuild-store verify -:--follow-links --help --layout --names --quiet -h -q
+rebuild-store remove l:lists
+rebuild-store remove -:--code --follow-links --help --layout --names --quiet --trust-writers -h -q
+rebuild-store repair -j 1:1 10 11 12 13 14 15 16
 END
 
 # What bash offers: the line is cut as bash cuts it, at spaces and with = as a word of its own.
@@ -180,7 +190,7 @@ for word in $(companion/rebuild-lists --help | sed -n 's/^    \([a-z]\+\) .*/\1/
 done
 store=crates/rebuild_store/out/rebuild_store
 for word in $("$store" --help | sed -n '/^Commands:/,/^$/s/^  \([a-z]\+\) .*/\1/p' | grep -v -x help); do
-  "$store" "$word" --help | grep -o -E '^ +(-h, )?--[a-z-]+' | grep -o -E -e '--[a-z-]+|-h' | sort > "$scratch/said"
+  "$store" "$word" --help | grep -o -E '^ +(-[a-z], )?--[a-z-]+' | grep -o -E -e '--[a-z-]+|-[a-z]' | sort > "$scratch/said"
   sed -n "s/^rebuild-store $word -://p" "$scratch/lines" | tr ' ' '\n' | sort > "$scratch/offered"
   comm -23 "$scratch/said" "$scratch/offered" > "$scratch/lacking"
   if [ -s "$scratch/lacking" ]; then

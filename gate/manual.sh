@@ -48,7 +48,7 @@ def store_help(*words):
 
 
 def options_of(text):
-    return set(re.findall(r'^ +(?:-h, )?(--[a-z-]+)', text, re.M)) - {'--help'}
+    return set(re.findall(r'^ +(?:-[a-z], )?(--[a-z-]+)', text, re.M)) - {'--help'}
 
 
 # The synopsis of each command, from its .Cm to the next .Nm, and the list of the options.
@@ -56,7 +56,7 @@ synopsis, described = pages['rebuild-store.1'].split('\n.Sh DESCRIPTION\n')
 shown_of = {part.split('\n')[1].removeprefix('.Cm '): {f'-{it}' for it in re.findall(r'^\.Op Fl (-[a-z-]+)', part, re.M)}
             for part in synopsis.split('\n.Nm')[1:] if '\n.Cm ' in part}
 commands = set(re.findall(r'^  ([a-z]+) ', store_help().partition('\nCommands:\n')[2].partition('\n\n')[0], re.M)) - {'help'}
-listed = {f'-{it}' for it in re.findall(r'^\.It Fl (-[a-z-]+)', described, re.M)}
+listed = {f'-{it}' for it in re.findall(r'^\.It Fl (?:[a-z] , Fl )?(-[a-z-]+)', described, re.M)}
 for command in sorted(commands):
     options = options_of(store_help(command))
     lacking = options - (shown_of.get(command, set()) & listed)

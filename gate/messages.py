@@ -15,7 +15,8 @@ CRATES = ("rebuild_store", "store_arguments", "store_files", "store_folder", "st
 # What says how far a repair is has no message.
 LEFT_OUT = {"progress.rt"}
 # Texts that are filled into others, or that others take the place of before anything is said.
-PARTS = {"can be made", "would be rebuilt", "standard output", "the survivors don't determine the fragment",
+PARTS = {"can be made", "would be rebuilt", "standard output", "standard input", "Max file size", ", with --replace-damaged ",
+         "; left without --replace-damaged: ", "the survivors don't determine the fragment",
          "a survivor can't be read: <>", "a rebuilt fragment can't be written: <>"}
 LITERAL = r'"((?:[^"\\]|\\[\s\S])*)"'
 HELP = rf"const \w*(?:HELP|ABOUT): &str =\s*{LITERAL};"

@@ -170,7 +170,7 @@ def test_long_names(place, choose):
         (store / lost).unlink()
     for turn in range(2):
         said = run("repair", store, "--replace-damaged", status=3)
-        hold_named(said, f"{name}.x1", "File name too long")
+        hold_named(said, f"{name}.x1", "its folder takes no name as long as that of a fragment which is kept")
         hold((store / f"{name}.x1").read_bytes() == bytes(50), "it was replaced and isn't kept")
     (store / f"{name}.x1").write_bytes(files[f"{name}.x1"])
     hold_whole(store, files)

@@ -1034,9 +1034,9 @@ def test_dry_run(place, choose):
     (store / "b.y0").unlink()
     (store / "b.y0").mkdir()
     before = below(store)
-    for options, count, left in (([], 1, 2), (["--replace-damaged"], 2, 1)):
+    for options, count, more in (([], 1, ", with --replace-damaged 1"), (["--replace-damaged"], 2, "")):
         said = run("repair", store, "--dry-run", "--report", report, *options, status=1)
-        hold(f"; {count} can be rebuilt (0 unchecked), {left} can't" in said, said)
+        hold(f"; {count} can be rebuilt (0 unchecked){more}, 1 can't" in said, said)
         rows = report.read_text()
         hold(rows.count(",would be rebuilt,") == count and ",rebuilt," not in rows, rows)
         hold(below(store) == before, "a dry run changed the store")
@@ -1105,6 +1105,28 @@ def test_line_on_a_terminal(place, choose):
     repair = line % ("repair", len(names), "fragments", re.escape(f"{len(names) * 4}.0"), "given up")
     said, status = on_terminal("repair", store, "--workers", 1)
     hold(status == 0 and re.fullmatch(f"(?:{repair})+\x1b\\[A\r\x1b\\[K", said), f"status {status}: {said!r}")
+
+
+def test_line_within_a_long_file(place, choose):
+    """The line moves within a long stripe, and is shown of an encoding and of a reading too; with -q there is none."""
+    store, source, size = place / "long", place / "source", 200 * 2**20
+    store.mkdir()
+    for shard in ("x0", "x1", "x2", "y0", "y1", "y2", "px", "py", "p0", "p1"):
+        with open(store / f"s.{shard}", "wb") as file:
+            file.truncate(size)
+    said, status = on_terminal("scrub", store, "--workers", 1)
+    moved = [float(it) for it in re.findall(r"scrub: 0/1 stripes  ([\d.]+)/2000.0 MiB", said)]
+    hold(status == 0 and moved == sorted(moved) and any(0 < it for it in moved), f"status {status}: {said!r}")
+    hold(on_terminal("scrub", store, "--quiet") == ("", 0), "scrub --quiet shows a line")
+    shutil.rmtree(store)
+    with open(source, "wb") as file:
+        file.truncate(size)
+    line = r"(?:\x1b\[A)?\r\x1b\[K\x1b\[\?7l%s: \d/1 files  [\d.]+/200.0 MiB  \d+ MiB/s  \d+:\d\d left\x1b\[\?7h\r\n"
+    for command, words in (("encode", [source]), ("read", ["source"])):
+        said, status = on_terminal(command, store, *words)
+        shown = line % command
+        hold(status == 0 and re.fullmatch(f"(?:{shown})+\x1b\\[A\r\x1b\\[K", said), f"{command}: status {status}: {said!r}")
+        hold(on_terminal(command, store, *words, "-q") == ("", 0), f"{command} -q shows a line")
 
 
 def main(program=None, only=""):

@@ -27,9 +27,16 @@ pub(crate) fn say_alone(rt: &HostRuntime, store: &OpenStore, opening: &Opening<'
     };
 }
 
-/// Says a summary, which is on standard output, but where rows are there.
-pub(crate) fn say_summary(rt: &HostRuntime, summary: String, has_rows: bool) -> io::Result<()> {
-    if has_rows {
+/// Says a summary, unless none is wanted. It is on standard output, but where rows are there.
+pub(crate) fn say_summary(
+    rt: &HostRuntime,
+    summary: String,
+    test: &TestOptions<'_>,
+) -> io::Result<()> {
+    if test.quiet {
+        return Ok(());
+    }
+    if test.json {
         say(rt, Ok(summary))?;
         return Ok(());
     }

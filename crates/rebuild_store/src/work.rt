@@ -7,11 +7,11 @@ use std::alloc::{AllocError, Global};
 use std::sync::atomic::{AtomicUsize, Ordering};
 use std::thread;
 use std::thread::Threads;
-use store_files::{CopyWork, tend_descriptions};
+use store_files::{CopyWork, DescribedStripe, tend_descriptions};
 use store_folder::{FolderStore, SeparateStore, Site, SystemFolder};
 use store_opening::OpenStore;
 use store_repair::{Outcome, Repair, Stripe, plan_stripe, repair_stripe, scrub_stripe};
-use store_reports::{Contents, Done, without_left};
+use store_reports::{Contents, Done, without_left, without_repeated};
 
 /// What is done with each stripe.
 #[derive(Clone, Copy)]
@@ -92,8 +92,13 @@ fn take_stripes(
         };
         let outcome = outcome_of(system.alloc(), &mut store, work, stripe)?;
         let descriptions = if stripes.store.found.described.contains(stripe.name) {
+            let described = DescribedStripe {
+                name: stripe.name,
+                length: outcome.length,
+                unmounted: stripes.store.unmounted.as_slice(),
+            };
             let copies = work.with_copies();
-            Some(tend_descriptions(system, stripes.site, stripe.name, copies)?)
+            Some(tend_descriptions(system, stripes.site, &described, copies)?)
         } else {
             None
         };
@@ -123,7 +128,9 @@ fn outcome_of(
         }
         Work::Plan(repair) => {
             let plan = plan_stripe(alloc, store, &repair, stripe)?;
-            without_left(alloc, &repair, stripe, plan)
+            let said = plan.findings.len();
+            let plan = without_left(alloc, &repair, stripe, plan)?;
+            without_repeated(alloc, plan, said)
         }
         Work::Scrub(code, progress) => {
             let outcome = scrub_stripe(alloc, store, code, stripe)?;

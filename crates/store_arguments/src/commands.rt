@@ -1,22 +1,26 @@
 //! The program's definition, and the command that its arguments name.
 use crate::encode::{self, EncodeOptions};
 use crate::faults::UsageFault;
+use crate::list::{self, ListOptions};
 use crate::lost::{self, LostOptions};
 use crate::read::{self, ReadOptions};
+use crate::remove::{self, RemoveOptions};
 use crate::repair::{self, RepairOptions};
 use crate::scrub::{self, ScrubOptions};
+use crate::verify::{self, VerifyOptions};
 use clap::error::ErrorKind;
 use clap::{ArgMatches, Command as Definition, Error as ParseError};
 use std::alloc::{AllocError, Global};
 
 const VERSION: &str = "0.1.0";
 
-const ABOUT: &str = "Makes a store of erasure-coded stripes whole after fragments were lost.";
+const ABOUT: &str =
+    "Keeps files in a store of erasure-coded stripes, and makes it whole after fragments were lost.";
 
 const AFTER_HELP: &str = "\
 A store is a folder with a file <stripe>.<place> for each fragment, as note.x1.
 Places: x0 x1 x2 y0 y1 y2 px py p0 p1; 12-2-2 has x3 x4 x5 y3 y4 y5 too.
-Exit status: 0 the store is whole, 1 something is left, 2 usage, 3 device, 4 memory.";
+Exit status: 0 done, 1 something is left, 2 usage, 3 device, 4 memory.";
 
 const NO_COMMAND: &str =
     "error: rebuild-store takes a command\n\nFor more information, try '--help'.\n";
@@ -29,6 +33,9 @@ pub enum Command<'a> {
     Scrub(ScrubOptions<'a>),
     Encode(EncodeOptions<'a>),
     Read(ReadOptions<'a>),
+    List(ListOptions<'a>),
+    Verify(VerifyOptions<'a>),
+    Remove(RemoveOptions<'a>),
     /// To show this text: help, or the version.
     Help(String),
 }
@@ -55,7 +62,10 @@ fn program<'a>(alloc: Global) -> Result<Definition<'a>, AllocError> {
         .subcommand(lost::definition(alloc)?)?
         .subcommand(scrub::definition(alloc)?)?
         .subcommand(encode::definition(alloc)?)?
-        .subcommand(read::definition(alloc)?)
+        .subcommand(read::definition(alloc)?)?
+        .subcommand(list::definition(alloc)?)?
+        .subcommand(verify::definition(alloc)?)?
+        .subcommand(remove::definition(alloc)?)
 }
 
 // The command that matches name.
@@ -66,6 +76,9 @@ fn command_of<'a>(alloc: Global, matches: &ArgMatches<'a>) -> Result<Command<'a>
         Some(("scrub", matches)) => Ok(Command::Scrub(ScrubOptions::of(matches)?)),
         Some(("encode", matches)) => Ok(Command::Encode(EncodeOptions::of(alloc, matches)?)),
         Some(("read", matches)) => Ok(Command::Read(ReadOptions::of(matches)?)),
+        Some(("list", matches)) => Ok(Command::List(ListOptions::of(matches)?)),
+        Some(("verify", matches)) => Ok(Command::Verify(VerifyOptions::of(alloc, matches)?)),
+        Some(("remove", matches)) => Ok(Command::Remove(RemoveOptions::of(alloc, matches)?)),
         _ => Err(UsageFault::Mistake(String::from_str(alloc, NO_COMMAND)?)),
     }
 }

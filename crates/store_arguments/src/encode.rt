@@ -1,6 +1,8 @@
 //! The command `encode`.
 use crate::faults::UsageFault;
-use crate::shared::definitions::{code, code_of, follow, store, trust, word};
+use crate::shared::definitions::{
+    code, code_of, flag, follow, quiet, store, text, trust, unmounted, word,
+};
 use crate::shared::naming::{Naming, links_of, with_names};
 use clap::{ArgAction, ArgMatches, Command as Definition};
 use lrc_code::Code;
@@ -9,7 +11,13 @@ use store_folder::Links;
 
 const ABOUT: &str = "Makes the fragments of files, each file a stripe that is named for it";
 
-const FILES_HELP: &str = "Files to encode";
+const FILES_HELP: &str = "Files to encode, or - for standard input";
+
+const AS_HELP: &str = "Name in the store, of one file";
+
+const FOLDERS_HELP: &str = "Make the folders that the fragments' names have";
+
+const REPLACE_HELP: &str = "Replace files of the store that have other bytes";
 
 const CODE_HELP: &str = "Code of the stripes";
 
@@ -20,11 +28,21 @@ pub struct EncodeOptions<'a> {
     pub folder: &'a str,
     /// The paths of the files that are encoded.
     pub files: Vec<&'a str>,
+    /// The name that a single file gets in the store, if that isn't its own.
+    pub name: Option<&'a str>,
     pub code: Code,
     pub naming: Naming<'a>,
     pub links: Links,
     /// Whether root works in folders that others may write into.
     pub trusts_writers: bool,
+    /// Whether folders of disks are written into at which none is mounted.
+    pub allows_unmounted: bool,
+    /// Whether the folders that names have are made.
+    pub makes_folders: bool,
+    /// Whether files of the store that have other bytes are replaced.
+    pub replaces: bool,
+    /// Whether neither progress nor a summary is shown.
+    pub quiet: bool,
 }
 
 /// The definition of the command.
@@ -37,7 +55,12 @@ pub(crate) fn definition<'a>(alloc: Global) -> Result<Definition<'a>, AllocError
         .arg(code(alloc, CODE_HELP).default_value("6-2-2"))?;
     with_names(alloc, encode)?
         .arg(follow(alloc))?
-        .arg(trust(alloc))
+        .arg(trust(alloc))?
+        .arg(unmounted(alloc))?
+        .arg(text(alloc, "as", "NAME", AS_HELP))?
+        .arg(flag(alloc, "make-folders", FOLDERS_HELP))?
+        .arg(flag(alloc, "replace", REPLACE_HELP))?
+        .arg(quiet(alloc))
 }
 
 impl<'a> EncodeOptions<'a> {
@@ -51,13 +74,26 @@ impl<'a> EncodeOptions<'a> {
         for file in matches.get_strs("files").unwrap_or(&[]) {
             files.push(*file)?;
         }
+        let name = matches.get_str("as");
+        let has_input = files.iter().any(|file| *file == "-");
+        if (name.is_some() || has_input) && files.len() != 1 {
+            return Err(UsageFault::OneFile);
+        }
+        if name.is_none() && has_input {
+            return Err(UsageFault::NeedsName);
+        }
         Ok(EncodeOptions {
             folder: matches.get_str("store").unwrap_or("."),
             files,
+            name,
             code,
             naming: Naming::of(matches, Some(code))?,
             links: links_of(matches),
             trusts_writers: matches.get_flag("trust-writers"),
+            allows_unmounted: matches.get_flag("allow-unmounted"),
+            makes_folders: matches.get_flag("make-folders"),
+            replaces: matches.get_flag("replace"),
+            quiet: matches.get_flag("quiet"),
         })
     }
 }

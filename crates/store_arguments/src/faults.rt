@@ -18,6 +18,10 @@ pub enum UsageFault {
     BadPart,
     #[error("error: --workers takes a number from 1 to 16\n")]
     BadWorkers,
+    #[error("error: --as and - take one FILE alone\n")]
+    OneFile,
+    #[error("error: - needs a name, --as NAME\n")]
+    NeedsName,
     #[error("out of memory")]
     OutOfMemory,
 }

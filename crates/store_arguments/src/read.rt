@@ -1,6 +1,6 @@
 //! The command `read`.
 use crate::faults::UsageFault;
-use crate::shared::definitions::{follow, store, word};
+use crate::shared::definitions::{follow, quiet, store, text, word};
 use crate::shared::naming::{Naming, links_of, with_names};
 use clap::{ArgMatches, Command as Definition};
 use lrc_code::Code;
@@ -11,6 +11,8 @@ const ABOUT: &str = "Writes a file to standard output, also while fragments are 
 
 const NAME_HELP: &str = "Name of the file";
 
+const OUTPUT_HELP: &str = "Write to this file, which gets its name when all of it is on the disk";
+
 /// What `read` is given.
 #[derive(Clone, Copy, Debug)]
 pub struct ReadOptions<'a> {
@@ -20,6 +22,10 @@ pub struct ReadOptions<'a> {
     pub name: &'a str,
     pub naming: Naming<'a>,
     pub links: Links,
+    /// The path of the file that is written; none for standard output.
+    pub output: Option<&'a str>,
+    /// Whether no progress is shown.
+    pub quiet: bool,
 }
 
 /// The definition of the command.
@@ -28,7 +34,10 @@ pub(crate) fn definition<'a>(alloc: Global) -> Result<Definition<'a>, AllocError
         .about(ABOUT)
         .arg(store(alloc))?
         .arg(word(alloc, "name", "NAME", NAME_HELP))?;
-    with_names(alloc, read)?.arg(follow(alloc))
+    with_names(alloc, read)?
+        .arg(follow(alloc))?
+        .arg(text(alloc, "output", "FILE", OUTPUT_HELP).short('o'))?
+        .arg(quiet(alloc))
 }
 
 impl<'a> ReadOptions<'a> {
@@ -39,6 +48,8 @@ impl<'a> ReadOptions<'a> {
             name: matches.get_str("name").unwrap_or(""),
             naming: Naming::of(matches, Some(Code::Wide))?,
             links: links_of(matches),
+            output: matches.get_str("output"),
+            quiet: matches.get_flag("quiet"),
         })
     }
 }

@@ -1,6 +1,6 @@
 //! The command `repair`.
 use crate::faults::UsageFault;
-use crate::shared::definitions::{flag, text, trust};
+use crate::shared::definitions::{flag, text, trust, unmounted};
 use crate::shared::store::{StoreOptions, over_store};
 use crate::shared::testing::{TestOptions, with_rows, workers};
 use clap::{ArgMatches, Command as Definition};
@@ -38,6 +38,8 @@ pub struct RepairOptions<'a> {
     pub to: Option<&'a str>,
     /// Whether root works in folders that others may write into.
     pub trusts_writers: bool,
+    /// Whether folders of disks are written into at which none is mounted.
+    pub allows_unmounted: bool,
 }
 
 /// The definition of the command.
@@ -47,11 +49,12 @@ pub(crate) fn definition<'a>(alloc: Global) -> Result<Definition<'a>, AllocError
         .default_value("all");
     let repair = over_store(alloc, "repair", ABOUT)?
         .arg(workers(alloc))?
-        .arg(flag(alloc, "dry-run", DRY_RUN_HELP))?
+        .arg(flag(alloc, "dry-run", DRY_RUN_HELP).short('n'))?
         .arg(flag(alloc, "replace-damaged", REPLACE_HELP))?
         .arg(flag(alloc, "assume-one-damaged", ASSUME_HELP))?
         .arg(text(alloc, "to", "FOLDER", TO_HELP))?
         .arg(trust(alloc))?
+        .arg(unmounted(alloc))?
         .arg(reads)?;
     with_rows(alloc, repair)
 }
@@ -69,6 +72,7 @@ impl<'a> RepairOptions<'a> {
             assume_one_damaged: matches.get_flag("assume-one-damaged"),
             to: matches.get_str("to"),
             trusts_writers: matches.get_flag("trust-writers"),
+            allows_unmounted: matches.get_flag("allow-unmounted"),
         })
     }
 }

@@ -10,9 +10,10 @@ use store_repair::Reads;
 // Options before the store and after it, with their values behind a space or an equals sign.
 const REPAIRS: [&str; 2] = [
     "repair --code 12-2-2 --names d{shard}/{stripe} --layout groups --follow-links --stripes names --part 3/10 --workers 16 \
-     --sums sums --report rows --json --dry-run --replace-damaged --assume-one-damaged --to new --reads few --trust-writers s",
-    "repair s --code=12-2-2 --names=d{shard}/{stripe} --layout=groups --follow-links --stripes=names --part=3/10 --workers=16 \
-     --sums=sums --report=rows --json --dry-run --replace-damaged --assume-one-damaged --to=new --reads=few --trust-writers",
+     --sums sums --report rows --json --dry-run --replace-damaged --assume-one-damaged --to new --reads few --trust-writers \
+     --allow-unmounted -q s",
+    "repair s --code=12-2-2 --names=d{shard}/{stripe} --layout=groups --follow-links --stripes=names --part=3/10 -j 16 --quiet \
+     --sums=sums --report=rows --json -n --replace-damaged --assume-one-damaged --to=new --reads=few --trust-writers --allow-unmounted",
 ];
 
 #[test]
@@ -39,19 +40,70 @@ fn all_options_of_a_repair(rt: HostRuntime) -> io::Result<()> {
         assert_eq!(rt; (test.sums, test.report), (Some("sums"), Some("rows")));
         assert_eq!(rt; (test.json, test.workers), (true, 16));
         assert_eq!(rt; (options.reads, options.to), (Reads::Few, Some("new")));
-        assert_eq!(rt; flags_of(&options), [true; 4]);
+        assert_eq!(rt; flags_of(&options), [true; 6]);
     }
     Ok(())
 }
 
 // The options of a repair without a value.
-fn flags_of(options: &RepairOptions<'_>) -> [bool; 4] {
+fn flags_of(options: &RepairOptions<'_>) -> [bool; 6] {
     [
         options.dry_run,
         options.replace_damaged,
         options.assume_one_damaged,
         options.trusts_writers,
+        options.allows_unmounted,
+        options.test.quiet,
     ]
+}
+
+// What files are encoded, verified, taken out, listed or read with.
+const OF_FILES: [&str; 5] = [
+    "encode s a --as b --make-folders --replace --allow-unmounted -q",
+    "read s a -o b --quiet",
+    "list s --json --stripes names",
+    "verify s a b --quiet",
+    "remove s a b --code 12-2-2 --trust-writers -q",
+];
+
+#[test]
+fn options_of_files(rt: HostRuntime) -> io::Result<()> {
+    for line in OF_FILES {
+        let words = words_of(rt.alloc(), line)?;
+        match read_arguments(rt.alloc(), words.as_slice()) {
+            Ok(Command::Encode(options)) => {
+                assert_eq!(rt; (options.folder, options.name), ("s", Some("b")));
+                let flags = [
+                    options.makes_folders,
+                    options.replaces,
+                    options.allows_unmounted,
+                    options.quiet,
+                ];
+                assert_eq!(rt; flags, [true; 4]);
+            }
+            Ok(Command::Read(options)) => {
+                assert_eq!(rt; (options.name, options.output), ("a", Some("b")));
+                assert!(rt; options.quiet);
+            }
+            Ok(Command::List(options)) => {
+                assert_eq!(rt;
+                    (options.json, options.store.stripes),
+                    (true, Some("names"))
+                );
+            }
+            Ok(Command::Verify(options)) => {
+                assert_eq!(rt; options.names.as_slice(), ["a", "b"].as_slice());
+                assert_eq!(rt; (options.folder, options.quiet), ("s", true));
+            }
+            Ok(Command::Remove(options)) => {
+                assert_eq!(rt; options.names.as_slice(), ["a", "b"].as_slice());
+                assert_eq!(rt; options.code, Some(Code::Wide));
+                assert_eq!(rt; (options.trusts_writers, options.quiet), (true, true));
+            }
+            _ => assert!(rt; false, "another command: {line}"),
+        }
+    }
+    Ok(())
 }
 
 #[test]
@@ -60,7 +112,7 @@ fn what_holds_without_options(rt: HostRuntime) -> io::Result<()> {
         let words = words_of(rt.alloc(), line)?;
         match read_arguments(rt.alloc(), words.as_slice()) {
             Ok(Command::Repair(options)) => {
-                assert_eq!(rt; flags_of(&options), [false; 4]);
+                assert_eq!(rt; flags_of(&options), [false; 6]);
                 assert_eq!(rt; (options.reads, options.to), (Reads::All, None));
                 assert_plain_store(&rt, &options.store);
                 assert_plain_test(&rt, &options.test);

@@ -4,7 +4,17 @@ use std::io;
 use store_arguments::read_arguments;
 
 // The texts of the parser are those of clap, of whose usage each command's line is one.
-const REFUSALS: [(&str, &str); 20] = [
+const REFUSALS: [(&str, &str); 23] = [
+    ("encode s -", "error: - needs a name, --as NAME\n"),
+    (
+        "encode s a - --as b",
+        "error: --as and - take one FILE alone\n",
+    ),
+    (
+        "remove s",
+        "error: the following required arguments were not provided:\n  <NAME>...\n\n\
+         Usage: remove <STORE> <NAME>...\n\nFor more information, try '--help'.\n",
+    ),
     (
         "",
         "error: rebuild-store takes a command\n\nFor more information, try '--help'.\n",

@@ -1,7 +1,9 @@
 //! The copies of the description of a stripe's file: which are as they should be, and making those that are lost from one that is believed.
 mod looking;
+mod remaking;
 
 use looking::Seen;
+use remaking::described_as;
 use std::alloc::AllocError;
 use std::fs::{self, Metadata};
 use std::io::{self, ErrorKind};
@@ -23,23 +25,41 @@ pub enum CopyWork {
     Make { replaces: bool },
 }
 
-/// Looks at the copies of a stripe's description, and makes what is lost of them if that is asked for.
+/// The stripe whose description is looked at.
+#[derive(Clone, Copy)]
+pub struct DescribedStripe<'a> {
+    pub name: &'a str,
+    /// How many bytes each fragment has.
+    pub length: usize,
+    /// The folders of the store into which nothing is to be written, since no disk is mounted there.
+    pub unmounted: &'a [String],
+}
+
+/// Looks at the copies of a stripe's description, and makes what is lost of them if that is asked for. Where no copy is believed, the
+/// description is the one that the digests determine with the file that the fragments give, if there is one.
 pub fn tend_descriptions(
     rt: &HostRuntime,
     site: &Site<'_>,
-    stripe: &str,
+    stripe: &DescribedStripe<'_>,
     work: CopyWork,
 ) -> Result<Descriptions, AllocError> {
     let alloc = rt.alloc();
     let Seen { copies, like } = Seen::look(rt, site, stripe)?;
     let mut done = Descriptions {
         made: Vec::new(alloc),
-        findings: copies.stripe_findings(alloc, site.code, stripe)?,
+        findings: copies.stripe_findings(alloc, site.code, stripe.name)?,
+        replaceable: 0,
+        described: None,
     };
+    let believed = match (copies.believed(), &copies.listed) {
+        (None, Some(listed)) if work != CopyWork::Name => described_as(rt, site, stripe, listed)?,
+        (believed, _) => believed,
+    };
+    done.described = believed;
     let tended = Tended {
         site,
         work,
-        believed: copies.believed(),
+        believed,
         like,
     };
     let Copies { all, listed } = copies;
@@ -82,9 +102,23 @@ impl Tended<'_> {
         }
         match self.left(rt, name.as_str(), reason, may_replace)? {
             None => done.made.push(name)?,
-            Some(reason) => done.findings.push(CopyFinding { name, reason })?,
+            Some(reason) => {
+                if self.would_replace(&reason, may_replace) {
+                    done.replaceable = done.replaceable.saturating_add(1);
+                }
+                done.findings.push(CopyFinding { name, reason })?;
+            }
         }
         Ok(())
+    }
+
+    // Whether a copy is left that would be replaced if that were asked for.
+    fn would_replace(&self, reason: &CopyReason, may_replace: bool) -> bool {
+        let is_replaced = match self.work {
+            CopyWork::Name => false,
+            CopyWork::Plan { replaces } | CopyWork::Make { replaces } => replaces,
+        };
+        may_replace && !is_replaced && self.believed.is_some() && !reason.is_of_device()
     }
 
     // Makes the copy of a name that isn't as it should be, if it is to be made, and says why it still isn't so.

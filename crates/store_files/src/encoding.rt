@@ -2,44 +2,103 @@
 pub(crate) mod descriptions;
 pub(crate) mod fragments;
 pub(crate) mod placing;
+pub(crate) mod replacing;
 pub(crate) mod source;
+pub(crate) mod spool;
+pub(crate) mod subfolders;
 pub(crate) mod sums;
 pub(crate) mod target;
 
 use crate::digesting::digest_at;
+use crate::limits::refuse_over_limit;
+use crate::staging::{is_staged, is_there};
 use descriptions::place_descriptions;
 use fragments::make_fragments;
 use lrc_code::{Code, Place};
-use placing::{discard_all, is_there, is_there_already, place_fragments};
-use source::{base_name, is_changed, no_name, regular};
+use placing::{discard_all, is_there_already, place_fragments};
+use replacing::{finish_replacing, replace};
+use source::{is_changed, no_name, regular, stripe_name};
+use std::fs::Metadata;
 use store_folder::{DESCRIPTION, Described, KEPT, Links, is_ambiguous, path_in, read_description};
 use store_repair::fragment_length;
 use store_reports::{FileFault, fragment_name, source_fault};
+use subfolders::make_folders;
 use target::Target;
 
-/// Encodes the file at a path. What is there already stays: the same bytes are kept, others refuse the file before anything gets a name.
-pub fn encode_file(rt: &HostRuntime, target: &mut Target<'_>, path: &str) -> Result<(), FileFault> {
+/// A file that is encoded.
+#[derive(Clone, Copy, Debug)]
+pub struct SourceFile<'a> {
+    pub path: &'a str,
+    /// The name that it gets in the store, if that isn't its own.
+    pub name: Option<&'a str>,
+}
+
+/// Encodes a file. What is there already stays: the same bytes are kept, others refuse the file before anything gets a name, unless the
+/// target's files are replaced.
+pub fn encode_file(
+    rt: &HostRuntime,
+    target: &mut Target<'_>,
+    source: &SourceFile<'_>,
+) -> Result<(), FileFault> {
     let alloc = rt.alloc();
-    let name = base_name(rt, path)?;
+    let path = source.path;
+    let name = stripe_name(rt, source.name.unwrap_or(path))?;
     let before = regular(rt, path)?;
-    let length = before.len();
     let described = Described {
-        length,
-        digest: digest_at(rt, path, length, Links::Followed).map_err(|error| source_fault(
+        length: before.len(),
+        digest: digest_at(rt, path, before.len(), Links::Followed).map_err(|error| source_fault(
             alloc, path, error,
         ))?,
         code: target.code,
     };
-    refuse_others(rt, target, name, &described)?;
-    let names = target.names(alloc, name)?;
-    let is_ambiguous = is_ambiguous(alloc, &target.pattern, target.code)?;
-    let is_taken = |fragment: &String| {
-        fragment.ends_with(KEPT) || (is_ambiguous && fragment.ends_with(DESCRIPTION))
-    };
-    if names.iter().any(is_taken) {
-        return Err(no_name(rt, path)?);
+    refuse_names(rt, target, path, name)?;
+    if target.makes_folders {
+        make_folders(rt, target, name)?;
     }
-    let made = make_fragments(rt, target, name, path, length)?;
+    let given = Given {
+        path,
+        before: &before,
+        described,
+    };
+    finish_replacing(rt, target, name)?;
+    match refuse_others(rt, target, name, &described) {
+        Ok(()) => encode_as(rt, target, name, &given),
+        Err(FileFault::Refused { what }) => {
+            if !target.replaces {
+                return Err(FileFault::Refused { what });
+            }
+            replace(rt, target, name, &given)
+        }
+        Err(fault) => Err(fault),
+    }
+}
+
+/// A file that is encoded, and what is known of it.
+#[derive(Clone, Copy)]
+pub(crate) struct Given<'a> {
+    pub(crate) path: &'a str,
+    /// What was said of it before it was read.
+    pub(crate) before: &'a Metadata,
+    pub(crate) described: Described,
+}
+
+/// Encodes a file as the stripe of a name.
+pub(crate) fn encode_as(
+    rt: &HostRuntime,
+    target: &mut Target<'_>,
+    name: &str,
+    given: &Given<'_>,
+) -> Result<(), FileFault> {
+    let alloc = rt.alloc();
+    let Given {
+        path,
+        before,
+        described,
+    } = *given;
+    let names = target.names(alloc, name)?;
+    let fragment_bytes = fragment_length(target.code, described.length as usize);
+    refuse_over_limit(rt, name, fragment_bytes as u64)?;
+    let made = make_fragments(rt, target, name, path, described.length)?;
     let after = match regular(rt, path) {
         Ok(after) => after,
         Err(fault) => {
@@ -47,14 +106,32 @@ pub fn encode_file(rt: &HostRuntime, target: &mut Target<'_>, path: &str) -> Res
             return Err(fault);
         }
     };
-    if is_changed(&before, &after) {
+    if is_changed(before, &after) {
         discard_all(rt, target.folder, made)?;
         let what = format!(in alloc; "{path}: changed while it was read")?;
         return Err(FileFault::Refused { what });
     }
-    let fragment_bytes = fragment_length(target.code, length as usize);
     place_fragments(rt, target, names.as_slice(), fragment_bytes, made)?;
     place_descriptions(rt, target, name, &described)
+}
+
+// Refuses a file the names of whose fragments would be those of something else.
+fn refuse_names(
+    rt: &HostRuntime,
+    target: &Target<'_>,
+    path: &str,
+    name: &str,
+) -> Result<(), FileFault> {
+    let alloc = rt.alloc();
+    let names = target.names(alloc, name)?;
+    let is_ambiguous = is_ambiguous(alloc, &target.pattern, target.code)?;
+    let is_taken = |fragment: &String| {
+        fragment.ends_with(KEPT) || (is_ambiguous && fragment.ends_with(DESCRIPTION))
+    };
+    if names.iter().any(is_taken) || is_staged(name) {
+        return Err(no_name(rt, path)?);
+    }
+    Ok(())
 }
 
 // Refuses a file beside whose stripe's names there is another description, or a fragment at a place that its code hasn't.

@@ -2,20 +2,27 @@
 //! description.
 //!
 //! ```rust
-//! encode_file(&rt, &mut target, "notes.txt")?;
-//! read_file(&rt, &StoredFile { folder, pattern, name: "notes.txt", links })?;
-//! let descriptions = tend_descriptions(&rt, &site, "notes.txt", CopyWork::Name)?;
+//! encode_file(&rt, &mut target, &SourceFile { path: "notes.txt", name: None })?;
+//! read_file(&rt, &StoredFile { folder, pattern, name: "notes.txt", links }, None)?;
+//! let descriptions = tend_descriptions(&rt, &site, &stripe, CopyWork::Name)?;
 //! ```
 #![tactic(auto)]
 
 mod copies;
 mod digesting;
 mod encoding;
+mod limits;
 mod reading;
+mod removing;
+mod staging;
 
-pub use copies::{CopyWork, tend_descriptions};
-pub use encoding::encode_file;
+pub use copies::{CopyWork, DescribedStripe, tend_descriptions};
+pub use encoding::spool::Spool;
 pub use encoding::sums::{stored_sums, write_new_sums};
 pub use encoding::target::Target;
+pub use encoding::{SourceFile, encode_file};
+pub use limits::{most_file_bytes, refuse_over_limit};
+pub use reading::descriptions::first_described;
 pub use reading::file::StoredFile;
-pub use reading::read_file;
+pub use reading::{read_file, verify_file};
+pub use removing::remove_stored;

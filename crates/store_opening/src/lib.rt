@@ -16,11 +16,13 @@ mod opening;
 mod refusing;
 mod stores;
 mod unlisted;
+mod unmounted;
 
 pub use fitting::refuse_other_stores;
 pub use leftovers::remove_leftovers;
 pub use locks::{Locks, lock_folder};
-pub use opening::{Access, Opening};
+pub use opening::{Access, Opening, Unmounted};
 pub use refusing::{other_than, refuse_untrusted};
 pub use stores::{OpenStore, open_store};
 pub use unlisted::say_links;
+pub use unmounted::refuse_unmounted;

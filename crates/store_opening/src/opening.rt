@@ -23,6 +23,18 @@ pub struct Opening<'a> {
     /// The folder that rebuilt fragments are written to, if that isn't the store's.
     pub to: Option<&'a str>,
     pub access: Access,
+    pub unmounted: Unmounted,
+}
+
+/// What is done with folders of disks at which none is mounted.
+#[derive(Clone, Copy, Debug, PartialEq, Eq)]
+pub enum Unmounted {
+    /// They are named.
+    Named,
+    /// They are named, and nothing is written into them.
+    LeftAlone,
+    /// They are like others.
+    Allowed,
 }
 
 /// Whether a store, or the folder that rebuilt fragments are written to, is written into.

@@ -4,6 +4,7 @@ use crate::locks::Locks;
 use crate::opening::{Access, Opening};
 use crate::refusing::{refuse_other_code, refuse_report, refuse_writing};
 use crate::unlisted::{listed, say_unlisted};
+use crate::unmounted::{leave_alone, left_alone};
 use lrc_code::Code;
 use std::alloc::AllocError;
 use std::mem;
@@ -29,6 +30,8 @@ pub struct OpenStore {
     pub target: Option<Listing>,
     /// Whether a folder couldn't be listed that is there.
     pub has_unlisted: bool,
+    /// The folders of disks at which none is mounted, and into which nothing is to be written.
+    pub unmounted: Vec<String>,
 }
 
 /// Opens a store; where it is to be written into, no other run that writes works in it meanwhile. Its code is the one that is given, or
@@ -60,6 +63,7 @@ struct Unlocked {
     target: Option<Listing>,
     sums: Option<Sums>,
     has_unlisted: bool,
+    unmounted: Vec<String>,
 }
 
 impl Unlocked {
@@ -72,6 +76,7 @@ impl Unlocked {
             target,
             sums,
             has_unlisted,
+            unmounted,
         } = self;
         OpenStore {
             folder,
@@ -82,6 +87,7 @@ impl Unlocked {
             locks,
             target,
             has_unlisted,
+            unmounted,
         }
     }
 }
@@ -111,7 +117,15 @@ fn open_locked(rt: &HostRuntime, opening: &Opening<'_>) -> Result<Unlocked, Stor
     };
     refuse_other_code(rt, opening, &listing, code)?;
     let has_unlisted = say_unlisted(rt, &listing, &opening.pattern, code)?;
-    let found = stripes_of(rt, opening, code, &mut listing)?;
+    let mut found = stripes_of(rt, opening, code, &mut listing)?;
+    let unmounted = left_alone(rt, opening, code)?;
+    leave_alone(
+        rt.alloc(),
+        &opening.pattern,
+        code,
+        unmounted.as_slice(),
+        &mut found,
+    )?;
     Ok(Unlocked {
         folder: String::from_str(rt.alloc(), opening.folder)?,
         code,
@@ -120,6 +134,7 @@ fn open_locked(rt: &HostRuntime, opening: &Opening<'_>) -> Result<Unlocked, Stor
         target,
         sums,
         has_unlisted,
+        unmounted,
     })
 }
 

@@ -79,6 +79,11 @@ impl Sums {
         Ok(())
     }
 
+    /// Takes the digest of the file of a name out, and says whether there was one.
+    pub fn remove(&mut self, name: &str) -> bool {
+        self.digests.remove(name.as_bytes()).is_some()
+    }
+
     /// The lines as `sha256sum` writes them, in the order of the names.
     pub fn text(&self, alloc: Global) -> Result<Vec<u8>, AllocError> {
         let mut text = Vec::new(alloc);

@@ -82,6 +82,10 @@ pub struct Descriptions {
     /// The names of those that were made, or would be.
     pub made: Vec<String>,
     pub findings: Vec<CopyFinding>,
+    /// How many of the findings are of copies that would be replaced if that were asked for.
+    pub replaceable: u64,
+    /// What is believed of the file.
+    pub described: Option<Described>,
 }
 
 impl Copies {

@@ -6,6 +6,7 @@ use crate::results::Results;
 use crate::totals::{unchecked_places, why_unchecked};
 use lrc_code::{Code, Place};
 use std::alloc::{AllocError, Global};
+use std::io::ErrorKind;
 use store_folder::{Alone, Pattern, Site};
 use store_repair::{Finding, Found, Reason, Stripe};
 
@@ -33,8 +34,19 @@ fn line_of(
         Some(place) => file_of(alloc, site, stripe, place)?,
         None => String::from_str(alloc, stripe.name)?,
     };
-    let reason = &finding.reason;
+    let reason = reason_text(alloc, &finding.reason)?;
     format!(in alloc; "{name}: {reason}")
+}
+
+/// What is said of a fragment or a stripe. A folder may take no names as long as those of unfinished files and of fragments that are kept.
+pub(crate) fn reason_text(alloc: Global, reason: &Reason) -> Result<String, AllocError> {
+    match reason {
+        Reason::Unwritten(error) if error.kind() == ErrorKind::InvalidFilename => String::from_str(
+            alloc,
+            "can't be put in its place: its folder takes no name as long as that of a fragment which is kept, or of an unfinished file",
+        ),
+        reason => format!(in alloc; "{reason}"),
+    }
 }
 
 /// The lines of what a command found of a stripe's fragments and of the copies of its description.

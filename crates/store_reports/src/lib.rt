@@ -11,6 +11,7 @@
 mod copies;
 mod done;
 mod faults;
+mod files;
 mod findings;
 mod lines;
 mod names;
@@ -26,13 +27,16 @@ pub use copies::{Copies, CopyFinding, CopyReason, CopyState, Descriptions, Found
 pub use done::Done;
 pub use faults::file::{FileFault, device, encode_fault, source_fault};
 pub use faults::store::{StoreFault, device_fault};
+pub use files::{FileState, ListedFile, file_line};
 pub use findings::{alone_lines, finding_lines, unchecked_lines, unknown_lines, unlisted_lines};
 pub use lines::{escaped, say, write};
 pub use names::fragment_name;
-pub use plans::without_left;
+pub use plans::{without_left, without_repeated};
 pub use requests::{header_of, request_lines};
 pub use results::{Contents, Results};
 pub use rows::{Rows, rows_of};
-pub use statuses::{DEVICE, DONE, LEFT, NO_MEMORY, USAGE, status_of, status_of_plan};
-pub use summaries::{encoded, listed, planned, repaired, scrubbed};
+pub use statuses::{DEVICE, DONE, LEFT, NO_MEDIUM, NO_MEMORY, USAGE, status_of, status_of_plan};
+pub use summaries::{
+    encoded, files_listed, listed, planned, removed, repaired, scrubbed, verified,
+};
 pub use totals::Totals;

@@ -46,6 +46,40 @@ pub fn without_left(
     })
 }
 
+/// A plan without findings, from an index on, of fragments of which an earlier one is: what is said first is why a fragment is left.
+pub fn without_repeated(alloc: Global, plan: Outcome, from: usize) -> Result<Outcome, AllocError>
+    ensures { IfOk result (λ p. p.rebuilt ≡ plan.rebuilt) }
+{
+    let Outcome {
+        length,
+        survivors,
+        is_checked,
+        rebuilt,
+        findings: all,
+    } = plan;
+    let mut findings = Vec::new(alloc);
+    let mut index = 0usize;
+    for finding in all {
+        let is_said = is_said(findings.as_slice(), &finding);
+        if index < from || !is_said {
+            findings.push(finding)?;
+        }
+        index = index.saturating_add(1);
+    }
+    Ok(Outcome {
+        length,
+        survivors,
+        is_checked,
+        rebuilt,
+        findings,
+    })
+}
+
+// Whether something is said of the fragment that a finding is of.
+fn is_said(findings: &[Finding], finding: &Finding) -> bool {
+    finding.place.is_some() && findings.iter().any(|other| other.place == finding.place)
+}
+
 // Whether a repair leaves what is under the name of a fragment that it could rebuild.
 fn is_left(repair: &Repair, found: Found, is_checked: bool) -> bool {
     match found {

@@ -1,8 +1,8 @@
 //! The rows of a report.
 use crate::copies::{CopyFinding, Descriptions};
-use crate::findings::ALONE;
+use crate::findings::{ALONE, reason_text};
 use crate::results::Results;
-use crate::totals::unchecked_places;
+use crate::totals::{rebuilt_places, unchecked_places};
 use csv::WriterBuilder;
 use serde_json::Value;
 use std::alloc::{AllocError, Global};
@@ -64,8 +64,8 @@ fn add_rows(
     text: &mut String,
 ) -> io::Result<()> {
     let unchecked = unchecked_places(alloc, results.site, stripe, outcome)?;
-    for place in &outcome.rebuilt {
-        let is_unchecked = unchecked.iter().any(|other| *other == *place);
+    for place in rebuilt_places(alloc, outcome)? {
+        let is_unchecked = unchecked.iter().any(|other| *other == place);
         let detail = if is_unchecked { "unchecked" } else { "" };
         let row = Row {
             stripe,
@@ -76,7 +76,6 @@ fn add_rows(
         add_row(alloc, &row, rows, text)?;
     }
     for finding in &outcome.findings {
-        let reason = &finding.reason;
         let row = Row {
             stripe,
             place: match finding.place {
@@ -88,7 +87,7 @@ fn add_rows(
             } else {
                 "left"
             },
-            detail: format!(in alloc; "{reason}")?,
+            detail: reason_text(alloc, &finding.reason)?,
         };
         add_row(alloc, &row, rows, text)?;
     }

@@ -18,6 +18,9 @@ pub const DEVICE: u8 = 3;
 /// Memory was refused.
 pub const NO_MEMORY: u8 = 4;
 
+/// The number by which the system says that a drive has no medium (ENOMEDIUM): so it is at the folder of a disk that isn't mounted.
+pub const NO_MEDIUM: i32 = 123;
+
 /// The status of a repair or a scrub, by what it left and by whether its report could be written.
 pub fn status_of(totals: &Totals, is_reported: bool) -> u8
     ensures device { totals.now.device ≡ true → result ≡ 3 }

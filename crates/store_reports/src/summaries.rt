@@ -51,17 +51,40 @@ impl Names {
 
 /// What a repair did.
 pub fn repaired(alloc: Global, results: &Results<'_>) -> Result<String, AllocError> {
-    let Results {
-        site,
-        stripes,
-        all,
-        totals,
-        ..
-    } = *results;
+    let totals = results.totals;
     let mut unchecked = Names::new(alloc);
     let mut damaged = Names::new(alloc);
-    for done in all {
-        let Some(stripe) = stripes.get(done.index) else {
+    add_names(alloc, results, &mut unchecked, &mut damaged)?;
+    let rebuilt = counted(alloc, totals.rebuilt, "fragment")?;
+    let bytes = size_of(alloc, totals.bytes)?;
+    let Names { text, count } = unchecked;
+    let Names {
+        text: damaged_names,
+        count: damaged_count,
+    } = damaged;
+    let replaceable = replaceable_text(
+        alloc,
+        totals.replaceable,
+        "; left without --replace-damaged: ",
+    )?;
+    let left = totals.left.saturating_sub(totals.replaceable);
+    let described = described_text(alloc, totals.described, "made")?;
+    let damaged = format!(in alloc; "{damaged_count}{damaged_names}{replaceable}")?;
+    format!(in alloc;
+        "repaired {rebuilt}, {bytes} ({count} unchecked{text}); damaged: {damaged}; not possible: {left}{described}"
+    )
+}
+
+// Adds the names of what no check covers of what was rebuilt, and of what is damaged.
+fn add_names(
+    alloc: Global,
+    results: &Results<'_>,
+    unchecked: &mut Names,
+    damaged: &mut Names,
+) -> Result<(), AllocError> {
+    let site = results.site;
+    for done in results.all {
+        let Some(stripe) = results.stripes.get(done.index) else {
             continue;
         };
         for place in unchecked_places(alloc, site, stripe.name, &done.outcome)? {
@@ -73,18 +96,15 @@ pub fn repaired(alloc: Global, results: &Results<'_>) -> Result<String, AllocErr
             }
         }
     }
-    let rebuilt = counted(alloc, totals.rebuilt, "fragment")?;
-    let bytes = size_of(alloc, totals.bytes)?;
-    let Names { text, count } = unchecked;
-    let Names {
-        text: damaged_names,
-        count: damaged_count,
-    } = damaged;
-    let left = totals.left;
-    let described = described_text(alloc, totals.described, "made")?;
-    format!(in alloc;
-        "repaired {rebuilt}, {bytes} ({count} unchecked{text}); damaged: {damaged_count}{damaged_names}; not possible: {left}{described}"
-    )
+    Ok(())
+}
+
+// What is said of what would be replaced if that were asked for, if there is anything.
+fn replaceable_text(alloc: Global, count: u64, what: &str) -> Result<String, AllocError> {
+    if count == 0 {
+        return Ok(String::new(alloc));
+    }
+    format!(in alloc; "{what}{count}")
 }
 
 // What is said of copies of descriptions, if there are any.
@@ -153,9 +173,12 @@ pub fn planned(alloc: Global, results: &Results<'_>) -> Result<String, AllocErro
         bytes,
         unchecked,
         left,
+        replaceable,
         described,
         ..
     } = results.totals;
+    let left = left.saturating_sub(replaceable);
+    let more = replaceable_text(alloc, replaceable, ", with --replace-damaged ")?;
     let described = described_text(alloc, described, "can be made")?;
     let count = counted(alloc, results.stripes.len() as u64, "stripe")?;
     let code = results.site.code.text();
@@ -164,7 +187,7 @@ pub fn planned(alloc: Global, results: &Results<'_>) -> Result<String, AllocErro
     let writes = size_of(alloc, bytes)?;
     let first = format!(in alloc; "{count} of {code}, {lengths}; {lost} lost in {lossy}")?;
     format!(in alloc;
-        "{first}; {rebuilt} can be rebuilt ({unchecked} unchecked), {left} can't; reads {reads}, writes {writes}{described}"
+        "{first}; {rebuilt} can be rebuilt ({unchecked} unchecked){more}, {left} can't; reads {reads}, writes {writes}{described}"
     )
 }
 
@@ -192,6 +215,24 @@ pub fn listed(alloc: Global, stripes: u64, lost: u64, unlisted: u64) -> Result<S
 pub fn encoded(alloc: Global, encoded: u64, left: u64) -> Result<String, AllocError> {
     let encoded = counted(alloc, encoded, "file")?;
     format!(in alloc; "encoded {encoded}; not encoded: {left}")
+}
+
+/// How many files are in a store, and how many of them aren't whole.
+pub fn files_listed(alloc: Global, files: u64, broken: u64) -> Result<String, AllocError> {
+    let files = counted(alloc, files, "file")?;
+    format!(in alloc; "{files}; not whole: {broken}")
+}
+
+/// How many files have their digests, and how many don't.
+pub fn verified(alloc: Global, verified: u64, left: u64) -> Result<String, AllocError> {
+    let verified = counted(alloc, verified, "file")?;
+    format!(in alloc; "verified {verified}; not as described: {left}")
+}
+
+/// How many files were taken out of a store, and how many were not.
+pub fn removed(alloc: Global, removed: u64, left: u64) -> Result<String, AllocError> {
+    let removed = counted(alloc, removed, "file")?;
+    format!(in alloc; "removed {removed}; not removed: {left}")
 }
 
 // A count of things.

@@ -2,7 +2,7 @@
 use crate::copies::Descriptions;
 use crate::done::Done;
 use crate::names::fragment_name;
-use lrc_code::Place;
+use lrc_code::{Code, Place};
 use std::alloc::{AllocError, Global};
 use store_folder::Site;
 use store_repair::{Finding, Outcome, Reason, Stripe};
@@ -19,8 +19,9 @@ pub struct Totals {
     pub damaged: u64,
     /// How many copies of descriptions were made.
     pub described: u64,
-    /// How many findings are not mended.
+    /// How many findings are not mended, and how many of these would be if damaged fragments and descriptions were replaced.
     pub left: u64,
+    pub replaceable: u64,
     /// Whether the system refused to read or write something.
     pub device: bool,
 }
@@ -39,12 +40,23 @@ pub(crate) fn totals_of(
             None => 0,
         };
         totals.unchecked = totals.unchecked.saturating_add(unchecked as u64);
-        totals.add(&done.outcome);
+        totals.add(site.code, &done.outcome);
         if let Some(descriptions) = &done.descriptions {
             totals.add_descriptions(descriptions);
         }
     }
     Ok(totals)
+}
+
+/// The places whose fragments were rebuilt, in the order of all places.
+pub(crate) fn rebuilt_places(alloc: Global, outcome: &Outcome) -> Result<Vec<Place>, AllocError> {
+    let mut places = Vec::new(alloc);
+    for place in &Place::ALL {
+        if outcome.rebuilt.iter().any(|rebuilt| *rebuilt == *place) {
+            places.push(*place)?;
+        }
+    }
+    Ok(places)
 }
 
 /// The places of a stripe whose rebuilt fragments are covered by no check and no digest.
@@ -55,17 +67,17 @@ pub(crate) fn unchecked_places(
     outcome: &Outcome,
 ) -> Result<Vec<Place>, AllocError> {
     let mut places = Vec::new(alloc);
-    for place in &outcome.rebuilt {
-        if outcome.is_checked_at(site.code, *place) {
+    for place in rebuilt_places(alloc, outcome)? {
+        if outcome.is_checked_at(site.code, place) {
             continue;
         }
-        let name = fragment_name(alloc, &site.pattern, site.code, stripe, *place)?;
+        let name = fragment_name(alloc, &site.pattern, site.code, stripe, place)?;
         let is_covered = match site.sums {
             Some(sums) => sums.digest_of(name.as_str()).is_some(),
             None => false,
         };
         if !is_covered {
-            places.push(*place)?;
+            places.push(place)?;
         }
     }
     Ok(places)
@@ -85,9 +97,26 @@ pub(crate) fn why_unchecked(outcome: &Outcome) -> &'static str {
     }
 }
 
+// Whether a fragment is left that would be replaced if that were asked for: it is damaged or has another length, a check covers what would
+// replace it, and nothing else is said of it.
+fn is_replaceable(code: Code, outcome: &Outcome, finding: &Finding) -> bool {
+    let Some(place) = finding.place else {
+        return false;
+    };
+    let is_of_place = |other: &&Finding| other.place == Some(place);
+    let is_other = matches!(
+        finding.reason,
+        Reason::Damaged | Reason::Differs | Reason::OtherLength
+    );
+    let is_alone = outcome.findings.iter().filter(is_of_place).count() == 1;
+    let differs = matches!(finding.reason, Reason::Differs);
+    let is_sure = outcome.is_checked && (differs || outcome.is_checked_at(code, place));
+    is_other && is_alone && is_sure && !outcome.is_mended(finding)
+}
+
 impl Totals {
     // Counts what became of a stripe's fragments.
-    fn add(&mut self, outcome: &Outcome) {
+    fn add(&mut self, code: Code, outcome: &Outcome) {
         let rebuilt = outcome.rebuilt.len() as u64;
         let bytes = rebuilt.saturating_mul(outcome.length as u64);
         self.rebuilt = self.rebuilt.saturating_add(rebuilt);
@@ -99,6 +128,9 @@ impl Totals {
             if !outcome.is_mended(finding) {
                 self.left = self.left.saturating_add(1);
             }
+            if is_replaceable(code, outcome, finding) {
+                self.replaceable = self.replaceable.saturating_add(1);
+            }
             self.device = self.device || finding.reason.is_of_device();
         }
     }
@@ -109,6 +141,7 @@ impl Totals {
         let left = descriptions.findings.len() as u64;
         self.described = self.described.saturating_add(made);
         self.left = self.left.saturating_add(left);
+        self.replaceable = self.replaceable.saturating_add(descriptions.replaceable);
         for finding in &descriptions.findings {
             self.device = self.device || finding.reason.is_of_device();
         }

@@ -4,6 +4,7 @@
 
 #[cfg(test)]
 mod copies;
+mod files;
 #[cfg(test)]
 mod lines;
 #[cfg(test)]

@@ -8,7 +8,7 @@ use store_repair::{Finding, Found, Outcome, Reads, Reason, Repair, Stripe, Strip
 use store_reports::{
     Contents, CopyFinding, CopyReason, Descriptions, Done, Results, Rows, alone_lines,
     finding_lines, planned, repaired, rows_of, scrubbed, status_of, status_of_plan,
-    unchecked_lines, without_left,
+    unchecked_lines, without_left, without_repeated,
 };
 
 const SITE: Site<'static> = Site {
@@ -130,6 +130,8 @@ fn done_of(alloc: Global) -> Result<Done, AllocError> {
     outcome.rebuilt.push(Place::X0)?;
     outcome.rebuilt.push(Place::P1)?;
     let mut descriptions = Descriptions {
+        replaceable: 0,
+        described: None,
         made: Vec::new(alloc),
         findings: Vec::new(alloc),
     };
@@ -221,5 +223,74 @@ fn assert_planned(
     assert_eq!(rt; planned(alloc, &results)?.as_str(), PLANNED);
     assert_eq!(rt; status_of(&results.totals, true), 0);
     assert_eq!(rt; status_of_plan(&results.totals, true), 1);
+    Ok(())
+}
+
+// What is said of x0, x0 again, x1 and a stripe twice: what isn't said of the same fragment before stays.
+#[test]
+fn what_is_said_of_a_fragment_first_stays(rt: HostRuntime) -> io::Result<()> {
+    let alloc = rt.alloc();
+    let mut findings = Vec::new(alloc);
+    for place in [
+        Some(Place::X0),
+        Some(Place::X0),
+        Some(Place::X1),
+        None,
+        None,
+    ] {
+        let reason = Reason::OtherLength;
+        findings
+            .push(Finding { place, reason })
+            .map_err(|_| AllocError)?;
+    }
+    let plan = without_repeated(alloc, Outcome::of(alloc, findings), 1)?;
+    let places = plan.findings.iter().map(|finding| finding.place);
+    assert!(rt;
+        places.eq([Some(Place::X0), Some(Place::X1), None, None]),
+        "findings"
+    );
+    Ok(())
+}
+
+// A damaged fragment, beside which maybe one is kept that was replaced.
+fn damaged(alloc: Global, is_checked: bool, is_kept: bool) -> Result<Done, AllocError> {
+    let mut findings = Vec::new(alloc);
+    let place = Some(Place::P0);
+    let reason = Reason::Differs;
+    findings.push(Finding { place, reason })?;
+    if is_kept {
+        let reason = Reason::KeptThere;
+        findings.push(Finding { place, reason })?;
+    }
+    let mut outcome = Outcome::of(alloc, findings);
+    outcome.is_checked = is_checked;
+    Ok(Done {
+        index: 0,
+        outcome,
+        descriptions: None,
+    })
+}
+
+// It is left for --replace-damaged alone, unless something else is said of it or no check covers it.
+#[test]
+fn what_replacing_would_mend_is_counted(rt: HostRuntime) -> io::Result<()> {
+    let alloc = rt.alloc();
+    for (is_checked, is_kept, count) in [(true, false, 1), (true, true, 0), (false, false, 0)] {
+        let mut all = Vec::new(alloc);
+        all.push(damaged(alloc, is_checked, is_kept)?)
+            .map_err(|_| AllocError)?;
+        let files = StripeFiles::new();
+        let stripes = [Stripe { name: "s", files }];
+        let contents = Contents {
+            stripes: stripes.as_slice(),
+            alone: &[],
+            has_unlisted: false,
+        };
+        let results = Results::new(alloc, &SITE, contents, all.as_slice(), "rebuilt")?;
+        assert_eq!(rt; results.totals.replaceable, count);
+        let said = repaired(alloc, &results)?;
+        let is_said = said.contains("; left without --replace-damaged: 1; not possible: 0");
+        assert_eq!(rt; is_said, count == 1);
+    }
     Ok(())
 }

@@ -1,15 +1,23 @@
 //! The command `encode`.
+use crate::work::progress::{Progress, Task};
 use lrc_code::Code;
 use std::fs;
 use std::io::ErrorKind;
+use std::thread::Threads;
 use store_arguments::EncodeOptions;
-use store_files::{Target, encode_file, stored_sums, write_new_sums};
+use store_files::{SourceFile, Spool, Target, encode_file, stored_sums, write_new_sums};
 use store_folder::{Listing, Others, Wanted, list};
-use store_opening::{lock_folder, other_than, refuse_untrusted, remove_leftovers, say_links};
+use store_opening::{
+    lock_folder, other_than, refuse_unmounted, refuse_untrusted, remove_leftovers, say_links,
+};
 use store_reports::{DEVICE, DONE, FileFault, StoreFault, device, encoded, say, write};
 
 /// Encodes files, says what was done and what wasn't, and gives the exit status.
-pub(crate) fn encode(rt: &HostRuntime, options: &EncodeOptions<'_>) -> Result<u8, FileFault> {
+pub(crate) fn encode<R: Threads>(
+    threads: &R,
+    rt: &HostRuntime,
+    options: &EncodeOptions<'_>,
+) -> Result<u8, FileFault> {
     let alloc = rt.alloc();
     make_folder(rt, options.folder)?;
     let _lock = lock_folder(rt, options.folder)?;
@@ -20,26 +28,83 @@ pub(crate) fn encode(rt: &HostRuntime, options: &EncodeOptions<'_>) -> Result<u8
         error,
     ))?;
     let mut target = target_of(rt, options, &listing)?;
-    let mut status = if is_clean { DONE } else { DEVICE };
-    let mut count = 0u64;
+    let progress = Progress::new(rt, task_of(rt, options), options.quiet);
+    let done = progress.beside(threads, || encode_all(rt, options, &mut target, &progress))?;
+    write_new_sums(rt, &target)?;
+    let Encoded { count, status } = done;
+    let left = (options.files.len() as u64).saturating_sub(count);
+    if !options.quiet {
+        write(rt, encoded(alloc, count, left)).map_err(|error| device(
+            alloc,
+            "standard output",
+            error,
+        ))?;
+    }
+    let unclean = if is_clean { DONE } else { DEVICE };
+    Ok(status.max(unclean))
+}
+
+// How many files were encoded, and the exit status that the others ask for.
+#[derive(Clone, Copy)]
+struct Encoded {
+    count: u64,
+    status: u8,
+}
+
+// The work on the files: each is read twice, for its digest and for its fragments.
+fn task_of(rt: &HostRuntime, options: &EncodeOptions<'_>) -> Task {
+    let mut bytes = 0u64;
     for path in &options.files {
-        match encode_file(rt, &mut target, path) {
-            Ok(()) => count = count.saturating_add(1),
+        let length = fs::metadata(rt, *path).map_or(0, |metadata| metadata.len());
+        bytes = bytes.saturating_add(length);
+    }
+    Task::files("encode", options.files.len() as u64, bytes, 2)
+}
+
+// Encodes the files one after the other, and says why one isn't.
+fn encode_all(
+    rt: &HostRuntime,
+    options: &EncodeOptions<'_>,
+    target: &mut Target<'_>,
+    progress: &Progress<'_>,
+) -> Result<Encoded, FileFault> {
+    let mut done = Encoded {
+        count: 0,
+        status: DONE,
+    };
+    for path in &options.files {
+        match encode_one(rt, options, target, path) {
+            Ok(()) => done.count = done.count.saturating_add(1),
             Err(FileFault::OutOfMemory) => return Err(FileFault::OutOfMemory),
             Err(fault) => {
                 let _ = say(rt, format!(in rt.alloc(); "rebuild-store: {fault}"));
-                status = status.max(fault.status());
+                done.status = done.status.max(fault.status());
             }
         }
+        progress.count_units(1, 0);
     }
-    write_new_sums(rt, &target)?;
-    let left = (options.files.len() as u64).saturating_sub(count);
-    write(rt, encoded(alloc, count, left)).map_err(|error| device(
-        alloc,
-        "standard output",
-        error,
-    ))?;
-    Ok(status)
+    Ok(done)
+}
+
+// Encodes a file, or what standard input has.
+fn encode_one(
+    rt: &HostRuntime,
+    options: &EncodeOptions<'_>,
+    target: &mut Target<'_>,
+    path: &str,
+) -> Result<(), FileFault> {
+    let name = options.name;
+    if path != "-" {
+        return encode_file(rt, target, &SourceFile { path, name });
+    }
+    let spool = Spool::fill(rt, target.folder)?;
+    let source = SourceFile {
+        path: spool.path(),
+        name,
+    };
+    let encoded = encode_file(rt, target, &source);
+    spool.remove(rt)?;
+    encoded
 }
 
 // Makes the store's folder, unless it is there.
@@ -76,6 +141,9 @@ fn listed(rt: &HostRuntime, options: &EncodeOptions<'_>) -> Result<Listing, File
     if !options.trusts_writers {
         refuse_untrusted(rt, &listing)?;
     }
+    if !options.allows_unmounted {
+        refuse_unmounted(rt, options.folder, &pattern, code, options.links)?;
+    }
     Ok(listing)
 }
 
@@ -100,5 +168,7 @@ fn target_of<'o>(
         sums: stored_sums(rt, options.folder)?,
         is_changed: false,
         links: options.links,
+        makes_folders: options.makes_folders,
+        replaces: options.replaces,
     })
 }

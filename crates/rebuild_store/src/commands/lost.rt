@@ -3,7 +3,7 @@ use crate::commands::opening_of;
 use crate::output::{say_all, say_alone};
 use std::io::{self, BufWriter, Write};
 use store_arguments::LostOptions;
-use store_files::{CopyWork, tend_descriptions};
+use store_files::{CopyWork, DescribedStripe, tend_descriptions};
 use store_folder::{FolderStore, Site, SystemFolder};
 use store_opening::{OpenStore, Opening, open_store};
 use store_repair::{Reason, Stripe, StripeLength, stripe_length};
@@ -115,7 +115,12 @@ fn requests_of(
 
 // Says which copies of a stripe's description aren't as they should be, and whether there are any.
 fn say_descriptions(rt: &HostRuntime, site: &Site<'_>, stripe: &Stripe<'_>) -> io::Result<bool> {
-    let descriptions = tend_descriptions(rt, site, stripe.name, CopyWork::Name)?;
+    let described = DescribedStripe {
+        name: stripe.name,
+        length: 0,
+        unmounted: &[],
+    };
+    let descriptions = tend_descriptions(rt, site, &described, CopyWork::Name)?;
     for CopyFinding { name, reason } in &descriptions.findings {
         say(
             rt,

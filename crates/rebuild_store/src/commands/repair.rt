@@ -8,9 +8,10 @@ use std::alloc::{AllocError, Global};
 use std::io;
 use std::thread::Threads;
 use store_arguments::RepairOptions;
+use store_files::{most_file_bytes, refuse_over_limit};
 use store_folder::{FolderStore, Part, Site, tag_of_part};
 use store_opening::{
-    Access, OpenStore, Opening, open_store, refuse_other_stores, remove_leftovers,
+    Access, OpenStore, Opening, Unmounted, open_store, refuse_other_stores, remove_leftovers,
 };
 use store_repair::{Reads, Repair, Stripe};
 use store_reports::{
@@ -26,9 +27,31 @@ pub(crate) fn repair<R: Threads + Sync>(
 ) -> Result<u8, FileFault> {
     let opening = opening_of(options);
     let store = open_store(system, &opening)?;
+    if !options.dry_run {
+        refuse_long(system, &store)?;
+    }
     let status = repair_all(rt, system, &store, &opening, options);
     let released = store.locks.release(system);
     ended(status, released).map_err(|error| device(system.alloc(), opening.folder, error))
+}
+
+// Refuses a store of which fragments are lost that are longer than files may get here: the system would end the run at the first of them.
+fn refuse_long(rt: &HostRuntime, store: &OpenStore) -> Result<(), FileFault> {
+    if most_file_bytes(rt).is_none() {
+        return Ok(());
+    }
+    for stripe in &store.stripes(rt)? {
+        if let Some(length) = stripe.files.length() {
+            if !stripe
+                .files
+                .lost(rt.alloc(), store.code, length)?
+                .is_empty()
+            {
+                refuse_over_limit(rt, stripe.name, length)?;
+            }
+        }
+    }
+    Ok(())
 }
 
 // A store that is opened to be repaired, or to plan that.
@@ -43,6 +66,13 @@ fn opening_of<'a>(options: &RepairOptions<'a>) -> Opening<'a> {
     Opening {
         to: options.to,
         access,
+        unmounted: if options.to.is_some() {
+            Unmounted::Named
+        } else if options.allows_unmounted {
+            Unmounted::Allowed
+        } else {
+            Unmounted::LeftAlone
+        },
         ..test_opening_of(&options.store, &options.test)
     }
 }
@@ -101,7 +131,11 @@ fn repair_at<'a, R: Threads + Sync>(
     stripes: &'a [Stripe<'a>],
 ) -> io::Result<u8> {
     let alloc = system.alloc();
-    let progress = Progress::new(system, Task::repair(alloc, store.code, stripes)?);
+    let progress = Progress::new(
+        system,
+        Task::repair(alloc, store.code, stripes)?,
+        options.test.quiet,
+    );
     let repair = repair_of(store.code, options);
     let (work, word) = if options.dry_run {
         (Work::Plan(repair), "would be rebuilt")
@@ -113,8 +147,11 @@ fn repair_at<'a, R: Threads + Sync>(
         site,
         all: stripes,
     };
-    let all = work_on(rt, system, &of_store, work, options.test.workers)?;
-    progress.end();
+    let workers = options.test.workers;
+    let all = match work {
+        Work::Plan(_) => work_on(rt, system, &of_store, work, workers)?,
+        _ => progress.beside(rt, || work_on(rt, system, &of_store, work, workers))?,
+    };
     let results = Results::new(alloc, site, of_store.contents(), all.as_slice(), word)?;
     say_repaired(system, &results, options)
 }
@@ -166,9 +203,9 @@ fn say_repaired(
     }
     let is_reported = say_rows(rt, results, &options.test)?;
     if options.dry_run {
-        say_summary(rt, planned(alloc, results)?, options.test.json)?;
+        say_summary(rt, planned(alloc, results)?, &options.test)?;
         return Ok(status_of_plan(&results.totals, is_reported));
     }
-    say_summary(rt, repaired(alloc, results)?, options.test.json)?;
+    say_summary(rt, repaired(alloc, results)?, &options.test)?;
     Ok(status_of(&results.totals, is_reported))
 }

@@ -40,10 +40,10 @@ fn scrub_all<'a, R: Threads + Sync>(
         site: &site,
         all: stripes.as_slice(),
     };
-    let progress = Progress::new(system, Task::scrub(store.code, of_store.all));
+    let task = Task::scrub(store.code, of_store.all, store.sums.is_some());
+    let progress = Progress::new(system, task, test.quiet);
     let work = Work::Scrub(store.code, &progress);
-    let all = work_on(rt, system, &of_store, work, test.workers)?;
-    progress.end();
+    let all = progress.beside(rt, || work_on(rt, system, &of_store, work, test.workers))?;
     let contents = of_store.contents();
     let results = Results::new(system.alloc(), &site, contents, all.as_slice(), "rebuilt")?;
     say_scrubbed(system, &results, test)
@@ -60,6 +60,6 @@ fn say_scrubbed(rt: &HostRuntime, results: &Results<'_>, test: &TestOptions<'_>)
         }
     }
     let is_reported = say_rows(rt, results, test)?;
-    say_summary(rt, scrubbed(alloc, results)?, test.json)?;
+    say_summary(rt, scrubbed(alloc, results)?, test)?;
     Ok(status_of(&results.totals, is_reported))
 }

@@ -9,6 +9,11 @@ const FOLLOW_HELP: &str = "Follow links below STORE, also to other folders";
 
 const TRUST_HELP: &str = "As root, work in folders that other users may write into";
 
+const QUIET_HELP: &str = "Show no progress and no last line";
+
+const UNMOUNTED_HELP: &str =
+    "Write also where no disk is mounted, though at most other folders one is";
+
 const CODES: &[&str] = &["6-2-2", "12-2-2"];
 
 /// The folder of a store.
@@ -55,4 +60,14 @@ pub(crate) fn follow<'a>(alloc: Global) -> Arg<'a> {
 /// The option by which root works in folders that others may write into.
 pub(crate) fn trust<'a>(alloc: Global) -> Arg<'a> {
     flag(alloc, "trust-writers", TRUST_HELP)
+}
+
+/// The option by which folders are written into at which no disk is mounted.
+pub(crate) fn unmounted<'a>(alloc: Global) -> Arg<'a> {
+    flag(alloc, "allow-unmounted", UNMOUNTED_HELP)
+}
+
+/// The option by which neither progress nor a summary is shown.
+pub(crate) fn quiet<'a>(alloc: Global) -> Arg<'a> {
+    flag(alloc, "quiet", QUIET_HELP).short('q')
 }

@@ -2,7 +2,7 @@
 ghost use Rattle.std.specs.Prelude.{◌≤◌, IfOk};
 
 use crate::faults::UsageFault;
-use crate::shared::definitions::{flag, text};
+use crate::shared::definitions::{flag, quiet, text};
 use clap::{Arg, ArgMatches, Command as Definition};
 use std::alloc::{AllocError, Global};
 
@@ -27,11 +27,14 @@ pub struct TestOptions<'a> {
     pub json: bool,
     /// 1 to 16.
     pub workers: usize,
+    /// Whether neither progress nor a summary is shown.
+    pub quiet: bool,
 }
 
 /// The option that says how many threads there are.
 pub(crate) fn workers<'a>(alloc: Global) -> Arg<'a> {
     text(alloc, "workers", "N", WORKERS_HELP)
+        .short('j')
         .value_parser(clap::value_parser!(u16))
         .default_value("4")
 }
@@ -44,7 +47,8 @@ pub(crate) fn with_rows<'a>(
     definition
         .arg(text(alloc, "sums", "FILE", SUMS_HELP))?
         .arg(text(alloc, "report", "FILE", REPORT_HELP))?
-        .arg(flag(alloc, "json", JSON_HELP))
+        .arg(flag(alloc, "json", JSON_HELP))?
+        .arg(quiet(alloc))
 }
 
 impl<'a> TestOptions<'a> {
@@ -61,6 +65,7 @@ impl<'a> TestOptions<'a> {
             report: matches.get_str("report"),
             json: matches.get_flag("json"),
             workers,
+            quiet: matches.get_flag("quiet"),
         })
     }
 }

@@ -1,12 +1,14 @@
 //! What is there of the copies of a stripe's description.
+use crate::copies::DescribedStripe;
 use sha2::{Digest as _, Sha256};
 use std::alloc::AllocError;
 use std::fs::{self, Metadata};
-use std::io::ErrorKind;
+use std::io::{self, ErrorKind};
 use store_folder::{
     Site, description_names, first_description_name, look_at, path_in, read_description,
 };
-use store_reports::{Copies, CopyState, FoundCopy};
+use store_names::folder_in;
+use store_reports::{Copies, CopyState, FoundCopy, NO_MEDIUM};
 
 /// The copies of a stripe's description that are there, or should be.
 #[derive(Drop)]
@@ -21,7 +23,7 @@ impl Seen {
     pub(crate) fn look(
         rt: &HostRuntime,
         site: &Site<'_>,
-        stripe: &str,
+        stripe: &DescribedStripe<'_>,
     ) -> Result<Seen, AllocError> {
         let alloc = rt.alloc();
         let mut seen = Seen {
@@ -31,10 +33,17 @@ impl Seen {
             },
             like: None,
         };
-        for name in description_names(alloc, &site.pattern, site.code, stripe)? {
+        for name in description_names(alloc, &site.pattern, site.code, stripe.name)? {
             seen.add(rt, site, name, true)?;
         }
-        let first = first_description_name(alloc, stripe)?;
+        for copy in seen.copies.all.iter_mut() {
+            let inside = folder_in(copy.name.as_str());
+            let is_in = |folder: &String| { folder.as_str() == inside };
+            if matches!(copy.state, CopyState::Absent) && stripe.unmounted.iter().any(is_in) {
+                copy.state = CopyState::Unread(io::Error::from_raw_os_error(NO_MEDIUM));
+            }
+        }
+        let first = first_description_name(alloc, stripe.name)?;
         let is_first = |copy: &FoundCopy| { copy.name.as_str() == first.as_str() };
         if !seen.copies.all.iter().any(is_first) {
             seen.add(rt, site, first, false)?;

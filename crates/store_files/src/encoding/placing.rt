@@ -1,7 +1,7 @@
 //! Giving what was made its name in the store, unless that is taken.
 use crate::digesting::digest_at;
 use crate::encoding::target::Target;
-use std::fs;
+use crate::staging::is_there;
 use std::io::ErrorKind;
 use store_folder::{Digest, Links, NewFile, Placed, folder_of, place_new, sync_folder};
 use store_reports::{FileFault, device};
@@ -21,18 +21,11 @@ enum There {
     Another,
 }
 
-/// Whether there is anything at a path.
-pub(crate) fn is_there(rt: &HostRuntime, path: &str) -> Result<bool, FileFault> {
-    match fs::symlink_metadata(rt, path) {
-        Ok(_) => Ok(true),
-        Err(error) if error.kind() == ErrorKind::NotFound => Ok(false),
-        Err(error) => Err(device(rt.alloc(), path, error)),
-    }
-}
-
 /// That a name of the store is taken.
 pub(crate) fn is_there_already(rt: &HostRuntime, name: &str) -> Result<FileFault, FileFault> {
-    let what = format!(in rt.alloc(); "{name}: is there already, with other bytes")?;
+    let what = format!(in rt.alloc();
+        "{name}: is there already, with other bytes: --replace replaces the file"
+    )?;
     Ok(FileFault::Refused { what })
 }
 

@@ -6,7 +6,7 @@ use store_folder::is_of_runs;
 use store_reports::{FileFault, device};
 
 /// The name of the file at a path, which its stripe gets.
-pub(crate) fn base_name<'a>(rt: &HostRuntime, path: &'a str) -> Result<&'a str, FileFault> {
+pub(crate) fn stripe_name<'a>(rt: &HostRuntime, path: &'a str) -> Result<&'a str, FileFault> {
     let name = match path.rsplit_once('/') {
         Some((_, name)) => name,
         None => path,

@@ -14,6 +14,10 @@ pub struct Target<'a> {
     /// Whether the digests are others than those in the store's file of them.
     pub is_changed: bool,
     pub links: Links,
+    /// Whether the folders that names have are made.
+    pub makes_folders: bool,
+    /// Whether files that have other bytes are replaced.
+    pub replaces: bool,
 }
 
 impl Target<'_> {

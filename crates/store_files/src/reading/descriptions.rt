@@ -2,6 +2,7 @@
 use crate::reading::file::StoredFile;
 use lrc_code::Code;
 use std::alloc::Global;
+use std::fs;
 use std::io::ErrorKind;
 use store_folder::{
     Described, description_names, first_description_name, path_in, read_description,
@@ -35,13 +36,35 @@ pub(crate) fn descriptions_of(
     }
     match refused {
         Some(fault) if said.is_empty() => Err(fault),
-        None if said.is_empty() => Err(FileFault::Refused {
-            what: format!(in alloc;
-                "{name}: no description is there, as {name}.file, so nothing says how long it is"
-            )?,
-        }),
+        None if said.is_empty() => {
+            fs::metadata(rt, file.folder).map_err(|error| device(alloc, file.folder, error))?;
+            Err(FileFault::Refused {
+                what: format!(in alloc;
+                    "{name}: no description is there, as {name}.file, so nothing says how long it is"
+                )?,
+            })
+        }
         _ => in_order(alloc, said.as_slice()),
     }
+}
+
+/// What the first copy of a file's description says that can be read.
+pub fn first_described(
+    rt: &HostRuntime,
+    file: &StoredFile<'_>,
+) -> Result<Option<Described>, FileFault> {
+    let alloc = rt.alloc();
+    for copy in description_names(alloc, &file.pattern, Code::Wide, file.name)? {
+        let path = path_in(alloc, file.folder, copy.as_str())?;
+        match read_description(rt, path.as_str(), file.links) {
+            Ok(Some(described)) => return Ok(Some(described)),
+            Err(error) if error.kind() == ErrorKind::OutOfMemory => {
+                return Err(FileFault::OutOfMemory);
+            }
+            _ => {}
+        }
+    }
+    Ok(None)
 }
 
 // What descriptions say, each once, first what most say.

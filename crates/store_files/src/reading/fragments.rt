@@ -17,8 +17,19 @@ pub(crate) struct Fragments {
     pub(crate) opened: Vec<Option<FileFragment<SystemOpen>>>,
 }
 
-/// Opens the fragments of a file. Those that are lost, or can't be opened, are said.
-pub(crate) fn open_fragments(rt: &HostRuntime, sought: &Sought<'_>) -> Result<Fragments, FileFault>
+/// What is done about fragments that are lost, or can't be opened.
+#[derive(Clone, Copy, Debug, PartialEq, Eq)]
+pub(crate) enum Missing {
+    Said,
+    Unsaid,
+}
+
+/// Opens the fragments of a file.
+pub(crate) fn open_fragments(
+    rt: &HostRuntime,
+    sought: &Sought<'_>,
+    missing: Missing,
+) -> Result<Fragments, FileFault>
     ensures { IfOk result (λ fragments. vec_len fragments.opened ≡ 16) }
 {
     let alloc = rt.alloc();
@@ -28,7 +39,7 @@ pub(crate) fn open_fragments(rt: &HostRuntime, sought: &Sought<'_>) -> Result<Fr
         let mut fragment = None;
         if let Some(place) = Place::from_index(opened.len()) {
             if sought.described.code.has(place) {
-                fragment = open_at(rt, sought, place)?;
+                fragment = open_at(rt, sought, place, missing)?;
                 if fragment.is_some() {
                     set = set.with(place);
                 }
@@ -44,6 +55,7 @@ fn open_at(
     rt: &HostRuntime,
     sought: &Sought<'_>,
     place: Place,
+    missing: Missing,
 ) -> Result<Option<FileFragment<SystemOpen>>, FileFault> {
     let alloc = rt.alloc();
     let name = sought.name_of(alloc, place)?;
@@ -51,6 +63,7 @@ fn open_at(
     match open_below(rt, sought, name.as_str(), path.as_str()) {
         Ok(fragment) => Ok(Some(fragment)),
         Err(error) if error.kind() == ErrorKind::OutOfMemory => Err(FileFault::OutOfMemory),
+        Err(_) if missing == Missing::Unsaid => Ok(None),
         Err(error) => {
             let _ = say(
                 rt,

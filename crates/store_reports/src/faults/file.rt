@@ -1,6 +1,6 @@
 //! Why a file isn't encoded or read.
 use crate::faults::store::StoreFault;
-use crate::statuses::{DEVICE, LEFT, NO_MEMORY};
+use crate::statuses::{DEVICE, LEFT, NO_MEMORY, USAGE};
 use std::alloc::{AllocError, AllocFailed, Global};
 use std::io::{self, ErrorKind};
 use store_repair::MendFault;
@@ -14,6 +14,9 @@ pub enum FileFault {
     /// It can't be done with what is there. The text says why.
     #[error("{what}")]
     Refused { what: String },
+    /// The arguments ask for what mustn't be. The text says why.
+    #[error("{what}")]
+    Usage { what: String },
     /// The system refused to read or write what is at a path.
     #[error("{path}: {error}")]
     Device { path: String, error: io::Error },
@@ -80,6 +83,7 @@ impl FileFault {
         match self {
             FileFault::OutOfMemory => NO_MEMORY,
             FileFault::Refused { .. } => LEFT,
+            FileFault::Usage { .. } => USAGE,
             FileFault::Device { .. } => DEVICE,
             FileFault::Store { fault } => fault.status(),
         }

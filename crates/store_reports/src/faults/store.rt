@@ -46,6 +46,11 @@ pub enum StoreFault {
         folder: String,
         user: u32,
     },
+    /// No disk is mounted at a folder, as are at most others.
+    #[error("{folder}: no disk is mounted there, as are at most others: mount it, or give --allow-unmounted")]
+    Unmounted {
+        folder: String,
+    },
     /// A report would be written over a file of the store.
     #[error("{path}: is a file of the store, and no place for a report")]
     ReportInStore {
@@ -92,6 +97,7 @@ impl StoreFault {
             | StoreFault::OtherCode { .. }
             | StoreFault::NoFragments { .. }
             | StoreFault::FitsNot { .. }
+            | StoreFault::Unmounted { .. }
             | StoreFault::BadSums { .. } => LEFT,
         }
     }

@@ -1,0 +1,92 @@
+//! The command `list`.
+use crate::commands::opening_of;
+use crate::output::say_alone;
+use lrc_code::PlaceSet;
+use std::alloc::{AllocError, Global};
+use store_arguments::ListOptions;
+use store_files::{CopyWork, DescribedStripe, tend_descriptions};
+use store_folder::Site;
+use store_opening::{OpenStore, open_store};
+use store_repair::{Stripe, fragment_length, lost_places};
+use store_reports::{
+    DEVICE, DONE, FileFault, FileState, ListedFile, Rows, device, file_line, files_listed, say,
+    write,
+};
+
+/// Says which files are in a store, and gives the exit status.
+pub(crate) fn list(rt: &HostRuntime, options: &ListOptions<'_>) -> Result<u8, FileFault> {
+    let alloc = rt.alloc();
+    let opening = opening_of(&options.store);
+    let store = open_store(rt, &opening)?;
+    let site = store.site_of(&opening);
+    let form = if options.json { Rows::Json } else { Rows::Csv };
+    let stripes = store.stripes(rt)?;
+    let mut broken = 0u64;
+    for stripe in &stripes {
+        let file = file_of(rt, &store, &site, stripe)?;
+        broken = broken.saturating_add(u64::from(file.state != FileState::Whole));
+        let line = file_line(alloc, &file, form);
+        write(rt, line).map_err(|error| device(alloc, "standard output", error))?;
+    }
+    say_alone(rt, &store, &opening, false);
+    say(rt, files_listed(alloc, stripes.len() as u64, broken))?;
+    Ok(if store.has_unlisted { DEVICE } else { DONE })
+}
+
+// What is there of a stripe and of its descriptions.
+fn file_of<'a>(
+    rt: &HostRuntime,
+    store: &OpenStore,
+    site: &Site<'_>,
+    stripe: &Stripe<'a>,
+) -> Result<ListedFile<'a>, AllocError> {
+    let code = store.code;
+    let (bytes, is_described) = described(rt, store, site, stripe)?;
+    let length = match bytes {
+        Some(bytes) => Some(fragment_length(code, bytes as usize) as u64),
+        None => stripe.files.length(),
+    };
+    let survivors = match length {
+        Some(length) => stripe.files.survivors(code, length),
+        None => PlaceSet::empty(),
+    };
+    let lost = code.places().len().saturating_sub(survivors.len());
+    let are_determined = are_determined(rt.alloc(), store, survivors)?;
+    Ok(ListedFile {
+        name: stripe.name,
+        bytes,
+        code,
+        there: survivors.len(),
+        state: FileState::of(lost, are_determined, is_described),
+    })
+}
+
+// How many bytes a description says, and whether all descriptions that there should be are as they should be.
+fn described(
+    rt: &HostRuntime,
+    store: &OpenStore,
+    site: &Site<'_>,
+    stripe: &Stripe<'_>,
+) -> Result<(Option<u64>, bool), AllocError> {
+    if !store.found.described.contains(stripe.name) {
+        return Ok((None, true));
+    }
+    let stripe = DescribedStripe {
+        name: stripe.name,
+        length: 0,
+        unmounted: &[],
+    };
+    let found = tend_descriptions(rt, site, &stripe, CopyWork::Name)?;
+    let bytes = found.described.map(|described| described.length);
+    Ok((bytes, found.findings.is_empty()))
+}
+
+// Whether some survivors determine all fragments.
+fn are_determined(
+    alloc: Global,
+    store: &OpenStore,
+    survivors: PlaceSet,
+) -> Result<bool, AllocError> {
+    let lost = lost_places(alloc, store.code, survivors, survivors.others())?;
+    Ok(lost.several.is_empty())
+}

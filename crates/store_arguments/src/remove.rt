@@ -1,0 +1,68 @@
+//! The command `remove`.
+use crate::faults::UsageFault;
+use crate::shared::definitions::{code, code_of, follow, quiet, store, trust, word};
+use crate::shared::naming::{Naming, links_of, with_names};
+use clap::{ArgAction, ArgMatches, Command as Definition};
+use lrc_code::Code;
+use std::alloc::{AllocError, Global};
+use store_folder::Links;
+
+const ABOUT: &str = "Takes files out of a store";
+
+const NAMES_HELP: &str = "Names of files";
+
+const CODE_HELP: &str = "The store's code, where the places don't say it";
+
+/// What `remove` is given.
+#[derive(Debug, Drop)]
+pub struct RemoveOptions<'a> {
+    /// The path of the store's folder.
+    pub folder: &'a str,
+    /// The names of the files.
+    pub names: Vec<&'a str>,
+    /// The code that is given; none where the places of the files are to say it.
+    pub code: Option<Code>,
+    pub naming: Naming<'a>,
+    pub links: Links,
+    /// Whether root works in folders that others may write into.
+    pub trusts_writers: bool,
+    /// Whether no summary is shown.
+    pub quiet: bool,
+}
+
+/// The definition of the command.
+pub(crate) fn definition<'a>(alloc: Global) -> Result<Definition<'a>, AllocError> {
+    let names = word(alloc, "files", "NAME", NAMES_HELP).action(ArgAction::Append);
+    let remove = Definition::new(alloc, "remove")
+        .about(ABOUT)
+        .arg(store(alloc))?
+        .arg(names)?
+        .arg(code(alloc, CODE_HELP))?;
+    with_names(alloc, remove)?
+        .arg(follow(alloc))?
+        .arg(trust(alloc))?
+        .arg(quiet(alloc))
+}
+
+impl<'a> RemoveOptions<'a> {
+    /// What matches ask for.
+    pub(crate) fn of(
+        alloc: Global,
+        matches: &ArgMatches<'a>,
+    ) -> Result<RemoveOptions<'a>, UsageFault> {
+        let mut names = Vec::new(alloc);
+        for name in matches.get_strs("files").unwrap_or(&[]) {
+            names.push(*name)?;
+        }
+        let code = code_of(matches.get_str("code"));
+        Ok(RemoveOptions {
+            folder: matches.get_str("store").unwrap_or("."),
+            names,
+            code,
+            naming: Naming::of(matches, code)?,
+            links: links_of(matches),
+            trusts_writers: matches.get_flag("trust-writers"),
+            quiet: matches.get_flag("quiet"),
+        })
+    }
+}

@@ -1,0 +1,59 @@
+//! The command `verify`.
+use crate::faults::UsageFault;
+use crate::shared::definitions::{follow, quiet, store, word};
+use crate::shared::naming::{Naming, links_of, with_names};
+use clap::{ArgAction, ArgMatches, Command as Definition};
+use lrc_code::Code;
+use std::alloc::{AllocError, Global};
+use store_folder::Links;
+
+const ABOUT: &str = "Reads files back and holds them to their digests, and writes nothing";
+
+const NAMES_HELP: &str = "Names of files [default: all]";
+
+/// What `verify` is given.
+#[derive(Debug, Drop)]
+pub struct VerifyOptions<'a> {
+    /// The path of the store's folder.
+    pub folder: &'a str,
+    /// The names of the files; all are read if there are none.
+    pub names: Vec<&'a str>,
+    pub naming: Naming<'a>,
+    pub links: Links,
+    /// Whether neither progress nor a summary is shown.
+    pub quiet: bool,
+}
+
+/// The definition of the command.
+pub(crate) fn definition<'a>(alloc: Global) -> Result<Definition<'a>, AllocError> {
+    let names = word(alloc, "files", "NAME", NAMES_HELP)
+        .required(false)
+        .action(ArgAction::Append);
+    let verify = Definition::new(alloc, "verify")
+        .about(ABOUT)
+        .arg(store(alloc))?
+        .arg(names)?;
+    with_names(alloc, verify)?
+        .arg(follow(alloc))?
+        .arg(quiet(alloc))
+}
+
+impl<'a> VerifyOptions<'a> {
+    /// What matches ask for. Descriptions say the code, so that names may have the numbers of shards.
+    pub(crate) fn of(
+        alloc: Global,
+        matches: &ArgMatches<'a>,
+    ) -> Result<VerifyOptions<'a>, UsageFault> {
+        let mut names = Vec::new(alloc);
+        for name in matches.get_strs("files").unwrap_or(&[]) {
+            names.push(*name)?;
+        }
+        Ok(VerifyOptions {
+            folder: matches.get_str("store").unwrap_or("."),
+            names,
+            naming: Naming::of(matches, Some(Code::Wide))?,
+            links: links_of(matches),
+            quiet: matches.get_flag("quiet"),
+        })
+    }
+}

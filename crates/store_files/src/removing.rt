@@ -1,0 +1,93 @@
+//! Taking files out of a store. The digests go first, so that nothing is expected of the file any more, then its descriptions, then its
+//! fragments: what a run that was killed has left is a file that can still be read, or fragments that the same command removes.
+use crate::encoding::sums::write_new_sums;
+use crate::encoding::target::Target;
+use crate::staging::{is_absent, is_there, staged_name};
+use std::alloc::{AllocError, Global};
+use std::fs;
+use store_folder::{folder_of, sync_folder};
+use store_reports::{FileFault, device};
+
+/// Takes the file of a name out of a store, with what a run has left that was to replace it. What isn't a regular file is left, and named.
+pub fn remove_stored(
+    rt: &HostRuntime,
+    target: &mut Target<'_>,
+    name: &str,
+) -> Result<(), FileFault> {
+    let alloc = rt.alloc();
+    let staged = staged_name(alloc, name)?;
+    let mut descriptions = target.descriptions(alloc, name)?;
+    for description in target.descriptions(alloc, staged.as_str())? {
+        descriptions.push(description)?;
+    }
+    let mut fragments = target.names(alloc, name)?;
+    for fragment in target.names(alloc, staged.as_str())? {
+        fragments.push(fragment)?;
+    }
+    if !has_any(rt, target, &descriptions)? && !has_any(rt, target, &fragments)? {
+        let folder = target.folder;
+        return Err(FileFault::Refused {
+            what: format!(in alloc; "{name}: is no file of the store {folder}")?,
+        });
+    }
+    for other in descriptions.iter().chain(fragments.iter()) {
+        if target.sums.remove(other.as_str()) {
+            target.is_changed = true;
+        }
+    }
+    write_new_sums(rt, target)?;
+    remove_names(rt, target, descriptions.as_slice())?;
+    remove_names(rt, target, fragments.as_slice())
+}
+
+// Whether there is anything under one of some names.
+fn has_any(rt: &HostRuntime, target: &Target<'_>, names: &[String]) -> Result<bool, FileFault> {
+    for name in names {
+        let path = target.path(rt.alloc(), name.as_str())?;
+        if is_there(rt, path.as_str())? {
+            return Ok(true);
+        }
+    }
+    Ok(false)
+}
+
+/// Removes the regular files of some names, the last first, whose digests go too, and writes that to the disk. Another thing under one of
+/// them stays.
+pub(crate) fn remove_names(
+    rt: &HostRuntime,
+    target: &mut Target<'_>,
+    names: &[String],
+) -> Result<(), FileFault> {
+    let alloc = rt.alloc();
+    let mut odd = None;
+    for name in names.iter().rev() {
+        let path = target.path(alloc, name.as_str())?;
+        target.is_changed = target.sums.remove(name.as_str()) || target.is_changed;
+        match fs::symlink_metadata(rt, path.as_str()) {
+            Ok(there) if there.is_file() => {
+                remove(rt, path.as_str())?;
+            }
+            Ok(_) => odd = Some(no_file(alloc, name.as_str())?),
+            Err(error) if is_absent(error.kind()) => {}
+            Err(error) => return Err(device(alloc, path.as_str(), error)),
+        }
+    }
+    match odd {
+        Some(fault) => Err(fault),
+        None => Ok(()),
+    }
+}
+
+// Removes the file at a path, and writes that to the disk.
+fn remove(rt: &HostRuntime, path: &str) -> Result<(), FileFault> {
+    let alloc = rt.alloc();
+    fs::remove_file(rt, path).map_err(|error| device(alloc, path, error))?;
+    let folder = folder_of(path);
+    sync_folder(rt, folder).map_err(|error| device(alloc, folder, error))
+}
+
+fn no_file(alloc: Global, name: &str) -> Result<FileFault, AllocError> {
+    Ok(FileFault::Refused {
+        what: format!(in alloc; "{name}: is no regular file, and isn't removed")?,
+    })
+}

@@ -1,0 +1,60 @@
+//! The lines that say which files are in a store.
+use lrc_code::Code;
+use std::io;
+use store_reports::{FileState, ListedFile, Rows, file_line, files_listed, removed, verified};
+
+// A file, its line and its object.
+const FILES: [(ListedFile<'static>, &str, &str); 3] = [
+    (
+        ListedFile {
+            name: "a \"b\"",
+            bytes: Some(70_000),
+            code: Code::Narrow,
+            there: 10,
+            state: FileState::Whole,
+        },
+        "whole 70000 6-2-2 10/10 a \"b\"",
+        "{\"name\":\"a \\\"b\\\"\",\"bytes\":70000,\"code\":\"6-2-2\",\"fragments\":10,\"lost\":0,\"state\":\"whole\"}",
+    ),
+    (
+        ListedFile {
+            name: "c",
+            bytes: None,
+            code: Code::Wide,
+            there: 13,
+            state: FileState::Degraded,
+        },
+        "degraded - 12-2-2 13/16 c",
+        "{\"name\":\"c\",\"bytes\":null,\"code\":\"12-2-2\",\"fragments\":13,\"lost\":3,\"state\":\"degraded\"}",
+    ),
+    (
+        ListedFile {
+            name: "d",
+            bytes: Some(0),
+            code: Code::Narrow,
+            there: 4,
+            state: FileState::Lost,
+        },
+        "lost 0 6-2-2 4/10 d",
+        "{\"name\":\"d\",\"bytes\":0,\"code\":\"6-2-2\",\"fragments\":4,\"lost\":6,\"state\":\"lost\"}",
+    ),
+];
+
+#[test]
+fn files_are_listed(rt: HostRuntime) -> io::Result<()> {
+    let alloc = rt.alloc();
+    for (file, line, object) in FILES {
+        assert_eq!(rt; file_line(alloc, &file, Rows::Csv)?.as_str(), line);
+        assert_eq!(rt; file_line(alloc, &file, Rows::Json)?.as_str(), object);
+    }
+    assert_eq!(rt; files_listed(alloc, 1, 0)?.as_str(), "1 file; not whole: 0");
+    assert_eq!(rt;
+        verified(alloc, 2, 1)?.as_str(),
+        "verified 2 files; not as described: 1"
+    );
+    assert_eq!(rt;
+        removed(alloc, 0, 3)?.as_str(),
+        "removed 0 files; not removed: 3"
+    );
+    Ok(())
+}

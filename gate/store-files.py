@@ -1,0 +1,481 @@
+#!/usr/bin/env python3
+"""Tries what keeps files in a store for long: listing, verifying, replacing and taking out, standard input and files that are read to, runs
+that are killed at each call meanwhile, the limit on the length of files, disks that aren't mounted, and what is said without a terminal.
+
+    store-files.py [PROGRAM [TEST]]
+
+Each expected byte is worked out here, and what a run that was killed leaves is read by store-decoder.py, which is made from the page of the
+form alone."""
+
+import concurrent.futures
+import hashlib
+import json
+import os
+import pathlib
+import random
+import resource
+import shutil
+import stat
+import subprocess
+import sys
+import tempfile
+import threading
+
+# No compiled copy of the modules is left beside them.
+sys.dont_write_bytecode = True
+ROOT = pathlib.Path(__file__).resolve().parent.parent
+from faults import Calls  # noqa: E402
+
+PROGRAM = ROOT / "crates/rebuild_store/out/rebuild_store"
+DECODER = ROOT / "gate/store-decoder.py"
+DISKS = ["--names", "disk{shard}/{stripe}"]
+CODED = [*DISKS, "--code", "6-2-2"]
+STAGED = ".rebuild-store-new"
+SECONDS = 120
+passed, skipped, faults = 0, [], []
+
+
+class Fault(Exception):
+    """A run that did what none may."""
+
+
+class Skipped(Exception):
+    """What can't be tried here."""
+
+
+def hold(holds, what):
+    global passed
+    if not holds:
+        raise Fault(what)
+    passed += 1
+
+
+def ran(*words, given=b"", **how):
+    return subprocess.run([PROGRAM, *map(str, words)], input=given, capture_output=True, timeout=SECONDS, **how)
+
+
+def run(*words, status, **how):
+    """Runs the program, holds its status to this one, and gives what it writes to standard output and to standard error."""
+    ended = ran(*words, **how)
+    said = ended.stderr.decode(errors="replace")
+    hold(ended.returncode == status, f"{' '.join(map(str, words))}: status {ended.returncode}, not {status}: {said}{ended.stdout[:300]!r}")
+    return ended.stdout, said
+
+
+def there(folder):
+    """The bytes of the regular files below a folder, by their paths."""
+    return {str(path.relative_to(folder)): path.read_bytes() for path in folder.rglob("*") if path.is_file() and not path.is_symlink()}
+
+
+def sums_of(store):
+    """The lines of the store's digests, by names."""
+    lines = (store / "SHA256SUMS").read_text().splitlines()
+    return {line[66:]: line[:64] for line in lines}
+
+
+def are_right(store):
+    """Whether the digests are those of the store's files, of each but themselves."""
+    files = there(store)
+    files.pop("SHA256SUMS", None)
+    return sums_of(store) == {name: hashlib.sha256(data).hexdigest() for name, data in files.items()}
+
+
+def decoded(store, name, *names):
+    ended = subprocess.run([sys.executable, DECODER, store, name, *names], capture_output=True, timeout=SECONDS)
+    return ended.stdout if ended.returncode == 0 else None
+
+
+def source(place, name, data):
+    path = place / name
+    path.write_bytes(data)
+    return path
+
+
+def test_list(place, choose):
+    """Each file is listed with its bytes, and what is lost of it, as lines and as JSON."""
+    store = place / "store"
+    lengths = {"a": 0, "b c": 1, "d": 6_001}
+    for name, length in lengths.items():
+        run("encode", "--make-folders", *CODED, store, source(place, name, choose.randbytes(length)), status=0)
+    out, err = run("list", *CODED, store, status=0)
+    hold(out.decode() == "".join(f"whole {length} 6-2-2 10/10 {name}\n" for name, length in lengths.items()), out)
+    hold(err == "3 files; not whole: 0\n", err)
+    shutil.rmtree(store / "disk3")
+    (store / "disk3").mkdir()
+    for number in (0, 1, 2, 4, 5):
+        (store / f"disk{number}/d").unlink()
+    out, err = run("list", *CODED, store, "--json", status=0)
+    states = {"a": ("degraded", 9), "b c": ("degraded", 9), "d": ("lost", 4)}
+    want = [{"name": name, "bytes": length, "code": "6-2-2", "fragments": states[name][1], "lost": 10 - states[name][1],
+             "state": states[name][0]} for name, length in lengths.items()]
+    hold([json.loads(line) for line in out.splitlines()] == want, out)
+    hold("3 files; not whole: 3" in err, err)
+    for path in store.glob("disk*/a.file"):
+        path.unlink()
+    (store / "SHA256SUMS").unlink()
+    out, _ = run("list", *CODED, store, status=0)
+    hold(out.decode().splitlines()[0] == "whole - 6-2-2 9/10 a" or out.decode().splitlines()[0] == "degraded - 6-2-2 9/10 a", out)
+
+
+def test_verify(place, choose):
+    """Files are held to their digests, all or those that are named, and nothing is written."""
+    store, data = place / "store", choose.randbytes(70_000)
+    run("encode", store, source(place, "a", data), source(place, "b", b"b"), status=0)
+    (store / "a.x0").unlink()
+    files = there(store)
+    out, err = run("verify", store, status=0)
+    hold(out == b"verified 2 files; not as described: 0\n" and "a.x0: left out" in err, out)
+    out, err = run("verify", "-q", store, "b", status=0)
+    hold(not out and not err, out)
+    for place_name in ("x1", "x2", "y0", "p0"):
+        with open(store / f"a.{place_name}", "r+b") as file:
+            file.write(b"damaged!")
+    out, err = run("verify", store, status=1)
+    hold(out == b"verified 1 file; not as described: 1\n" and "a: the fragments that are there don't give" in err, err)
+    out, err = run("verify", store, "b", "nothere", status=1)
+    hold("nothere: no description" in err, err)
+    hold(set(there(store)) == set(files), "verify changed what is in the store")
+
+
+def test_read_to_a_file(place, choose):
+    """A file that is read to has its name when it is whole; what is there keeps its rights, a FIFO and a link stay."""
+    store, data = place / "store", choose.randbytes(100_001)
+    run("encode", store, source(place, "a", data), status=0)
+    out = place / "out"
+    run("read", store, "a", "-o", out, status=0, umask=0o027)
+    hold(out.read_bytes() == data and out.stat().st_mode & 0o7777 == 0o640, "a file that is read isn't what it was")
+    out.write_bytes(b"older")
+    out.chmod(0o600)
+    run("read", store, "a", f"--output={out}", status=0)
+    hold(out.read_bytes() == data and out.stat().st_mode & 0o7777 == 0o600, "a file that was there has other rights")
+    link, behind, fifo = place / "link", place / "behind", place / "fifo"
+    behind.write_bytes(b"x" * 200_000)
+    link.symlink_to(behind)
+    run("read", store, "a", "-o", link, status=0)
+    hold(link.is_symlink() and behind.read_bytes() == data, "a link isn't written through")
+    os.mkfifo(fifo)
+    got = []
+    reader = threading.Thread(target=lambda: got.append(fifo.read_bytes()), daemon=True)
+    reader.start()
+    run("read", store, "a", "-o", fifo, status=0)
+    reader.join(SECONDS)
+    hold(got == [data] and stat.S_ISFIFO(fifo.lstat().st_mode), "a FIFO isn't written")
+    files = there(store)
+    for name in ("a.x0", "new", "SHA256SUMS"):
+        _, err = run("read", store, "a", "-o", store / name, status=2)
+        hold("is in a folder of the store" in err and there(store) == files, err)
+    run("read", store, "a", "-o", place / "nothere/out", status=3)
+    for name in ("x0", "x1", "x2", "y0", "y1"):
+        (store / f"a.{name}").unlink()
+    out.write_bytes(b"older")
+    run("read", store, "a", "-o", out, status=1)
+    hold(out.read_bytes() == b"older", "a file was replaced by what isn't whole")
+    hold(not [*place.glob(".rebuild-store-*")], "a temporary file was left")
+
+
+def test_read_to_a_file_killed(place, choose):
+    """A run that is killed while it reads to a file, or whose calls fail, leaves it as it was or whole."""
+    store, data, calls = place / "store", choose.randbytes(3_000), Calls(place)
+    run("encode", store, source(place, "a", data), status=0)
+    out = place / "to"
+    out.mkdir()
+    out = out / "out"
+    for older in (None, b"older"):
+        command = [PROGRAM, "read", store, "a", "-o", out]
+        out.unlink(missing_ok=True) if older is None else out.write_bytes(older)
+        kinds = calls.run(command).kinds
+        hold(out.read_bytes() == data, "the file isn't what it was")
+        for number in range(1, len(kinds) + 1):
+            for how in ("kill", 28):
+                out.unlink(missing_ok=True) if older is None else out.write_bytes(older)
+                ended = calls.run(command, number, how)
+                found = out.read_bytes() if out.exists() else None
+                hold(found in (older, data), f"{how} at call {number}, {kinds[number - 1]}: {found!r}")
+                hold(ended.status != 0 or found == data, f"{how} at call {number}, {kinds[number - 1]}: status 0 and {found!r}")
+
+
+def test_replace(place, choose):
+    """A file with other bytes is refused, or replaced by all of the new one if that is asked for."""
+    alone = ["--names", "{stripe}/{place}"]
+    for names, pattern in ((alone, alone[1:]), ([], []), (CODED, DISKS[1:])):
+        store = place / f"store-{len(names)}"
+        old, new = choose.randbytes(40_000), choose.randbytes(9_000)
+        run("encode", "--make-folders", *names, store, source(place, "a", old), source(place, "b", b"b"), status=0)
+        file, before = source(place, "a", new), there(store)
+        _, err = run("encode", *names, store, file, status=1)
+        hold("--replace replaces the file" in err and there(store) == before, err)
+        run("encode", "--replace", *names, store, file, status=0)
+        hold(decoded(store, "a", *pattern) == new and decoded(store, "b", *pattern) == b"b", "the new file can't be read")
+        hold(are_right(store), "digests aren't those of the files")
+        hold(not [path for path in there(store) if STAGED in path or ".rebuild-store" in path], sorted(there(store)))
+        run("scrub", *names, store, status=0)
+        run("encode", "--replace", *names, store, file, status=0)
+        hold(run("read", *names[:2], store, "a", status=0)[0] == new, "not the new file")
+    (store / "disk0/a").unlink()
+    (store / "disk4/a").unlink()
+    run("encode", "--replace", *names, store, source(place, "a", old), status=0)
+    hold(decoded(store, "a", *pattern) == old, "a file that had lost fragments can't be replaced")
+    _, err = run("encode", *names, store, source(place, f"a{STAGED}", b""), status=1)
+    hold("a stripe can't have this name" in err, err)
+
+
+def test_replace_killed(place, choose):
+    """A run that replaces a file and is killed at any call leaves a store of which the old file or the new one can be read, by the name and
+    with an exit status that says so; the same command again ends the work, and so does one that encodes the old file."""
+    calls = Calls(place)
+    old, new = choose.randbytes(2_000), choose.randbytes(3_001)
+    first = place / "first"
+    run("encode", first, source(place, "a", old), status=0)
+    source(place, "a", new)
+    shutil.copytree(first, place / "count")
+    kinds = calls.run([PROGRAM, "encode", "--replace", place / "count", place / "a"]).kinds
+    hold(decoded(place / "count", "a") == new, "the file wasn't replaced")
+
+    def one(number):
+        store = place / f"killed-{number}"
+        shutil.copytree(first, store)
+        command = [PROGRAM, "encode", "--replace", store, place / "a"]
+        killed = calls.run(command, number, "kill")
+        where = f"killed at call {number}, {kinds[number - 1]}"
+        hold(killed.status == -9, f"{where}: {killed.text()}")
+        read = ran("read", store, "a")
+        hold(read.returncode == 0 and read.stdout in (old, new), f"{where}: {read.returncode} {read.stderr!r}")
+        hold(old == read.stdout or new in (decoded(store, "a"), decoded(store, f"a{STAGED}")), f"{where}: nothing has the new file")
+        if number % 2:
+            run("encode", "--replace", store, place / "a", status=0)
+            hold(decoded(store, "a") == new, f"{where}: not the new file after the same command")
+        else:
+            (place / f"old-{number}").mkdir()
+            run("encode", "--replace", store, source(place / f"old-{number}", "a", old), status=0)
+            hold(decoded(store, "a") == old, f"{where}: not the old file after it was encoded again")
+        hold(are_right(store) and not [it for it in there(store) if "rebuild-store" in it], f"{where}: left {sorted(there(store))}")
+        run("scrub", store, status=0)
+        shutil.rmtree(store)
+
+    with concurrent.futures.ThreadPoolExecutor(os.cpu_count()) as pool:
+        [*pool.map(one, range(1, len(kinds) + 1))]
+
+
+def test_remove(place, choose):
+    """A file is taken out with all that is its, and nothing else; what is no regular file stays, and is named."""
+    store = place / "store"
+    for name in ("a", "a.x0", "b"):
+        run("encode", store, source(place, name, choose.randbytes(500)), status=0)
+    before = there(store)
+    (store / "a.x1.damaged").write_bytes(b"kept")
+    run("remove", store, "nothere", status=1)
+    out, _ = run("remove", store, "a", status=0)
+    hold(out == b"removed 1 file; not removed: 0\n", out)
+    after = {name: data for name, data in before.items() if name.startswith(("a.x0.", "b."))}
+    left = there(store)
+    hold(left.pop("a.x1.damaged") == b"kept", "a fragment that was kept is gone")
+    left.pop("SHA256SUMS")
+    hold(left == after, f"left {sorted(left)}")
+    (store / "a.x1.damaged").unlink()
+    hold(are_right(store), "digests of what is gone are left")
+    run("scrub", store, status=0)
+    (store / "b.p1").unlink()
+    (store / "b.p1").mkdir()
+    _, err = run("remove", store, "b", status=1)
+    hold("b.p1: is no regular file, and isn't removed" in err and (store / "b.p1").is_dir(), err)
+    run("list", store, status=0)
+
+
+def test_remove_killed(place, choose):
+    """A run that takes a file out and is killed at any call leaves the others as they are, and the same command ends the work."""
+    calls, data = Calls(place), choose.randbytes(600)
+    first = place / "first"
+    run("encode", first, source(place, "a", data), source(place, "b", data), status=0)
+    shutil.copytree(first, place / "count")
+    kinds = calls.run([PROGRAM, "remove", place / "count", "a"]).kinds
+    for number in range(1, len(kinds) + 1):
+        store = place / f"killed-{number}"
+        shutil.copytree(first, store)
+        killed = calls.run([PROGRAM, "remove", store, "a"], number, "kill")
+        where = f"killed at call {number}, {kinds[number - 1]}"
+        hold(killed.status == -9, f"{where}: {killed.text()}")
+        hold(decoded(store, "b") == data, f"{where}: another file is gone")
+        again = ran("remove", store, "a")
+        hold(again.returncode == 0 or b"is no file of the store" in again.stderr, f"{where}: {again.stderr!r}")
+        hold(not [it for it in there(store) if not it.startswith(("b.", "SHA256SUMS"))], f"{where}: left {sorted(there(store))}")
+        hold(are_right(store), f"{where}: digests of what is gone are left")
+        run("scrub", store, status=0)
+        shutil.rmtree(store)
+
+
+def test_standard_input(place, choose):
+    """Standard input is encoded under the name that is given, and what it was kept in is gone."""
+    store, data = place / "store", choose.randbytes(600_000)
+    run("encode", store, "-", "--as", "in", status=0, given=data)
+    hold(decoded(store, "in") == data and are_right(store), "standard input isn't what it was")
+    run("encode", store, "-", "--as", "empty", status=0)
+    hold(decoded(store, "empty") == b"", "nothing isn't what it was")
+    run("encode", store, source(place, "file", b"other"), "--as", "name", status=0)
+    hold(decoded(store, "name") == b"other" and not (store / "file.x0").exists(), "a file has another name than was given")
+    _, err = run("encode", store, "-", status=2)
+    hold("--as NAME" in err, err)
+    _, err = run("encode", store, place / "file", place / "file", "--as", "c", status=2)
+    hold("take one FILE alone" in err, err)
+    hold(not [it for it in there(store) if it.startswith(".rebuild")], sorted(there(store)))
+
+
+def test_make_folders(place, choose):
+    """Folders that names have are made if that is asked for, and a link in their place is not gone through."""
+    data = choose.randbytes(100)
+    for pattern in ("disk{shard}/{stripe}", "{stripe}/{place}", "a/b{shard}/{stripe}"):
+        store = place / pattern.replace("/", "-")
+        run("encode", "--names", pattern, store, source(place, "n", data), status=3)
+        hold(not [path for path in there(store) if path != "SHA256SUMS"], sorted(there(store)))
+        run("encode", "--make-folders", "--names", pattern, store, place / "n", status=0)
+        hold(decoded(store, "n", pattern) == data, f"{pattern}: it can't be read")
+    store, outside = place / "linked", place / "outside"
+    store.mkdir()
+    outside.mkdir()
+    (store / "disk4").symlink_to(outside)
+    run("encode", "--make-folders", *DISKS, store, place / "n", status=3)
+    hold(not there(outside), "a file was made outside the store")
+
+
+def test_limit_on_length(place, choose):
+    """Where files may not get as long as what is to be written, that is said before anything is written."""
+    store, data = place / "store", choose.randbytes(300_000)
+    file = source(place, "a", data)
+
+    def limited():
+        resource.setrlimit(resource.RLIMIT_FSIZE, (20_480, 20_480))
+
+    _, err = run("encode", store, file, status=1, preexec_fn=limited)
+    hold("a: would have 50000 bytes, and no file may get more than 20480 here: ulimit -f" in err and not there(store), err)
+    run("encode", store, file, status=0)
+    (store / "a.x0").unlink()
+    files = there(store)
+    _, err = run("repair", store, status=1, preexec_fn=limited)
+    hold("ulimit -f" in err and there(store) == files, err)
+    run("repair", "--dry-run", store, status=1, preexec_fn=limited)
+    _, err = run("read", store, "a", "-o", place / "out", status=1, preexec_fn=limited)
+    hold("ulimit -f" in err and not (place / "out").exists(), err)
+    ended = ran("encode", store, "-", "--as", "b", given=data, preexec_fn=limited)
+    hold(ended.returncode == 3 and there(store) == files, f"{ended.returncode}: {ended.stderr!r} {sorted(there(store))}")
+
+
+def test_unmounted_disk(place, choose):
+    """Nothing is written at the mount point of a disk that isn't mounted, unless that is allowed."""
+    if os.geteuid() != 0:
+        raise Skipped("only root can try it")
+    store, data = place / "store", choose.randbytes(5_000)
+    source(place, "a", data)
+    for number in range(10):
+        (store / f"disk{number}").mkdir(parents=True)
+    script = f"""set -e
+    for n in 0 1 2 3 4 5 6 7 8 9; do mount -t tmpfs -o size=4m,mode=755 none {store}/disk$n || exit 77; done
+    p={PROGRAM}; w="--code 6-2-2 --names disk{{shard}}/{{stripe}}"
+    $p encode $w {store} {place}/a
+    umount {store}/disk3
+    set +e
+    $p repair $w {store}; echo "repair $?"
+    $p repair -n $w {store}; echo "plan $?"
+    $p scrub $w {store}; echo "scrub $?"
+    $p encode $w {store} {PROGRAM}; echo "encode $?"
+    echo "left $(ls -A {store}/disk3 | wc -l)"
+    $p repair --allow-unmounted $w {store}; echo "allowed $?"
+    echo "made $(ls -A {store}/disk3 | wc -l)"
+    """
+    ended = subprocess.run(["unshare", "--mount", "bash", "-c", script], capture_output=True, text=True, timeout=SECONDS)
+    if ended.returncode == 77 or "unshare" in ended.stderr:
+        raise Skipped(f"nothing can be mounted here: {ended.stderr.strip()}")
+    kinds = ("repair", "plan", "scrub", "encode", "left", "allowed", "made")
+    words = [line for line in ended.stdout.splitlines() if line.split()[0] in kinds]
+    hold(words == ["repair 3", "plan 3", "scrub 1", "encode 1", "left 0", "allowed 0", "made 2"], f"{words}: {ended.stdout}{ended.stderr}")
+    hold(ended.stderr.count("disk3: no disk is mounted there") == 4, ended.stderr)
+
+
+def test_quiet(place, choose):
+    """Without summaries only what is wrong is said."""
+    store = place / "store"
+    hold(run("encode", "-q", store, source(place, "a", b"a"), status=0) == (b"", ""), "encode says something")
+    hold(run("scrub", "--quiet", store, "-j", "1", status=0) == (b"", ""), "scrub says something")
+    (store / "a.x0").unlink()
+    hold(run("repair", "-n", "-q", store, status=1) == (b"", ""), "a dry run says something")
+    hold(run("repair", "-q", store, "-j2", status=0) == (b"", ""), "repair says something")
+    hold(run("remove", "-q", store, "a", status=0) == (b"", ""), "remove says something")
+
+
+def test_what_replacing_would_mend(place, choose):
+    """What only --replace-damaged would mend is counted as that, and a dry run says of it what is wrong."""
+    store = place / "store"
+    run("encode", store, source(place, "a", choose.randbytes(6_000)), status=0)
+    with open(store / "a.p0", "r+b") as file:
+        file.write(b"damaged!")
+    (store / "a.file").write_bytes(b"odd")
+    out, err = run("repair", store, status=1)
+    want = b"damaged: 1: a.p0; left without --replace-damaged: 2; not possible: 0"
+    hold(want in out and "a.p0: differs from the checksums" in err, out)
+    out, err = run("repair", "-n", store, status=1)
+    hold(b"with --replace-damaged 2, 0 can't" in out and "another length" not in err, f"{out} {err}")
+    out, _ = run("repair", "--replace-damaged", store, status=0)
+    hold(b"left without" not in out and b"not possible: 0" in out, out)
+
+
+def test_descriptions_from_digests(place, choose):
+    """A description of which no copy is left is made again where the digests determine it, of files of each length of padding."""
+    for length in (0, 1, 5, 6, 7, 6_000, 6_001, 6_005):
+        store = place / f"store-{length}"
+        data = choose.randbytes(length // 2) + bytes(length - length // 2)
+        run("encode", store, source(place, "a", data), status=0)
+        text = (store / "a.file").read_bytes()
+        for name in ("a.file", "a.file.copy", "a.x1"):
+            (store / name).unlink()
+        run("scrub", store, status=1)
+        out, _ = run("repair", "-n", store, status=1)
+        hold(b"2 descriptions can be made" in out, out)
+        run("repair", store, status=0)
+        hold((store / "a.file").read_bytes() == text == (store / "a.file.copy").read_bytes(), f"{length}: another description")
+        (store / "a.file").unlink()
+        (store / "a.file.copy").unlink()
+        lines = [line for line in (store / "SHA256SUMS").read_text().splitlines(True) if ".file" not in line]
+        (store / "SHA256SUMS").write_text("".join(lines))
+        run("verify", store, "a", status=1)
+        run("repair", store, status=0)
+        hold(not (store / "a.file").exists(), f"{length}: a description was made of which nothing is known")
+
+
+def test_long_names(place, choose):
+    """A fragment whose second name would be too long is left, and a line says why."""
+    store = place / "store"
+    name = "n" * 245
+    run("encode", store, source(place, name, choose.randbytes(600)), status=0)
+    with open(store / f"{name}.y0", "r+b") as file:
+        file.write(b"damaged!")
+    files = there(store)
+    _, err = run("repair", "--replace-damaged", store, status=3)
+    hold("its folder takes no name as long as that of a fragment which is kept" in err and there(store) == files, err)
+
+
+def main(program=None, only=""):
+    global PROGRAM
+    PROGRAM = pathlib.Path(program or PROGRAM).resolve()
+    choose = random.Random(2026)
+    tests = [value for name, value in globals().items() if name.startswith("test_") and only in name]
+    with tempfile.TemporaryDirectory() as scratch:
+        place = pathlib.Path(scratch)
+        place.chmod(0o755)
+        for test in tests:
+            folder = place / test.__name__
+            folder.mkdir()
+            try:
+                test(folder, choose)
+            except Fault as fault:
+                faults.append(f"{test.__name__}: {fault}")
+            except Skipped as why:
+                skipped.append(f"{test.__name__}: {why}")
+            shutil.rmtree(folder)
+    for why in skipped:
+        print(f"store-files skipped: {why}")
+    for fault in faults:
+        print(f"store-files: {fault}", file=sys.stderr)
+    print(f"store-files: {passed} passed, {len(faults)} failed, {len(skipped)} skipped")
+    sys.exit(1 if faults else 0)
+
+
+if __name__ == "__main__":
+    main(*sys.argv[1:3])
