@@ -1,9 +1,10 @@
 #!/usr/bin/env python3
 """The time of the program grows with its work and not faster: four times the lines, and four times the requests of a rack with four
 feeds, take the processor less than ten times as long. Work that is done anew for each line, reply or row would take it sixteen
-times as long. And line mode remembers plans: lines that ask 2,000 questions in turn take less time than lines that ask 10,240, each of
-which is forgotten before it is asked again. It runs what was built last: crates/rebuild/out/rebuild."""
+times as long. And line mode remembers plans: lines that ask 105 questions in turn take not twice as long as the same lines with equal ones
+together. It runs what was built last: crates/rebuild/out/rebuild."""
 
+import itertools
 import pathlib
 import resource
 import subprocess
@@ -17,9 +18,8 @@ PROGRAM = ROOT / "crates/rebuild/out/rebuild"
 MOST = 10
 RUNS = 12
 
-# How many questions line mode remembers and how many it doesn't, and how much longer lines take at least of which each wants a new plan.
-REMEMBERED, FORGOTTEN = 2_000, 10_240
-LEAST = 1.3
+# How much longer lines may take that ask different questions in turn than with equal ones together.
+MOST_IN_TURN = 2
 
 LINES = 100_000
 REQUESTS = 4_096
@@ -50,17 +50,15 @@ def lines(count):
 
 
 def all_questions():
-    """A line for each of 10,240 questions that have no answer: three fragments of a group are lost, and both sums over it but one."""
-    kept = "x3 x4 x5 y0 y1 y2 y3 y4 y5 py p0".split()
-    sets = ["".join(f" {place}=00" for k, place in enumerate(kept) if chosen >> k & 1) for chosen in range(1 << len(kept))]
-    return [f"code=12-2-2 a {target} 1{words}\n" for words in sets for target in ["x0", "x1", "x2", "px", "p1"]]
+    """A line for each two places of (12,2,2) that are lost with x0, of a stripe of zeros: 105 lines."""
+    places = "x1 x2 x3 x4 x5 y0 y1 y2 y3 y4 y5 px py p0 p1".split()
+    survivors = itertools.combinations(places, len(places) - 2)
+    return ["code=12-2-2 a x0 1" + "".join(f" {place}=00" for place in left) + "\n" for left in survivors]
 
 
-def questions(count):
-    """A line of so many that ask different questions in turn."""
-    asked = "".join(all_questions()[:count])
-    turns = LINES // count
-    return seconds([PROGRAM], (asked * turns).encode(), b"several\n" * (turns * count)) / (turns * count)
+def questions(asked):
+    """Lines that ask for fragments of zeros."""
+    return seconds([PROGRAM], "".join(asked).encode(), b"rebuilt 00\n" * len(asked))
 
 
 def feeds(count):
@@ -87,10 +85,12 @@ def compare(what, run, count):
 
 
 def compare_questions():
-    few, many = questions(REMEMBERED), questions(FORGOTTEN)
-    if many < LEAST * few:
-        sys.exit(f"growth: a line takes {few * 1e9:.0f} ns where {REMEMBERED} questions take turns, {many * 1e9:.0f} ns with {FORGOTTEN}")
-    print(f"growth: {REMEMBERED} plans are remembered: where {FORGOTTEN} take turns a line takes {many / few:.1f} times as long")
+    asked = all_questions()
+    times = LINES // 2 // len(asked)
+    in_turn, together = questions(asked * times), questions([line for line in asked for _ in range(times)])
+    if in_turn > MOST_IN_TURN * together:
+        sys.exit(f"growth: {len(asked)} questions in turn take {in_turn:.3f} s of the processor, with equal ones together {together:.3f} s")
+    print(f"growth: {len(asked)} questions in turn take {in_turn / together:.2f} times as long as with equal ones together")
 
 
 def main():

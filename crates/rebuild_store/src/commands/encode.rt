@@ -3,7 +3,6 @@ use crate::work::progress::{Progress, Task};
 use lrc_code::Code;
 use std::fs;
 use std::io::ErrorKind;
-use std::thread::Threads;
 use store_arguments::EncodeOptions;
 use store_files::{SourceFile, Spool, Target, encode_file, stored_sums, write_new_sums};
 use store_folder::{Listing, Others, Wanted, list};
@@ -13,11 +12,7 @@ use store_opening::{
 use store_reports::{DEVICE, DONE, FileFault, StoreFault, device, encoded, say, write};
 
 /// Encodes files, says what was done and what wasn't, and gives the exit status.
-pub(crate) fn encode<R: Threads>(
-    threads: &R,
-    rt: &HostRuntime,
-    options: &EncodeOptions<'_>,
-) -> Result<u8, FileFault> {
+pub(crate) fn encode(rt: &HostRuntime, options: &EncodeOptions<'_>) -> Result<u8, FileFault> {
     let alloc = rt.alloc();
     make_folder(rt, options.folder)?;
     let _lock = lock_folder(rt, options.folder)?;
@@ -28,10 +23,8 @@ pub(crate) fn encode<R: Threads>(
         error,
     ))?;
     let mut target = target_of(rt, options, &listing)?;
-    let progress = Progress::new(rt, task_of(rt, options), options.quiet);
-    let done = progress.beside(threads, || encode_all(rt, options, &mut target, &progress))?;
+    let Encoded { count, status } = encode_all(rt, options, &mut target)?;
     write_new_sums(rt, &target)?;
-    let Encoded { count, status } = done;
     let left = (options.files.len() as u64).saturating_sub(count);
     if !options.quiet {
         write(rt, encoded(alloc, count, left)).map_err(|error| device(
@@ -51,14 +44,18 @@ struct Encoded {
     status: u8,
 }
 
-// The work on the files: each is read twice, for its digest and for its fragments.
+// The work on the files.
 fn task_of(rt: &HostRuntime, options: &EncodeOptions<'_>) -> Task {
     let mut bytes = 0u64;
     for path in &options.files {
-        let length = fs::metadata(rt, *path).map_or(0, |metadata| metadata.len());
-        bytes = bytes.saturating_add(length);
+        bytes = bytes.saturating_add(length_of(rt, path));
     }
-    Task::files("encode", options.files.len() as u64, bytes, 2)
+    Task::files("encode", options.files.len() as u64, bytes)
+}
+
+// How long a file is, as far as the system says it.
+fn length_of(rt: &HostRuntime, path: &str) -> u64 {
+    fs::metadata(rt, path).map_or(0, |metadata| metadata.len())
 }
 
 // Encodes the files one after the other, and says why one isn't.
@@ -66,8 +63,8 @@ fn encode_all(
     rt: &HostRuntime,
     options: &EncodeOptions<'_>,
     target: &mut Target<'_>,
-    progress: &Progress<'_>,
 ) -> Result<Encoded, FileFault> {
+    let progress = Progress::new(rt, task_of(rt, options), options.quiet);
     let mut done = Encoded {
         count: 0,
         status: DONE,
@@ -81,8 +78,9 @@ fn encode_all(
                 done.status = done.status.max(fault.status());
             }
         }
-        progress.count_units(1, 0);
+        progress.count_units(1, length_of(rt, path));
     }
+    progress.end();
     Ok(done)
 }
 

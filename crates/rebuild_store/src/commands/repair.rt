@@ -147,11 +147,8 @@ fn repair_at<'a, R: Threads + Sync>(
         site,
         all: stripes,
     };
-    let workers = options.test.workers;
-    let all = match work {
-        Work::Plan(_) => work_on(rt, system, &of_store, work, workers)?,
-        _ => progress.beside(rt, || work_on(rt, system, &of_store, work, workers))?,
-    };
+    let all = work_on(rt, system, &of_store, work, options.test.workers)?;
+    progress.end();
     let results = Results::new(alloc, site, of_store.contents(), all.as_slice(), word)?;
     say_repaired(system, &results, options)
 }

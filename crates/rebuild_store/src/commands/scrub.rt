@@ -40,10 +40,11 @@ fn scrub_all<'a, R: Threads + Sync>(
         site: &site,
         all: stripes.as_slice(),
     };
-    let task = Task::scrub(store.code, of_store.all, store.sums.is_some());
+    let task = Task::scrub(store.code, of_store.all);
     let progress = Progress::new(system, task, test.quiet);
     let work = Work::Scrub(store.code, &progress);
-    let all = progress.beside(rt, || work_on(rt, system, &of_store, work, test.workers))?;
+    let all = work_on(rt, system, &of_store, work, test.workers)?;
+    progress.end();
     let contents = of_store.contents();
     let results = Results::new(system.alloc(), &site, contents, all.as_slice(), "rebuilt")?;
     say_scrubbed(system, &results, test)
