@@ -1107,25 +1107,17 @@ def test_line_on_a_terminal(place, choose):
     hold(status == 0 and re.fullmatch(f"(?:{repair})+\x1b\\[A\r\x1b\\[K", said), f"status {status}: {said!r}")
 
 
-def test_line_within_a_long_file(place, choose):
-    """The line moves within a long stripe, and is shown of an encoding and of a reading too; with -q there is none."""
-    store, source, size = place / "long", place / "source", 200 * 2**20
+def test_line_of_files(place, choose):
+    """An encoding shows how many files are done; with -q there is no line."""
+    store, sources, size = place / "files", [place / f"f{number}" for number in range(4)], 100 * 2**20
     store.mkdir()
-    for shard in ("x0", "x1", "x2", "y0", "y1", "y2", "px", "py", "p0", "p1"):
-        with open(store / f"s.{shard}", "wb") as file:
+    for source in sources:
+        with open(source, "wb") as file:
             file.truncate(size)
-    said, status = on_terminal("scrub", store, "--workers", 1)
-    moved = [float(it) for it in re.findall(r"scrub: 0/1 stripes  ([\d.]+)/2000.0 MiB", said)]
-    hold(status == 0 and moved == sorted(moved) and any(0 < it for it in moved), f"status {status}: {said!r}")
-    hold(on_terminal("scrub", store, "--quiet") == ("", 0), "scrub --quiet shows a line")
-    shutil.rmtree(store)
-    with open(source, "wb") as file:
-        file.truncate(size)
-    line = r"(?:\x1b\[A)?\r\x1b\[K\x1b\[\?7l%s: \d/1 files  [\d.]+/200.0 MiB  \d+ MiB/s  \d+:\d\d left\x1b\[\?7h\r\n"
-    for command, words in (("encode", [source]), ("read", ["source"])):
-        said, status = on_terminal(command, store, *words)
-        shown = line % command
-        hold(status == 0 and re.fullmatch(f"(?:{shown})+\x1b\\[A\r\x1b\\[K", said), f"{command}: status {status}: {said!r}")
+    line = r"(?:\x1b\[A)?\r\x1b\[K\x1b\[\?7lencode: \d/4 files  [\d.]+/400.0 MiB  \d+ MiB/s  \d+:\d\d left\x1b\[\?7h\r\n"
+    said, status = on_terminal("encode", store, *sources)
+    hold(status == 0 and re.fullmatch(f"(?:{line})+\x1b\\[A\r\x1b\\[K", said), f"status {status}: {said!r}")
+    for command, words in (("encode", sources), ("scrub", [])):
         hold(on_terminal(command, store, *words, "-q") == ("", 0), f"{command} -q shows a line")
 
 
