@@ -100,7 +100,11 @@ fn options_of_files(rt: HostRuntime) -> io::Result<()> {
                 assert_eq!(rt; options.code, Some(Code::Wide));
                 assert_eq!(rt; (options.trusts_writers, options.quiet), (true, true));
             }
-            _ => assert!(rt; false, "another command: {line}"),
+            Ok(Command::Repair(_options)) => assert!(rt; false, "another command: {line}"),
+            Ok(Command::Lost(_options)) => assert!(rt; false, "another command: {line}"),
+            Ok(Command::Scrub(_options)) => assert!(rt; false, "another command: {line}"),
+            Ok(Command::Help(_text)) => assert!(rt; false, "another command: {line}"),
+            Err(_fault) => assert!(rt; false, "another command: {line}"),
         }
     }
     Ok(())
@@ -140,7 +144,11 @@ fn what_holds_without_options(rt: HostRuntime) -> io::Result<()> {
                     (Links::NotFollowed, PLAIN)
                 );
             }
-            _ => assert!(rt; false, "another command: {line}"),
+            Ok(Command::List(_options)) => assert!(rt; false, "another command: {line}"),
+            Ok(Command::Verify(_options)) => assert!(rt; false, "another command: {line}"),
+            Ok(Command::Remove(_options)) => assert!(rt; false, "another command: {line}"),
+            Ok(Command::Help(_text)) => assert!(rt; false, "another command: {line}"),
+            Err(_fault) => assert!(rt; false, "another command: {line}"),
         }
     }
     Ok(())

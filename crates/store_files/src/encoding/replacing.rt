@@ -55,11 +55,21 @@ pub(crate) fn finish_replacing(
         remove_old(rt, target, fragments.as_slice(), replaced.as_slice())?;
         let replaced = description_names(alloc, &target.pattern, target.code, name)?;
         give_names(rt, target, descriptions.as_slice(), replaced.as_slice())?;
+        // Before its files go, so that no digest is left of what isn't there, wherever the run is killed.
+        forget_digests(target, descriptions.as_slice());
+        forget_digests(target, fragments.as_slice());
         write_new_sums(rt, target)?;
     }
     remove_names(rt, target, descriptions.as_slice())?;
     remove_names(rt, target, fragments.as_slice())?;
     remove_folders(rt, target, name, staged)
+}
+
+// Takes the digests of some names out of those of the store.
+fn forget_digests(target: &mut Target<'_>, names: &[String]) {
+    for name in names {
+        target.is_changed = target.sums.remove(name.as_str()) || target.is_changed;
+    }
 }
 
 // Removes what has the names of an old file's fragments where the new one's at the same index was lost meanwhile.
