@@ -1,10 +1,10 @@
 #!/usr/bin/env python3
-"""Tests that each file that docs/ARCHITECTURE.md and CONTRIBUTING.md name is there, that they name each source, and that each source and
-script says at its head what it is for.
+"""Tests that each file that docs/ARCHITECTURE.md and CONTRIBUTING.md name is there, that the former leads to the page of each crate, which
+says where to begin, and that each source and script says at its head what it is for.
 
-    architecture.py            tests
-    architecture.py files      prints each file of crates/*/src with the first sentence of its comment
-    architecture.py scripts    prints each script with the first sentence of its comment"""
+    architecture.py                     tests
+    architecture.py files [WORD ..]     prints each file of crates/*/src with the first sentence of its comment; those that have all words
+    architecture.py scripts [WORD ..]   prints each script with the first sentence of its comment"""
 
 import pathlib
 import re
@@ -59,39 +59,24 @@ def scripts():
                 yield str(file.relative_to(ROOT)), comment_of_script(file)
 
 
-def lists_modules_alone(source):
-    lines = (ROOT / "crates" / source).read_text().splitlines()
-    return all(re.match(r"//|#!|#\[cfg|(pub(\(crate\))? )?mod \w+;|pub use |    |\};|$", line) for line in lines)
-
-
-def is_named(source, crate, name):
-    """Whether a name in the maps, of a file or a folder, is that of a source; `crate` is the one that was named last."""
-    if not name.startswith(crate + "/"):
-        name = f"{crate}/src/{name}" if name.endswith("/") else name
-    if name.endswith("/"):
-        return source.startswith(name)
-    return source == name or source.startswith(f"{crate}/src/") and source.endswith("/" + name)
-
-
-def unnamed():
-    """The sources that no line of the maps names: a path after `crates/`, or what is in the crate that was named last."""
-    left = {name for name, _ in sources() if not lists_modules_alone(name)}
-    crates = {name.split("/")[0] for name in left}
-    for page in MAPS:
-        crate = ""
-        for name in re.findall(r"`([\w/.-]+)`", page.read_text()):
-            if name.split("/")[0] in crates:
-                crate = name.split("/")[0]
-            if crate and name.endswith((".rt", "/")):
-                left = {source for source in left if not is_named(source, crate, name)}
-    return sorted(left)
+def astray():
+    """The crates whose page the table of docs/ARCHITECTURE.md doesn't link to, or doesn't say where to begin, with a file that is there."""
+    table = (ROOT / "docs/ARCHITECTURE.md").read_text()
+    for crate in sorted({name.split("/")[0] for name, _ in sources()}):
+        page = ROOT / "crates" / crate / "README.md"
+        begin = re.search(r"Begin\s+with\s+`([\w/.-]+)`", page.read_text()) if page.exists() else None
+        if f"(../crates/{crate}/README.md)" not in table or not begin or not (page.parent / begin[1]).exists():
+            yield crate
 
 
 def main():
     lists = {"files": sources, "scripts": scripts}
     if sys.argv[1:] and sys.argv[1] in lists:
+        words = [word.lower() for word in sys.argv[2:]]
         for name, said in lists[sys.argv[1]]():
-            print(f"{name}: {said}")
+            line = f"{name}: {said}"
+            if all(word in line.lower() for word in words):
+                print(line)
         return
     silent = [name for name, said in [*sources(), *scripts()] if not said]
     if silent:
@@ -101,8 +86,8 @@ def main():
     absent = [name for name in sorted(named) if not any(file.endswith("/" + name) for file in files)]
     if absent:
         sys.exit(f"architecture: the maps name files that aren't there: {', '.join(absent)}")
-    if unnamed():
-        sys.exit(f"architecture: the maps don't name {', '.join(unnamed())}")
+    if [*astray()]:
+        sys.exit(f"architecture: the map doesn't link to these crates' pages, or they don't say where to begin: {', '.join(astray())}")
     counts = len(list(sources())), len(list(scripts()))
     print(f"architecture: {counts[0]} sources and {counts[1]} scripts say what they are for, and {len(named)} named files are there")
 
