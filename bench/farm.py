@@ -87,7 +87,8 @@ def command(farm, shape, scratch):
 
 
 def serve(farm, shape, scratch):
-    """Serves the folder anew, and gives the milliseconds and the MB."""
+    """Serves the folder anew, and gives what that took: milliseconds, MB, page faults, and how often threads gave a processor away or lost
+    it."""
     times, out = scratch / "times", scratch / farm
     shutil.rmtree(out, ignore_errors=True)
     out.mkdir()
@@ -96,8 +97,8 @@ def serve(farm, shape, scratch):
                           env=os.environ | (WITHHELD if shape.withheld else {}))
     if said.stdout != f"served {shape.racks} racks, {shape.answers()} answers\n":
         sys.exit(f"bench-farm: {farm} said {said.stdout!r}")
-    _, microseconds, kilobytes = times.read_text().split()
-    return int(microseconds) / 1000, int(kilobytes) * 1024 / 1e6
+    _, microseconds, kilobytes, faults, switches = times.read_text().split()
+    return int(microseconds) / 1000, int(kilobytes) * 1024 / 1e6, int(faults), int(switches)
 
 
 def compare(farm, scratch):
@@ -108,7 +109,7 @@ def compare(farm, scratch):
 
 
 def time_shape(shape, peers, scratch):
-    """The least milliseconds of each farm, and our greatest MB."""
+    """What the fastest run of each farm took, and our greatest MB."""
     shutil.rmtree(scratch / "in", ignore_errors=True)
     (scratch / "in").mkdir()
     subprocess.run([scratch / "folder", scratch / "in", *map(str, (shape.racks, shape.requests, shape.length, shape.feeds))], check=True)
@@ -126,17 +127,21 @@ def time_shape(shape, peers, scratch):
         compare(farm, scratch)
     for farm in farms:
         shutil.rmtree(scratch / farm)
-    return {farm: min(run[farm][0] for run in runs) for farm in farms}, max(run["ours"][1] for run in runs)
+    return {farm: min(run[farm] for run in runs) for farm in farms}, max(run["ours"][1] for run in runs)
 
 
 def has_sha():
     return "sha_ni" in pathlib.Path("/proc/cpuinfo").read_text().split()
 
 
-def row(number, shape, least, peak):
-    cells = [str(number), shape.name(), str(shape.threads), f"{least['ours']:.0f}"]
+def row(number, shape, fastest, peak):
+    ours = fastest["ours"][0]
+    cells = [str(number), shape.name(), str(shape.threads), f"{ours:.0f}"]
     for peer in PEERS:
-        cells += [f"{least[peer]:.0f}", f"{least[peer] / least['ours']:.2f}"] if peer in least else ["-", "-"]
+        cells += [f"{fastest[peer][0]:.0f}", f"{fastest[peer][0] / ours:.2f}"] if peer in fastest else ["-", "-"]
+    for column in (2, 3):
+        theirs = f" ({fastest['careless'][column]:,})" if "careless" in fastest else ""
+        cells.append(f"{fastest['ours'][column]:,}{theirs}")
     load = os.getloadavg()[0]
     return f"| {' | '.join(cells)} | {peak:.0f} | {load:.1f} |"
 
@@ -151,8 +156,9 @@ def main(level, numbers):
         peers = build(scratch, level)
         print(f"\nFolders of so many racks and requests for fragments of so many bytes, half of them in one group, in {scratch.parent}:")
         print(f"ms from the program's start to its end, the least of {PASSES} runs in turn. A ratio is the C program's time over ours.\n")
-        print("| | Folder | Workers | ours | careful C | ratio | by eight | ratio | careless C | ratio | our peak MB | load |")
-        print("|---|---|---|---|---|---|---|---|---|---|---|---|")
+        print("| | Folder | Workers | ours | careful C | ratio | by eight | ratio | careless C | ratio | page faults (careless C's) |"
+              " switches (careless C's) | our peak MB | load |")
+        print("|---|---|---|---|---|---|---|---|---|---|---|---|---|---|")
         with_sha = has_sha()
         for number, shape in enumerate(SHAPES, 1):
             if (not numbers or number in numbers) and (with_sha or not shape.withheld):

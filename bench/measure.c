@@ -1,5 +1,6 @@
 /* Runs a program and adds a line to a file: measure FILE WORDS PROGRAM ARGUMENTS... The line has the words, the
- * microseconds from the program's start to its end, and the most KiB of memory that it had at once. */
+ * microseconds from the program's start to its end, the most KiB of memory that it had at once, its page faults, and how often its threads
+ * gave a processor away or lost it. */
 #include <fcntl.h>
 #include <stdio.h>
 #include <stdlib.h>
@@ -36,7 +37,8 @@ int main(int count, char **words)
     }
     long long taken = microseconds() - start;
     FILE *file = fopen(words[1], "a");
-    if (file == NULL || fprintf(file, "%s %lld %ld\n", words[2], taken, usage.ru_maxrss) < 0 || fclose(file) != 0) {
+    if (file == NULL || fprintf(file, "%s %lld %ld %ld %ld\n", words[2], taken, usage.ru_maxrss, usage.ru_minflt + usage.ru_majflt,
+                                usage.ru_nvcsw + usage.ru_nivcsw) < 0 || fclose(file) != 0) {
         perror(words[1]);
         return 1;
     }

@@ -1,12 +1,12 @@
 #!/usr/bin/env python3
 """Times rebuild-store beside what else does the same: repairs beside a C program over the C library and mapped files and beside the farm,
-scrubbing beside sha256sum, and the listing of a million files.
+scrubbing beside sha256sum, files beside a C program over ISA-L and OpenSSL, and the listing of a million files.
 
     store.py LEVEL [ROW ..]      for a level of the processor, as x86-64-v3; the rows by their numbers in the table, else all
 
 The runs of a row are made in turn, and the least time of each is shown (BENCH_PASSES of them, 5). What the C program and the farm
-rebuild is compared with what ours does. The stores are in memory where there is room, 5 GB for the largest. par2 and zfec are timed on one
-file where they are installed."""
+rebuild is compared with what ours does. Page faults and switches of threads are those of the fastest run. The stores are in memory where
+there is room, 5 GB for the largest. par2 and zfec are timed on one file where they are installed."""
 
 import dataclasses
 import filecmp
@@ -29,6 +29,7 @@ ROOM = 6_000_000_000
 KIB, MIB = 1024, 1024 * 1024
 PLACES = ("x0", "x1", "x2", "y0", "y1", "y2", "px", "py", "p0", "p1")
 WORKERS = "4"
+FILE_BYTES = 120_000_000
 
 
 def shell(text, folder=None):
@@ -63,15 +64,30 @@ class Row:
     wanted: str
 
 
+class Taken(typing.NamedTuple):
+    """What a run took: milliseconds, MB at most, page faults, and how often its threads gave a processor away or lost it."""
+
+    ms: float
+    peak: float
+    faults: int
+    switches: int
+
+
 class Bench:
     """The stores and the programs in a scratch folder."""
 
     def __init__(self, scratch, level):
         self.scratch = scratch
-        for name, flags in (("measure", []), ("mapped", ["-I", ROOT / "library", ROOT / "crates/lrc_c/out/liblrc_c.a", "-pthread"])):
-            source = [ROOT / f"bench/{name}.c"]
-            words = [COMPILER, "-O2", f"-march={level}", "-o", scratch / name, *source, *flags]
-            subprocess.run([str(it) for it in words], check=True)
+        self.level = level
+        self.build("measure")
+        self.build("mapped", "-I", ROOT / "library", ROOT / "crates/lrc_c/out/liblrc_c.a", "-pthread")
+        # Where ISA-L or OpenSSL isn't installed, files are encoded beside nothing.
+        self.has_encode = self.build("encode", "-lisal", "-lcrypto", "-pthread", is_needed=False)
+
+    def build(self, name, *flags, is_needed=True):
+        words = [COMPILER, "-O2", f"-march={self.level}", "-o", self.scratch / name, ROOT / f"bench/{name}.c", *flags]
+        ended = subprocess.run([str(it) for it in words], stderr=None if is_needed else subprocess.DEVNULL, check=is_needed)
+        return ended.returncode == 0
 
     def make(self, name, stripes, length):
         folder = self.scratch / name
@@ -80,7 +96,7 @@ class Bench:
         return folder
 
     def time(self, run):
-        """The milliseconds and the MB of a run."""
+        """What a run takes."""
         run.before()
         times = self.scratch / "times"
         times.unlink(missing_ok=True)
@@ -88,11 +104,11 @@ class Bench:
         ended = subprocess.run(command, stdout=subprocess.PIPE, stderr=subprocess.PIPE, text=True, errors="replace")
         if ended.returncode != run.status:
             sys.exit(f"bench-store: {run.name} ended with {ended.returncode}: {ended.stdout[-300:]}{ended.stderr[-300:]}")
-        _, microseconds, kilobytes = times.read_text().split()
-        return int(microseconds) / 1000, int(kilobytes) * 1024 / 1e6
+        _, microseconds, kilobytes, faults, switches = times.read_text().split()
+        return Taken(int(microseconds) / 1000, int(kilobytes) * 1024 / 1e6, int(faults), int(switches))
 
     def row(self, row):
-        """The least times of both, and our greatest MB."""
+        """What the fastest runs of both took, and our greatest MB."""
         runs = [row.ours] + ([row.peer] if row.peer else [])
         taken = {run.name: [] for run in runs}
         for number in range(PASSES):
@@ -100,8 +116,8 @@ class Bench:
                 taken[run.name].append(self.time(run))
                 if number == 0:
                     run.compare()
-        least = {name: min(each[0] for each in times) for name, times in taken.items()}
-        return least, max(each[1] for each in taken[row.ours.name])
+        fastest = {name: min(runs) for name, runs in taken.items()}
+        return fastest, max(it.peak for it in taken[row.ours.name])
 
 
 def remove(paths):
@@ -178,12 +194,75 @@ def listed_row(bench):
     return Row("lost over 1,000,000 files", Run("ours", [PROGRAM, "lost", store], status=1), None, "10 s")
 
 
+def small_row(bench):
+    """Repairs of many short fragments beside the C program, for the page faults."""
+    store = bench.make("small-store", 300, 64 * KIB)
+    lost = [store / f"s{k:06}.{PLACES[k % 10]}" for k in range(300)]
+    made = put_aside(lost, bench.scratch / "small-kept")
+    ours = Run("ours", [PROGRAM, "repair", store, "--workers", WORKERS], lambda: remove(lost), made=made)
+    peer = Run("mapped files", [bench.scratch / "mapped", "repair", store, WORKERS], lambda: remove(lost), made=made)
+    return Row("repair of 300 lost fragments of 64 KiB", ours, peer, "5,000 page faults")
+
+
+def long_sums_row(bench):
+    """Scrubbing of long fragments with SHA256SUMS, beside digests of all files by four processes."""
+    store = bench.make("long", 2, 64 * MIB)
+    subprocess.run(["bash", "-c", "sha256sum s*.* > SHA256SUMS"], cwd=store, check=True)
+    ours = Run("ours", [PROGRAM, "scrub", store, "--workers", WORKERS, "--sums", store / "SHA256SUMS"])
+    peer = Run("sha256sum x 4", shell("ls s* | xargs -P 4 -n 5 sha256sum > /dev/null", store))
+    return Row("scrub of 2 stripes of 64 MiB with SHA256SUMS", ours, peer, "1.5")
+
+
+def new_file(bench):
+    """A file of 120 MB, and a folder for what the C program makes of it."""
+    file, theirs = bench.scratch / "file", bench.scratch / "theirs"
+    file.write_bytes(random.Random(2).randbytes(FILE_BYTES))
+    theirs.mkdir()
+    return file, theirs
+
+
+def encode_row(bench):
+    """Encoding of a file, beside a C program with the same digests."""
+    file, theirs = new_file(bench)
+    store = bench.scratch / "encoded"
+    ours = Run("ours", [PROGRAM, "encode", store, file], lambda: shutil.rmtree(store, ignore_errors=True),
+               made=tuple((store / f"file.{place}", theirs / f"file.{place}") for place in PLACES) if bench.has_encode else ())
+    peer = Run("C, ISA-L and OpenSSL", [bench.scratch / "encode", "write", file, theirs], lambda: remove(theirs.iterdir()))
+    return Row("encode of a file of 120 MB", ours, peer if bench.has_encode else None, "0.8")
+
+
+def read_row(bench):
+    """Reading of a file, beside a C program with the same digest."""
+    file, theirs = new_file(bench)
+    store, out = bench.scratch / "encoded", bench.scratch / "out"
+    subprocess.run([PROGRAM, "encode", store, file], check=True, stdout=subprocess.DEVNULL)
+    again = bench.scratch / "again"
+    ours = Run("ours", [PROGRAM, "read", store, "file", "-o", out], lambda: remove([out]), made=((out, file),))
+    command = [bench.scratch / "encode", "read", store, str(FILE_BYTES), again]
+    peer = Run("C and OpenSSL", command, lambda: remove([again]), made=((again, file),))
+    return Row("read of a file of 120 MB", ours, peer if bench.has_encode else None, "0.6")
+
+
+def verify_row(bench):
+    """Reading of a file for its digest alone, beside sha256sum of the file."""
+    file, _ = new_file(bench)
+    store = bench.scratch / "encoded"
+    subprocess.run([PROGRAM, "encode", store, file], check=True, stdout=subprocess.DEVNULL)
+    ours, peer = Run("ours", [PROGRAM, "verify", store, "file"]), Run("sha256sum", ["/usr/bin/sha256sum", file])
+    return Row("verify of a file of 120 MB", ours, peer, "0.6")
+
+
 ROWS = (
     mapped_row,
     farm_row,
     scrub_row,
     sums_row,
     listed_row,
+    small_row,
+    long_sums_row,
+    encode_row,
+    read_row,
+    verify_row,
 )
 
 
@@ -192,15 +271,17 @@ def has_sums():
     return "--sums" in said.stdout
 
 
-def line(number, row, least, peak):
-    ours = least[row.ours.name]
-    cells = [str(number), row.name, f"{ours:.0f}"]
+def line(number, row, fastest, peak):
+    ours = fastest[row.ours.name]
+    cells = [str(number), row.name, f"{ours.ms:.0f}"]
+    waits = [f"{ours.faults:,}", f"{ours.switches:,}"]
     if row.peer:
-        theirs = least[row.peer.name]
-        cells += [row.peer.name, f"{theirs:.0f}", f"{theirs / ours:.2f}"]
+        theirs = fastest[row.peer.name]
+        cells += [row.peer.name, f"{theirs.ms:.0f}", f"{theirs.ms / ours.ms:.2f}"]
+        waits = [f"{waits[0]} ({theirs.faults:,})", f"{waits[1]} ({theirs.switches:,})"]
     else:
         cells += ["-", "-", "-"]
-    return f"| {' | '.join(cells)} | {row.wanted} | {peak:.0f} | {os.getloadavg()[0]:.1f} |"
+    return f"| {' | '.join(cells)} | {row.wanted} | {peak:.0f} | {' | '.join(waits)} | {os.getloadavg()[0]:.1f} |"
 
 
 # Encodes the file in the folder into 10 shares of which 6 do, and decodes it from the last 6; then again with one of them damaged.
@@ -269,13 +350,13 @@ def main(level, numbers):
     place = shared if shared.is_dir() and shutil.disk_usage(shared).free > ROOM else None
     print(f"\nStores of the (6,2,2) code, in {place or tempfile.gettempdir()}: ms from the program's start to its end, the least of")
     print(f"{PASSES} runs in turn, {WORKERS} workers if nothing else is said. A ratio is the peer's time over ours.\n")
-    print("| | | ours | peer | its time | ratio | wanted | our peak MB | load |")
-    print("|---|---|---|---|---|---|---|---|---|")
+    print("| | | ours | peer | its time | ratio | wanted | our peak MB | page faults (peer's) | switches (peer's) | load |")
+    print("|---|---|---|---|---|---|---|---|---|---|---|")
     for number, make in enumerate(ROWS, 1):
         if numbers and number not in numbers:
             continue
-        if make is sums_row and not has_sums():
-            print(f"| {number} | scrub with SHA256SUMS | - | - | - | - | 1.0 | - | - |")
+        if make in (sums_row, long_sums_row) and not has_sums():
+            print(f"| {number} | scrub with SHA256SUMS | - | - | - | - | 1.0 | - | - | - | - |")
             continue
         with tempfile.TemporaryDirectory(dir=place) as folder:
             bench = Bench(pathlib.Path(folder), level)

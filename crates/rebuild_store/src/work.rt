@@ -10,8 +10,12 @@ use std::thread::Threads;
 use store_files::{CopyWork, DescribedStripe, tend_descriptions};
 use store_folder::{FolderStore, SeparateStore, Site, SystemFolder};
 use store_opening::OpenStore;
-use store_repair::{Outcome, Repair, Stripe, plan_stripe, repair_stripe, scrub_stripe};
+use store_repair::{Found, Outcome, Repair, Stripe, plan_stripe, repair_stripe, scrub_stripe};
 use store_reports::{Contents, Done, without_left, without_repeated};
+
+// The memory that is taken and given back before the work. The C library gives free memory back to the system after each stripe, unless
+// it has seen a block come back that is as large: it then keeps twice as much. It looks at no block of more than 32 MiB.
+const HELD: usize = 25_165_824;
 
 /// What is done with each stripe.
 #[derive(Clone, Copy)]
@@ -55,7 +59,8 @@ impl Work<'_, '_> {
     }
 }
 
-/// Does some work with each stripe, in so many threads at most, and gives the outcomes in the order of the stripes.
+/// Does some work with each stripe, in so many threads at most, those that have lost most first, and gives the outcomes in the order of the
+/// stripes.
 pub(crate) fn work_on<R: Threads + Sync>(
     rt: &R,
     system: &HostRuntime,
@@ -63,8 +68,12 @@ pub(crate) fn work_on<R: Threads + Sync>(
     work: Work<'_, '_>,
     workers: usize,
 ) -> Result<Vec<Done>, AllocError> {
+    // Without that memory the work goes on as well.
+    drop(Vec::<u8>::with_capacity(system.alloc(), HELD));
+    let order = by_losses(system.alloc(), stripes.all)?;
+    let order = order.as_slice();
     let next = AtomicUsize::new(0);
-    let worker = |_worker: usize| { take_stripes(system, stripes, work, &next) };
+    let worker = |_worker: usize| { take_stripes(system, stripes, work, order, &next) };
     let parts = thread::map_indices(rt, system.alloc(), workers, &worker)?;
     let mut all = Vec::with_capacity(system.alloc(), stripes.all.len())?;
     for part in parts {
@@ -76,17 +85,36 @@ pub(crate) fn work_on<R: Threads + Sync>(
     Ok(all)
 }
 
+// The indexes of the stripes in the order in which they are worked on: those of which fewest fragments are there first.
+fn by_losses(alloc: Global, stripes: &[Stripe<'_>]) -> Result<Vec<usize>, AllocError> {
+    let mut counted = Vec::with_capacity(alloc, stripes.len())?;
+    for (index, stripe) in stripes.iter().enumerate() {
+        let files = stripe.files.found.iter();
+        let there = files.filter(|found| matches!(found, Found::File { .. })).count();
+        counted.push((there, index))?;
+    }
+    counted.sort_by_key(|entry| *entry)?;
+    let mut order = Vec::with_capacity(alloc, stripes.len())?;
+    for (_, index) in counted {
+        order.push(index)?;
+    }
+    Ok(order)
+}
+
 // Takes one stripe after the other, each the next that no thread has taken.
 fn take_stripes(
     system: &HostRuntime,
     stripes: &Stripes<'_>,
     work: Work<'_, '_>,
+    order: &[usize],
     next: &AtomicUsize,
 ) -> Result<Vec<Done>, AllocError> {
     let mut all = Vec::new(system.alloc());
     let mut store = SeparateStore::new(FolderStore::new(system, *stripes.site));
-    for _turn in 0..stripes.all.len() {
-        let index = next.fetch_add(1, Ordering::SeqCst);
+    for _turn in 0..order.len() {
+        let Some(index) = order.get(next.fetch_add(1, Ordering::SeqCst)).copied() else {
+            break;
+        };
         let Some(stripe) = stripes.all.get(index) else {
             break;
         };

@@ -1,18 +1,18 @@
-//! Eight messages of one length, from their bytes to their digests.
+//! The hash values of eight messages, from the first one to the digests.
 
-ghost use Rattle.std.specs.Prelude.{◌≡◌, ◌↔◌, IsTrue, ℕ, ◌*◌, ◌/◌, ◌^◌, ◌<◌, ◌≤◌, length, map};
-ghost use Rattle.sha2.specs.Sha256.{digest_bytes, final_hash, hash_after, initial_hash_256, sha256};
+ghost use Rattle.std.specs.Prelude.{◌≡◌, ◌↔◌, IsTrue, ℕ, ◌*◌, ◌/◌, ◌^◌, ◌<◌, ◌≤◌, length};
+ghost use Rattle.sha2.specs.Sha256.{digest_bytes, hash_after, initial_hash_256};
 ghost use Rattle.sha256_lanes.specs.Lanes.{AreOfOneLength, lane, message};
 
 use crate::block::compress;
 use crate::consts::INITIAL_HASH;
-use crate::tail::{tail, tail_blocks};
 use std::simd::u32x8;
 
 /// A SHA-256 digest.
 pub type Digest = [u8; 32];
 
-fn initial_state() -> [u32x8; 8]
+/// The hash values before the first block.
+pub(crate) fn initial_state() -> [u32x8; 8]
     ensures { (l : ℕ) → l < 8 → lane l result ≡ initial_hash_256 }
 {
     [
@@ -27,8 +27,8 @@ fn initial_state() -> [u32x8; 8]
     ]
 }
 
-// Takes the first `count` blocks of each message into that message's hash value.
-fn absorb(state: &mut [u32x8; 8], messages: &[&[u8]; 8], count: usize)
+/// Takes the first `count` blocks of each message into that message's hash value.
+pub(crate) fn absorb(state: &mut [u32x8; 8], messages: &[&[u8]; 8], count: usize)
     requires room { (l : ℕ) → l < 8 → 64 * count ≤ length (message messages.now l) }
     requires end { 64 * count < 2 ^ 64 }
     ensures { (l : ℕ) → l < 8
@@ -39,40 +39,12 @@ fn absorb(state: &mut [u32x8; 8], messages: &[&[u8]; 8], count: usize)
     }
 }
 
-fn whole_blocks(message: &[u8]) -> usize
+/// How many whole blocks a message has.
+pub(crate) fn whole_blocks(message: &[u8]) -> usize
     ensures count { result ≡ length message.now / 64 }
     ensures end { 64 * result < 2 ^ 64 }
 {
     message.len() / 64
-}
-
-// The hash value of each message after its padding.
-fn hash_values(messages: &[&[u8]; 8]) -> [u32x8; 8]
-    requires { AreOfOneLength messages.now }
-    ensures { (l : ℕ) → l < 8 → lane l result ≡ final_hash initial_hash_256 (message messages.now l) }
-{
-    let whole = whole_blocks(messages[0]);
-    let rest = tail_blocks(messages[0].len());
-    let tails = [
-        tail(messages[0]),
-        tail(messages[1]),
-        tail(messages[2]),
-        tail(messages[3]),
-        tail(messages[4]),
-        tail(messages[5]),
-        tail(messages[6]),
-        tail(messages[7]),
-    ];
-    let mut state = initial_state();
-    absorb(&mut state, messages, whole);
-    absorb(
-        &mut state,
-        &[
-            &tails[0], &tails[1], &tails[2], &tails[3], &tails[4], &tails[5], &tails[6], &tails[7],
-        ],
-        rest,
-    );
-    state
 }
 
 // The hash value of message `l`.
@@ -110,15 +82,15 @@ fn bytes_of(h: [u32; 8]) -> Digest
     ]
 }
 
-// The digest of message `l`.
-fn digest(state: &[u32x8; 8], l: usize) -> Digest
+/// The digest of message `l`.
+pub(crate) fn digest(state: &[u32x8; 8], l: usize) -> Digest
     requires { l < 8 }
     ensures { result ≡ digest_bytes (lane l state.now) 8 }
 {
     bytes_of(hash_value(state, l))
 }
 
-/// Whether the eight messages have one length, which `digests_of_eight` asks for.
+/// Whether the eight messages have one length, which `digests_of_eight` and `HasherOfEight` ask for.
 pub fn are_of_one_length(messages: &[&[u8]; 8]) -> bool
     ensures { IsTrue result ↔ AreOfOneLength messages.now }
 {
@@ -129,23 +101,4 @@ pub fn are_of_one_length(messages: &[&[u8]; 8]) -> bool
         }
     }
     true
-}
-
-/// The SHA-256 digests (FIPS 180-4) of eight messages of one length, in their order: 32 bytes each, the first byte of the hash
-/// value first. The length is any; messages of several lengths are for `digests`.
-pub fn digests_of_eight(messages: &[&[u8]; 8]) -> [Digest; 8]
-    requires { AreOfOneLength messages.now }
-    ensures { result ≡ map (λ m. sha256 m.now) messages.now }
-{
-    let state = hash_values(messages);
-    [
-        digest(&state, 0),
-        digest(&state, 1),
-        digest(&state, 2),
-        digest(&state, 3),
-        digest(&state, 4),
-        digest(&state, 5),
-        digest(&state, 6),
-        digest(&state, 7),
-    ]
 }

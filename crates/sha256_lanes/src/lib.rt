@@ -15,9 +15,11 @@
 mod block;
 mod consts;
 mod digest;
+mod hasher;
 mod many;
 mod rounds;
 mod tail;
 
-pub use digest::{Digest, are_of_one_length, digests_of_eight};
+pub use digest::{Digest, are_of_one_length};
+pub use hasher::{HasherOfEight, digests_of_eight};
 pub use many::digests;

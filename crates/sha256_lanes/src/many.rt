@@ -4,7 +4,8 @@ ghost use Rattle.std.specs.Prelude.{◌≡◌, ℕ, ◌<◌, ◌≤◌, length, 
 ghost use Rattle.sha2.specs.Sha256.{sha256};
 ghost use Rattle.sha256_lanes.specs.Lanes.{AreDigestsBelow};
 
-use crate::digest::{Digest, are_of_one_length, digests_of_eight};
+use crate::digest::{Digest, are_of_one_length};
+use crate::hasher::digests_of_eight;
 use sha2::{Digest as _, Sha256};
 use std::convert::AsSlice;
 

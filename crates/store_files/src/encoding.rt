@@ -9,17 +9,20 @@ pub(crate) mod subfolders;
 pub(crate) mod sums;
 pub(crate) mod target;
 
-use crate::digesting::digest_at;
 use crate::limits::refuse_over_limit;
 use crate::staging::{is_staged, is_there};
 use descriptions::place_descriptions;
-use fragments::make_fragments;
+use fragments::{Encoded, make_encoded, source_digest};
 use lrc_code::{Code, Place};
 use placing::{discard_all, is_there_already, place_fragments};
 use replacing::{finish_replacing, replace};
 use source::{is_changed, no_name, regular, stripe_name};
 use std::fs::Metadata;
-use store_folder::{DESCRIPTION, Described, KEPT, Links, is_ambiguous, path_in, read_description};
+use std::thread::Threads;
+use store_folder::{
+    DESCRIPTION, Described, Digest, KEPT, Links, is_ambiguous, open_fragment, path_in,
+    read_description,
+};
 use store_repair::fragment_length;
 use store_reports::{FileFault, fragment_name, source_fault};
 use subfolders::make_folders;
@@ -34,8 +37,9 @@ pub struct SourceFile<'a> {
 }
 
 /// Encodes a file. What is there already stays: the same bytes are kept, others refuse the file before anything gets a name, unless the
-/// target's files are replaced.
-pub fn encode_file(
+/// target's files are replaced. The file's digest is made in a thread of its own where one can be had.
+pub fn encode_file<R: Threads + Sync>(
+    threads: &R,
     rt: &HostRuntime,
     target: &mut Target<'_>,
     source: &SourceFile<'_>,
@@ -44,30 +48,29 @@ pub fn encode_file(
     let path = source.path;
     let name = stripe_name(rt, source.name.unwrap_or(path))?;
     let before = regular(rt, path)?;
-    let described = Described {
-        length: before.len(),
-        digest: digest_at(rt, path, before.len(), Links::Followed).map_err(|error| source_fault(
-            alloc, path, error,
-        ))?,
-        code: target.code,
-    };
+    open_fragment(rt, path, before.len(), Links::Followed)
+        .map_err(|error| source_fault(alloc, path, error))?;
     refuse_names(rt, target, path, name)?;
     if target.makes_folders {
         make_folders(rt, target, name)?;
     }
-    let given = Given {
+    finish_replacing(rt, target, name)?;
+    let mut given = Given {
         path,
         before: &before,
-        described,
+        digest: None,
     };
-    finish_replacing(rt, target, name)?;
-    match refuse_others(rt, target, name, &described) {
-        Ok(()) => encode_as(rt, target, name, &given),
+    // Only a file that has a description needs the digest before its fragments are made.
+    if is_described(rt, target, name)? {
+        given.digest = Some(source_digest(rt, &given)?);
+    }
+    match refuse_others(rt, target, name, &given) {
+        Ok(()) => encode_as(threads, rt, target, name, &given),
         Err(FileFault::Refused { what }) => {
             if !target.replaces {
                 return Err(FileFault::Refused { what });
             }
-            replace(rt, target, name, &given)
+            replace(threads, rt, target, name, &given)
         }
         Err(fault) => Err(fault),
     }
@@ -79,39 +82,42 @@ pub(crate) struct Given<'a> {
     pub(crate) path: &'a str,
     /// What was said of it before it was read.
     pub(crate) before: &'a Metadata,
-    pub(crate) described: Described,
+    pub(crate) digest: Option<Digest>,
 }
 
 /// Encodes a file as the stripe of a name.
-pub(crate) fn encode_as(
+pub(crate) fn encode_as<R: Threads + Sync>(
+    threads: &R,
     rt: &HostRuntime,
     target: &mut Target<'_>,
     name: &str,
     given: &Given<'_>,
 ) -> Result<(), FileFault> {
     let alloc = rt.alloc();
-    let Given {
-        path,
-        before,
-        described,
-    } = *given;
+    let length = given.before.len();
     let names = target.names(alloc, name)?;
-    let fragment_bytes = fragment_length(target.code, described.length as usize);
+    let fragment_bytes = fragment_length(target.code, length as usize);
     refuse_over_limit(rt, name, fragment_bytes as u64)?;
-    let made = make_fragments(rt, target, name, path, described.length)?;
-    let after = match regular(rt, path) {
+    let Encoded { digest, made } = make_encoded(threads, rt, target, name, given)?;
+    let after = match regular(rt, given.path) {
         Ok(after) => after,
         Err(fault) => {
             discard_all(rt, target.folder, made)?;
             return Err(fault);
         }
     };
-    if is_changed(before, &after) {
+    if is_changed(given.before, &after) {
         discard_all(rt, target.folder, made)?;
+        let path = given.path;
         let what = format!(in alloc; "{path}: changed while it was read")?;
         return Err(FileFault::Refused { what });
     }
     place_fragments(rt, target, names.as_slice(), fragment_bytes, made)?;
+    let described = Described {
+        length,
+        digest,
+        code: target.code,
+    };
     place_descriptions(rt, target, name, &described)
 }
 
@@ -134,19 +140,35 @@ fn refuse_names(
     Ok(())
 }
 
+// Whether there is a description of a stripe.
+fn is_described(rt: &HostRuntime, target: &Target<'_>, name: &str) -> Result<bool, FileFault> {
+    let alloc = rt.alloc();
+    for description in target.descriptions(alloc, name)? {
+        let path = target.path(alloc, description.as_str())?;
+        if is_there(rt, path.as_str())? {
+            return Ok(true);
+        }
+    }
+    Ok(false)
+}
+
 // Refuses a file beside whose stripe's names there is another description, or a fragment at a place that its code hasn't.
 fn refuse_others(
     rt: &HostRuntime,
     target: &Target<'_>,
     name: &str,
-    described: &Described,
+    given: &Given<'_>,
 ) -> Result<(), FileFault> {
     let alloc = rt.alloc();
+    let length = given.before.len();
     for description in target.descriptions(alloc, name)? {
         let path = target.path(alloc, description.as_str())?;
         if is_there(rt, path.as_str())? {
             match read_description(rt, path.as_str(), target.links) {
-                Ok(Some(there)) if there == *described => {}
+                Ok(Some(there))
+                    if there.length == length
+                        && there.code == target.code
+                        && Some(there.digest) == given.digest => {}
                 _ => return Err(is_there_already(rt, description.as_str())?),
             }
         }

@@ -2,7 +2,7 @@
 //! description.
 //!
 //! ```rust
-//! encode_file(&rt, &mut target, &SourceFile { path: "notes.txt", name: None })?;
+//! encode_file(&threads, &rt, &mut target, &SourceFile { path: "notes.txt", name: None })?;
 //! read_file(&rt, &StoredFile { folder, pattern, name: "notes.txt", links }, None)?;
 //! let descriptions = tend_descriptions(&rt, &site, &stripe, CopyWork::Name)?;
 //! ```

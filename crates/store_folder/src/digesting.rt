@@ -1,6 +1,9 @@
 //! SHA-256 digests of fragments that are there.
+ghost use Rattle.std.specs.Prelude.{◌≡◌, ◌≤◌, ◌*◌, length};
+ghost use Rattle.sha256_lanes.specs.Lanes.{AreOfOneLength, message};
+
 use sha2::{Digest as _, Sha256};
-use sha256_lanes::digests;
+use sha256_lanes::HasherOfEight;
 use std::alloc::{AllocError, Global};
 use std::io;
 use store_repair::Fragment;
@@ -8,11 +11,14 @@ use store_repair::Fragment;
 /// A SHA-256 digest.
 pub type Digest = [u8; 32];
 
-// How many bytes of a file are read at once.
+// How many bytes of a file are read at once: whole blocks of SHA-256.
 const BLOCK: usize = 262_144;
 
-// Of fragments of at most so many bytes eight are digested at once, from memory.
-const MOST_TOGETHER: usize = 1_048_576;
+// How many fragments are digested side by side.
+const LANES: usize = 8;
+
+// Of fewer each is digested by itself, which takes less time.
+const LEAST_TOGETHER: usize = 3;
 
 /// The digest of a fragment of so many bytes.
 pub fn digest_of<F: Fragment>(alloc: Global, fragment: &F, length: usize) -> io::Result<Digest> {
@@ -29,60 +35,94 @@ pub fn digest_of<F: Fragment>(alloc: Global, fragment: &F, length: usize) -> io:
     Ok(digest.finalize())
 }
 
-/// The digests of fragments of so many bytes each, by their indexes, or why one can't be read; none where there is no fragment.
+/// The digests of fragments of so many bytes each, by their indexes, or why one can't be read; none where there is no fragment. Each eight
+/// neighbours are digested side by side, which takes the time of two.
 pub fn digests_of<F: Fragment>(
     alloc: Global,
     fragments: &[Option<&F>],
     length: usize,
 ) -> Result<Vec<Option<io::Result<Digest>>>, AllocError> {
     let mut found = Vec::with_capacity(alloc, fragments.len())?;
-    for some in fragments.chunks(8) {
-        if length <= MOST_TOGETHER {
-            add_together(alloc, some, length, &mut found)?;
-        } else {
+    for some in fragments.chunks(LANES) {
+        if some.iter().flatten().count() < LEAST_TOGETHER {
             for fragment in some {
                 found.push(match fragment {
                     Some(fragment) => Some(digest_of(alloc, *fragment, length)),
                     None => None,
                 })?;
             }
+        } else {
+            add_together(alloc, some, length, &mut found)?;
         }
     }
     Ok(found)
 }
 
-// Adds the digests of at most eight fragments, which are read whole.
+// Adds the digests of at most eight fragments, which are read side by side.
 fn add_together<F: Fragment>(
     alloc: Global,
     fragments: &[Option<&F>],
     length: usize,
     found: &mut Vec<Option<io::Result<Digest>>>,
 ) -> Result<(), AllocError> {
-    let mut messages = Vec::with_capacity(alloc, fragments.len())?;
+    let mut room = Vec::from_elem(alloc, 0u8, LANES * length.min(BLOCK))?;
     let mut reads = Vec::with_capacity(alloc, fragments.len())?;
     for fragment in fragments {
-        let Some(fragment) = fragment else {
-            reads.push(None)?;
-            continue;
-        };
-        let mut message = Vec::from_elem(alloc, 0u8, length)?;
-        let read = fragment.read_at(0, message.as_mut_slice());
-        if read.is_ok() {
-            messages.push(message)?;
-        }
-        reads.push(Some(read))?;
+        reads.push(fragment.map(|_| Ok(())))?;
     }
-    let mut made = Vec::from_elem(alloc, [0u8; 32], messages.len())?;
-    digests(messages.as_slice(), made.as_mut_slice());
-    let mut left = made.iter();
-    for read in reads {
-        found.push(match read {
-            Some(Ok(())) => left.next().map(|digest| Ok(*digest)),
-            Some(Err(error)) => Some(Err(error)),
-            None => None,
-        })?;
+    let mut hasher = HasherOfEight::new();
+    let mut from = 0;
+    'blocks: while length - from > BLOCK {
+        read_block(fragments, from, room.as_mut_slice(), BLOCK, reads.as_mut_slice());
+        hasher.update(&parts_of(room.as_slice(), BLOCK));
+        from += BLOCK;
+    }
+    let size = length - from;
+    read_block(fragments, from, room.as_mut_slice(), size, reads.as_mut_slice());
+    let digests = hasher.finalize(&parts_of(room.as_slice(), size));
+    for (read, digest) in reads.into_iter().zip(digests) {
+        found.push(read.map(|done| done.map(|()| digest)))?;
     }
     Ok(())
+}
+// Reads so many bytes of each fragment from a position on, each into its part of the room, unless a read of it failed before.
+fn read_block<F: Fragment>(
+    fragments: &[Option<&F>],
+    from: usize,
+    room: &mut [u8],
+    size: usize,
+    reads: &mut [Option<io::Result<()>>],
+)
+    requires fragments { length fragments.now ≤ 8 }
+    requires reads { length reads.old ≡ length fragments.now }
+    requires room { 8 * size ≤ length room.old }
+    ensures room { length room.new ≡ length room.old }
+    ensures reads { length reads.new ≡ length reads.old }
+{
+    for index in 0..fragments.len() {
+        if let (Some(fragment), Some(Ok(()))) = (&fragments[index], &reads[index]) {
+            let at = index * size;
+            reads[index] = Some(fragment.read_at(from, &mut room[at..at + size]));
+        }
+    }
+}
+
+// The eight parts of a room that have so many bytes each.
+fn parts_of(room: &[u8], size: usize) -> [&[u8]; 8]
+    requires { 8 * size ≤ length room.now }
+    ensures one { AreOfOneLength result }
+    ensures size { length (message result 0) ≡ size }
+{
+    [
+        &room[..size],
+        &room[size..2 * size],
+        &room[2 * size..3 * size],
+        &room[3 * size..4 * size],
+        &room[4 * size..5 * size],
+        &room[5 * size..6 * size],
+        &room[6 * size..7 * size],
+        &room[7 * size..8 * size],
+    ]
 }
 
 /// Why a fragment isn't used, by its digest and the one that it has to have.

@@ -73,6 +73,11 @@ impl NewFile {
         take_after(&self.unfinished.file, &rights)
     }
 
+    /// The path at which it is until it gets its name.
+    pub fn path(&self) -> &str {
+        self.unfinished.made_at.as_str()
+    }
+
     /// Removes the file.
     pub fn discard(self, rt: &HostRuntime) -> io::Result<()> {
         fs::remove_file(rt, self.unfinished.made_at.as_str())

@@ -1,863 +1,156 @@
-//! Names of fragments that a computation in Python gives, what is no pattern, what reads as nothing, and what has no name.
+//! Names of fragments that a computation in Python gives, what is no pattern, what reads as nothing, and what has no name. The rows of a
+//! table are lines of one text, whose proof takes less time than that of as many tuples.
 use lrc_code::{Code, Place};
+use std::alloc::Global;
 use store_names::{Layout, Pattern, PatternFault};
 
-// A pattern, a layout, a code, a stripe, a place, and the name.
-const NAMES: &[(&str, Layout, Code, &str, Place, &str)] = &[
-    (
-        "{stripe}.{place}",
-        Layout::Plain,
-        Code::Narrow,
-        "a",
-        Place::X0,
-        "a.x0",
-    ),
-    (
-        "{stripe}.{place}",
-        Layout::Plain,
-        Code::Wide,
-        "a.x1",
-        Place::P0,
-        "a.x1.p0",
-    ),
-    (
-        "{stripe}.{place}",
-        Layout::Plain,
-        Code::Wide,
-        "12",
-        Place::X2,
-        "12.x2",
-    ),
-    (
-        "{stripe}.{place}",
-        Layout::Plain,
-        Code::Narrow,
-        "..",
-        Place::X0,
-        "...x0",
-    ),
-    (
-        "{stripe}.{place}",
-        Layout::Plain,
-        Code::Narrow,
-        ".",
-        Place::X0,
-        "..x0",
-    ),
-    (
-        "{stripe}.{place}",
-        Layout::Plain,
-        Code::Narrow,
-        "x0",
-        Place::X0,
-        "x0.x0",
-    ),
-    (
-        "{place}-{stripe}",
-        Layout::Plain,
-        Code::Narrow,
-        "a",
-        Place::X0,
-        "x0-a",
-    ),
-    (
-        "{place}-{stripe}",
-        Layout::Plain,
-        Code::Wide,
-        "a.x1",
-        Place::X2,
-        "x2-a.x1",
-    ),
-    (
-        "{place}-{stripe}",
-        Layout::Plain,
-        Code::Wide,
-        "12",
-        Place::Y0,
-        "y0-12",
-    ),
-    (
-        "{place}-{stripe}",
-        Layout::Plain,
-        Code::Narrow,
-        "..",
-        Place::X0,
-        "x0-..",
-    ),
-    (
-        "{place}-{stripe}",
-        Layout::Plain,
-        Code::Narrow,
-        ".",
-        Place::X0,
-        "x0-.",
-    ),
-    (
-        "{place}-{stripe}",
-        Layout::Plain,
-        Code::Narrow,
-        "x0",
-        Place::X0,
-        "x0-x0",
-    ),
-    (
-        "{stripe}{place}",
-        Layout::Plain,
-        Code::Narrow,
-        "a",
-        Place::X0,
-        "ax0",
-    ),
-    (
-        "{stripe}{place}",
-        Layout::Plain,
-        Code::Wide,
-        "a.x1",
-        Place::Y0,
-        "a.x1y0",
-    ),
-    (
-        "{stripe}{place}",
-        Layout::Plain,
-        Code::Wide,
-        "12",
-        Place::Y4,
-        "12y4",
-    ),
-    (
-        "{stripe}{place}",
-        Layout::Plain,
-        Code::Narrow,
-        "..",
-        Place::X0,
-        "..x0",
-    ),
-    (
-        "{stripe}{place}",
-        Layout::Plain,
-        Code::Narrow,
-        ".",
-        Place::X0,
-        ".x0",
-    ),
-    (
-        "{stripe}{place}",
-        Layout::Plain,
-        Code::Narrow,
-        "x0",
-        Place::X0,
-        "x0x0",
-    ),
-    (
-        "disk{shard}/{stripe}",
-        Layout::Plain,
-        Code::Narrow,
-        "a",
-        Place::X0,
-        "disk0/a",
-    ),
-    (
-        "disk{shard}/{stripe}",
-        Layout::Groups,
-        Code::Wide,
-        "a",
-        Place::Y4,
-        "disk11/a",
-    ),
-    (
-        "disk{shard}/{stripe}",
-        Layout::Plain,
-        Code::Narrow,
-        "a.x1",
-        Place::P0,
-        "disk8/a.x1",
-    ),
-    (
-        "disk{shard}/{stripe}",
-        Layout::Groups,
-        Code::Narrow,
-        "a.x1",
-        Place::Py,
-        "disk7/a.x1",
-    ),
-    (
-        "disk{shard}/{stripe}",
-        Layout::Plain,
-        Code::Wide,
-        "a.x1",
-        Place::P1,
-        "disk15/a.x1",
-    ),
-    (
-        "disk{shard}/{stripe}",
-        Layout::Groups,
-        Code::Wide,
-        "a.x1",
-        Place::P0,
-        "disk14/a.x1",
-    ),
-    (
-        "disk{shard}/{stripe}",
-        Layout::Plain,
-        Code::Narrow,
-        "12",
-        Place::Py,
-        "disk7/12",
-    ),
-    (
-        "disk{shard}/{stripe}",
-        Layout::Groups,
-        Code::Narrow,
-        "12",
-        Place::P1,
-        "disk9/12",
-    ),
-    (
-        "disk{shard}/{stripe}",
-        Layout::Plain,
-        Code::Wide,
-        "12",
-        Place::P0,
-        "disk14/12",
-    ),
-    (
-        "disk{shard}/{stripe}",
-        Layout::Groups,
-        Code::Wide,
-        "12",
-        Place::Py,
-        "disk13/12",
-    ),
-    (
-        "disk{shard}/{stripe}",
-        Layout::Groups,
-        Code::Narrow,
-        "-3",
-        Place::P0,
-        "disk8/-3",
-    ),
-    (
-        "disk{shard}/{stripe}",
-        Layout::Plain,
-        Code::Narrow,
-        ".",
-        Place::X0,
-        "disk0/.",
-    ),
-    (
-        "disk{shard}/{stripe}",
-        Layout::Groups,
-        Code::Narrow,
-        ".",
-        Place::Y1,
-        "disk5/.",
-    ),
-    (
-        "disk{shard}/{stripe}",
-        Layout::Plain,
-        Code::Wide,
-        ".",
-        Place::Y4,
-        "disk10/.",
-    ),
-    (
-        "disk{shard}/{stripe}",
-        Layout::Groups,
-        Code::Wide,
-        ".",
-        Place::P1,
-        "disk15/.",
-    ),
-    (
-        "disk{shard}/{stripe}",
-        Layout::Groups,
-        Code::Narrow,
-        "x0",
-        Place::Y1,
-        "disk5/x0",
-    ),
-    (
-        "disk{shard}/{stripe}",
-        Layout::Plain,
-        Code::Narrow,
-        "ä",
-        Place::X0,
-        "disk0/ä",
-    ),
-    (
-        "disk{shard}/{stripe}",
-        Layout::Groups,
-        Code::Wide,
-        "ä",
-        Place::Y0,
-        "disk7/ä",
-    ),
-    (
-        "disk{shard}/{stripe}",
-        Layout::Plain,
-        Code::Wide,
-        "note.tar.gz",
-        Place::Y0,
-        "disk6/note.tar.gz",
-    ),
-    (
-        "{stripe}/{shard}.bin",
-        Layout::Groups,
-        Code::Narrow,
-        "a",
-        Place::Y1,
-        "a/5.bin",
-    ),
-    (
-        "{stripe}/{shard}.bin",
-        Layout::Plain,
-        Code::Narrow,
-        "a.x1",
-        Place::X0,
-        "a.x1/0.bin",
-    ),
-    (
-        "{stripe}/{shard}.bin",
-        Layout::Groups,
-        Code::Narrow,
-        "a.x1",
-        Place::Y1,
-        "a.x1/5.bin",
-    ),
-    (
-        "{stripe}/{shard}.bin",
-        Layout::Plain,
-        Code::Wide,
-        "a.x1",
-        Place::P0,
-        "a.x1/14.bin",
-    ),
-    (
-        "{stripe}/{shard}.bin",
-        Layout::Groups,
-        Code::Wide,
-        "a.x1",
-        Place::X3,
-        "a.x1/3.bin",
-    ),
-    (
-        "{stripe}/{shard}.bin",
-        Layout::Plain,
-        Code::Narrow,
-        "12",
-        Place::X0,
-        "12/0.bin",
-    ),
-    (
-        "{stripe}/{shard}.bin",
-        Layout::Groups,
-        Code::Narrow,
-        "12",
-        Place::Y1,
-        "12/5.bin",
-    ),
-    (
-        "{stripe}/{shard}.bin",
-        Layout::Plain,
-        Code::Wide,
-        "12",
-        Place::X2,
-        "12/2.bin",
-    ),
-    (
-        "{stripe}/{shard}.bin",
-        Layout::Groups,
-        Code::Wide,
-        "12",
-        Place::Y0,
-        "12/7.bin",
-    ),
-    (
-        "{stripe}/{shard}.bin",
-        Layout::Groups,
-        Code::Narrow,
-        "-3",
-        Place::Y1,
-        "-3/5.bin",
-    ),
-    (
-        "{stripe}/{shard}.bin",
-        Layout::Plain,
-        Code::Narrow,
-        ".",
-        Place::X0,
-        "./0.bin",
-    ),
-    (
-        "{stripe}/{shard}.bin",
-        Layout::Groups,
-        Code::Narrow,
-        ".",
-        Place::Y1,
-        "./5.bin",
-    ),
-    (
-        "{stripe}/{shard}.bin",
-        Layout::Plain,
-        Code::Wide,
-        ".",
-        Place::P0,
-        "./14.bin",
-    ),
-    (
-        "{stripe}/{shard}.bin",
-        Layout::Groups,
-        Code::Wide,
-        ".",
-        Place::X3,
-        "./3.bin",
-    ),
-    (
-        "{stripe}/{shard}.bin",
-        Layout::Plain,
-        Code::Narrow,
-        "x0",
-        Place::P1,
-        "x0/9.bin",
-    ),
-    (
-        "{stripe}/{shard}.bin",
-        Layout::Groups,
-        Code::Wide,
-        "x0",
-        Place::P1,
-        "x0/15.bin",
-    ),
-    (
-        "{stripe}/{shard}.bin",
-        Layout::Plain,
-        Code::Wide,
-        "ä",
-        Place::P1,
-        "ä/15.bin",
-    ),
-    (
-        "{stripe}/{shard}.bin",
-        Layout::Groups,
-        Code::Narrow,
-        "note.tar.gz",
-        Place::P1,
-        "note.tar.gz/9.bin",
-    ),
-    (
-        "a1b/{stripe}_{shard}",
-        Layout::Plain,
-        Code::Narrow,
-        "a",
-        Place::P1,
-        "a1b/a_9",
-    ),
-    (
-        "a1b/{stripe}_{shard}",
-        Layout::Groups,
-        Code::Wide,
-        "a",
-        Place::P1,
-        "a1b/a_15",
-    ),
-    (
-        "a1b/{stripe}_{shard}",
-        Layout::Plain,
-        Code::Narrow,
-        "a.x1",
-        Place::P0,
-        "a1b/a.x1_8",
-    ),
-    (
-        "a1b/{stripe}_{shard}",
-        Layout::Groups,
-        Code::Narrow,
-        "a.x1",
-        Place::Py,
-        "a1b/a.x1_7",
-    ),
-    (
-        "a1b/{stripe}_{shard}",
-        Layout::Plain,
-        Code::Wide,
-        "a.x1",
-        Place::P1,
-        "a1b/a.x1_15",
-    ),
-    (
-        "a1b/{stripe}_{shard}",
-        Layout::Groups,
-        Code::Wide,
-        "a.x1",
-        Place::P0,
-        "a1b/a.x1_14",
-    ),
-    (
-        "a1b/{stripe}_{shard}",
-        Layout::Plain,
-        Code::Narrow,
-        "12",
-        Place::Py,
-        "a1b/12_7",
-    ),
-    (
-        "a1b/{stripe}_{shard}",
-        Layout::Groups,
-        Code::Narrow,
-        "12",
-        Place::P1,
-        "a1b/12_9",
-    ),
-    (
-        "a1b/{stripe}_{shard}",
-        Layout::Plain,
-        Code::Wide,
-        "12",
-        Place::P0,
-        "a1b/12_14",
-    ),
-    (
-        "a1b/{stripe}_{shard}",
-        Layout::Groups,
-        Code::Wide,
-        "12",
-        Place::Py,
-        "a1b/12_13",
-    ),
-    (
-        "a1b/{stripe}_{shard}",
-        Layout::Plain,
-        Code::Wide,
-        "-3",
-        Place::Y4,
-        "a1b/-3_10",
-    ),
-    (
-        "a1b/{stripe}_{shard}",
-        Layout::Plain,
-        Code::Narrow,
-        "..",
-        Place::X0,
-        "a1b/.._0",
-    ),
-    (
-        "a1b/{stripe}_{shard}",
-        Layout::Groups,
-        Code::Narrow,
-        "..",
-        Place::Y1,
-        "a1b/.._5",
-    ),
-    (
-        "a1b/{stripe}_{shard}",
-        Layout::Plain,
-        Code::Wide,
-        "..",
-        Place::P0,
-        "a1b/.._14",
-    ),
-    (
-        "a1b/{stripe}_{shard}",
-        Layout::Groups,
-        Code::Wide,
-        "..",
-        Place::X3,
-        "a1b/.._3",
-    ),
-    (
-        "a1b/{stripe}_{shard}",
-        Layout::Plain,
-        Code::Narrow,
-        ".",
-        Place::X0,
-        "a1b/._0",
-    ),
-    (
-        "a1b/{stripe}_{shard}",
-        Layout::Groups,
-        Code::Narrow,
-        ".",
-        Place::Y1,
-        "a1b/._5",
-    ),
-    (
-        "a1b/{stripe}_{shard}",
-        Layout::Plain,
-        Code::Wide,
-        ".",
-        Place::X2,
-        "a1b/._2",
-    ),
-    (
-        "a1b/{stripe}_{shard}",
-        Layout::Groups,
-        Code::Wide,
-        ".",
-        Place::Y0,
-        "a1b/._7",
-    ),
-    (
-        "a1b/{stripe}_{shard}",
-        Layout::Plain,
-        Code::Narrow,
-        "x0",
-        Place::P1,
-        "a1b/x0_9",
-    ),
-    (
-        "a1b/{stripe}_{shard}",
-        Layout::Groups,
-        Code::Wide,
-        "x0",
-        Place::P1,
-        "a1b/x0_15",
-    ),
-    (
-        "a1b/{stripe}_{shard}",
-        Layout::Plain,
-        Code::Wide,
-        "ä",
-        Place::P1,
-        "a1b/ä_15",
-    ),
-    (
-        "a1b/{stripe}_{shard}",
-        Layout::Groups,
-        Code::Narrow,
-        "note.tar.gz",
-        Place::P1,
-        "a1b/note.tar.gz_9",
-    ),
-    (
-        "{shard}x2/{stripe}.d",
-        Layout::Plain,
-        Code::Narrow,
-        "a",
-        Place::P1,
-        "9x2/a.d",
-    ),
-    (
-        "{shard}x2/{stripe}.d",
-        Layout::Groups,
-        Code::Wide,
-        "a",
-        Place::P1,
-        "15x2/a.d",
-    ),
-    (
-        "{shard}x2/{stripe}.d",
-        Layout::Plain,
-        Code::Narrow,
-        "a.x1",
-        Place::P0,
-        "8x2/a.x1.d",
-    ),
-    (
-        "{shard}x2/{stripe}.d",
-        Layout::Groups,
-        Code::Narrow,
-        "a.x1",
-        Place::Py,
-        "7x2/a.x1.d",
-    ),
-    (
-        "{shard}x2/{stripe}.d",
-        Layout::Plain,
-        Code::Wide,
-        "a.x1",
-        Place::P1,
-        "15x2/a.x1.d",
-    ),
-    (
-        "{shard}x2/{stripe}.d",
-        Layout::Groups,
-        Code::Wide,
-        "a.x1",
-        Place::P0,
-        "14x2/a.x1.d",
-    ),
-    (
-        "{shard}x2/{stripe}.d",
-        Layout::Plain,
-        Code::Narrow,
-        "12",
-        Place::Py,
-        "7x2/12.d",
-    ),
-    (
-        "{shard}x2/{stripe}.d",
-        Layout::Groups,
-        Code::Narrow,
-        "12",
-        Place::P1,
-        "9x2/12.d",
-    ),
-    (
-        "{shard}x2/{stripe}.d",
-        Layout::Plain,
-        Code::Wide,
-        "12",
-        Place::P0,
-        "14x2/12.d",
-    ),
-    (
-        "{shard}x2/{stripe}.d",
-        Layout::Groups,
-        Code::Wide,
-        "12",
-        Place::Py,
-        "13x2/12.d",
-    ),
-    (
-        "{shard}x2/{stripe}.d",
-        Layout::Plain,
-        Code::Wide,
-        "-3",
-        Place::P0,
-        "14x2/-3.d",
-    ),
-    (
-        "{shard}x2/{stripe}.d",
-        Layout::Plain,
-        Code::Narrow,
-        "..",
-        Place::X0,
-        "0x2/...d",
-    ),
-    (
-        "{shard}x2/{stripe}.d",
-        Layout::Groups,
-        Code::Narrow,
-        "..",
-        Place::Y1,
-        "5x2/...d",
-    ),
-    (
-        "{shard}x2/{stripe}.d",
-        Layout::Plain,
-        Code::Wide,
-        "..",
-        Place::X2,
-        "2x2/...d",
-    ),
-    (
-        "{shard}x2/{stripe}.d",
-        Layout::Groups,
-        Code::Wide,
-        "..",
-        Place::Y0,
-        "7x2/...d",
-    ),
-    (
-        "{shard}x2/{stripe}.d",
-        Layout::Plain,
-        Code::Narrow,
-        ".",
-        Place::X0,
-        "0x2/..d",
-    ),
-    (
-        "{shard}x2/{stripe}.d",
-        Layout::Groups,
-        Code::Narrow,
-        ".",
-        Place::Y1,
-        "5x2/..d",
-    ),
-    (
-        "{shard}x2/{stripe}.d",
-        Layout::Plain,
-        Code::Wide,
-        ".",
-        Place::Y0,
-        "6x2/..d",
-    ),
-    (
-        "{shard}x2/{stripe}.d",
-        Layout::Groups,
-        Code::Wide,
-        ".",
-        Place::Y4,
-        "11x2/..d",
-    ),
-    (
-        "{shard}x2/{stripe}.d",
-        Layout::Plain,
-        Code::Narrow,
-        "x0",
-        Place::P1,
-        "9x2/x0.d",
-    ),
-    (
-        "{shard}x2/{stripe}.d",
-        Layout::Groups,
-        Code::Wide,
-        "x0",
-        Place::P1,
-        "15x2/x0.d",
-    ),
-    (
-        "{shard}x2/{stripe}.d",
-        Layout::Plain,
-        Code::Wide,
-        "ä",
-        Place::P1,
-        "15x2/ä.d",
-    ),
-    (
-        "{shard}x2/{stripe}.d",
-        Layout::Groups,
-        Code::Narrow,
-        "note.tar.gz",
-        Place::P1,
-        "9x2/note.tar.gz.d",
-    ),
-    (
-        "disk{shard}/{stripe}",
-        Layout::Plain,
-        Code::Narrow,
-        ".rebuild-store-0123456789abcde",
-        Place::X0,
-        "disk0/.rebuild-store-0123456789abcde",
-    ),
-    (
-        "disk{shard}/{stripe}",
-        Layout::Plain,
-        Code::Narrow,
-        ".rebuild-store-0123456789abcdeg",
-        Place::X0,
-        "disk0/.rebuild-store-0123456789abcdeg",
-    ),
-    (
-        "{stripe}.{place}",
-        Layout::Plain,
-        Code::Narrow,
-        ".rebuild-store-0123456789abcdef",
-        Place::X0,
-        ".rebuild-store-0123456789abcdef.x0",
-    ),
-    (
-        "{stripe}.{place}",
-        Layout::Plain,
-        Code::Narrow,
-        "a.damaged",
-        Place::X0,
-        "a.damaged.x0",
-    ),
-];
+// In each line a pattern, a layout, a code, a stripe, a place, and the name.
+const NAMES: &str = "\
+{stripe}.{place}|plain|6-2-2|a|x0|a.x0
+{stripe}.{place}|plain|12-2-2|a.x1|p0|a.x1.p0
+{stripe}.{place}|plain|12-2-2|12|x2|12.x2
+{stripe}.{place}|plain|6-2-2|..|x0|...x0
+{stripe}.{place}|plain|6-2-2|.|x0|..x0
+{stripe}.{place}|plain|6-2-2|x0|x0|x0.x0
+{place}-{stripe}|plain|6-2-2|a|x0|x0-a
+{place}-{stripe}|plain|12-2-2|a.x1|x2|x2-a.x1
+{place}-{stripe}|plain|12-2-2|12|y0|y0-12
+{place}-{stripe}|plain|6-2-2|..|x0|x0-..
+{place}-{stripe}|plain|6-2-2|.|x0|x0-.
+{place}-{stripe}|plain|6-2-2|x0|x0|x0-x0
+{stripe}{place}|plain|6-2-2|a|x0|ax0
+{stripe}{place}|plain|12-2-2|a.x1|y0|a.x1y0
+{stripe}{place}|plain|12-2-2|12|y4|12y4
+{stripe}{place}|plain|6-2-2|..|x0|..x0
+{stripe}{place}|plain|6-2-2|.|x0|.x0
+{stripe}{place}|plain|6-2-2|x0|x0|x0x0
+disk{shard}/{stripe}|plain|6-2-2|a|x0|disk0/a
+disk{shard}/{stripe}|groups|12-2-2|a|y4|disk11/a
+disk{shard}/{stripe}|plain|6-2-2|a.x1|p0|disk8/a.x1
+disk{shard}/{stripe}|groups|6-2-2|a.x1|py|disk7/a.x1
+disk{shard}/{stripe}|plain|12-2-2|a.x1|p1|disk15/a.x1
+disk{shard}/{stripe}|groups|12-2-2|a.x1|p0|disk14/a.x1
+disk{shard}/{stripe}|plain|6-2-2|12|py|disk7/12
+disk{shard}/{stripe}|groups|6-2-2|12|p1|disk9/12
+disk{shard}/{stripe}|plain|12-2-2|12|p0|disk14/12
+disk{shard}/{stripe}|groups|12-2-2|12|py|disk13/12
+disk{shard}/{stripe}|groups|6-2-2|-3|p0|disk8/-3
+disk{shard}/{stripe}|plain|6-2-2|.|x0|disk0/.
+disk{shard}/{stripe}|groups|6-2-2|.|y1|disk5/.
+disk{shard}/{stripe}|plain|12-2-2|.|y4|disk10/.
+disk{shard}/{stripe}|groups|12-2-2|.|p1|disk15/.
+disk{shard}/{stripe}|groups|6-2-2|x0|y1|disk5/x0
+disk{shard}/{stripe}|plain|6-2-2|ä|x0|disk0/ä
+disk{shard}/{stripe}|groups|12-2-2|ä|y0|disk7/ä
+disk{shard}/{stripe}|plain|12-2-2|note.tar.gz|y0|disk6/note.tar.gz
+{stripe}/{shard}.bin|groups|6-2-2|a|y1|a/5.bin
+{stripe}/{shard}.bin|plain|6-2-2|a.x1|x0|a.x1/0.bin
+{stripe}/{shard}.bin|groups|6-2-2|a.x1|y1|a.x1/5.bin
+{stripe}/{shard}.bin|plain|12-2-2|a.x1|p0|a.x1/14.bin
+{stripe}/{shard}.bin|groups|12-2-2|a.x1|x3|a.x1/3.bin
+{stripe}/{shard}.bin|plain|6-2-2|12|x0|12/0.bin
+{stripe}/{shard}.bin|groups|6-2-2|12|y1|12/5.bin
+{stripe}/{shard}.bin|plain|12-2-2|12|x2|12/2.bin
+{stripe}/{shard}.bin|groups|12-2-2|12|y0|12/7.bin
+{stripe}/{shard}.bin|groups|6-2-2|-3|y1|-3/5.bin
+{stripe}/{shard}.bin|plain|6-2-2|.|x0|./0.bin
+{stripe}/{shard}.bin|groups|6-2-2|.|y1|./5.bin
+{stripe}/{shard}.bin|plain|12-2-2|.|p0|./14.bin
+{stripe}/{shard}.bin|groups|12-2-2|.|x3|./3.bin
+{stripe}/{shard}.bin|plain|6-2-2|x0|p1|x0/9.bin
+{stripe}/{shard}.bin|groups|12-2-2|x0|p1|x0/15.bin
+{stripe}/{shard}.bin|plain|12-2-2|ä|p1|ä/15.bin
+{stripe}/{shard}.bin|groups|6-2-2|note.tar.gz|p1|note.tar.gz/9.bin
+a1b/{stripe}_{shard}|plain|6-2-2|a|p1|a1b/a_9
+a1b/{stripe}_{shard}|groups|12-2-2|a|p1|a1b/a_15
+a1b/{stripe}_{shard}|plain|6-2-2|a.x1|p0|a1b/a.x1_8
+a1b/{stripe}_{shard}|groups|6-2-2|a.x1|py|a1b/a.x1_7
+a1b/{stripe}_{shard}|plain|12-2-2|a.x1|p1|a1b/a.x1_15
+a1b/{stripe}_{shard}|groups|12-2-2|a.x1|p0|a1b/a.x1_14
+a1b/{stripe}_{shard}|plain|6-2-2|12|py|a1b/12_7
+a1b/{stripe}_{shard}|groups|6-2-2|12|p1|a1b/12_9
+a1b/{stripe}_{shard}|plain|12-2-2|12|p0|a1b/12_14
+a1b/{stripe}_{shard}|groups|12-2-2|12|py|a1b/12_13
+a1b/{stripe}_{shard}|plain|12-2-2|-3|y4|a1b/-3_10
+a1b/{stripe}_{shard}|plain|6-2-2|..|x0|a1b/.._0
+a1b/{stripe}_{shard}|groups|6-2-2|..|y1|a1b/.._5
+a1b/{stripe}_{shard}|plain|12-2-2|..|p0|a1b/.._14
+a1b/{stripe}_{shard}|groups|12-2-2|..|x3|a1b/.._3
+a1b/{stripe}_{shard}|plain|6-2-2|.|x0|a1b/._0
+a1b/{stripe}_{shard}|groups|6-2-2|.|y1|a1b/._5
+a1b/{stripe}_{shard}|plain|12-2-2|.|x2|a1b/._2
+a1b/{stripe}_{shard}|groups|12-2-2|.|y0|a1b/._7
+a1b/{stripe}_{shard}|plain|6-2-2|x0|p1|a1b/x0_9
+a1b/{stripe}_{shard}|groups|12-2-2|x0|p1|a1b/x0_15
+a1b/{stripe}_{shard}|plain|12-2-2|ä|p1|a1b/ä_15
+a1b/{stripe}_{shard}|groups|6-2-2|note.tar.gz|p1|a1b/note.tar.gz_9
+{shard}x2/{stripe}.d|plain|6-2-2|a|p1|9x2/a.d
+{shard}x2/{stripe}.d|groups|12-2-2|a|p1|15x2/a.d
+{shard}x2/{stripe}.d|plain|6-2-2|a.x1|p0|8x2/a.x1.d
+{shard}x2/{stripe}.d|groups|6-2-2|a.x1|py|7x2/a.x1.d
+{shard}x2/{stripe}.d|plain|12-2-2|a.x1|p1|15x2/a.x1.d
+{shard}x2/{stripe}.d|groups|12-2-2|a.x1|p0|14x2/a.x1.d
+{shard}x2/{stripe}.d|plain|6-2-2|12|py|7x2/12.d
+{shard}x2/{stripe}.d|groups|6-2-2|12|p1|9x2/12.d
+{shard}x2/{stripe}.d|plain|12-2-2|12|p0|14x2/12.d
+{shard}x2/{stripe}.d|groups|12-2-2|12|py|13x2/12.d
+{shard}x2/{stripe}.d|plain|12-2-2|-3|p0|14x2/-3.d
+{shard}x2/{stripe}.d|plain|6-2-2|..|x0|0x2/...d
+{shard}x2/{stripe}.d|groups|6-2-2|..|y1|5x2/...d
+{shard}x2/{stripe}.d|plain|12-2-2|..|x2|2x2/...d
+{shard}x2/{stripe}.d|groups|12-2-2|..|y0|7x2/...d
+{shard}x2/{stripe}.d|plain|6-2-2|.|x0|0x2/..d
+{shard}x2/{stripe}.d|groups|6-2-2|.|y1|5x2/..d
+{shard}x2/{stripe}.d|plain|12-2-2|.|y0|6x2/..d
+{shard}x2/{stripe}.d|groups|12-2-2|.|y4|11x2/..d
+{shard}x2/{stripe}.d|plain|6-2-2|x0|p1|9x2/x0.d
+{shard}x2/{stripe}.d|groups|12-2-2|x0|p1|15x2/x0.d
+{shard}x2/{stripe}.d|plain|12-2-2|ä|p1|15x2/ä.d
+{shard}x2/{stripe}.d|groups|6-2-2|note.tar.gz|p1|9x2/note.tar.gz.d
+disk{shard}/{stripe}|plain|6-2-2|.rebuild-store-0123456789abcde|x0|disk0/.rebuild-store-0123456789abcde
+disk{shard}/{stripe}|plain|6-2-2|.rebuild-store-0123456789abcdeg|x0|disk0/.rebuild-store-0123456789abcdeg
+{stripe}.{place}|plain|6-2-2|.rebuild-store-0123456789abcdef|x0|.rebuild-store-0123456789abcdef.x0
+{stripe}.{place}|plain|6-2-2|a.damaged|x0|a.damaged.x0";
+
+// The words of a line of a table.
+fn words_of(alloc: Global, line: &str) -> Vec<&str> {
+    let mut words = Vec::new(alloc);
+    for word in line.split('|') {
+        if words.push(word).is_err() {
+            break;
+        }
+    }
+    words
+}
+
+fn layout_of(word: &str) -> Layout {
+    if word == "groups" {
+        Layout::Groups
+    } else {
+        Layout::Plain
+    }
+}
+
+fn code_of(word: &str) -> Code {
+    Code::parse(word.as_bytes()).unwrap_or(Code::Narrow)
+}
 
 #[test]
 fn names_are_made_and_read(rt: HostRuntime) {
-    for (text, layout, code, stripe, place, wanted) in NAMES {
-        match Pattern::parse(text, *layout) {
-            Ok(pattern) => {
-                let name = pattern.name_of(rt.alloc(), *code, stripe, *place);
+    for line in NAMES.lines() {
+        let words = words_of(rt.alloc(), line);
+        let [text, layout, code, stripe, place, wanted] = words.as_slice() else {
+            panic!(rt; "{line}");
+        };
+        let (code, place) = (code_of(code), Place::parse(place));
+        match (Pattern::parse(text, layout_of(layout)), place) {
+            (Ok(pattern), Some(place)) => {
+                let name = pattern.name_of(rt.alloc(), code, stripe, place);
                 let is_wanted = matches!(&name, Ok(Some(name)) if name.as_str() == *wanted);
-                assert!(rt; is_wanted, "{text} {stripe} {wanted}: {name:?}");
-                let read = pattern.read(*code, wanted);
-                assert_eq!(rt; read, Some((*stripe, *place)), "{text} {wanted}");
+                assert!(rt; is_wanted, "{line}: {name:?}");
+                assert_eq!(rt; pattern.read(code, wanted), Some((*stripe, place)), "{line}");
             }
-            Err(fault) => panic!(rt; "{text}: {fault}"),
+            (_, _) => panic!(rt; "{line}"),
         }
     }
 }
@@ -895,81 +188,64 @@ const PATTERNS: &[&str] = &[
     "d7{shard}-1{stripe}",
 ];
 
-// A pattern, a code, and a name that is none of a fragment.
-const NOTHING: &[(&str, Code, &str)] = &[
-    ("{stripe}.{place}", Code::Narrow, ""),
-    ("{stripe}.{place}", Code::Narrow, "a"),
-    ("{stripe}.{place}", Code::Narrow, "a."),
-    ("{stripe}.{place}", Code::Narrow, "a.x"),
-    ("{stripe}.{place}", Code::Narrow, "x0"),
-    ("{stripe}.{place}", Code::Narrow, ".x0"),
-    ("{stripe}.{place}", Code::Narrow, "a.x3x"),
-    ("{stripe}.{place}", Code::Narrow, "a.X0"),
-    ("{stripe}.{place}", Code::Narrow, "a.x6"),
-    ("{stripe}.{place}", Code::Narrow, "a.q0"),
-    ("{stripe}.{place}", Code::Narrow, "d/a.x0"),
-    ("{stripe}.{place}", Code::Narrow, "a.x0 "),
-    ("{stripe}.{place}", Code::Narrow, "a.x0.damaged"),
-    ("{stripe}.{place}", Code::Narrow, ".damaged"),
-    ("{stripe}.{place}", Code::Narrow, "/a.x0"),
-    ("{stripe}.{place}", Code::Narrow, "a/.x0"),
-    ("disk{shard}/{stripe}", Code::Narrow, "disk10/a"),
-    ("disk{shard}/{stripe}", Code::Narrow, "disk/a"),
-    ("disk{shard}/{stripe}", Code::Narrow, "disk00/a"),
-    ("disk{shard}/{stripe}", Code::Narrow, "disk01/a"),
-    ("disk{shard}/{stripe}", Code::Narrow, "disk-1/a"),
-    ("disk{shard}/{stripe}", Code::Narrow, "disk1/"),
-    ("disk{shard}/{stripe}", Code::Narrow, "disk1/a/b"),
-    ("disk{shard}/{stripe}", Code::Narrow, "disk1a"),
-    ("disk{shard}/{stripe}", Code::Narrow, "disk1/.."),
-    ("disk{shard}/{stripe}", Code::Narrow, "Disk1/a"),
-    ("disk{shard}/{stripe}", Code::Narrow, "disk1/a.damaged"),
-    ("disk{shard}/{stripe}", Code::Wide, "disk16/a"),
-    ("disk{shard}/{stripe}", Code::Wide, "disk015/a"),
-    ("disk{shard}/{stripe}", Code::Wide, "disk1 /a"),
-    ("{stripe}/{place}", Code::Wide, "../x0"),
-    ("{stripe}/{place}", Code::Wide, "/x0"),
-    ("{stripe}/{place}", Code::Wide, "a//x0"),
-    ("{stripe}/{place}", Code::Wide, "a/b/x0"),
-    ("{stripe}/{place}", Code::Wide, "a/x7"),
-    ("{place}-{stripe}", Code::Narrow, "x0-a.damaged"),
-    ("{place}-{stripe}", Code::Narrow, "x0a"),
-    ("{place}-{stripe}", Code::Narrow, "x0-"),
-    ("{place}-{stripe}", Code::Narrow, "-a"),
-];
+// In each line a pattern, a code, and a name that is none of a fragment.
+const NOTHING: &str = "\
+{stripe}.{place}|6-2-2|
+{stripe}.{place}|6-2-2|a
+{stripe}.{place}|6-2-2|a.
+{stripe}.{place}|6-2-2|a.x
+{stripe}.{place}|6-2-2|x0
+{stripe}.{place}|6-2-2|.x0
+{stripe}.{place}|6-2-2|a.x3x
+{stripe}.{place}|6-2-2|a.X0
+{stripe}.{place}|6-2-2|a.x6
+{stripe}.{place}|6-2-2|a.q0
+{stripe}.{place}|6-2-2|d/a.x0
+{stripe}.{place}|6-2-2|a.x0 
+{stripe}.{place}|6-2-2|a.x0.damaged
+{stripe}.{place}|6-2-2|.damaged
+{stripe}.{place}|6-2-2|/a.x0
+{stripe}.{place}|6-2-2|a/.x0
+disk{shard}/{stripe}|6-2-2|disk10/a
+disk{shard}/{stripe}|6-2-2|disk/a
+disk{shard}/{stripe}|6-2-2|disk00/a
+disk{shard}/{stripe}|6-2-2|disk01/a
+disk{shard}/{stripe}|6-2-2|disk-1/a
+disk{shard}/{stripe}|6-2-2|disk1/
+disk{shard}/{stripe}|6-2-2|disk1/a/b
+disk{shard}/{stripe}|6-2-2|disk1a
+disk{shard}/{stripe}|6-2-2|disk1/..
+disk{shard}/{stripe}|6-2-2|Disk1/a
+disk{shard}/{stripe}|6-2-2|disk1/a.damaged
+disk{shard}/{stripe}|12-2-2|disk16/a
+disk{shard}/{stripe}|12-2-2|disk015/a
+disk{shard}/{stripe}|12-2-2|disk1 /a
+{stripe}/{place}|12-2-2|../x0
+{stripe}/{place}|12-2-2|/x0
+{stripe}/{place}|12-2-2|a//x0
+{stripe}/{place}|12-2-2|a/b/x0
+{stripe}/{place}|12-2-2|a/x7
+{place}-{stripe}|6-2-2|x0-a.damaged
+{place}-{stripe}|6-2-2|x0a
+{place}-{stripe}|6-2-2|x0-
+{place}-{stripe}|6-2-2|-a";
 
-// A pattern, a code, and a stripe that has no fragment at a place, or none below the store's folder.
-const UNNAMED: &[(&str, Code, &str, Place)] = &[
-    ("{stripe}.{place}", Code::Narrow, "", Place::X0),
-    ("{stripe}.{place}", Code::Narrow, "a/b", Place::X0),
-    ("{stripe}.{place}", Code::Narrow, "/", Place::X0),
-    ("{stripe}/{place}", Code::Narrow, "..", Place::X0),
-    ("disk{shard}/{stripe}", Code::Narrow, "..", Place::X0),
-    (".{stripe}/{place}", Code::Wide, ".", Place::P1),
-    ("disk{shard}/{stripe}", Code::Narrow, "a", Place::X3),
-    ("disk{shard}/{stripe}", Code::Narrow, "a", Place::Y5),
-    ("{shard}/{stripe}", Code::Narrow, "../a", Place::X1),
-    (
-        "disk{shard}/{stripe}",
-        Code::Narrow,
-        ".rebuild-store-0123456789abcdef",
-        Place::X0,
-    ),
-    (
-        "disk{shard}/{stripe}",
-        Code::Narrow,
-        ".rebuild-store-3-16-0123456789abcdef",
-        Place::X0,
-    ),
-    (
-        "{stripe}/{place}",
-        Code::Narrow,
-        ".rebuild-store-0123456789abcdef",
-        Place::X0,
-    ),
-    ("{place}-{stripe}", Code::Narrow, "a.damaged", Place::X0),
-    ("{place}{stripe}", Code::Narrow, ".damaged", Place::X0),
-];
+// In each line a pattern, a code, and a stripe that has no fragment at a place, or none below the store's folder.
+const UNNAMED: &str = "\
+{stripe}.{place}|6-2-2||x0
+{stripe}.{place}|6-2-2|a/b|x0
+{stripe}.{place}|6-2-2|/|x0
+{stripe}/{place}|6-2-2|..|x0
+disk{shard}/{stripe}|6-2-2|..|x0
+.{stripe}/{place}|12-2-2|.|p1
+disk{shard}/{stripe}|6-2-2|a|x3
+disk{shard}/{stripe}|6-2-2|a|y5
+{shard}/{stripe}|6-2-2|../a|x1
+disk{shard}/{stripe}|6-2-2|.rebuild-store-0123456789abcdef|x0
+disk{shard}/{stripe}|6-2-2|.rebuild-store-3-16-0123456789abcdef|x0
+{stripe}/{place}|6-2-2|.rebuild-store-0123456789abcdef|x0
+{place}-{stripe}|6-2-2|a.damaged|x0
+{place}{stripe}|6-2-2|.damaged|x0";
 
 #[test]
 fn what_is_no_pattern_and_no_name_is_refused(rt: HostRuntime) {
@@ -981,19 +257,27 @@ fn what_is_no_pattern_and_no_name_is_refused(rt: HostRuntime) {
         let fault = Pattern::parse(text, Layout::Plain).err();
         assert_eq!(rt; fault, None, "{text}");
     }
-    for (text, code, name) in NOTHING {
+    for line in NOTHING.lines() {
+        let words = words_of(rt.alloc(), line);
+        let [text, code, name] = words.as_slice() else {
+            panic!(rt; "{line}");
+        };
         match Pattern::parse(text, Layout::Plain) {
-            Ok(pattern) => assert_eq!(rt; pattern.read(*code, name), None, "{text} {name}"),
-            Err(fault) => panic!(rt; "{text}: {fault}"),
+            Ok(pattern) => assert_eq!(rt; pattern.read(code_of(code), name), None, "{line}"),
+            Err(fault) => panic!(rt; "{line}: {fault}"),
         }
     }
-    for (text, code, stripe, place) in UNNAMED {
-        match Pattern::parse(text, Layout::Plain) {
-            Ok(pattern) => {
-                let name = pattern.name_of(rt.alloc(), *code, stripe, *place);
-                assert!(rt; matches!(name, Ok(None)), "{text} {stripe}: {name:?}");
+    for line in UNNAMED.lines() {
+        let words = words_of(rt.alloc(), line);
+        let [text, code, stripe, place] = words.as_slice() else {
+            panic!(rt; "{line}");
+        };
+        match (Pattern::parse(text, Layout::Plain), Place::parse(place)) {
+            (Ok(pattern), Some(place)) => {
+                let name = pattern.name_of(rt.alloc(), code_of(code), stripe, place);
+                assert!(rt; matches!(name, Ok(None)), "{line}: {name:?}");
             }
-            Err(fault) => panic!(rt; "{text}: {fault}"),
+            (_, _) => panic!(rt; "{line}"),
         }
     }
 }

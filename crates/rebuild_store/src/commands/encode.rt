@@ -3,6 +3,7 @@ use crate::work::progress::{Progress, Task};
 use lrc_code::Code;
 use std::fs;
 use std::io::ErrorKind;
+use std::thread::Threads;
 use store_arguments::EncodeOptions;
 use store_files::{SourceFile, Spool, Target, encode_file, stored_sums, write_new_sums};
 use store_folder::{Listing, Others, Wanted, list};
@@ -12,7 +13,11 @@ use store_opening::{
 use store_reports::{DEVICE, DONE, FileFault, StoreFault, device, encoded, say, write};
 
 /// Encodes files, says what was done and what wasn't, and gives the exit status.
-pub(crate) fn encode(rt: &HostRuntime, options: &EncodeOptions<'_>) -> Result<u8, FileFault> {
+pub(crate) fn encode<R: Threads + Sync>(
+    threads: &R,
+    rt: &HostRuntime,
+    options: &EncodeOptions<'_>,
+) -> Result<u8, FileFault> {
     let alloc = rt.alloc();
     make_folder(rt, options.folder)?;
     let _lock = lock_folder(rt, options.folder)?;
@@ -23,7 +28,7 @@ pub(crate) fn encode(rt: &HostRuntime, options: &EncodeOptions<'_>) -> Result<u8
         error,
     ))?;
     let mut target = target_of(rt, options, &listing)?;
-    let Encoded { count, status } = encode_all(rt, options, &mut target)?;
+    let Encoded { count, status } = encode_all(threads, rt, options, &mut target)?;
     write_new_sums(rt, &target)?;
     let left = (options.files.len() as u64).saturating_sub(count);
     if !options.quiet {
@@ -59,7 +64,8 @@ fn length_of(rt: &HostRuntime, path: &str) -> u64 {
 }
 
 // Encodes the files one after the other, and says why one isn't.
-fn encode_all(
+fn encode_all<R: Threads + Sync>(
+    threads: &R,
     rt: &HostRuntime,
     options: &EncodeOptions<'_>,
     target: &mut Target<'_>,
@@ -70,7 +76,7 @@ fn encode_all(
         status: DONE,
     };
     for path in &options.files {
-        match encode_one(rt, options, target, path) {
+        match encode_one(threads, rt, options, target, path) {
             Ok(()) => done.count = done.count.saturating_add(1),
             Err(FileFault::OutOfMemory) => return Err(FileFault::OutOfMemory),
             Err(fault) => {
@@ -85,7 +91,8 @@ fn encode_all(
 }
 
 // Encodes a file, or what standard input has.
-fn encode_one(
+fn encode_one<R: Threads + Sync>(
+    threads: &R,
     rt: &HostRuntime,
     options: &EncodeOptions<'_>,
     target: &mut Target<'_>,
@@ -93,14 +100,14 @@ fn encode_one(
 ) -> Result<(), FileFault> {
     let name = options.name;
     if path != "-" {
-        return encode_file(rt, target, &SourceFile { path, name });
+        return encode_file(threads, rt, target, &SourceFile { path, name });
     }
     let spool = Spool::fill(rt, target.folder)?;
     let source = SourceFile {
         path: spool.path(),
         name,
     };
-    let encoded = encode_file(rt, target, &source);
+    let encoded = encode_file(threads, rt, target, &source);
     spool.remove(rt)?;
     encoded
 }

@@ -1,25 +1,69 @@
-//! The fragments of a file, under temporary names.
+//! The fragments of a file, under temporary names, and the digests of both.
 ghost use Rattle.std.specs.Prelude.{◌≡◌, IfOk, length, vec_len};
 ghost use Rattle.lrc_code.specs.Codes.{tables_of};
 
-use crate::digesting::DigestedFile;
+use crate::digesting::digest_at;
+use crate::encoding::Given;
 use crate::encoding::placing::{Made, discard_all};
 use crate::encoding::target::Target;
 use std::io;
-use store_folder::{Links, NewFile, folder_of, open_fragment, refuse_linked_folders};
-use store_repair::encode;
-use store_reports::{FileFault, device, encode_fault};
+use std::thread::{Threads, join};
+use store_folder::{
+    Digest, Links, NewFile, digests_of, folder_of, open_fragment, refuse_linked_folders,
+};
+use store_repair::{encode, fragment_length};
+use store_reports::{FileFault, device, encode_fault, source_fault};
 
-/// Makes the fragments of a file, under temporary names.
-pub(crate) fn make_fragments(
+/// What is made of a file before anything gets a name: its digest, and its fragments.
+#[derive(Drop)]
+pub(crate) struct Encoded {
+    pub(crate) digest: Digest,
+    pub(crate) made: Vec<Made>,
+}
+
+/// Makes the fragments of a file under temporary names, and beside that, where a thread can be had, the file's digest, unless it is known.
+pub(crate) fn make_encoded<R: Threads + Sync>(
+    threads: &R,
     rt: &HostRuntime,
-    target: &mut Target<'_>,
+    target: &Target<'_>,
     name: &str,
-    path: &str,
-    length: u64,
+    given: &Given<'_>,
+) -> Result<Encoded, FileFault> {
+    let (digest, made) = join(
+        threads,
+        || source_digest(rt, given),
+        || make_fragments(rt, target, name, given),
+    );
+    let made = made?;
+    match digest {
+        Ok(digest) => Ok(Encoded { digest, made }),
+        Err(fault) => {
+            discard_all(rt, target.folder, made)?;
+            Err(fault)
+        }
+    }
+}
+
+/// The digest of a file that is encoded, which is read if it isn't known.
+pub(crate) fn source_digest(rt: &HostRuntime, given: &Given<'_>) -> Result<Digest, FileFault> {
+    if let Some(digest) = given.digest {
+        return Ok(digest);
+    }
+    digest_at(rt, given.path, given.before.len(), Links::Followed)
+        .map_err(|error| source_fault(rt.alloc(), given.path, error))
+}
+
+// Makes the fragments of a file, under temporary names.
+fn make_fragments(
+    rt: &HostRuntime,
+    target: &Target<'_>,
+    name: &str,
+    given: &Given<'_>,
 ) -> Result<Vec<Made>, FileFault> {
     let alloc = rt.alloc();
-    let source = open_fragment(rt, path, length, Links::Followed).map_err(|error| device(
+    let path = given.path;
+    let length = given.before.len();
+    let source = open_fragment(rt, path, length, Links::Followed).map_err(|error| source_fault(
         alloc, path, error,
     ))?;
     let mut files = new_files(rt, target, name)?;
@@ -30,19 +74,21 @@ pub(crate) fn make_fragments(
         length as usize,
         files.as_mut_slice(),
     );
-    let mut made = Vec::with_capacity(alloc, 16)?;
-    for file in files {
-        let (file, digest) = file.finish();
-        made.push(Made { file, digest })?;
-    }
-    match done {
-        Ok(()) => Ok(made),
-        Err(fault) => {
-            discard_all(rt, target.folder, made)?;
-            let fragments = target.path(alloc, name)?;
-            Err(encode_fault(alloc, path, fragments.as_str(), fault))
+    let refused = match done {
+        Ok(()) => {
+            let many = fragment_length(target.code, length as usize);
+            match digests_at(rt, target, files.as_slice(), many) {
+                Ok(digests) => return with_digests(rt, files, digests),
+                Err(fault) => fault,
+            }
         }
-    }
+        Err(fault) => {
+            let fragments = target.path(alloc, name)?;
+            encode_fault(alloc, path, fragments.as_str(), fault)
+        }
+    };
+    discard_files(rt, target, files)?;
+    Err(refused)
 }
 
 // A new file for each fragment of a stripe, in the folder that the fragment is to be in. Where one is refused, the others are removed
@@ -51,7 +97,7 @@ fn new_files(
     rt: &HostRuntime,
     target: &Target<'_>,
     stripe: &str,
-) -> Result<Vec<DigestedFile>, FileFault>
+) -> Result<Vec<NewFile>, FileFault>
     ensures { IfOk result (λ v. vec_len v ≡ length (tables_of target.now.code).places) }
 {
     let alloc = rt.alloc();
@@ -62,18 +108,67 @@ fn new_files(
         let path = target.path(alloc, name.as_str())?;
         let folder = folder_of(path.as_str());
         match new_file(rt, target, name.as_str(), folder) {
-            Ok(file) => files.push(DigestedFile::new(file))?,
+            Ok(file) => files.push(file)?,
             Err(error) => {
-                for file in files {
-                    let (file, _) = file.finish();
-                    file.discard(rt)
-                        .map_err(|error| device(alloc, target.folder, error))?;
-                }
+                discard_files(rt, target, files)?;
                 return Err(device(alloc, folder, error));
             }
         }
     }
     Ok(files)
+}
+
+// Removes new files.
+fn discard_files(
+    rt: &HostRuntime,
+    target: &Target<'_>,
+    files: Vec<NewFile>,
+) -> Result<(), FileFault> {
+    for file in files {
+        file.discard(rt)
+            .map_err(|error| device(rt.alloc(), target.folder, error))?;
+    }
+    Ok(())
+}
+
+// The digests of new files of so many bytes, which are read again.
+fn digests_at(
+    rt: &HostRuntime,
+    target: &Target<'_>,
+    files: &[NewFile],
+    many: usize,
+) -> Result<Vec<Digest>, FileFault> {
+    let alloc = rt.alloc();
+    let mut opened = Vec::with_capacity(alloc, files.len())?;
+    for file in files {
+        let fragment = open_fragment(rt, file.path(), many as u64, Links::NotFollowed);
+        opened.push(fragment.map_err(|error| device(alloc, target.folder, error))?)?;
+    }
+    let mut fragments = Vec::with_capacity(alloc, opened.len())?;
+    for fragment in &opened {
+        fragments.push(Some(fragment))?;
+    }
+    let mut digests = Vec::with_capacity(alloc, files.len())?;
+    for digest in digests_of(alloc, fragments.as_slice(), many)?
+        .into_iter()
+        .flatten()
+    {
+        digests.push(digest.map_err(|error| device(alloc, target.folder, error))?)?;
+    }
+    Ok(digests)
+}
+
+// New files, each with the digest at its index.
+fn with_digests(
+    rt: &HostRuntime,
+    files: Vec<NewFile>,
+    digests: Vec<Digest>,
+) -> Result<Vec<Made>, FileFault> {
+    let mut made = Vec::with_capacity(rt.alloc(), files.len())?;
+    for (file, digest) in files.into_iter().zip(digests) {
+        made.push(Made { file, digest })?;
+    }
+    Ok(made)
 }
 
 /// A new file for the fragment of a name in the store, in the folder that it is to be in.

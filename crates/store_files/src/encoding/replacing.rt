@@ -10,13 +10,15 @@ use crate::reading::file::StoredFile;
 use crate::removing::remove_names;
 use crate::staging::{is_begun, is_there, staged_name};
 use std::random::RandomSource;
+use std::thread::Threads;
 use std::{fs, io, slice};
 use store_folder::{description_names, folder_of, path_in, sync_folder};
 use store_names::stripe_folders;
 use store_reports::{FileFault, device};
 
 /// Replaces the file of a name.
-pub(crate) fn replace(
+pub(crate) fn replace<R: Threads + Sync>(
+    threads: &R,
     rt: &HostRuntime,
     target: &mut Target<'_>,
     name: &str,
@@ -24,7 +26,7 @@ pub(crate) fn replace(
 ) -> Result<(), FileFault> {
     let staged = staged_name(rt.alloc(), name)?;
     make_folders(rt, target, staged.as_str())?;
-    encode_as(rt, target, staged.as_str(), given)?;
+    encode_as(threads, rt, target, staged.as_str(), given)?;
     finish_replacing(rt, target, name)
 }
 
