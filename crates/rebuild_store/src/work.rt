@@ -90,7 +90,9 @@ fn by_losses(alloc: Global, stripes: &[Stripe<'_>]) -> Result<Vec<usize>, AllocE
     let mut counted = Vec::with_capacity(alloc, stripes.len())?;
     for (index, stripe) in stripes.iter().enumerate() {
         let files = stripe.files.found.iter();
-        let there = files.filter(|found| matches!(found, Found::File { .. })).count();
+        let there = files
+            .filter(|found| matches!(found, Found::File { .. }))
+            .count();
         counted.push((there, index))?;
     }
     counted.sort_by_key(|entry| *entry)?;

@@ -3,7 +3,7 @@
 ghost use Rattle.std.specs.Prelude.{◌≡◌, ℕ, ◌%◌, ◌<◌, List, [], ◌++◌, length, map, slice_index_or};
 ghost use Rattle.sha2.specs.Sha256.{final_hash, initial_hash_256, sha256};
 ghost use Rattle.sha256_lanes.specs.Lanes.{AreOfOneLength, lane, message};
-ghost use Rattle.sha256_lanes.specs.Hashers.{HasTaken};
+ghost use Rattle.sha256_lanes.specs.Hashers.{HasTaken, state_of};
 
 use crate::digest::{Digest, absorb, digest, initial_state, whole_blocks};
 use crate::tail::{tail, tail_blocks};
@@ -22,7 +22,15 @@ use std::simd::u32x8;
 /// ```
 #[derive(Clone, Copy, Debug)]
 pub struct HasherOfEight {
-    state: [u32x8; 8],
+    // The words of the hash values.
+    h0: u32x8,
+    h1: u32x8,
+    h2: u32x8,
+    h3: u32x8,
+    h4: u32x8,
+    h5: u32x8,
+    h6: u32x8,
+    h7: u32x8,
     // How many bytes of each message were taken in, modulo 2^64.
     taken: u64,
 }
@@ -32,10 +40,35 @@ impl HasherOfEight {
     pub fn new() -> HasherOfEight
         ensures { HasTaken result (λ _. []) }
     {
+        HasherOfEight::of(initial_state(), 0)
+    }
+
+    // The hasher of these hash values, after so many bytes.
+    fn of(state: [u32x8; 8], taken: u64) -> HasherOfEight
+        ensures state { state_of result ≡ state }
+        ensures taken { result.taken ≡ taken }
+    {
+        let [h0, h1, h2, h3, h4, h5, h6, h7] = state;
         HasherOfEight {
-            state: initial_state(),
-            taken: 0,
+            h0,
+            h1,
+            h2,
+            h3,
+            h4,
+            h5,
+            h6,
+            h7,
+            taken,
         }
+    }
+
+    // The hash values.
+    fn state(self) -> [u32x8; 8]
+        ensures { result ≡ state_of self }
+    {
+        [
+            self.h0, self.h1, self.h2, self.h3, self.h4, self.h5, self.h6, self.h7,
+        ]
     }
 
     /// Takes in the next piece of each message: eight pieces of one length, a multiple of 64 bytes.
@@ -45,15 +78,18 @@ impl HasherOfEight {
         ensures { (m : ℕ → List ℕ) → HasTaken self.old m → HasTaken self.new (λ l. m l ++ message pieces.now l) }
     {
         let count = whole_blocks(pieces[0]);
-        absorb(&mut self.state, pieces, count);
-        self.taken = self.taken.wrapping_add(pieces[0].len() as u64);
+        let taken = self.taken.wrapping_add(pieces[0].len() as u64);
+        let mut state = self.state();
+        absorb(&mut state, pieces, count);
+        *self = HasherOfEight::of(state, taken);
     }
 
     /// The digests of the messages that end with these pieces, eight of any one length: 32 bytes each, the first byte of the hash value
     /// first.
     pub fn finalize(self, ends: &[&[u8]; 8]) -> [Digest; 8]
         requires { AreOfOneLength ends.now }
-        ensures { (m : ℕ → List ℕ) → HasTaken self m → (l : ℕ) → l < 8
+        ensures many { length result ≡ 8 }
+        ensures digests { (m : ℕ → List ℕ) → HasTaken self m → (l : ℕ) → l < 8
             → slice_index_or result l [] ≡ sha256 (m l ++ message ends.now l) }
     {
         let state = hash_values(self, ends);
@@ -89,7 +125,7 @@ fn hash_values(hasher: HasherOfEight, ends: &[&[u8]; 8]) -> [u32x8; 8]
         tail(ends[6], before),
         tail(ends[7], before),
     ];
-    let mut state = hasher.state;
+    let mut state = hasher.state();
     absorb(&mut state, ends, whole);
     absorb(
         &mut state,

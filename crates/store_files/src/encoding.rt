@@ -48,8 +48,9 @@ pub fn encode_file<R: Threads + Sync>(
     let path = source.path;
     let name = stripe_name(rt, source.name.unwrap_or(path))?;
     let before = regular(rt, path)?;
-    open_fragment(rt, path, before.len(), Links::Followed)
-        .map_err(|error| source_fault(alloc, path, error))?;
+    open_fragment(rt, path, before.len(), Links::Followed).map_err(|error| source_fault(
+        alloc, path, error,
+    ))?;
     refuse_names(rt, target, path, name)?;
     if target.makes_folders {
         make_folders(rt, target, name)?;
@@ -152,6 +153,17 @@ fn is_described(rt: &HostRuntime, target: &Target<'_>, name: &str) -> Result<boo
     Ok(false)
 }
 
+// What is to be said of a file whose digest is known.
+fn described_as(code: Code, given: &Given<'_>) -> Option<Described> {
+    let digest = given.digest?;
+    let length = given.before.len();
+    Some(Described {
+        length,
+        digest,
+        code,
+    })
+}
+
 // Refuses a file beside whose stripe's names there is another description, or a fragment at a place that its code hasn't.
 fn refuse_others(
     rt: &HostRuntime,
@@ -160,15 +172,12 @@ fn refuse_others(
     given: &Given<'_>,
 ) -> Result<(), FileFault> {
     let alloc = rt.alloc();
-    let length = given.before.len();
+    let described = described_as(target.code, given);
     for description in target.descriptions(alloc, name)? {
         let path = target.path(alloc, description.as_str())?;
         if is_there(rt, path.as_str())? {
             match read_description(rt, path.as_str(), target.links) {
-                Ok(Some(there))
-                    if there.length == length
-                        && there.code == target.code
-                        && Some(there.digest) == given.digest => {}
+                Ok(Some(there)) if described == Some(there) => {}
                 _ => return Err(is_there_already(rt, description.as_str())?),
             }
         }

@@ -71,44 +71,79 @@ fn add_together<F: Fragment>(
         reads.push(fragment.map(|_| Ok(())))?;
     }
     let mut hasher = HasherOfEight::new();
-    let mut from = 0;
-    'blocks: while length - from > BLOCK {
-        read_block(fragments, from, room.as_mut_slice(), BLOCK, reads.as_mut_slice());
-        hasher.update(&parts_of(room.as_slice(), BLOCK));
-        from += BLOCK;
+    let mut left = length;
+    'blocks: while left > BLOCK {
+        read_eight(
+            fragments,
+            length - left,
+            room.as_mut_slice(),
+            BLOCK,
+            reads.as_mut_slice(),
+        );
+        hasher.update(&eight_parts(room.as_slice(), BLOCK));
+        left -= BLOCK;
     }
-    let size = length - from;
-    read_block(fragments, from, room.as_mut_slice(), size, reads.as_mut_slice());
-    let digests = hasher.finalize(&parts_of(room.as_slice(), size));
+    read_eight(
+        fragments,
+        length - left,
+        room.as_mut_slice(),
+        left,
+        reads.as_mut_slice(),
+    );
+    let digests = hasher.finalize(&eight_parts(room.as_slice(), left));
     for (read, digest) in reads.into_iter().zip(digests) {
         found.push(read.map(|done| done.map(|()| digest)))?;
     }
     Ok(())
 }
-// Reads so many bytes of each fragment from a position on, each into its part of the room, unless a read of it failed before.
-fn read_block<F: Fragment>(
+
+// Reads so many bytes of each of at most eight fragments from a position on, each into its part of the room.
+fn read_eight<F: Fragment>(
     fragments: &[Option<&F>],
     from: usize,
     room: &mut [u8],
     size: usize,
     reads: &mut [Option<io::Result<()>>],
 )
-    requires fragments { length fragments.now ≤ 8 }
     requires reads { length reads.old ≡ length fragments.now }
     requires room { 8 * size ≤ length room.old }
     ensures room { length room.new ≡ length room.old }
     ensures reads { length reads.new ≡ length reads.old }
 {
-    for index in 0..fragments.len() {
-        if let (Some(fragment), Some(Ok(()))) = (&fragments[index], &reads[index]) {
-            let at = index * size;
-            reads[index] = Some(fragment.read_at(from, &mut room[at..at + size]));
+    read_one(fragments, 0, from, &mut room[..size], reads);
+    read_one(fragments, 1, from, &mut room[size..2 * size], reads);
+    read_one(fragments, 2, from, &mut room[2 * size..3 * size], reads);
+    read_one(fragments, 3, from, &mut room[3 * size..4 * size], reads);
+    read_one(fragments, 4, from, &mut room[4 * size..5 * size], reads);
+    read_one(fragments, 5, from, &mut room[5 * size..6 * size], reads);
+    read_one(fragments, 6, from, &mut room[6 * size..7 * size], reads);
+    read_one(fragments, 7, from, &mut room[7 * size..8 * size], reads);
+}
+
+// Reads bytes of the fragment at an index from a position on, if there is one of which no read failed before.
+fn read_one<F: Fragment>(
+    fragments: &[Option<&F>],
+    index: usize,
+    from: usize,
+    bytes: &mut [u8],
+    reads: &mut [Option<io::Result<()>>],
+)
+    requires { length reads.old ≡ length fragments.now }
+    ensures { length reads.new ≡ length reads.old }
+{
+    if index >= fragments.len() {
+        return;
+    }
+    let is_read = matches!(&reads[index], Some(Ok(())));
+    if let Some(fragment) = fragments[index] {
+        if is_read {
+            reads[index] = Some(fragment.read_at(from, bytes));
         }
     }
 }
 
 // The eight parts of a room that have so many bytes each.
-fn parts_of(room: &[u8], size: usize) -> [&[u8]; 8]
+fn eight_parts(room: &[u8], size: usize) -> [&[u8]; 8]
     requires { 8 * size ≤ length room.now }
     ensures one { AreOfOneLength result }
     ensures size { length (message result 0) ≡ size }

@@ -49,8 +49,11 @@ pub(crate) fn source_digest(rt: &HostRuntime, given: &Given<'_>) -> Result<Diges
     if let Some(digest) = given.digest {
         return Ok(digest);
     }
-    digest_at(rt, given.path, given.before.len(), Links::Followed)
-        .map_err(|error| source_fault(rt.alloc(), given.path, error))
+    digest_at(rt, given.path, given.before.len(), Links::Followed).map_err(|error| source_fault(
+        rt.alloc(),
+        given.path,
+        error,
+    ))
 }
 
 // Makes the fragments of a file, under temporary names.
@@ -93,11 +96,7 @@ fn make_fragments(
 
 // A new file for each fragment of a stripe, in the folder that the fragment is to be in. Where one is refused, the others are removed
 // again.
-fn new_files(
-    rt: &HostRuntime,
-    target: &Target<'_>,
-    stripe: &str,
-) -> Result<Vec<NewFile>, FileFault>
+fn new_files(rt: &HostRuntime, target: &Target<'_>, stripe: &str) -> Result<Vec<NewFile>, FileFault>
     ensures { IfOk result (λ v. vec_len v ≡ length (tables_of target.now.code).places) }
 {
     let alloc = rt.alloc();

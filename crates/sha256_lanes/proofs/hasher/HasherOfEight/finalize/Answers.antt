@@ -4,9 +4,9 @@ use Rattle.sha256_lanes.specs.Lanes.{lane, message}
 use Rattle.sha256_lanes.proofs.Eight.{below_eight}
 use Rattle.sha256_lanes.proofs.hasher.HasherOfEight.finalize.Goals as goal
 
-pub returns : goal.returns
+pub returns-clause-digests : goal.returns-clause-digests
 unfolding sha256
-returns c m taken =
+returns-clause-digests c m taken =
     let ms = c.args.ends.now in
     let ds : List (List ℕ) =
     c.digest.result ∷ c.digest-2.result ∷ c.digest-3.result ∷ c.digest-4.result ∷ c.digest-5.result ∷ c.digest-6.result ∷ c.digest-7.result

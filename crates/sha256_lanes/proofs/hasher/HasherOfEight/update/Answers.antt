@@ -1,4 +1,4 @@
-use Rattle.std.proofs.Common.{◌≡◌, ◌+◌, ◌*◌, ◌/◌, ◌%◌, ◌^◌, ◌++◌, length, length-append, ap, ap₂, ◌∙◌, arith, sym}
+use Rattle.std.proofs.Common.{◌≡◌, ◌+◌, ◌/◌, ◌++◌, length, length-append, ap, ◌∙◌, arith}
 use Rattle.sha2.specs.Sha256.{hash_after, initial_hash_256}
 use Rattle.sha256_lanes.specs.Lanes.{lane, message}
 use Rattle.sha256_lanes.proofs.Eight.{message_is}
@@ -27,9 +27,11 @@ returns c m taken l h =
     omega (arith, size, count, own.1, c.requires.blocks, same) in (
       omega (arith, size, zero_size, same, own.0),
       omega (arith, size, same, own.1, c.requires.blocks),
-      omega (arith, size, same, own.2, first),
-      c.absorb.ensures l h
-      ∙ ap (λ s. hash_after s p c.whole_blocks-count.result) own.3
-      ∙ hash_after-pieces initial_hash_256 (m l) p c.whole_blocks-count.result own.1
-      ∙ ap (hash_after initial_hash_256 (m l ++ p)) blocks,
+      c.of.ensures.taken ∙ omega (arith, size, same, own.2, first),
+      ap (lane l) c.of.ensures.state
+          ∙ c.absorb.ensures l h
+          ∙ ap (λ s. hash_after (lane l s) p c.whole_blocks-count.result) c.state-state.ensures
+          ∙ ap (λ s. hash_after s p c.whole_blocks-count.result) own.3
+          ∙ hash_after-pieces initial_hash_256 (m l) p c.whole_blocks-count.result own.1
+          ∙ ap (hash_after initial_hash_256 (m l ++ p)) blocks,
     )
