@@ -43,7 +43,9 @@ fn answer_all<R: Threads + Wait + Sync>(
     let mut lists = Vec::new(alloc);
     for targets in TARGETS {
         let list = list_of(alloc, targets)?;
-        lists.push(list)?;
+        if lists.push(list).is_err() {
+            return Err(FarmError::OutOfMemory);
+        }
     }
     let (Ok(racks), Ok(settings)) = (Racks::new(lists), Settings::new(2, 16)) else {
         return Err(FarmError::OutOfMemory);

@@ -17,7 +17,10 @@ const SURVIVORS: &[(Place, &[u8])] = &[
 fn main(rt: HostRuntime) -> ExitCode {
     let shown = match answer(rt.alloc()) {
         Ok(Outcome::Rebuilt(bytes)) => {
-            println!(rt; "x0: {}", str::from_utf8(bytes.as_slice()).unwrap_or("no text"))
+            println!(rt;
+                "x0: {}",
+                str::from_utf8(bytes.as_slice()).unwrap_or("no text")
+            )
         }
         Ok(Outcome::Contradiction) => println!(rt; "no stripe of the code has these bytes"),
         Ok(Outcome::Several) => println!(rt; "these fragments don't determine x0"),

@@ -148,7 +148,11 @@ fn names_are_made_and_read(rt: HostRuntime) {
                 let name = pattern.name_of(rt.alloc(), code, stripe, place);
                 let is_wanted = matches!(&name, Ok(Some(name)) if name.as_str() == *wanted);
                 assert!(rt; is_wanted, "{line}: {name:?}");
-                assert_eq!(rt; pattern.read(code, wanted), Some((*stripe, place)), "{line}");
+                assert_eq!(rt;
+                    pattern.read(code, wanted),
+                    Some((*stripe, place)),
+                    "{line}"
+                );
             }
             (_, _) => panic!(rt; "{line}"),
         }
