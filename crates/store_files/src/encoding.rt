@@ -9,8 +9,9 @@ pub(crate) mod subfolders;
 pub(crate) mod sums;
 pub(crate) mod target;
 
-use crate::digesting::digest_at;
+use crate::counting::CountedSource;
 use crate::limits::refuse_over_limit;
+use crate::progress::Progress;
 use crate::staging::{is_staged, is_there};
 use descriptions::place_descriptions;
 use fragments::make_fragments;
@@ -19,18 +20,23 @@ use placing::{discard_all, is_there_already, place_fragments};
 use replacing::{finish_replacing, replace};
 use source::{is_changed, no_name, regular, stripe_name};
 use std::fs::Metadata;
-use store_folder::{DESCRIPTION, Described, KEPT, Links, is_ambiguous, path_in, read_description};
+use std::io;
+use store_folder::{
+    DESCRIPTION, Described, Digest, KEPT, Links, digest_of, is_ambiguous, open_fragment, path_in,
+    read_description,
+};
 use store_repair::fragment_length;
 use store_reports::{FileFault, fragment_name, source_fault};
 use subfolders::make_folders;
 use target::Target;
 
 /// A file that is encoded.
-#[derive(Clone, Copy, Debug)]
+#[derive(Clone, Copy)]
 pub struct SourceFile<'a> {
     pub path: &'a str,
     /// The name that it gets in the store, if that isn't its own.
     pub name: Option<&'a str>,
+    pub progress: &'a Progress,
 }
 
 /// Encodes a file. What is there already stays: the same bytes are kept, others refuse the file before anything gets a name, unless the
@@ -46,7 +52,7 @@ pub fn encode_file(
     let before = regular(rt, path)?;
     let described = Described {
         length: before.len(),
-        digest: digest_at(rt, path, before.len(), Links::Followed).map_err(|error| source_fault(
+        digest: digest_of_source(rt, source, before.len()).map_err(|error| source_fault(
             alloc, path, error,
         ))?,
         code: target.code,
@@ -59,6 +65,7 @@ pub fn encode_file(
         path,
         before: &before,
         described,
+        progress: source.progress,
     };
     finish_replacing(rt, target, name)?;
     match refuse_others(rt, target, name, &described) {
@@ -80,6 +87,17 @@ pub(crate) struct Given<'a> {
     /// What was said of it before it was read.
     pub(crate) before: &'a Metadata,
     pub(crate) described: Described,
+    pub(crate) progress: &'a Progress,
+}
+
+// The digest of a file that is encoded, which has to have so many bytes.
+fn digest_of_source(rt: &HostRuntime, source: &SourceFile<'_>, length: u64) -> io::Result<Digest> {
+    let file = CountedSource {
+        file: open_fragment(rt, source.path, length, Links::Followed)?,
+        rt,
+        progress: source.progress,
+    };
+    digest_of(rt.alloc(), &file, length as usize)
 }
 
 /// Encodes a file as the stripe of a name.
@@ -94,11 +112,12 @@ pub(crate) fn encode_as(
         path,
         before,
         described,
+        ..
     } = *given;
     let names = target.names(alloc, name)?;
     let fragment_bytes = fragment_length(target.code, described.length as usize);
     refuse_over_limit(rt, name, fragment_bytes as u64)?;
-    let made = make_fragments(rt, target, name, path, described.length)?;
+    let made = make_fragments(rt, target, name, given)?;
     let after = match regular(rt, path) {
         Ok(after) => after,
         Err(fault) => {
@@ -128,7 +147,7 @@ fn refuse_names(
     let is_taken = |fragment: &String| {
         fragment.ends_with(KEPT) || (is_ambiguous && fragment.ends_with(DESCRIPTION))
     };
-    if names.iter().any(is_taken) || is_staged(name) {
+    if names.iter().any(is_taken) || is_staged(name) || !target.has_names(alloc, name)? {
         return Err(no_name(rt, path)?);
     }
     Ok(())

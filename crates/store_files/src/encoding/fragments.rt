@@ -2,10 +2,12 @@
 ghost use Rattle.std.specs.Prelude.{◌≡◌, IfOk, length, vec_len};
 ghost use Rattle.lrc_code.specs.Codes.{tables_of};
 
+use crate::counting::CountedSource;
 use crate::digesting::DigestedFile;
+use crate::encoding::Given;
 use crate::encoding::placing::{Made, discard_all};
 use crate::encoding::target::Target;
-use std::io;
+use std::io::{self, ErrorKind};
 use store_folder::{Links, NewFile, folder_of, open_fragment, refuse_linked_folders};
 use store_repair::encode;
 use store_reports::{FileFault, device, encode_fault};
@@ -15,13 +17,19 @@ pub(crate) fn make_fragments(
     rt: &HostRuntime,
     target: &mut Target<'_>,
     name: &str,
-    path: &str,
-    length: u64,
+    given: &Given<'_>,
 ) -> Result<Vec<Made>, FileFault> {
     let alloc = rt.alloc();
-    let source = open_fragment(rt, path, length, Links::Followed).map_err(|error| device(
+    let path = given.path;
+    let length = given.described.length;
+    let file = open_fragment(rt, path, length, Links::Followed).map_err(|error| device(
         alloc, path, error,
     ))?;
+    let source = CountedSource {
+        file,
+        rt,
+        progress: given.progress,
+    };
     let mut files = new_files(rt, target, name)?;
     let done = encode(
         alloc,
@@ -69,11 +77,22 @@ fn new_files(
                     file.discard(rt)
                         .map_err(|error| device(alloc, target.folder, error))?;
                 }
-                return Err(device(alloc, folder, error));
+                return Err(device(alloc, folder, unmade(error)));
             }
         }
     }
     Ok(files)
+}
+
+// Why a file can't be made in a folder, with what to do if that isn't there.
+fn unmade(error: io::Error) -> io::Error {
+    if error.kind() != ErrorKind::NotFound {
+        return error;
+    }
+    io::Error::new(
+        ErrorKind::NotFound,
+        "isn't there: make this folder, or give --make-folders",
+    )
 }
 
 /// A new file for the fragment of a name in the store, in the folder that it is to be in.
