@@ -258,7 +258,7 @@ def test_names(folder, code, choose):
         store.mkdir()
         names = ["--names", "disk{shard}/{stripe}", "--layout", layout]
         _, errors = run("encode", store, source, "--code", code, *names, status=3)
-        check("disk0: No such file or directory" in errors and not list(store.glob("**/*")), errors)
+        check("disk0: isn't there: make this folder, or give --make-folders" in errors and not list(store.glob("**/*")), errors)
         for number in range(len(order)):
             (store / f"disk{number}").mkdir()
         (store / "disk1/.rebuild-store-0123456789abcdef").write_bytes(b"left")

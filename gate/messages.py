@@ -12,11 +12,11 @@ ROOT = pathlib.Path(__file__).resolve().parent.parent
 PAGE = ROOT / "man/rebuild-store.1"
 CRATES = ("rebuild_store", "store_arguments", "store_files", "store_folder", "store_names", "store_opening", "store_records",
           "store_repair", "store_reports")
-# What says how far a repair is has no message.
-LEFT_OUT = {"progress.rt"}
+# What says how far a command is has no message.
+LEFT_OUT = {"progress.rt", "tasks.rt"}
 # Texts that are filled into others, or that others take the place of before anything is said.
-PARTS = {"can be made", "would be rebuilt", "standard output", "standard input", "Max file size", ", with --replace-damaged ",
-         "; left without --replace-damaged: ", "the survivors don't determine the fragment",
+PARTS = {" (os error ", "can be made", "would be rebuilt", "standard output", "standard output: <>", "standard input", "Max file size",
+         ", with --replace-damaged ", "; left without --replace-damaged: ", "the survivors don't determine the fragment",
          "a survivor can't be read: <>", "a rebuilt fragment can't be written: <>"}
 LITERAL = r'"((?:[^"\\]|\\[\s\S])*)"'
 HELP = rf"const \w*(?:HELP|ABOUT): &str =\s*{LITERAL};"

@@ -31,6 +31,7 @@ DECODER = ROOT / "gate/store-decoder.py"
 DISKS = ["--names", "disk{shard}/{stripe}"]
 CODED = [*DISKS, "--code", "6-2-2"]
 STAGED = ".rebuild-store-new"
+PLACES = ("x0", "x1", "x2", "y0", "y1", "y2", "px", "py", "p0", "p1")
 SECONDS = 120
 passed, skipped, faults = 0, [], []
 
@@ -133,7 +134,15 @@ def test_verify(place, choose):
     out, err = run("verify", store, status=1)
     hold(out == b"verified 1 file; not as described: 1\n" and "a: the fragments that are there don't give" in err, err)
     out, err = run("verify", store, "b", "nothere", status=1)
-    hold("nothere: no description" in err, err)
+    hold(f"nothere: is no file of the store {store}" in err, err)
+    for name in ("a.file", "a.file.copy"):
+        (store / name).unlink()
+    _, err = run("verify", store, "a", status=1)
+    hold("a: no description is there" in err, err)
+    for path in store.glob("a.*"):
+        path.write_bytes(files[path.name])
+    for name in ("a.file", "a.file.copy"):
+        (store / name).write_bytes(files[name])
     hold(set(there(store)) == set(files), "verify changed what is in the store")
 
 
@@ -164,6 +173,12 @@ def test_read_to_a_file(place, choose):
     for name in ("a.x0", "new", "SHA256SUMS"):
         _, err = run("read", store, "a", "-o", store / name, status=2)
         hold("is in a folder of the store" in err and there(store) == files, err)
+    disks = place / "disks"
+    run("encode", "--make-folders", *DISKS, disks, place / "a", status=0)
+    files = there(disks)
+    for name in ("SHA256SUMS", "new", "disk3/a", "disk3/new"):
+        _, err = run("read", *DISKS, disks, "a", "-o", disks / name, status=2)
+        hold("is in a folder of the store" in err and there(disks) == files, err)
     run("read", store, "a", "-o", place / "nothere/out", status=3)
     for name in ("x0", "x1", "x2", "y0", "y1"):
         (store / f"a.{name}").unlink()
@@ -256,6 +271,36 @@ def test_replace_killed(place, choose):
         [*pool.map(one, range(1, len(kinds) + 1))]
 
 
+def test_replace_failing(place, choose):
+    """Whichever call of a run that replaces a file fails, the old file or the new one can be read, and the same command again ends the
+    work."""
+    calls = Calls(place)
+    old, new = choose.randbytes(900), choose.randbytes(1_801)
+    first = place / "first"
+    run("encode", first, source(place, "a", old), status=0)
+    source(place, "a", new)
+    shutil.copytree(first, place / "count")
+    kinds = calls.run([PROGRAM, "encode", "--replace", place / "count", place / "a"]).kinds
+
+    def one(number):
+        store = place / f"failing-{number}"
+        shutil.copytree(first, store)
+        command = [PROGRAM, "encode", "--replace", store, place / "a"]
+        ended = calls.run(command, number, 28)
+        where = f"call {number}, {kinds[number - 1]}"
+        hold(ended.status in (0, 1, 3), f"{where}: {ended.text()}")
+        read = ran("read", store, "a")
+        hold(read.returncode == 0 and read.stdout in (old, new), f"{where}: {read.returncode} {read.stderr!r}")
+        hold(ended.status != 0 or read.stdout == new, f"{where}: status 0, and not the new file")
+        run(*command[1:], status=0)
+        hold(decoded(store, "a") == new, f"{where}: not the new file after the same command")
+        hold(are_right(store) and not [it for it in there(store) if "rebuild-store" in it], f"{where}: left {sorted(there(store))}")
+        shutil.rmtree(store)
+
+    with concurrent.futures.ThreadPoolExecutor(os.cpu_count()) as pool:
+        [*pool.map(one, range(1, len(kinds) + 1))]
+
+
 def test_remove(place, choose):
     """A file is taken out with all that is its, and nothing else; what is no regular file stays, and is named."""
     store = place / "store"
@@ -279,6 +324,92 @@ def test_remove(place, choose):
     _, err = run("remove", store, "b", status=1)
     hold("b.p1: is no regular file, and isn't removed" in err and (store / "b.p1").is_dir(), err)
     run("list", store, status=0)
+
+
+def test_remove_folders(place, choose):
+    """The folders that have the name of a file that is taken out go with it, if they are empty; those of disks and of others stay."""
+    file = source(place, "a", choose.randbytes(500))
+    other = source(place, "b", b"b")
+    for pattern, own in (("{stripe}/{place}", {"a"}), ("s/{stripe}/d{place}/f", {"s/a", *(f"s/a/d{it}" for it in PLACES)}),
+                         ("disk{shard}/{stripe}", set())):
+        store = place / f"store-{len(own)}"
+        run("encode", "--make-folders", "--names", pattern, store, file, other, status=0)
+        before = {str(path.relative_to(store)) for path in store.rglob("*") if path.is_dir()}
+        run("encode", "--replace", "--names", pattern, store, source(place, "a", b"another"), status=0)
+        hold({str(path.relative_to(store)) for path in store.rglob("*") if path.is_dir()} == before, f"{pattern}: other folders")
+        run("remove", "--names", pattern, *([] if own else ["--code", "6-2-2"]), store, "a", status=0)
+        after = {str(path.relative_to(store)) for path in store.rglob("*") if path.is_dir()}
+        hold(after == before - own, f"{pattern}: {sorted(before ^ after)}")
+        hold(decoded(store, "b", pattern) == b"b" and are_right(store), f"{pattern}: another file is gone")
+        file = source(place, "a", choose.randbytes(500))
+    store = place / "store-1"
+    (store / "b/mine").write_bytes(b"kept")
+    run("remove", "--names", "{stripe}/{place}", store, "b", status=0)
+    hold((store / "b/mine").read_bytes() == b"kept", "a folder that had something else was emptied")
+
+
+def test_remove_through_a_link(place, choose):
+    """Nothing is taken out of a folder that a link leads to, unless links are followed."""
+    store, outside = place / "store", place / "outside"
+    run("encode", "--make-folders", *DISKS, store, source(place, "a", choose.randbytes(500)), status=0)
+    (store / "disk3").rename(outside)
+    (store / "disk3").symlink_to(outside)
+    before, files = there(outside), there(store)
+    _, err = run("remove", *CODED, store, "a", status=3)
+    hold("its folder is a link, and links aren't followed" in err and there(outside) == before and there(store) == files, err)
+    run("remove", "--follow-links", *CODED, store, "a", status=0)
+    hold(not there(outside) and not [path for path in there(store) if path != "SHA256SUMS"], sorted(there(store)))
+
+
+def test_names_out_of_the_store(place, choose):
+    """A name that no stripe can have leads neither out of the store nor to a fragment of another file."""
+    store = place / "store"
+    run("encode", "--make-folders", *DISKS, store, source(place, "a", choose.randbytes(500)), status=0)
+    (store / "sub").mkdir()
+    for path in (place / "mine", place / "mine.file", store / "sub/mine", store / "mine"):
+        path.write_bytes(b"mine")
+    files, beside = there(store), there(place)
+    for names in ([], CODED):
+        for name in ("../mine", "sub/mine", "disk3/a", "./mine", "disk3/../disk4/a", "", "..", f"{place}/mine"):
+            _, err = run("remove", *names, store, name, status=1)
+            hold(("is no file of the store" in err or "is this the store" in err) and there(place) == beside, f"{name}: {err}")
+            for command, more in (("read", []), ("verify", []), ("read", ["-o", place / "out"])):
+                _, err = run(command, *(DISKS if names else []), store, name, *more, status=1)
+                hold("is no file of the store" in err and there(place) == beside, f"{command} {name}: {err}")
+    hold(there(store) == files, "the store was changed")
+
+
+def test_lost_stripe(place, choose):
+    """A file all of whose fragments are gone is named once by `lost`, whatever still names it, and the list doesn't ask for it."""
+    store = place / "store"
+    run("encode", store, source(place, "a", choose.randbytes(600)), source(place, "b", b"b"), status=0)
+    for path in store.glob("a.??"):
+        path.unlink()
+    for gone in ("", "SHA256SUMS"):
+        if gone:
+            (store / gone).unlink()
+        out, err = run("lost", store, status=1)
+        hold(out == b"order,stripe,target,length,survivors\n" and err.count("a: no fragment can be read\n") == 1, f"{out} {err}")
+        hold("2 stripes; 10 fragments lost, 10 of them not in the list" in err and "a.x0" not in err, err)
+    for name in ("b.y0", "b.p1"):
+        (store / name).unlink()
+    out, err = run("lost", store, status=1)
+    hold(len(out.splitlines()) == 3 and "12 fragments lost, 10 of them" in err, f"{out} {err}")
+
+
+def test_what_lists_take(place, choose):
+    """Why a list can't ask for a fragment is said: its length, or the name of its stripe."""
+    store = place / "store"
+    names = {"empty": 0, "long": 6 * 65_536 + 1, "Name": 60, "fits": 6 * 65_536}
+    for name, length in names.items():
+        run("encode", store, source(place, name, bytes(length)), status=0)
+        (store / f"{name}.x1").unlink()
+    out, err = run("lost", store, status=1)
+    for line in ("empty.x1: a list can't ask for it: it has 0 bytes, and lists take 1 to 65536",
+                 "long.x1: a list can't ask for it: it has 65537 bytes, and lists take 1 to 65536",
+                 "Name.x1: a list can't ask for it: lists take other names of stripes"):
+        hold(line in err, err)
+    hold(out.count(b"rebuild,fits,x1,65536,") == 1 and out.count(b"\n") == 2, out)
 
 
 def test_remove_killed(place, choose):
@@ -356,6 +487,47 @@ def test_limit_on_length(place, choose):
     hold("ulimit -f" in err and not (place / "out").exists(), err)
     ended = ran("encode", store, "-", "--as", "b", given=data, preexec_fn=limited)
     hold(ended.returncode == 3 and there(store) == files, f"{ended.returncode}: {ended.stderr!r} {sorted(there(store))}")
+
+
+def test_limit_on_other_files(place, choose):
+    """The digests, a report and what a file has that is standard output aren't begun where they would get longer than files may."""
+    store, limit = place / "store", 400
+
+    def limited():
+        resource.setrlimit(resource.RLIMIT_FSIZE, (limit, limit))
+
+    sources = [source(place, name, choose.randbytes(600)) for name in ("a", "b")]
+    _, err = run("encode", store, *sources, status=3, preexec_fn=limited)
+    said = "would be longer than files may get here: ulimit -f"
+    hold(f"SHA256SUMS: {said}" in err and not (store / "SHA256SUMS").exists(), err)
+    hold(decoded(store, "a") == sources[0].read_bytes() and not [it for it in there(store) if it.startswith(".")], sorted(there(store)))
+    run("encode", store, *sources, status=0)
+    hold(are_right(store), "the same command again didn't write the digests")
+    files = there(store)
+    _, err = run("encode", "--replace", store, source(place, "a", b"another"), status=3, preexec_fn=limited)
+    hold("SHA256SUMS" in err and decoded(store, "b") == sources[1].read_bytes(), err)
+    run("encode", "--replace", store, source(place, "a", files["a.x0"]), status=0)
+    hold(are_right(store) and decoded(store, "a") == files["a.x0"], "the store isn't whole after the limit was raised")
+    shutil.rmtree(store)
+    run("encode", store, *(source(place, name, choose.randbytes(600)) for name in "abcdefgh"), status=0)
+    for name in "abcdefgh":
+        for lost in ("x0", "y1", "p0"):
+            (store / f"{name}.{lost}").unlink()
+    report = place / "report"
+    for older in (None, "older"):
+        if older:
+            report.write_text(older)
+        _, err = run("scrub", store, "--report", report, status=3, preexec_fn=limited)
+        hold(f"{report}: the report can't be written: {said}" in err, err)
+        hold((report.read_text() if report.exists() else None) == older, "a part of a report was written")
+    _, err = run("scrub", store, "--report", "/dev/null", status=1, preexec_fn=limited)
+    for words in (["scrub", store, "--json"], ["read", store, "a"]):
+        with open(place / "output", "wb") as output:
+            ended = subprocess.run([PROGRAM, *words], stdout=output, stderr=subprocess.PIPE, timeout=SECONDS, preexec_fn=limited)
+        hold(ended.returncode == 3 and f"standard output: {said}".encode() in ended.stderr, f"{words}: {ended}")
+        hold(not (place / "output").read_bytes(), f"{words}: a part was written")
+    with subprocess.Popen([PROGRAM, "read", store, "a"], stdout=subprocess.PIPE, stderr=subprocess.DEVNULL, preexec_fn=limited) as process:
+        hold(process.stdout.read() == (place / "a").read_bytes() and process.wait() == 0, "a pipe is taken for a file")
 
 
 def test_unmounted_disk(place, choose):

@@ -138,7 +138,9 @@ def test_stripes(folder, code, choose):
     check(errors == "none at all: no fragment can be read\n", errors)
     output, errors = run("lost", folder, "--code", code, "--stripes", names, status=1)
     count = len(shards(code, "plain"))
-    check(errors.endswith(f"3 stripes; {count} fragments lost, {count} of them not in the list\n"), errors)
+    said = f"3 stripes; {count} fragments lost, {count} of them not in the list\n"
+    check(errors == f"rebuild-store: none at all: no fragment can be read\n{said}", errors)
+    check(len(output.splitlines()) == 1, output)
     _, errors = run("repair", folder, "--code", code, "--stripes", names.with_name("absent"), status=3)
     check("absent: No such file or directory" in errors, errors)
 

@@ -991,8 +991,11 @@ def test_sums_given(place, choose):
     hold(there(store) == files, "the store isn't what it was")
     for option in ("--sums", "--stripes"):
         hold("nothere: No such file" in run("scrub", store, option, place / "nothere", status=3), f"{option} isn't named")
-    said = run("scrub", store, "--report", place / "nowhere/report.csv", status=3)
-    hold("nowhere/report.csv: the report can't be written" in said, said)
+    (store / "a.x0").unlink()
+    for command in ("scrub", "repair"):
+        said = run(command, store, "--report", place / "nowhere/report.csv", status=3)
+    hold(not (store / "a.x0").exists(), "a repair was begun whose report has no folder")
+    hold("nowhere/report.csv: No such file" in said, said)
 
 
 def test_odd_names(place, choose):
@@ -1102,7 +1105,7 @@ def test_line_on_a_terminal(place, choose):
     hold(status == -signal.SIGTERM and re.fullmatch(f"(?:{scrub})+", said), f"status {status}: {said!r}")
     for name in names:
         (store / f"{name}.px").unlink()
-    repair = line % ("repair", len(names), "fragments", re.escape(f"{len(names) * 4}.0"), "given up")
+    repair = line % ("repair", len(names), "fragments", re.escape(f"{len(names) * 36}.0"), "given up")
     said, status = on_terminal("repair", store, "--workers", 1)
     hold(status == 0 and re.fullmatch(f"(?:{repair})+\x1b\\[A\r\x1b\\[K", said), f"status {status}: {said!r}")
 
@@ -1117,8 +1120,31 @@ def test_line_of_files(place, choose):
     line = r"(?:\x1b\[A)?\r\x1b\[K\x1b\[\?7lencode: \d/4 files  [\d.]+/400.0 MiB  \d+ MiB/s  \d+:\d\d left\x1b\[\?7h\r\n"
     said, status = on_terminal("encode", store, *sources)
     hold(status == 0 and re.fullmatch(f"(?:{line})+\x1b\\[A\r\x1b\\[K", said), f"status {status}: {said!r}")
-    for command, words in (("encode", sources), ("scrub", [])):
+    for command, words in (("encode", sources), ("scrub", []), ("verify", []), ("read", ["f0", "-o", place / "read"])):
         hold(on_terminal(command, store, *words, "-q") == ("", 0), f"{command} -q shows a line")
+
+
+def test_line_within_a_file(place, choose):
+    """A command over one long file shows how far it is in it, and no line that it says is written over."""
+    store, file, size = place / "long", place / "f", 300 * 2**20
+    with open(file, "wb") as long:
+        long.truncate(size)
+    line = r"(?:\x1b\[A)?\r\x1b\[K\x1b\[\?7l%s: 0/1 %s  ([\d.]+)/%s MiB  \d+ MiB/s  \d+:\d\d left[^\n]*\x1b\[\?7h\r\n"
+    took = "\x1b[A\r\x1b[K"
+    commands = [("encode", "files", "300.0", [store, file]), ("verify", "files", "300.0", [store]),
+                ("read", "files", "300.0", [store, "f", "-o", place / "read"]), ("scrub", "stripes", "500.0", [store]),
+                ("repair", "fragments", "450.0", [store])]
+    for command, unit, all_of_it, words in commands:
+        if command == "repair":
+            (store / "f.x1").unlink()
+        said, status = on_terminal(command, *words)
+        seen = [float(it) for it in re.findall(line % (command, unit, re.escape(all_of_it)), said)]
+        hold(status == 0 and len(seen) > 1 and seen == sorted(seen) and min(seen) < max(seen), f"{command}: {status}, {said!r}")
+        hold(said.endswith(took), f"{command} left its line: {said!r}")
+    hold((place / "read").stat().st_size == size, "the file isn't what it was")
+    said, status = on_terminal("encode", store, "--replace", file, place / "nothere", file)
+    refused = r"\x1b\[A\r\x1b\[Krebuild-store: \S+nothere: No such file or directory\r\n(?!\x1b\[A)"
+    hold(status == 3 and re.search(refused, said), repr(said))
 
 
 def main(program=None, only=""):

@@ -3,10 +3,13 @@ mod report_file;
 
 use report_file::write_report;
 use std::alloc::AllocError;
+use std::fs;
 use std::io::{self, ErrorKind};
 use store_arguments::TestOptions;
+use store_files::allow_output;
+use store_folder::folder_of;
 use store_opening::{OpenStore, Opening};
-use store_reports::{Results, Rows, alone_lines, rows_of, say, write};
+use store_reports::{FileFault, Results, Rows, alone_lines, device, rows_of, say, words_of, write};
 
 /// Says lines on standard error.
 pub(crate) fn say_all(rt: &HostRuntime, lines: Vec<String>) -> Result<(), AllocError> {
@@ -43,29 +46,55 @@ pub(crate) fn say_summary(
     write(rt, Ok(summary))
 }
 
-/// Writes the rows of a report to where they are asked for. Says whether the report could be written.
+/// Refuses a report whose folder isn't there, before anything is done.
+pub(crate) fn refuse_report(rt: &HostRuntime, test: &TestOptions<'_>) -> Result<(), FileFault> {
+    let Some(path) = test.report else {
+        return Ok(());
+    };
+    match fs::metadata(rt, folder_of(path)) {
+        Ok(_) => Ok(()),
+        Err(error) => Err(device(rt.alloc(), path, error)),
+    }
+}
+
+// Writes rows to standard output. Says whether it may get so long.
+fn print_rows(rt: &HostRuntime, results: &Results<'_>) -> io::Result<bool> {
+    let rows = rows_of(rt.alloc(), results, Rows::Json)?;
+    match allow_output(rt, rows.len() as u64) {
+        Ok(()) => {
+            print!(rt; "{rows}")?;
+            Ok(true)
+        }
+        Err(error) => {
+            let why = words_of(rt.alloc(), &error)?;
+            say(
+                rt,
+                format!(in rt.alloc(); "rebuild-store: standard output: {why}"),
+            )?;
+            Ok(false)
+        }
+    }
+}
+
+/// Writes the rows of a report to where they are asked for. Says whether they could be written.
 pub(crate) fn say_rows(
     rt: &HostRuntime,
     results: &Results<'_>,
     test: &TestOptions<'_>,
 ) -> io::Result<bool> {
-    if test.json {
-        let rows = rows_of(rt.alloc(), results, Rows::Json)?;
-        print!(rt; "{rows}")?;
-    }
+    let are_printed = !test.json || print_rows(rt, results)?;
     let Some(path) = test.report else {
-        return Ok(true);
+        return Ok(are_printed);
     };
     let rows = rows_of(rt.alloc(), results, Rows::Csv)?;
     match write_report(rt, path, rows.as_str()) {
-        Ok(()) => Ok(true),
+        Ok(()) => Ok(are_printed),
         Err(error) if error.kind() == ErrorKind::OutOfMemory => Err(error),
         Err(error) => {
+            let why = words_of(rt.alloc(), &error)?;
             say(
                 rt,
-                format!(in rt.alloc();
-                    "rebuild-store: {path}: the report can't be written: {error}"
-                ),
+                format!(in rt.alloc(); "rebuild-store: {path}: the report can't be written: {why}"),
             )?;
             Ok(false)
         }

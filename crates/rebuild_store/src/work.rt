@@ -1,17 +1,19 @@
 //! Threads that work on stripes side by side.
-pub(crate) mod progress;
+pub(crate) mod tasks;
+pub(crate) mod watched;
 
 use lrc_code::Code;
-use progress::{Progress, bytes_of};
 use std::alloc::{AllocError, Global};
-use std::sync::atomic::{AtomicUsize, Ordering};
+use std::sync::atomic::{AtomicU64, AtomicUsize, Ordering};
 use std::thread;
 use std::thread::Threads;
-use store_files::{CopyWork, DescribedStripe, tend_descriptions};
+use store_files::{CopyWork, DescribedStripe, Progress, tend_descriptions};
 use store_folder::{FolderStore, SeparateStore, Site, SystemFolder};
 use store_opening::OpenStore;
 use store_repair::{Found, Outcome, Repair, Stripe, plan_stripe, repair_stripe, scrub_stripe};
-use store_reports::{Contents, Done, without_left, without_repeated};
+use store_reports::{Contents, Descriptions, Done, without_left, without_repeated};
+use tasks::{bytes_of, bytes_read};
+use watched::{Meter, WatchedFolder};
 
 // The memory that is taken and given back before the work. The C library gives free memory back to the system after each stripe, unless
 // it has seen a block come back that is as large: it then keeps twice as much. It looks at no block of more than 32 MiB.
@@ -19,10 +21,10 @@ const HELD: usize = 25_165_824;
 
 /// What is done with each stripe.
 #[derive(Clone, Copy)]
-pub(crate) enum Work<'p, 'r> {
-    Repair(Repair, &'p Progress<'r>),
+pub(crate) enum Work {
+    Repair(Repair),
     Plan(Repair),
-    Scrub(Code, &'p Progress<'r>),
+    Scrub(Code),
 }
 
 /// The stripes of an open store that are worked on, and where they are.
@@ -31,6 +33,7 @@ pub(crate) struct Stripes<'a> {
     pub(crate) store: &'a OpenStore,
     pub(crate) site: &'a Site<'a>,
     pub(crate) all: &'a [Stripe<'a>],
+    pub(crate) progress: &'a Progress,
 }
 
 impl<'a> Stripes<'a> {
@@ -44,17 +47,17 @@ impl<'a> Stripes<'a> {
     }
 }
 
-impl Work<'_, '_> {
+impl Work {
     // What is done with the copies of descriptions.
     fn with_copies(&self) -> CopyWork {
         match self {
-            Work::Repair(repair, _) => CopyWork::Make {
+            Work::Repair(repair) => CopyWork::Make {
                 replaces: repair.replace_damaged,
             },
             Work::Plan(repair) => CopyWork::Plan {
                 replaces: repair.replace_damaged,
             },
-            Work::Scrub(_, _) => CopyWork::Name,
+            Work::Scrub(_) => CopyWork::Name,
         }
     }
 }
@@ -65,7 +68,7 @@ pub(crate) fn work_on<R: Threads + Sync>(
     rt: &R,
     system: &HostRuntime,
     stripes: &Stripes<'_>,
-    work: Work<'_, '_>,
+    work: Work,
     workers: usize,
 ) -> Result<Vec<Done>, AllocError> {
     // Without that memory the work goes on as well.
@@ -107,12 +110,21 @@ fn by_losses(alloc: Global, stripes: &[Stripe<'_>]) -> Result<Vec<usize>, AllocE
 fn take_stripes(
     system: &HostRuntime,
     stripes: &Stripes<'_>,
-    work: Work<'_, '_>,
+    work: Work,
     order: &[usize],
     next: &AtomicUsize,
 ) -> Result<Vec<Done>, AllocError> {
     let mut all = Vec::new(system.alloc());
-    let mut store = SeparateStore::new(FolderStore::new(system, *stripes.site));
+    let read = AtomicU64::new(0);
+    let files = WatchedFolder {
+        files: SystemFolder::new(system),
+        meter: Meter {
+            rt: system,
+            progress: stripes.progress,
+            read: &read,
+        },
+    };
+    let mut store = SeparateStore::new(FolderStore::over(system, files, *stripes.site));
     for _turn in 0..order.len() {
         let Some(index) = order.get(next.fetch_add(1, Ordering::SeqCst)).copied() else {
             break;
@@ -121,17 +133,15 @@ fn take_stripes(
             break;
         };
         let outcome = outcome_of(system.alloc(), &mut store, work, stripe)?;
-        let descriptions = if stripes.store.found.described.contains(stripe.name) {
-            let described = DescribedStripe {
-                name: stripe.name,
-                length: outcome.length,
-                unmounted: stripes.store.unmounted.as_slice(),
-            };
-            let copies = work.with_copies();
-            Some(tend_descriptions(system, stripes.site, &described, copies)?)
-        } else {
-            None
-        };
+        count(
+            system,
+            stripes,
+            work,
+            stripe,
+            &outcome,
+            read.swap(0, Ordering::SeqCst),
+        );
+        let descriptions = descriptions_of(system, stripes, work, stripe, outcome.length)?;
         all.push(Done {
             index,
             outcome,
@@ -141,31 +151,64 @@ fn take_stripes(
     Ok(all)
 }
 
+// Does the work with the descriptions of a stripe whose fragments have so many bytes, if it has any.
+fn descriptions_of(
+    system: &HostRuntime,
+    stripes: &Stripes<'_>,
+    work: Work,
+    stripe: &Stripe<'_>,
+    length: usize,
+) -> Result<Option<Descriptions>, AllocError> {
+    let store = stripes.store;
+    if !store.found.described.contains(stripe.name) {
+        return Ok(None);
+    }
+    let described = DescribedStripe {
+        name: stripe.name,
+        length,
+        unmounted: store.unmounted.as_slice(),
+    };
+    let copies = work.with_copies();
+    let done = tend_descriptions(system, stripes.site, &described, copies)?;
+    Ok(Some(done))
+}
+
 // Does the work with the fragments of a stripe.
 fn outcome_of(
     alloc: Global,
-    store: &mut SeparateStore<'_, SystemFolder<'_>>,
-    work: Work<'_, '_>,
+    store: &mut SeparateStore<'_, WatchedFolder<'_, SystemFolder<'_>>>,
+    work: Work,
     stripe: &Stripe<'_>,
 ) -> Result<Outcome, AllocError> {
     match work {
-        Work::Repair(repair, progress) => {
-            let outcome = repair_stripe(alloc, store, &repair, stripe)?;
-            let rebuilt = outcome.rebuilt.len() as u64;
-            let bytes = rebuilt.saturating_mul(outcome.length as u64);
-            progress.count(rebuilt, bytes, &outcome);
-            Ok(outcome)
-        }
+        Work::Repair(repair) => repair_stripe(alloc, store, &repair, stripe),
         Work::Plan(repair) => {
             let plan = plan_stripe(alloc, store, &repair, stripe)?;
             let said = plan.findings.len();
             let plan = without_left(alloc, &repair, stripe, plan)?;
             without_repeated(alloc, plan, said)
         }
-        Work::Scrub(code, progress) => {
-            let outcome = scrub_stripe(alloc, store, code, stripe)?;
-            progress.count(1, bytes_of(code, stripe), &outcome);
-            Ok(outcome)
-        }
+        Work::Scrub(code) => scrub_stripe(alloc, store, code, stripe),
     }
+}
+
+// Counts a stripe with which the work is done, and of which so many bytes were read.
+fn count(
+    system: &HostRuntime,
+    stripes: &Stripes<'_>,
+    work: Work,
+    stripe: &Stripe<'_>,
+    outcome: &Outcome,
+    read: u64,
+) {
+    let progress = stripes.progress;
+    progress.note(outcome);
+    let (units, bytes) = match work {
+        Work::Repair(repair) | Work::Plan(repair) => (
+            outcome.rebuilt.len() as u64,
+            bytes_read(repair.code, repair.reads, stripe),
+        ),
+        Work::Scrub(code) => (1, bytes_of(code, stripe)),
+    };
+    progress.count(system, units, bytes, read);
 }

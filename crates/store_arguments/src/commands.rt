@@ -12,6 +12,8 @@ use clap::error::ErrorKind;
 use clap::{ArgMatches, Command as Definition, Error as ParseError};
 use std::alloc::{AllocError, Global};
 
+const NAME: &str = "rebuild-store";
+
 const VERSION: &str = "0.1.0";
 
 const ABOUT: &str =
@@ -53,7 +55,8 @@ pub fn read_arguments<'a>(
 
 // The definition of the program.
 fn program<'a>(alloc: Global) -> Result<Definition<'a>, AllocError> {
-    Definition::new(alloc, "rebuild-store")
+    Definition::new(alloc, NAME)
+        .bin_name(NAME)?
         .no_binary_name(true)
         .version(VERSION)
         .about(ABOUT)
@@ -90,6 +93,20 @@ fn shown<'a>(alloc: Global, error: &ParseError) -> Result<Command<'a>, UsageFaul
         ErrorKind::DisplayHelp | ErrorKind::DisplayVersion => {
             Ok(Command::Help(format!(in alloc; "{error}")?))
         }
-        _ => Err(UsageFault::Mistake(format!(in alloc; "{error}")?)),
+        _ => {
+            let text = format!(in alloc; "{error}")?;
+            Err(UsageFault::Mistake(without_tip(alloc, text.as_str())?))
+        }
     }
+}
+
+// The text of a mistake without the tip that a word which begins with a hyphen may be meant as a value: it seldom is.
+fn without_tip(alloc: Global, text: &str) -> Result<String, AllocError> {
+    if let Some((before, after)) = text.split_once("\n  tip: to pass ") {
+        if let Some((_, rest)) = after.split_once("\n\n") {
+            let before = before.trim_end();
+            return format!(in alloc; "{before}\n\n{rest}");
+        }
+    }
+    String::from_str(alloc, text)
 }

@@ -179,7 +179,7 @@ const SHOWN: [(&str, &str); 3] = [
     ("-V", "rebuild-store 0.1.0\n"),
     (
         "lost --help",
-        "Writes the request list of what is lost\n\nUsage: lost [OPTIONS] <STORE>\n\n\
+        "Writes the request list of what is lost\n\nUsage: rebuild-store lost [OPTIONS] <STORE>\n\n\
          Arguments:\n  <STORE>  Folder of the fragments\n\nOptions:\n",
     ),
 ];

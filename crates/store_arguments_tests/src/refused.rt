@@ -4,7 +4,7 @@ use std::io;
 use store_arguments::read_arguments;
 
 // The texts of the parser are those of clap, of whose usage each command's line is one.
-const REFUSALS: [(&str, &str); 23] = [
+const REFUSALS: [(&str, &str); 26] = [
     ("encode s -", "error: - needs a name, --as NAME\n"),
     (
         "encode s a - --as b",
@@ -13,7 +13,7 @@ const REFUSALS: [(&str, &str); 23] = [
     (
         "remove s",
         "error: the following required arguments were not provided:\n  <NAME>...\n\n\
-         Usage: remove <STORE> <NAME>...\n\nFor more information, try '--help'.\n",
+         Usage: rebuild-store remove <STORE> <NAME>...\n\nFor more information, try '--help'.\n",
     ),
     (
         "",
@@ -26,29 +26,27 @@ const REFUSALS: [(&str, &str); 23] = [
     (
         "lost",
         "error: the following required arguments were not provided:\n  <STORE>\n\n\
-         Usage: lost <STORE>\n\nFor more information, try '--help'.\n",
+         Usage: rebuild-store lost <STORE>\n\nFor more information, try '--help'.\n",
     ),
     (
         "encode s",
         "error: the following required arguments were not provided:\n  <FILE>...\n\n\
-         Usage: encode <STORE> <FILE>...\n\nFor more information, try '--help'.\n",
+         Usage: rebuild-store encode <STORE> <FILE>...\n\nFor more information, try '--help'.\n",
     ),
     (
         "read s",
         "error: the following required arguments were not provided:\n  <NAME>\n\n\
-         Usage: read <STORE> <NAME>\n\nFor more information, try '--help'.\n",
+         Usage: rebuild-store read <STORE> <NAME>\n\nFor more information, try '--help'.\n",
     ),
     (
         "scrub --dry-run s",
-        "error: unexpected argument '--dry-run' found\n\n\x20\
-         \x20tip: to pass '--dry-run' as a value, use '-- --dry-run'\n\n\
-         Usage: scrub [OPTIONS] <STORE>\n\nFor more information, try '--help'.\n",
+        "error: unexpected argument '--dry-run' found\n\n\
+         Usage: rebuild-store scrub [OPTIONS] <STORE>\n\nFor more information, try '--help'.\n",
     ),
     (
         "lost --workers 2 s",
-        "error: unexpected argument '--workers' found\n\n\x20\
-         \x20tip: to pass '--workers' as a value, use '-- --workers'\n\n\
-         Usage: lost [OPTIONS] <STORE>\n\nFor more information, try '--help'.\n",
+        "error: unexpected argument '--workers' found\n\n\
+         Usage: rebuild-store lost [OPTIONS] <STORE>\n\nFor more information, try '--help'.\n",
     ),
     (
         "repair --code 6-3 s",
@@ -69,6 +67,20 @@ const REFUSALS: [(&str, &str); 23] = [
     (
         "scrub --workers=17 s",
         "error: --workers takes a number from 1 to 16\n",
+    ),
+    (
+        "scrub -j 99999999999999999999 s",
+        "error: --workers takes a number from 1 to 16\n",
+    ),
+    (
+        "repair --workers=four s",
+        "error: --workers takes a number from 1 to 16\n",
+    ),
+    (
+        "repair --quit s",
+        "error: unexpected argument '--quit' found\n\n\x20\
+         \x20tip: a similar argument exists: '--quiet'\n\n\
+         Usage: rebuild-store repair --quiet <STORE>\n\nFor more information, try '--help'.\n",
     ),
     (
         "repair --part 0/3 s",

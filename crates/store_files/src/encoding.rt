@@ -9,7 +9,9 @@ pub(crate) mod subfolders;
 pub(crate) mod sums;
 pub(crate) mod target;
 
+use crate::counting::CountedSource;
 use crate::limits::refuse_over_limit;
+use crate::progress::Progress;
 use crate::staging::{is_staged, is_there};
 use descriptions::place_descriptions;
 use fragments::{Encoded, make_encoded, source_digest};
@@ -29,11 +31,12 @@ use subfolders::make_folders;
 use target::Target;
 
 /// A file that is encoded.
-#[derive(Clone, Copy, Debug)]
+#[derive(Clone, Copy)]
 pub struct SourceFile<'a> {
     pub path: &'a str,
     /// The name that it gets in the store, if that isn't its own.
     pub name: Option<&'a str>,
+    pub progress: &'a Progress,
 }
 
 /// Encodes a file. What is there already stays: the same bytes are kept, others refuse the file before anything gets a name, unless the
@@ -60,6 +63,7 @@ pub fn encode_file<R: Threads + Sync>(
         path,
         before: &before,
         digest: None,
+        progress: source.progress,
     };
     // Only a file that has a description needs the digest before its fragments are made.
     if is_described(rt, target, name)? {
@@ -84,6 +88,7 @@ pub(crate) struct Given<'a> {
     /// What was said of it before it was read.
     pub(crate) before: &'a Metadata,
     pub(crate) digest: Option<Digest>,
+    pub(crate) progress: &'a Progress,
 }
 
 /// Encodes a file as the stripe of a name.
@@ -135,7 +140,7 @@ fn refuse_names(
     let is_taken = |fragment: &String| {
         fragment.ends_with(KEPT) || (is_ambiguous && fragment.ends_with(DESCRIPTION))
     };
-    if names.iter().any(is_taken) || is_staged(name) {
+    if names.iter().any(is_taken) || is_staged(name) || !target.has_names(alloc, name)? {
         return Err(no_name(rt, path)?);
     }
     Ok(())

@@ -2,16 +2,19 @@
 //! description.
 //!
 //! ```rust
-//! encode_file(&threads, &rt, &mut target, &SourceFile { path: "notes.txt", name: None })?;
-//! read_file(&rt, &StoredFile { folder, pattern, name: "notes.txt", links }, None)?;
+//! encode_file(&threads, &rt, &mut target, &SourceFile { path: "notes.txt", name: None, progress: &progress })?;
+//! read_file(&rt, &StoredFile { folder, pattern, name: "notes.txt", links, progress: None }, None)?;
 //! let descriptions = tend_descriptions(&rt, &site, &stripe, CopyWork::Name)?;
 //! ```
 #![tactic(auto)]
 
 mod copies;
+mod counting;
 mod digesting;
 mod encoding;
 mod limits;
+mod own_folders;
+mod progress;
 mod reading;
 mod removing;
 mod staging;
@@ -21,7 +24,8 @@ pub use encoding::spool::Spool;
 pub use encoding::sums::{stored_sums, write_new_sums};
 pub use encoding::target::Target;
 pub use encoding::{SourceFile, encode_file};
-pub use limits::{most_file_bytes, refuse_over_limit};
+pub use limits::{allow_file, allow_output, most_file_bytes, refuse_over_limit};
+pub use progress::{Progress, Task};
 pub use reading::descriptions::first_described;
 pub use reading::file::StoredFile;
 pub use reading::{read_file, verify_file};

@@ -1,10 +1,14 @@
 //! The limit on the length of files that a process may write. A write beyond it would end the run without a word, by a signal.
 use std::alloc::AllocError;
 use std::fs;
+use std::io::{self, ErrorKind};
 use store_reports::FileFault;
 
 // What the system says of the limits of a process.
 const LIMITS: &str = "/proc/self/limits";
+
+// Where the system shows what standard output is.
+const OUTPUT: &str = "/proc/self/fd/1";
 
 /// The most bytes that a file may get which this process writes; none if there is no limit, or the system doesn't say one.
 pub fn most_file_bytes(rt: &HostRuntime) -> Option<u64> {
@@ -24,7 +28,31 @@ pub fn refuse_over_limit(rt: &HostRuntime, path: &str, bytes: u64) -> Result<(),
     }
 }
 
-// That a file would be longer than this process may write.
+/// An error if this process may not write a file of so many bytes.
+pub fn allow_file(rt: &HostRuntime, bytes: u64) -> io::Result<()> {
+    match most_file_bytes(rt) {
+        Some(most) if bytes > most => Err(too_long()),
+        _ => Ok(()),
+    }
+}
+
+/// An error if standard output is a regular file and may not get so many bytes more.
+pub fn allow_output(rt: &HostRuntime, bytes: u64) -> io::Result<()> {
+    match fs::metadata(rt, OUTPUT) {
+        Ok(output) if output.is_file() => allow_file(rt, output.len().saturating_add(bytes)),
+        _ => Ok(()),
+    }
+}
+
+/// That a file would be longer than this process may write.
+pub(crate) fn too_long() -> io::Error {
+    io::Error::new(
+        ErrorKind::FileTooLarge,
+        "would be longer than files may get here: ulimit -f",
+    )
+}
+
+// That a file would be longer than this process may write, in numbers.
 fn over_limit(
     rt: &HostRuntime,
     path: &str,

@@ -2,19 +2,24 @@
 //! fragments: what a run that was killed has left is a file that can still be read, or fragments that the same command removes.
 use crate::encoding::sums::write_new_sums;
 use crate::encoding::target::Target;
-use crate::staging::{is_absent, is_there, staged_name};
+use crate::own_folders::remove_own_folders;
+use crate::staging::{is_absent, is_there, no_stored, refuse_linked, staged_name};
 use std::alloc::{AllocError, Global};
 use std::fs;
 use store_folder::{folder_of, sync_folder};
 use store_reports::{FileFault, device};
 
-/// Takes the file of a name out of a store, with what a run has left that was to replace it. What isn't a regular file is left, and named.
+/// Takes the file of a name out of a store, with what a run has left that was to replace it, and with the folders that it had alone. What
+/// isn't a regular file is left, and named.
 pub fn remove_stored(
     rt: &HostRuntime,
     target: &mut Target<'_>,
     name: &str,
 ) -> Result<(), FileFault> {
     let alloc = rt.alloc();
+    if !target.has_names(alloc, name)? {
+        return Err(no_stored(alloc, name, target.folder)?);
+    }
     let staged = staged_name(alloc, name)?;
     let mut descriptions = target.descriptions(alloc, name)?;
     for description in target.descriptions(alloc, staged.as_str())? {
@@ -24,11 +29,10 @@ pub fn remove_stored(
     for fragment in target.names(alloc, staged.as_str())? {
         fragments.push(fragment)?;
     }
+    refuse_linked(rt, target, descriptions.as_slice())?;
+    refuse_linked(rt, target, fragments.as_slice())?;
     if !has_any(rt, target, &descriptions)? && !has_any(rt, target, &fragments)? {
-        let folder = target.folder;
-        return Err(FileFault::Refused {
-            what: format!(in alloc; "{name}: is no file of the store {folder}")?,
-        });
+        return Err(no_stored(alloc, name, target.folder)?);
     }
     for other in descriptions.iter().chain(fragments.iter()) {
         if target.sums.remove(other.as_str()) {
@@ -37,7 +41,9 @@ pub fn remove_stored(
     }
     write_new_sums(rt, target)?;
     remove_names(rt, target, descriptions.as_slice())?;
-    remove_names(rt, target, fragments.as_slice())
+    remove_names(rt, target, fragments.as_slice())?;
+    remove_own_folders(rt, target, staged.as_str(), name)?;
+    Ok(remove_own_folders(rt, target, name, staged.as_str())?)
 }
 
 // Whether there is anything under one of some names.

@@ -1,10 +1,11 @@
 //! Stripes that are to replace others: their names, and whether one is there.
+use crate::encoding::target::Target;
 use crate::reading::file::StoredFile;
 use lrc_code::{Code, Place};
 use std::alloc::{AllocError, Global};
 use std::fs;
 use std::io::ErrorKind;
-use store_folder::path_in;
+use store_folder::{path_in, refuse_linked_folders};
 use store_reports::{FileFault, device, fragment_name};
 
 // How the name of a stripe ends that is to replace another one.
@@ -28,15 +29,51 @@ pub(crate) fn is_begun(
     file: &StoredFile<'_>,
     code: Code,
 ) -> Result<bool, FileFault> {
+    has_some(rt, file, code, &[Place::X0, Place::X1])
+}
+
+/// Whether there is anything under the name of a fragment of a stripe at one of some places.
+pub(crate) fn has_some(
+    rt: &HostRuntime,
+    file: &StoredFile<'_>,
+    code: Code,
+    places: &[Place],
+) -> Result<bool, FileFault> {
     let alloc = rt.alloc();
-    for place in [Place::X0, Place::X1] {
-        let name = fragment_name(alloc, &file.pattern, code, file.name, place)?;
+    for place in places {
+        let name = fragment_name(alloc, &file.pattern, code, file.name, *place)?;
         let path = path_in(alloc, file.folder, name.as_str())?;
         if is_there(rt, path.as_str())? {
             return Ok(true);
         }
     }
     Ok(false)
+}
+
+/// That a store has no file of a name.
+pub(crate) fn no_stored(alloc: Global, name: &str, folder: &str) -> Result<FileFault, AllocError> {
+    Ok(FileFault::Refused {
+        what: format!(in alloc; "{name}: is no file of the store {folder}")?,
+    })
+}
+
+/// Refuses names of the store on whose way a folder is a link, unless links are followed.
+pub(crate) fn refuse_linked(
+    rt: &HostRuntime,
+    target: &Target<'_>,
+    names: &[String],
+) -> Result<(), FileFault> {
+    let alloc = rt.alloc();
+    for name in names {
+        match refuse_linked_folders(rt, target.folder, name.as_str(), target.links) {
+            Err(error) if !is_absent(error.kind()) => {
+                let path = target.path(alloc, name.as_str())?;
+                return Err(device(alloc, path.as_str(), error));
+            }
+            _ => {}
+        }
+    }
+    Ok(())
 }
 
 /// Whether there is anything at a path. Nothing has a name that is longer than its folder takes.

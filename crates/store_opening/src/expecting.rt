@@ -77,6 +77,7 @@ fn sums_of(rt: &HostRuntime, opening: &Opening<'_>) -> Result<Option<Sums>, Stor
     match read_sums(rt, path.as_str(), links) {
         Ok(sums) => Ok(Some(sums)),
         Err(SumsFault::OutOfMemory) => Err(StoreFault::OutOfMemory),
+        Err(SumsFault::Unread { error }) => Err(device_fault(path, error)),
         Err(fault) => Err(StoreFault::BadSums { path, fault }),
     }
 }

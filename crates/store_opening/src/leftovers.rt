@@ -2,7 +2,7 @@
 use std::io;
 use store_folder::{Leftover, Listing, is_left_by, left_in, remove_leftover};
 use store_names::last_of;
-use store_reports::say;
+use store_reports::{say, words_of};
 
 /// Removes what a killed run with this tag has left in a folder that was listed, and in those that its links lead to. Each file that is
 /// removed, or can't be, is named. Says whether all could be.
@@ -39,10 +39,11 @@ fn remove(rt: &HostRuntime, path: &str, is_known_dead: bool) -> io::Result<bool>
         }
         Leftover::Kept => Ok(true),
         Leftover::Refused(error) => {
+            let why = words_of(rt.alloc(), &error)?;
             say(
                 rt,
                 format!(in rt.alloc();
-                    "rebuild-store: {path}: is left over, and can't be removed: {error}"
+                    "rebuild-store: {path}: is left over, and can't be removed: {why}"
                 ),
             )?;
             Ok(false)

@@ -3,7 +3,7 @@ use lrc_code::Code;
 use std::alloc::AllocError;
 use std::io::ErrorKind;
 use store_folder::{Listing, Pattern, Unlisted, Wanted, is_folder_of, list};
-use store_reports::{StoreFault, device_fault, say};
+use store_reports::{StoreFault, device_fault, say, words_of};
 
 /// Lists a folder, and says which links weren't followed.
 pub(crate) fn listed(
@@ -35,10 +35,11 @@ pub(crate) fn say_unlisted(
             continue;
         }
         is_there = is_there || !is_gone;
+        let why = words_of(rt.alloc(), error)?;
         let _ = say(
             rt,
             format!(in rt.alloc();
-                "rebuild-store: {path}: {error}: what should be in it counts as lost"
+                "rebuild-store: {path}: {why}: what should be in it counts as lost"
             ),
         );
     }

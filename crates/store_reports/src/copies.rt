@@ -1,4 +1,5 @@
 //! The copies of the description of a stripe's file: which of them is believed, and why one isn't as it should be.
+use crate::system_words::without_number;
 use lrc_code::Code;
 use std::alloc::{AllocError, Global};
 use std::io;
@@ -74,6 +75,16 @@ impl CopyReason {
 pub struct CopyFinding {
     pub name: String,
     pub reason: CopyReason,
+}
+
+impl CopyFinding {
+    /// What is said of it.
+    pub fn text(&self, alloc: Global) -> Result<String, AllocError> {
+        let name = self.name.as_str();
+        let reason = &self.reason;
+        let text = format!(in alloc; "{name}: {reason}")?;
+        String::from_str(alloc, without_number(text.as_str()))
+    }
 }
 
 /// What became of the copies of a stripe's description.

@@ -1,10 +1,11 @@
 //! The lines that say what isn't as it should be.
-use crate::copies::CopyFinding;
 use crate::done::Done;
 use crate::names::fragment_name;
+use crate::requests::MOST_BYTES;
 use crate::results::Results;
+use crate::system_words::without_number;
 use crate::totals::{unchecked_places, why_unchecked};
-use lrc_code::{Code, Place};
+use lrc_code::{Code, Place, is_stripe_name};
 use std::alloc::{AllocError, Global};
 use std::io::ErrorKind;
 use store_folder::{Alone, Pattern, Site};
@@ -45,7 +46,10 @@ pub(crate) fn reason_text(alloc: Global, reason: &Reason) -> Result<String, Allo
             alloc,
             "can't be put in its place: its folder takes no name as long as that of a fragment which is kept, or of an unfinished file",
         ),
-        reason => format!(in alloc; "{reason}"),
+        reason => {
+            let text = format!(in alloc; "{reason}")?;
+            String::from_str(alloc, without_number(text.as_str()))
+        }
     }
 }
 
@@ -63,8 +67,8 @@ pub fn finding_lines(
         lines.push(line_of(alloc, results.site, stripe, finding)?)?;
     }
     if let Some(descriptions) = &done.descriptions {
-        for CopyFinding { name, reason } in &descriptions.findings {
-            lines.push(format!(in alloc; "{name}: {reason}")?)?;
+        for finding in &descriptions.findings {
+            lines.push(finding.text(alloc)?)?;
         }
     }
     Ok(lines)
@@ -129,14 +133,15 @@ pub fn unknown_lines(
         let found = stripe.files.at(*place);
         if matches!(found, Found::Unknown { .. }) {
             let name = file_of(alloc, site, stripe, *place)?;
-            let reason = Reason::of(found);
+            let reason = reason_text(alloc, &Reason::of(found))?;
             lines.push(format!(in alloc; "rebuild-store: {name}: {reason}")?)?;
         }
     }
     Ok(lines)
 }
 
-/// The lines that say of the lost fragments of a stripe, each of so many bytes, that a list can't ask for them.
+/// The lines that say why a list can't ask for the lost fragments of a stripe, each of so many bytes: one for a stripe of which nothing
+/// survives.
 pub fn unlisted_lines(
     alloc: Global,
     site: &Site<'_>,
@@ -145,11 +150,23 @@ pub fn unlisted_lines(
     places: &[Place],
 ) -> Result<Vec<String>, AllocError> {
     let mut lines = Vec::new(alloc);
+    if places.len() == site.code.places().len() {
+        let name = stripe.name;
+        let reason = Reason::NoSurvivor;
+        lines.push(format!(in alloc; "rebuild-store: {name}: {reason}")?)?;
+        return Ok(lines);
+    }
     for place in places {
         let name = file_of(alloc, site, stripe, *place)?;
-        let line = format!(in alloc;
-            "rebuild-store: {name}: a list can't ask for it: it has {length} bytes, or another name than lists take"
-        )?;
+        let line = if is_stripe_name(stripe.name) {
+            format!(in alloc;
+                "rebuild-store: {name}: a list can't ask for it: it has {length} bytes, and lists take 1 to {MOST_BYTES}"
+            )?
+        } else {
+            format!(in alloc;
+                "rebuild-store: {name}: a list can't ask for it: lists take other names of stripes"
+            )?
+        };
         lines.push(line)?;
     }
     Ok(lines)

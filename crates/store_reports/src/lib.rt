@@ -21,6 +21,7 @@ mod results;
 mod rows;
 mod statuses;
 mod summaries;
+mod system_words;
 mod totals;
 
 pub use copies::{Copies, CopyFinding, CopyReason, CopyState, Descriptions, FoundCopy};
@@ -39,4 +40,5 @@ pub use statuses::{DEVICE, DONE, LEFT, NO_MEDIUM, NO_MEMORY, USAGE, status_of, s
 pub use summaries::{
     encoded, files_listed, listed, planned, removed, repaired, scrubbed, verified,
 };
+pub use system_words::words_of;
 pub use totals::Totals;

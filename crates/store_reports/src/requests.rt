@@ -6,8 +6,8 @@ use lrc_code::{Code, Place, PlaceSet, is_stripe_name};
 use std::alloc::{AllocError, Global};
 use store_repair::Stripe;
 
-// The longest fragment that a list can ask for, in bytes.
-const MOST_BYTES: u64 = 65_536;
+/// The longest fragment that a list can ask for, in bytes.
+pub(crate) const MOST_BYTES: u64 = 65_536;
 
 /// The first line of a list.
 pub fn header_of(code: Code) -> &'static str {

@@ -1,5 +1,5 @@
 //! The rows of a report.
-use crate::copies::{CopyFinding, Descriptions};
+use crate::copies::Descriptions;
 use crate::findings::{ALONE, reason_text};
 use crate::results::Results;
 use crate::totals::{rebuilt_places, unchecked_places};
@@ -112,12 +112,12 @@ fn add_descriptions(
         };
         add_row(alloc, &row, rows, text)?;
     }
-    for CopyFinding { name, reason } in &descriptions.findings {
+    for finding in &descriptions.findings {
         let row = Row {
             stripe,
             place: "file",
             outcome: "left",
-            detail: format!(in alloc; "{name}: {reason}")?,
+            detail: finding.text(alloc)?,
         };
         add_row(alloc, &row, rows, text)?;
     }

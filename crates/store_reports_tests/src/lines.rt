@@ -2,7 +2,9 @@
 use lrc_code::{Code, Place};
 use std::io;
 use store_repair::{Found, Stripe, StripeFiles};
-use store_reports::{Rows, escaped, header_of, request_lines};
+use store_reports::{
+    CopyFinding, CopyReason, DEVICE, Rows, device, escaped, header_of, request_lines, words_of,
+};
 
 // Texts, and how `ls -b` of the GNU coreutils writes their control characters.
 const ESCAPES: [(&str, &str); 7] = [
@@ -20,6 +22,37 @@ fn control_characters_are_escaped(rt: HostRuntime) -> io::Result<()> {
     for (text, line) in ESCAPES {
         let escaped = escaped(rt.alloc(), text)?;
         assert_eq!(rt; escaped.as_str(), line);
+    }
+    Ok(())
+}
+
+// Numbers of errors, and what strerror of the C library says of them.
+const ERRORS: [(i32, &str); 3] = [
+    (2, "No such file or directory"),
+    (5, "Input/output error"),
+    (28, "No space left on device"),
+];
+
+#[test]
+fn errors_are_said_without_their_numbers(rt: HostRuntime) -> io::Result<()> {
+    let alloc = rt.alloc();
+    for (number, words) in ERRORS {
+        let error = io::Error::from_raw_os_error(number);
+        assert_eq!(rt; words_of(alloc, &error)?.as_str(), words);
+        let name = String::from_str(alloc, "a (os error 2)")?;
+        let reason = CopyReason::Unread(error);
+        let text = CopyFinding { name, reason }.text(alloc)?;
+        assert_eq!(rt;
+            text.as_str().strip_suffix(words),
+            Some("a (os error 2): can't be read: ")
+        );
+        let fault = device(alloc, "b", io::Error::from_raw_os_error(number));
+        let text = format!(in alloc; "{fault}")?;
+        assert_eq!(rt; text.as_str().strip_suffix(words), Some("b: "));
+        assert_eq!(rt; fault.status(), DEVICE);
+    }
+    for words in ["is a link", "(os error 2) odd", "odd (os error x)", ")"] {
+        assert_eq!(rt; words_of(alloc, &io::Error::other(words))?.as_str(), words);
     }
     Ok(())
 }

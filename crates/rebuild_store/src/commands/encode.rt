@@ -1,11 +1,12 @@
 //! The command `encode`.
-use crate::work::progress::{Progress, Task};
 use lrc_code::Code;
 use std::fs;
 use std::io::ErrorKind;
 use std::thread::Threads;
 use store_arguments::EncodeOptions;
-use store_files::{SourceFile, Spool, Target, encode_file, stored_sums, write_new_sums};
+use store_files::{
+    Progress, SourceFile, Spool, Target, Task, encode_file, stored_sums, write_new_sums,
+};
 use store_folder::{Listing, Others, Wanted, list};
 use store_opening::{
     lock_folder, other_than, refuse_unmounted, refuse_untrusted, remove_leftovers, say_links,
@@ -49,13 +50,13 @@ struct Encoded {
     status: u8,
 }
 
-// The work on the files.
+// The work on the files, each of which is digested and then encoded.
 fn task_of(rt: &HostRuntime, options: &EncodeOptions<'_>) -> Task {
     let mut bytes = 0u64;
     for path in &options.files {
         bytes = bytes.saturating_add(length_of(rt, path));
     }
-    Task::files("encode", options.files.len() as u64, bytes)
+    Task::files("encode", options.files.len() as u64, bytes, 2)
 }
 
 // How long a file is, as far as the system says it.
@@ -76,17 +77,18 @@ fn encode_all<R: Threads + Sync>(
         status: DONE,
     };
     for path in &options.files {
-        match encode_one(threads, rt, options, target, path) {
+        match encode_one(threads, rt, options, target, path, &progress) {
             Ok(()) => done.count = done.count.saturating_add(1),
             Err(FileFault::OutOfMemory) => return Err(FileFault::OutOfMemory),
             Err(fault) => {
+                progress.clear(rt);
                 let _ = say(rt, format!(in rt.alloc(); "rebuild-store: {fault}"));
                 done.status = done.status.max(fault.status());
             }
         }
-        progress.count_units(1, length_of(rt, path));
+        progress.count_file(rt, length_of(rt, path));
     }
-    progress.end();
+    progress.clear(rt);
     Ok(done)
 }
 
@@ -97,15 +99,22 @@ fn encode_one<R: Threads + Sync>(
     options: &EncodeOptions<'_>,
     target: &mut Target<'_>,
     path: &str,
+    progress: &Progress,
 ) -> Result<(), FileFault> {
     let name = options.name;
     if path != "-" {
-        return encode_file(threads, rt, target, &SourceFile { path, name });
+        let source = SourceFile {
+            path,
+            name,
+            progress,
+        };
+        return encode_file(threads, rt, target, &source);
     }
     let spool = Spool::fill(rt, target.folder)?;
     let source = SourceFile {
         path: spool.path(),
         name,
+        progress,
     };
     let encoded = encode_file(threads, rt, target, &source);
     spool.remove(rt)?;

@@ -8,8 +8,8 @@ use store_folder::{FolderStore, Site, SystemFolder};
 use store_opening::{OpenStore, Opening, open_store};
 use store_repair::{Reason, Stripe, StripeLength, stripe_length};
 use store_reports::{
-    CopyFinding, DEVICE, DONE, FileFault, LEFT, Rows, device, header_of, listed, request_lines,
-    say, unknown_lines, unlisted_lines,
+    DEVICE, DONE, FileFault, LEFT, Rows, device, header_of, listed, request_lines, say,
+    unknown_lines, unlisted_lines,
 };
 
 // What was found of all stripes.
@@ -121,11 +121,9 @@ fn say_descriptions(rt: &HostRuntime, site: &Site<'_>, stripe: &Stripe<'_>) -> i
         unmounted: &[],
     };
     let descriptions = tend_descriptions(rt, site, &described, CopyWork::Name)?;
-    for CopyFinding { name, reason } in &descriptions.findings {
-        say(
-            rt,
-            format!(in rt.alloc(); "rebuild-store: {name}: {reason}"),
-        )?;
+    for finding in &descriptions.findings {
+        let text = finding.text(rt.alloc())?;
+        say(rt, format!(in rt.alloc(); "rebuild-store: {text}"))?;
     }
     Ok(!descriptions.findings.is_empty())
 }

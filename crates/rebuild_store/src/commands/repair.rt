@@ -1,14 +1,14 @@
 //! The command `repair`.
 use crate::commands::test_opening_of;
-use crate::output::{say_all, say_alone, say_rows, say_summary};
-use crate::work::progress::{Progress, Task};
+use crate::output::{refuse_report, say_all, say_alone, say_rows, say_summary};
+use crate::work::tasks::repair_task;
 use crate::work::{Stripes, Work, work_on};
 use lrc_code::Code;
 use std::alloc::{AllocError, Global};
 use std::io;
 use std::thread::Threads;
 use store_arguments::RepairOptions;
-use store_files::{most_file_bytes, refuse_over_limit};
+use store_files::{Progress, most_file_bytes, refuse_over_limit};
 use store_folder::{FolderStore, Part, Site, tag_of_part};
 use store_opening::{
     Access, OpenStore, Opening, Unmounted, open_store, refuse_other_stores, remove_leftovers,
@@ -25,6 +25,7 @@ pub(crate) fn repair<R: Threads + Sync>(
     system: &HostRuntime,
     options: &RepairOptions<'_>,
 ) -> Result<u8, FileFault> {
+    refuse_report(system, &options.test)?;
     let opening = opening_of(options);
     let store = open_store(system, &opening)?;
     if !options.dry_run {
@@ -131,24 +132,22 @@ fn repair_at<'a, R: Threads + Sync>(
     stripes: &'a [Stripe<'a>],
 ) -> io::Result<u8> {
     let alloc = system.alloc();
-    let progress = Progress::new(
-        system,
-        Task::repair(alloc, store.code, stripes)?,
-        options.test.quiet,
-    );
+    let task = repair_task(alloc, store, options.reads, stripes)?;
+    let progress = Progress::new(system, task, options.test.quiet || options.dry_run);
     let repair = repair_of(store.code, options);
     let (work, word) = if options.dry_run {
         (Work::Plan(repair), "would be rebuilt")
     } else {
-        (Work::Repair(repair, &progress), "rebuilt")
+        (Work::Repair(repair), "rebuilt")
     };
     let of_store = Stripes {
         store,
         site,
         all: stripes,
+        progress: &progress,
     };
     let all = work_on(rt, system, &of_store, work, options.test.workers)?;
-    progress.end();
+    progress.clear(system);
     let results = Results::new(alloc, site, of_store.contents(), all.as_slice(), word)?;
     say_repaired(system, &results, options)
 }

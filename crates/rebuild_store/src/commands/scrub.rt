@@ -1,11 +1,12 @@
 //! The command `scrub`.
 use crate::commands::test_opening_of;
-use crate::output::{say_alone, say_rows, say_summary};
-use crate::work::progress::{Progress, Task};
+use crate::output::{refuse_report, say_alone, say_rows, say_summary};
+use crate::work::tasks::scrub_task;
 use crate::work::{Stripes, Work, work_on};
 use std::io;
 use std::thread::Threads;
 use store_arguments::{ScrubOptions, TestOptions};
+use store_files::Progress;
 use store_opening::{OpenStore, Opening, open_store};
 use store_reports::{FileFault, Results, device, finding_lines, scrubbed, status_of, write};
 
@@ -15,6 +16,7 @@ pub(crate) fn scrub<R: Threads + Sync>(
     system: &HostRuntime,
     options: &ScrubOptions<'_>,
 ) -> Result<u8, FileFault> {
+    refuse_report(system, &options.test)?;
     let opening = test_opening_of(&options.store, &options.test);
     let store = open_store(system, &opening)?;
     scrub_all(rt, system, &store, &opening, &options.test).map_err(|error| device(
@@ -35,16 +37,17 @@ fn scrub_all<'a, R: Threads + Sync>(
     let stripes = store.stripes(system)?;
     let site = store.site_of(opening);
     say_alone(system, store, opening, false);
+    let task = scrub_task(store, stripes.as_slice());
+    let progress = Progress::new(system, task, test.quiet);
     let of_store = Stripes {
         store,
         site: &site,
         all: stripes.as_slice(),
+        progress: &progress,
     };
-    let task = Task::scrub(store.code, of_store.all);
-    let progress = Progress::new(system, task, test.quiet);
-    let work = Work::Scrub(store.code, &progress);
+    let work = Work::Scrub(store.code);
     let all = work_on(rt, system, &of_store, work, test.workers)?;
-    progress.end();
+    progress.clear(system);
     let contents = of_store.contents();
     let results = Results::new(system.alloc(), &site, contents, all.as_slice(), "rebuilt")?;
     say_scrubbed(system, &results, test)

@@ -1,9 +1,9 @@
 //! The command `verify`.
 use crate::commands::reading_of;
 use store_arguments::VerifyOptions;
-use store_files::{StoredFile, verify_file};
+use store_files::{Progress, StoredFile, Task, first_described, verify_file};
 use store_opening::open_store;
-use store_reports::{DONE, FileFault, device, say, verified, write};
+use store_reports::{DONE, FileFault, device, verified, write};
 
 /// Holds files to their digests, says which of them don't have these, and gives the exit status.
 pub(crate) fn verify(rt: &HostRuntime, options: &VerifyOptions<'_>) -> Result<u8, FileFault> {
@@ -12,23 +12,36 @@ pub(crate) fn verify(rt: &HostRuntime, options: &VerifyOptions<'_>) -> Result<u8
     let mut count = 0u64;
     let mut left = 0u64;
     let names = names_of(rt, options)?;
+    let is_seen = Progress::is_seen(rt, options.quiet);
+    let bytes = if is_seen {
+        bytes_of(rt, options, names.as_slice())?
+    } else {
+        0
+    };
+    let task = Task::files("verify", names.len() as u64, bytes, 1);
+    let progress = Progress::new(rt, task, !is_seen);
     for name in &names {
         let file = StoredFile {
             folder: options.folder,
             pattern: options.naming.pattern,
             name: name.as_str(),
             links: options.links,
+            progress: Some(&progress),
         };
         match verify_file(rt, &file) {
             Ok(()) => count = count.saturating_add(1),
             Err(FileFault::OutOfMemory) => return Err(FileFault::OutOfMemory),
             Err(fault) => {
-                let _ = say(rt, format!(in alloc; "rebuild-store: {fault}"));
+                file.say(rt, format!(in alloc; "rebuild-store: {fault}"));
                 status = status.max(fault.status());
                 left = left.saturating_add(1);
             }
         }
+        if is_seen {
+            progress.count_file(rt, length_of(rt, &file)?);
+        }
     }
+    progress.clear(rt);
     if !options.quiet {
         write(rt, verified(alloc, count, left)).map_err(|error| device(
             alloc,
@@ -37,6 +50,34 @@ pub(crate) fn verify(rt: &HostRuntime, options: &VerifyOptions<'_>) -> Result<u8
         ))?;
     }
     Ok(status)
+}
+
+// How long files of these names are together.
+fn bytes_of(
+    rt: &HostRuntime,
+    options: &VerifyOptions<'_>,
+    names: &[String],
+) -> Result<u64, FileFault> {
+    let mut bytes = 0u64;
+    for name in names {
+        let file = StoredFile {
+            folder: options.folder,
+            pattern: options.naming.pattern,
+            name: name.as_str(),
+            links: options.links,
+            progress: None,
+        };
+        bytes = bytes.saturating_add(length_of(rt, &file)?);
+    }
+    Ok(bytes)
+}
+
+// How long a file is, as far as a description says it.
+fn length_of(rt: &HostRuntime, file: &StoredFile<'_>) -> Result<u64, FileFault> {
+    Ok(match first_described(rt, file)? {
+        Some(described) => described.length,
+        None => 0,
+    })
 }
 
 // The names that are given, or those of all files of the store.

@@ -1,6 +1,7 @@
 //! The file of a report.
 use std::fs::{self, File, Metadata};
 use std::io::{self, ErrorKind, Write};
+use store_files::allow_file;
 use store_folder::{NewFile, Placed, folder_of, place_again, place_new};
 use store_repair::NewFragment;
 
@@ -20,6 +21,7 @@ pub(crate) fn write_report(rt: &HostRuntime, path: &str, rows: &str) -> io::Resu
 
 // Makes the file, if nothing is there.
 fn make(rt: &HostRuntime, path: &str, rows: &str) -> io::Result<Placed> {
+    allow_file(rt, rows.len() as u64)?;
     let file = NewFile::create_as_user(rt, rt.alloc(), folder_of(path))?;
     let file = filled(rt, file, rows)?;
     place_new(rt, file, path)
@@ -28,6 +30,7 @@ fn make(rt: &HostRuntime, path: &str, rows: &str) -> io::Result<Placed> {
 // Replaces a regular file by one with its owner and rights. Where no file can be made beside it, or who runs this can't give it that
 // owner, it is written as it is.
 fn replace(rt: &HostRuntime, path: &str, there: &Metadata, rows: &str) -> io::Result<()> {
+    allow_file(rt, rows.len() as u64)?;
     let file = match NewFile::create_private(rt, rt.alloc(), folder_of(path)) {
         Ok(file) => file,
         Err(error) if error.kind() == ErrorKind::PermissionDenied => {
@@ -63,6 +66,10 @@ fn filled(rt: &HostRuntime, file: NewFile, rows: &str) -> io::Result<NewFile> {
 
 // Writes the rows into what is at a path.
 fn write_into(rt: &HostRuntime, path: &str, rows: &str) -> io::Result<()> {
+    // A limit on the length of files holds of regular ones alone.
+    if fs::metadata(rt, path).map_or(true, |there| there.is_file()) {
+        allow_file(rt, rows.len() as u64)?;
+    }
     let mut options = File::options();
     options.write(true).create(true).truncate(true);
     options.open(rt, path)?.write_all(rows.as_bytes())

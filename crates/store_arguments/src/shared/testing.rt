@@ -35,7 +35,6 @@ pub struct TestOptions<'a> {
 pub(crate) fn workers<'a>(alloc: Global) -> Arg<'a> {
     text(alloc, "workers", "N", WORKERS_HELP)
         .short('j')
-        .value_parser(clap::value_parser!(u16))
         .default_value("4")
 }
 
@@ -56,16 +55,26 @@ impl<'a> TestOptions<'a> {
     pub(crate) fn of(matches: &ArgMatches<'a>) -> Result<TestOptions<'a>, UsageFault>
         ensures { IfOk result (λ t. (1 ≤ t.workers) × (t.workers ≤ 16)) }
     {
-        let workers = matches.get_one::<u16>("workers").unwrap_or(1) as usize;
-        if workers == 0 || workers > 16 {
-            return Err(UsageFault::BadWorkers);
-        }
         Ok(TestOptions {
             sums: matches.get_str("sums"),
             report: matches.get_str("report"),
             json: matches.get_flag("json"),
-            workers,
+            workers: workers_of(matches.get_str("workers").unwrap_or(""))?,
             quiet: matches.get_flag("quiet"),
         })
     }
+}
+
+// The number of threads that a text says.
+fn workers_of(text: &str) -> Result<usize, UsageFault>
+    ensures { IfOk result (λ workers. (1 ≤ workers) × (workers ≤ 16)) }
+{
+    let workers = match text.parse::<usize>() {
+        Ok(workers) => workers,
+        Err(_) => 0,
+    };
+    if workers == 0 || workers > 16 {
+        return Err(UsageFault::BadWorkers);
+    }
+    Ok(workers)
 }

@@ -76,6 +76,7 @@ fn ends_of(
         pattern: site.pattern,
         name: stripe.name,
         links: site.links,
+        progress: None,
     };
     let described = Described {
         length: most as u64,

@@ -2,14 +2,14 @@
 ghost use Rattle.std.specs.Prelude.{◌≡◌, IfOk, length, vec_len};
 ghost use Rattle.lrc_code.specs.Codes.{tables_of};
 
-use crate::digesting::digest_at;
+use crate::counting::CountedSource;
 use crate::encoding::Given;
 use crate::encoding::placing::{Made, discard_all};
 use crate::encoding::target::Target;
-use std::io;
+use std::io::{self, ErrorKind};
 use std::thread::{Threads, join};
 use store_folder::{
-    Digest, Links, NewFile, digests_of, folder_of, open_fragment, refuse_linked_folders,
+    Digest, Links, NewFile, digest_of, digests_of, folder_of, open_fragment, refuse_linked_folders,
 };
 use store_repair::{encode, fragment_length};
 use store_reports::{FileFault, device, encode_fault, source_fault};
@@ -49,11 +49,18 @@ pub(crate) fn source_digest(rt: &HostRuntime, given: &Given<'_>) -> Result<Diges
     if let Some(digest) = given.digest {
         return Ok(digest);
     }
-    digest_at(rt, given.path, given.before.len(), Links::Followed).map_err(|error| source_fault(
-        rt.alloc(),
-        given.path,
-        error,
-    ))
+    read_digest(rt, given).map_err(|error| source_fault(rt.alloc(), given.path, error))
+}
+
+// The digest of a file that is encoded, which has to have as many bytes as before.
+fn read_digest(rt: &HostRuntime, given: &Given<'_>) -> io::Result<Digest> {
+    let length = given.before.len();
+    let file = CountedSource {
+        file: open_fragment(rt, given.path, length, Links::Followed)?,
+        rt,
+        progress: given.progress,
+    };
+    digest_of(rt.alloc(), &file, length as usize)
 }
 
 // Makes the fragments of a file, under temporary names.
@@ -66,9 +73,14 @@ fn make_fragments(
     let alloc = rt.alloc();
     let path = given.path;
     let length = given.before.len();
-    let source = open_fragment(rt, path, length, Links::Followed).map_err(|error| source_fault(
+    let file = open_fragment(rt, path, length, Links::Followed).map_err(|error| source_fault(
         alloc, path, error,
     ))?;
+    let source = CountedSource {
+        file,
+        rt,
+        progress: given.progress,
+    };
     let mut files = new_files(rt, target, name)?;
     let done = encode(
         alloc,
@@ -110,7 +122,7 @@ fn new_files(rt: &HostRuntime, target: &Target<'_>, stripe: &str) -> Result<Vec<
             Ok(file) => files.push(file)?,
             Err(error) => {
                 discard_files(rt, target, files)?;
-                return Err(device(alloc, folder, error));
+                return Err(device(alloc, folder, unmade(error)));
             }
         }
     }
@@ -168,6 +180,17 @@ fn with_digests(
         made.push(Made { file, digest })?;
     }
     Ok(made)
+}
+
+// Why a file can't be made in a folder, with what to do if that isn't there.
+fn unmade(error: io::Error) -> io::Error {
+    if error.kind() != ErrorKind::NotFound {
+        return error;
+    }
+    io::Error::new(
+        ErrorKind::NotFound,
+        "isn't there: make this folder, or give --make-folders",
+    )
 }
 
 /// A new file for the fragment of a name in the store, in the folder that it is to be in.

@@ -5,15 +5,15 @@ use crate::encoding::subfolders::make_folders;
 use crate::encoding::sums::write_new_sums;
 use crate::encoding::target::Target;
 use crate::encoding::{Given, encode_as};
+use crate::own_folders::remove_own_folders;
 use crate::reading::descriptions::first_described;
 use crate::reading::file::StoredFile;
 use crate::removing::remove_names;
-use crate::staging::{is_begun, is_there, staged_name};
+use crate::staging::{is_begun, is_there, refuse_linked, staged_name};
 use std::random::RandomSource;
 use std::thread::Threads;
 use std::{fs, io, slice};
 use store_folder::{description_names, folder_of, path_in, sync_folder};
-use store_names::stripe_folders;
 use store_reports::{FileFault, device};
 
 /// Replaces the file of a name.
@@ -26,7 +26,11 @@ pub(crate) fn replace<R: Threads + Sync>(
 ) -> Result<(), FileFault> {
     let staged = staged_name(rt.alloc(), name)?;
     make_folders(rt, target, staged.as_str())?;
-    encode_as(threads, rt, target, staged.as_str(), given)?;
+    if let Err(fault) = encode_as(threads, rt, target, staged.as_str(), given) {
+        // Takes away what is there of it, as far as that can be done now.
+        let _ = finish_replacing(rt, target, name);
+        return Err(fault);
+    }
     finish_replacing(rt, target, name)
 }
 
@@ -45,12 +49,15 @@ pub(crate) fn finish_replacing(
         pattern: target.pattern,
         name: staged,
         links: target.links,
+        progress: None,
     };
     if !is_begun(rt, &file, target.code)? {
         return Ok(());
     }
     let descriptions = description_names(alloc, &target.pattern, target.code, staged)?;
     let fragments = target.names(alloc, staged)?;
+    refuse_linked(rt, target, descriptions.as_slice())?;
+    refuse_linked(rt, target, fragments.as_slice())?;
     if first_described(rt, &file)?.is_some() {
         let replaced = target.names(alloc, name)?;
         give_names(rt, target, fragments.as_slice(), replaced.as_slice())?;
@@ -64,7 +71,7 @@ pub(crate) fn finish_replacing(
     }
     remove_names(rt, target, descriptions.as_slice())?;
     remove_names(rt, target, fragments.as_slice())?;
-    remove_folders(rt, target, name, staged)
+    Ok(remove_own_folders(rt, target, staged, name)?)
 }
 
 // Takes the digests of some names out of those of the store.
@@ -85,24 +92,6 @@ fn remove_old(
         let path = target.path(rt.alloc(), name.as_str())?;
         if !is_there(rt, path.as_str())? {
             remove_names(rt, target, slice::from_ref(other))?;
-        }
-    }
-    Ok(())
-}
-
-// Removes the folders that a stripe had which replaced another one, if these are its own and have nothing else.
-fn remove_folders(
-    rt: &HostRuntime,
-    target: &Target<'_>,
-    name: &str,
-    staged: &str,
-) -> Result<(), FileFault> {
-    let alloc = rt.alloc();
-    let kept = stripe_folders(alloc, &target.pattern, target.code, name)?;
-    for folder in stripe_folders(alloc, &target.pattern, target.code, staged)? {
-        if !kept.iter().any(|other| other.as_str() == folder.as_str()) {
-            let path = target.path(alloc, folder.as_str())?;
-            let _ = fs::remove_dir(rt, path.as_str());
         }
     }
     Ok(())

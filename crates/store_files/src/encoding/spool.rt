@@ -1,6 +1,6 @@
 //! Standard input, kept in a file of the store's folder while it is encoded, since that takes its length first.
 use crate::encoding::replacing::temporary_path;
-use crate::limits::most_file_bytes;
+use crate::limits::{most_file_bytes, too_long};
 use std::fs::{self, File};
 use std::io::{self, ErrorKind, Read, Write};
 use std::os::unix::fs::OpenOptionsExt;
@@ -20,8 +20,9 @@ impl Spool {
     pub fn fill(rt: &HostRuntime, folder: &str) -> Result<Spool, FileFault> {
         let alloc = rt.alloc();
         let path = temporary_path(rt, folder).map_err(|error| device(alloc, folder, error))?;
+        let file = create(rt, path.as_str()).map_err(|error| device(alloc, folder, error))?;
         let spool = Spool { path };
-        match copy(rt, spool.path.as_str()) {
+        match copy(rt, file) {
             Ok(()) => Ok(spool),
             Err(error) => {
                 let fault = device(alloc, "standard input", error);
@@ -46,12 +47,17 @@ impl Spool {
     }
 }
 
-// Writes standard input to a new file at a path.
-fn copy(rt: &HostRuntime, path: &str) -> io::Result<()> {
-    let most = most_file_bytes(rt).unwrap_or(u64::MAX);
+// Makes a new file at a path, which nobody but its user may read.
+fn create(rt: &HostRuntime, path: &str) -> io::Result<File> {
     let mut options = File::options();
     options.write(true).create_new(true).mode(0o600);
-    let mut file = options.open(rt, path)?;
+    options.open(rt, path)
+}
+
+// Writes standard input to a new file.
+fn copy(rt: &HostRuntime, new: File) -> io::Result<()> {
+    let most = most_file_bytes(rt).unwrap_or(u64::MAX);
+    let mut file = new;
     let mut block = Vec::from_elem(rt.alloc(), 0u8, BLOCK)?;
     let mut input = rt.stdin();
     let mut written = 0u64;
@@ -64,7 +70,7 @@ fn copy(rt: &HostRuntime, path: &str) -> io::Result<()> {
         };
         written = written.saturating_add(many as u64);
         if written > most {
-            return Err(io::Error::from(ErrorKind::FileTooLarge));
+            return Err(too_long());
         }
         let all = block.as_slice();
         let (bytes, _) = all.split_at(many.min(all.len()));

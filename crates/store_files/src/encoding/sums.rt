@@ -1,5 +1,6 @@
 //! The digests in a store: the file of them that `encode` writes.
 use crate::encoding::target::Target;
+use crate::limits::allow_file;
 use std::fs;
 use std::io::{self, ErrorKind};
 use store_folder::{
@@ -45,6 +46,7 @@ fn write_sums(rt: &HostRuntime, folder: &str, sums: &Sums) -> Result<(), FileFau
 }
 
 fn write_over(rt: &HostRuntime, folder: &str, path: &str, text: &[u8]) -> io::Result<()> {
+    allow_file(rt, text.len() as u64)?;
     let mut file = NewFile::create_as_user(rt, rt.alloc(), folder)?;
     if let Err(error) = fill(rt, &mut file, path, text) {
         file.discard(rt)?;

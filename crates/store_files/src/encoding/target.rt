@@ -30,6 +30,17 @@ impl Target<'_> {
         Ok(names)
     }
 
+    /// Whether a stripe may have this name: its fragments then have names that lead nowhere out of the store.
+    pub(crate) fn has_names(&self, alloc: Global, stripe: &str) -> Result<bool, AllocError> {
+        for place in self.code.places() {
+            let name = self.pattern.name_of(alloc, self.code, stripe, *place)?;
+            if name.is_none() {
+                return Ok(false);
+            }
+        }
+        Ok(true)
+    }
+
     /// The name in the store of a stripe's fragment at a place.
     pub(crate) fn name_of(
         &self,

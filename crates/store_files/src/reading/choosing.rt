@@ -6,7 +6,7 @@ use crate::reading::fragments::{Fragments, gives_file};
 use lrc_code::{Place, PlaceSet};
 use store_folder::{SUMS_NAME, digests_of, path_in, read_sums};
 use store_repair::without;
-use store_reports::{FileFault, say};
+use store_reports::FileFault;
 
 /// A set of fragments that gives the file: all, or those that have the digests of the store's sums, or all but one or two.
 pub(crate) fn set_that_fits(
@@ -23,7 +23,7 @@ pub(crate) fn set_that_fits(
     let name = sought.file.name;
     let listed = with_digests(rt, sought, fragments)?;
     if listed.len() < all.len() && gives_file(rt, sought, fragments, listed)? {
-        let _ = say(
+        sought.file.say(
             rt,
             format!(in rt.alloc();
                 "rebuild-store: {name}: read without the fragments that differ from {SUMS_NAME}"
@@ -50,7 +50,7 @@ fn without_one(
         let set = without(sought.described.code, fragments.set, *first);
         if fragments.set.has(*first) && gives_file(rt, sought, fragments, set)? {
             let first = first.name();
-            let _ = say(
+            sought.file.say(
                 rt,
                 format!(in rt.alloc();
                     "rebuild-store: {name}: a fragment is damaged: read without {first}"
@@ -83,7 +83,7 @@ fn without_two(
             {
                 let first = first.name();
                 let second = second.name();
-                let _ = say(
+                sought.file.say(
                     rt,
                     format!(in rt.alloc();
                         "rebuild-store: {name}: fragments are damaged: read without {first} and {second}"

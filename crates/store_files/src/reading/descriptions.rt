@@ -1,13 +1,14 @@
 //! What the copies of a file's description say.
 use crate::reading::file::StoredFile;
-use lrc_code::Code;
+use crate::staging::{has_some, no_stored};
+use lrc_code::{Code, Place};
 use std::alloc::Global;
 use std::fs;
 use std::io::ErrorKind;
 use store_folder::{
     Described, description_names, first_description_name, path_in, read_description,
 };
-use store_reports::{FileFault, device, say};
+use store_reports::{FileFault, device};
 
 /// What the copies of a file's description say, each once, first what most say.
 pub(crate) fn descriptions_of(
@@ -16,6 +17,9 @@ pub(crate) fn descriptions_of(
 ) -> Result<Vec<Described>, FileFault> {
     let alloc = rt.alloc();
     let name = file.name;
+    if !file.has_name(alloc)? {
+        return Err(no_stored(alloc, name, file.folder)?);
+    }
     let mut names = description_names(alloc, &file.pattern, Code::Wide, name)?;
     let first = first_description_name(alloc, name)?;
     if !names.iter().any(|other| other.as_str() == first.as_str()) {
@@ -29,23 +33,30 @@ pub(crate) fn descriptions_of(
             Ok(None) => {}
             Err(FileFault::OutOfMemory) => return Err(FileFault::OutOfMemory),
             Err(fault) => {
-                let _ = say(rt, format!(in rt.alloc(); "rebuild-store: {fault}"));
+                file.say(rt, format!(in rt.alloc(); "rebuild-store: {fault}"));
                 refused = Some(fault);
             }
         }
     }
     match refused {
         Some(fault) if said.is_empty() => Err(fault),
-        None if said.is_empty() => {
-            fs::metadata(rt, file.folder).map_err(|error| device(alloc, file.folder, error))?;
-            Err(FileFault::Refused {
-                what: format!(in alloc;
-                    "{name}: no description is there, as {name}.file, so nothing says how long it is"
-                )?,
-            })
-        }
+        None if said.is_empty() => Err(undescribed(rt, file)?),
         _ => in_order(alloc, said.as_slice()),
     }
+}
+
+// That nothing describes a file: it isn't in the store, or its descriptions are lost.
+fn undescribed(rt: &HostRuntime, file: &StoredFile<'_>) -> Result<FileFault, FileFault> {
+    let alloc = rt.alloc();
+    let StoredFile { folder, name, .. } = *file;
+    fs::metadata(rt, folder).map_err(|error| device(alloc, folder, error))?;
+    if !has_some(rt, file, Code::Wide, &Place::ALL)? {
+        return Ok(no_stored(alloc, name, folder)?);
+    }
+    let what = format!(in alloc;
+        "{name}: no description is there, as {name}.file, so nothing says how long it is"
+    )?;
+    Ok(FileFault::Refused { what })
 }
 
 /// What the first copy of a file's description says that can be read.

@@ -1,6 +1,7 @@
 //! A file that is read, written to another file.
 ghost use Rattle.std.specs.Prelude.{◌≡◌, vec_len};
 
+use crate::counting::Counted;
 use crate::digesting::DigestedFile;
 use crate::limits::refuse_over_limit;
 use crate::reading::file::Sought;
@@ -59,14 +60,16 @@ fn opened(rt: &HostRuntime, path: &str) -> io::Result<File> {
     options.open(rt, path)
 }
 
-// Refuses a path in a folder that has fragments of the store.
+// Refuses a path in the store's own folder, which may have its digests, or in one that has fragments of it.
 fn refuse_in_store(rt: &HostRuntime, sought: &Sought<'_>, path: &str) -> Result<(), FileFault> {
     let alloc = rt.alloc();
     let Ok(folder) = fs::metadata(rt, folder_of(path)) else {
         return Ok(());
     };
     let file = &sought.file;
-    for inside in stripe_folders(alloc, &file.pattern, Code::Wide, file.name)? {
+    let mut folders = stripe_folders(alloc, &file.pattern, Code::Wide, file.name)?;
+    folders.push(String::new(alloc))?;
+    for inside in &folders {
         let of_store = path_in(alloc, file.folder, inside.as_str())?;
         if let Ok(there) = fs::metadata(rt, of_store.as_str()) {
             if Identity::of(&there) == Identity::of(&folder) {
@@ -96,11 +99,16 @@ fn written(
         Some(_) => NewFile::create_private(rt, alloc, folder),
         None => NewFile::create_as_user(rt, alloc, folder),
     };
-    let mut file = DigestedFile::new(file.map_err(|error| device(alloc, path, error))?);
+    let file = DigestedFile::new(file.map_err(|error| device(alloc, path, error))?);
+    let mut counted = Counted {
+        file,
+        rt,
+        progress: sought.file.progress,
+    };
     let survivors = survivors_of(sought, fragments, set);
     let file_bytes = sought.described.length as usize;
-    let done = read_file(alloc, &survivors, file_bytes, &mut file);
-    let (file, digest) = file.finish();
+    let done = read_file(alloc, &survivors, file_bytes, &mut counted);
+    let (file, digest) = counted.file.finish();
     let fault = match done {
         Ok(()) if digest == sought.described.digest => match taken_after(&file, there) {
             Ok(()) => return Ok(file),

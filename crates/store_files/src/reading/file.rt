@@ -1,9 +1,10 @@
 //! A file that is read from a store.
-use lrc_code::Place;
+use crate::progress::Progress;
+use lrc_code::{Code, Place};
 use std::alloc::{AllocError, Global};
 use store_folder::{Described, Links, Pattern};
 use store_repair::fragment_length;
-use store_reports::fragment_name;
+use store_reports::{fragment_name, say};
 
 /// A file of a store.
 #[derive(Clone, Copy)]
@@ -14,6 +15,26 @@ pub struct StoredFile<'a> {
     /// The name of the file, which is its stripe's.
     pub name: &'a str,
     pub links: Links,
+    /// Where it is counted how far it is read, if somebody sees that.
+    pub progress: Option<&'a Progress>,
+}
+
+impl StoredFile<'_> {
+    /// Whether a stripe may have its name: it leads nowhere out of the store then.
+    pub(crate) fn has_name(&self, alloc: Global) -> Result<bool, AllocError> {
+        let name = self
+            .pattern
+            .name_of(alloc, Code::Wide, self.name, Place::X0)?;
+        Ok(name.is_some())
+    }
+
+    /// Says a line about the file, in place of the one that says how far it is.
+    pub fn say(&self, rt: &HostRuntime, line: Result<String, AllocError>) {
+        if let Some(progress) = self.progress {
+            progress.clear(rt);
+        }
+        let _ = say(rt, line);
+    }
 }
 
 /// A file of a store, as one of its descriptions has it.

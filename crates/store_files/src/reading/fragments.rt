@@ -2,13 +2,14 @@
 ghost use Rattle.std.specs.Prelude.{◌≡◌, IfOk, length, vec_len};
 ghost use Rattle.store_repair.specs.Files.{fragment_length};
 
+use crate::counting::Counted;
 use crate::digesting::DigestAlone;
 use crate::reading::file::Sought;
 use lrc_code::{Place, PlaceSet};
 use std::io::{self, ErrorKind};
 use store_folder::{FileFragment, SystemOpen, open_fragment, path_in, refuse_linked_folders};
 use store_repair::{MendFault, Survivors, fragment_length, read_file};
-use store_reports::{FileFault, say};
+use store_reports::{FileFault, words_of};
 
 /// The fragments of a stripe that are there, by the places' indexes.
 #[derive(Drop)]
@@ -65,9 +66,10 @@ fn open_at(
         Err(error) if error.kind() == ErrorKind::OutOfMemory => Err(FileFault::OutOfMemory),
         Err(_) if missing == Missing::Unsaid => Ok(None),
         Err(error) => {
-            let _ = say(
+            let why = words_of(alloc, &error)?;
+            sought.file.say(
                 rt,
-                format!(in rt.alloc(); "rebuild-store: {name}: left out: {error}"),
+                format!(in rt.alloc(); "rebuild-store: {name}: left out: {why}"),
             );
             Ok(None)
         }
@@ -94,11 +96,15 @@ pub(crate) fn gives_file(
 ) -> Result<bool, FileFault>
     requires { vec_len fragments.now.opened ≡ 16 }
 {
-    let mut digest = DigestAlone::new();
+    let mut digest = Counted {
+        file: DigestAlone::new(),
+        rt,
+        progress: sought.file.progress,
+    };
     let survivors = survivors_of(sought, fragments, set);
     let file_bytes = sought.described.length as usize;
     match read_file(rt.alloc(), &survivors, file_bytes, &mut digest) {
-        Ok(()) => Ok(digest.finish() == sought.described.digest),
+        Ok(()) => Ok(digest.file.finish() == sought.described.digest),
         Err(MendFault::OutOfMemory) => Err(FileFault::OutOfMemory),
         Err(_) => Ok(false),
     }

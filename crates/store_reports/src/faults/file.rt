@@ -1,6 +1,7 @@
 //! Why a file isn't encoded or read.
 use crate::faults::store::StoreFault;
 use crate::statuses::{DEVICE, LEFT, NO_MEMORY, USAGE};
+use crate::system_words::words_of;
 use std::alloc::{AllocError, AllocFailed, Global};
 use std::io::{self, ErrorKind};
 use store_repair::MendFault;
@@ -17,9 +18,9 @@ pub enum FileFault {
     /// The arguments ask for what mustn't be. The text says why.
     #[error("{what}")]
     Usage { what: String },
-    /// The system refused to read or write what is at a path.
+    /// The system refused to read or write what is at a path, with these words.
     #[error("{path}: {error}")]
-    Device { path: String, error: io::Error },
+    Device { path: String, error: String },
     /// The store is refused.
     #[error("{fault}")]
     Store { fault: StoreFault },
@@ -51,6 +52,14 @@ pub fn device(alloc: Global, path: &str, error: io::Error) -> FileFault {
     if error.kind() == ErrorKind::OutOfMemory {
         return FileFault::OutOfMemory;
     }
+    match words_of(alloc, &error) {
+        Ok(error) => device_words(alloc, path, error),
+        Err(AllocError) => FileFault::OutOfMemory,
+    }
+}
+
+// What the system refused at a path, in its words.
+fn device_words(alloc: Global, path: &str, error: String) -> FileFault {
     match String::from_str(alloc, path) {
         Ok(path) => FileFault::Device { path, error },
         Err(AllocError) => FileFault::OutOfMemory,

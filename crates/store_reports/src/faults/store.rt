@@ -1,5 +1,6 @@
 //! Why a store is refused.
 use crate::statuses::{DEVICE, LEFT, NO_MEMORY, USAGE};
+use crate::system_words::words_of;
 use std::alloc::{AllocError, AllocFailed};
 use std::io::{self, ErrorKind};
 use store_folder::SumsFault;
@@ -10,11 +11,11 @@ use thiserror::Error;
 pub enum StoreFault {
     #[error("out of memory")]
     OutOfMemory,
-    /// The system refused to read the folder, or another file.
+    /// The system refused to read the folder, or another file, with these words.
     #[error("{folder}: {error}")]
     Device {
         folder: String,
-        error: io::Error,
+        error: String,
     },
     /// Another run works in the store.
     #[error("{folder}: another run works in this store")]
@@ -81,7 +82,10 @@ pub fn device_fault(folder: String, error: io::Error) -> StoreFault {
     if error.kind() == ErrorKind::OutOfMemory {
         return StoreFault::OutOfMemory;
     }
-    StoreFault::Device { folder, error }
+    match words_of(*folder.allocator(), &error) {
+        Ok(error) => StoreFault::Device { folder, error },
+        Err(AllocError) => StoreFault::OutOfMemory,
+    }
 }
 
 impl StoreFault {
@@ -89,8 +93,6 @@ impl StoreFault {
     pub fn status(&self) -> u8 {
         match self {
             StoreFault::Device { .. } => DEVICE,
-            StoreFault::BadSums { fault, .. } if matches!(fault, SumsFault::Unread { .. }) =>
-                DEVICE,
             StoreFault::OutOfMemory => NO_MEMORY,
             StoreFault::Untrusted { .. } | StoreFault::ReportInStore { .. } => USAGE,
             StoreFault::InUse { .. }

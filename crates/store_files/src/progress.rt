@@ -1,10 +1,9 @@
-//! The line on a terminal that says how far a command is.
-use lrc_code::Code;
+//! The line on a terminal that says how far a command is, also within a long file.
 use std::alloc::{AllocError, Global};
 use std::io::{self, IsTerminal};
 use std::sync::atomic::{AtomicU64, Ordering};
 use std::time::Instant;
-use store_repair::{Outcome, Stripe};
+use store_repair::Outcome;
 
 /// The least time between two lines, in milliseconds.
 const BETWEEN: u64 = 200;
@@ -21,109 +20,78 @@ const BACK: &str = "\x1b[A";
 
 /// What a line counts.
 #[derive(Clone, Copy, Debug)]
-pub(crate) struct Task {
+pub struct Task {
     /// The command.
-    pub(crate) name: &'static str,
+    pub name: &'static str,
     /// What it has done of each.
-    pub(crate) unit: &'static str,
+    pub unit: &'static str,
     /// What findings of no damage are; none if a task finds nothing.
-    pub(crate) others: Option<&'static str>,
-    pub(crate) units: u64,
-    pub(crate) bytes: u64,
+    pub others: Option<&'static str>,
+    pub units: u64,
+    /// The bytes of all units together.
+    pub bytes: u64,
+    /// How often each byte is gone over.
+    pub passes: u64,
 }
 
 /// What is to be done, what of it is done, and since when. Nothing is shown where standard error is no terminal.
 #[derive(Drop)]
-pub(crate) struct Progress<'a> {
-    rt: &'a HostRuntime,
+pub struct Progress {
     start: Option<Instant>,
     task: Task,
     done: AtomicU64,
     done_bytes: AtomicU64,
+    // How many bytes were gone over of units that aren't done.
+    passed: AtomicU64,
     damaged: AtomicU64,
     others: AtomicU64,
+    // When the line was shown last, in milliseconds since the start.
     shown: AtomicU64,
+    // 1 while the line is there.
+    lines: AtomicU64,
 }
 
 impl Task {
-    /// The repair of these stripes.
-    pub(crate) fn repair(
-        alloc: Global,
-        code: Code,
-        stripes: &[Stripe<'_>],
-    ) -> Result<Task, AllocError> {
-        let mut fragments = 0u64;
-        let mut bytes = 0u64;
-        for stripe in stripes {
-            let Some(length) = stripe.files.length() else {
-                continue;
-            };
-            let lost = stripe.files.lost(alloc, code, length)?.len() as u64;
-            fragments = fragments.saturating_add(lost);
-            bytes = bytes.saturating_add(lost.saturating_mul(length));
-        }
-        Ok(Task {
-            name: "repair",
-            unit: "fragments",
-            others: Some("given up"),
-            units: fragments,
-            bytes,
-        })
-    }
-
-    /// The scrub of these stripes.
-    pub(crate) fn scrub(code: Code, stripes: &[Stripe<'_>]) -> Task {
-        let mut bytes = 0u64;
-        for stripe in stripes {
-            bytes = bytes.saturating_add(bytes_of(code, stripe));
-        }
-        Task {
-            name: "scrub",
-            unit: "stripes",
-            others: Some("lost"),
-            units: stripes.len() as u64,
-            bytes,
-        }
-    }
-
-    /// Work on so many files, which have so many bytes together.
-    pub(crate) fn files(name: &'static str, files: u64, bytes: u64) -> Task {
+    /// Work on so many files, which have so many bytes together and are gone over so often.
+    pub fn files(name: &'static str, files: u64, bytes: u64, passes: u64) -> Task {
         Task {
             name,
             unit: "files",
             others: None,
             units: files,
             bytes,
+            passes,
         }
     }
 }
 
-/// How many bytes the files of a stripe have together.
-pub(crate) fn bytes_of(code: Code, stripe: &Stripe<'_>) -> u64 {
-    let Some(length) = stripe.files.length() else {
-        return 0;
-    };
-    let files = stripe.files.survivors(code, length).len() as u64;
-    files.saturating_mul(length)
-}
-
-impl<'a> Progress<'a> {
+impl Progress {
     /// The progress of a task, of which nothing is done.
-    pub(crate) fn new(rt: &'a HostRuntime, task: Task, is_quiet: bool) -> Progress<'a> {
+    pub fn new(rt: &HostRuntime, task: Task, is_quiet: bool) -> Progress {
         Progress {
-            rt,
-            start: if is_quiet { None } else { start_of(rt) },
+            start: if Progress::is_seen(rt, is_quiet) {
+                Instant::now(rt).ok()
+            } else {
+                None
+            },
             task,
             done: AtomicU64::new(0),
             done_bytes: AtomicU64::new(0),
+            passed: AtomicU64::new(0),
             damaged: AtomicU64::new(0),
             others: AtomicU64::new(0),
             shown: AtomicU64::new(0),
+            lines: AtomicU64::new(0),
         }
     }
 
-    /// Counts what became of a stripe, of which so much was done, and shows the line if it was shown long enough ago.
-    pub(crate) fn count(&self, units: u64, bytes: u64, outcome: &Outcome) {
+    /// Whether a line is shown.
+    pub fn is_seen(rt: &HostRuntime, is_quiet: bool) -> bool {
+        !is_quiet && rt.stderr().is_terminal()
+    }
+
+    /// Notes what became of a stripe.
+    pub fn note(&self, outcome: &Outcome) {
         for finding in &outcome.findings {
             if finding.reason.is_damage() {
                 self.damaged.fetch_add(1, Ordering::SeqCst);
@@ -131,17 +99,39 @@ impl<'a> Progress<'a> {
                 self.others.fetch_add(1, Ordering::SeqCst);
             }
         }
-        self.count_units(units, bytes);
     }
 
-    /// Counts what is done, and shows the line if it was shown long enough ago.
-    pub(crate) fn count_units(&self, units: u64, bytes: u64) {
+    /// Counts units that are done, of which so many bytes were gone over, and shows the line if it was shown long enough ago.
+    pub fn count(&self, rt: &HostRuntime, units: u64, bytes: u64, passed: u64) {
+        if self.start.is_none() {
+            return;
+        }
+        self.passed.fetch_sub(passed, Ordering::SeqCst);
+        self.done.fetch_add(units, Ordering::SeqCst);
+        self.done_bytes.fetch_add(bytes, Ordering::SeqCst);
+        self.show_in_time(rt);
+    }
+
+    /// Counts a file of so many bytes that is done, where no other is worked on beside it.
+    pub fn count_file(&self, rt: &HostRuntime, bytes: u64) {
+        self.count(rt, 1, bytes, self.passed.load(Ordering::SeqCst));
+    }
+
+    /// Counts bytes that were gone over of a unit that isn't done, and shows the line if it was shown long enough ago.
+    pub fn advance(&self, rt: &HostRuntime, bytes: u64) {
+        if self.start.is_none() {
+            return;
+        }
+        self.passed.fetch_add(bytes, Ordering::SeqCst);
+        self.show_in_time(rt);
+    }
+
+    // Shows the line if it was shown long enough ago. Of several threads one does it.
+    fn show_in_time(&self, rt: &HostRuntime) {
         let Some(start) = self.start else {
             return;
         };
-        self.done.fetch_add(units, Ordering::SeqCst);
-        self.done_bytes.fetch_add(bytes, Ordering::SeqCst);
-        let Ok(elapsed) = start.elapsed(self.rt) else {
+        let Ok(elapsed) = start.elapsed(rt) else {
             return;
         };
         let now = u64::try_from(elapsed.as_millis()).unwrap_or(u64::MAX);
@@ -153,12 +143,19 @@ impl<'a> Progress<'a> {
             .shown
             .compare_exchange(last, now, Ordering::SeqCst, Ordering::SeqCst);
         if taken.is_ok() {
-            let _ = self.show(now, last > 0);
+            let _ = self.show(rt, now);
         }
     }
 
+    // How many bytes are done, also of units that aren't.
+    fn bytes_done(&self) -> u64 {
+        let passed = self.passed.load(Ordering::SeqCst) / self.task.passes.max(1);
+        let done = self.done_bytes.load(Ordering::SeqCst);
+        done.saturating_add(passed).min(self.task.bytes)
+    }
+
     // Shows the line, so many milliseconds after the start, in place of an earlier one.
-    fn show(&self, now: u64, is_again: bool) -> io::Result<()> {
+    fn show(&self, rt: &HostRuntime, now: u64) -> io::Result<()> {
         let Task {
             name,
             unit,
@@ -167,7 +164,7 @@ impl<'a> Progress<'a> {
             ..
         } = self.task;
         let done = self.done.load(Ordering::SeqCst);
-        let done_bytes = self.done_bytes.load(Ordering::SeqCst);
+        let done_bytes = self.bytes_done();
         let speed = done_bytes.saturating_mul(1_000) / now.max(1);
         let left = bytes.saturating_sub(done_bytes) / speed.max(1);
         let minutes = left / 60;
@@ -175,16 +172,20 @@ impl<'a> Progress<'a> {
         let (done_whole, done_tenth) = tenths_of(done_bytes);
         let (all_whole, all_tenth) = tenths_of(bytes);
         let speed = speed / MIB;
-        let back = if is_again { BACK } else { "" };
-        let alloc = self.rt.alloc();
+        let alloc = rt.alloc();
         let amount = format!(in alloc;
             "{done_whole}.{done_tenth}/{all_whole}.{all_tenth} MiB  {speed} MiB/s"
         )?;
         let found = self.found(alloc)?;
         let rest = format!(in alloc; "{minutes}:{seconds:02} left{found}")?;
         let line = format!(in alloc; "{name}: {done}/{units} {unit}  {amount}  {rest}")?;
+        let back = if self.lines.swap(1, Ordering::SeqCst) == 1 {
+            BACK
+        } else {
+            ""
+        };
         let line = format!(in alloc; "{back}{BEGIN}{line}{END}")?;
-        eprint!(self.rt; "{line}")
+        eprint!(rt; "{line}")
     }
 
     // What is said of findings.
@@ -197,20 +198,12 @@ impl<'a> Progress<'a> {
         format!(in alloc; "  {damaged} damaged, {other} {others}")
     }
 
-    /// Takes the line away.
-    pub(crate) fn end(&self) {
-        if self.shown.load(Ordering::SeqCst) > 0 {
-            let _ = eprint!(self.rt; "{BACK}\r\x1b[K");
+    /// Takes the line away, as before another line is written.
+    pub fn clear(&self, rt: &HostRuntime) {
+        if self.lines.swap(0, Ordering::SeqCst) == 1 {
+            let _ = eprint!(rt; "{BACK}\r\x1b[K");
         }
     }
-}
-
-// When a task began, if it is to be shown.
-fn start_of(rt: &HostRuntime) -> Option<Instant> {
-    if !rt.stderr().is_terminal() {
-        return None;
-    }
-    Instant::now(rt).ok()
 }
 
 // Bytes as MiB and tenths of one.
