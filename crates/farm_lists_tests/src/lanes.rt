@@ -2,7 +2,7 @@
 ghost use Rattle.std.specs.Prelude.{◌<◌, ◌≤◌};
 
 use sha2::{Digest, Sha256};
-use sha256_lanes::{are_of_one_length, digests, digests_of_eight};
+use sha256_lanes::{HasherOfEight, are_of_one_length, digests, digests_of_eight};
 use std::process::Abort;
 
 fn checked_digests(rt: &impl Abort, messages: &[&[u8]; 8]) -> [[u8; 32]; 8] {
@@ -191,5 +191,29 @@ fn another_length_in_any_lane_is_seen(rt: HostRuntime) {
         assert!(rt; are_of_one_length(&eight));
         eight[lane] = &row[..8];
         assert!(rt; !are_of_one_length(&eight), "lane {lane}");
+    }
+}
+
+// The digest of 192 bytes of 61 and then a byte.
+fn plain_digest(last: u8) -> [u8; 32] {
+    let mut message = [0x61u8; 193];
+    message[192] = last;
+    Sha256::digest(&message)
+}
+
+#[test]
+fn messages_come_in_pieces(rt: HostRuntime) {
+    let one = [0x61u8; 64];
+    let two = [0x61u8; 128];
+    let mut hasher = HasherOfEight::new();
+    hasher.update(&[&two, &two, &two, &two, &two, &two, &two, &two]);
+    hasher.update(&[&one, &one, &one, &one, &one, &one, &one, &one]);
+    let found = hasher.finalize(&[b"0", b"1", b"2", b"3", b"4", b"5", b"6", b"7"]);
+    for lane in 0..8u8 {
+        assert_eq!(rt;
+            found[lane as usize],
+            plain_digest(b'0' + lane),
+            "lane {lane}"
+        );
     }
 }
