@@ -23,7 +23,7 @@ BOUND=(taskset -c "$CPUS" nice -n 5)
 step() { printf '    %s  %s\n' "$(date +%T)" "$*"; }
 
 # fail WHY: also says of each daemon that has ended what it said last, as that asynchronous reads are used up (fs.aio-max-nr: an OSD takes
-# 2,048).
+# 512, by bdev_aio_max_queue_depth below).
 fail() {
   local name last telling='FAILED ceph_assert|aio-max-nr|: \(|ERROR|azure_lrc:'
   echo "    FAILED: $*"
@@ -156,6 +156,8 @@ osd_objectstore = bluestore
 bluestore_block_size = 3221225472
 bluestore_cache_autotune = false
 bluestore_cache_size = 33554432
+bdev_aio_max_queue_depth = 256
+osd_op_queue = wpq
 osd_heartbeat_grace = 8
 osd_heartbeat_interval = 2
 osd_max_backfills = 4
