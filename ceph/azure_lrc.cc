@@ -13,7 +13,10 @@
 #include <mutex>
 #include <new>
 #include <ostream>
+#include <sys/stat.h>
+#include <sys/sysmacros.h>
 #include <syslog.h>
+#include <unistd.h>
 
 #include "ceph_calls.h"
 #include "lrc.h"
@@ -51,11 +54,19 @@ bufferlist fresh(unsigned length)
 /* Which build this is, for those who look into the file: strings -a libec_azure_lrc.so | grep '^azure_lrc ' */
 __attribute__((used)) const char kVersion[] = "azure_lrc " LRC_VERSION " for Ceph " CEPH_RELEASE;
 
-/* Says something where the daemon says what goes wrong: on standard error, which systemd keeps. A daemon that went into the background
- * has none that can be written; then in the system's log. Ceph's own log is reached by headers that Debian doesn't ship. */
+/* Whether nobody gets what is written on standard error: a daemon that went into the background has the null device in its place, which
+ * that of Ceph 18 can write. */
+bool is_unheard() noexcept
+{
+    struct stat place;
+    return fstat(STDERR_FILENO, &place) != 0 || (S_ISCHR(place.st_mode) && place.st_rdev == makedev(1, 3));
+}
+
+/* Says something where the daemon says what goes wrong: on standard error, which systemd keeps, or else in the system's log. Ceph's own log
+ * is reached by headers that Debian doesn't ship. */
 void say(const char *call, const char *what) noexcept
 {
-    if (std::fprintf(stderr, "azure_lrc: %s: %s\n", call, what) < 0)
+    if (is_unheard() || std::fprintf(stderr, "azure_lrc: %s: %s\n", call, what) < 0)
         syslog(LOG_DAEMON | LOG_WARNING, "azure_lrc: %s: %s", call, what);
 }
 
