@@ -18,7 +18,8 @@ NETWORK=${NETWORK:-127.0.0.0/8}
 HERE=$(cd "$(dirname "${BASH_SOURCE[0]}")" && pwd)
 export CEPH_CONF=$RUN/ceph.conf
 unset CEPH_ARGS
-BOUND=(taskset -c "$CPUS" nice -n 5)
+# In the folder in which systemd starts daemons too: Debian's 18.2.7 looks for its classes in lib/ below it.
+BOUND=(taskset -c "$CPUS" nice -n 5 env -C /)
 
 step() { printf '    %s  %s\n' "$(date +%T)" "$*"; }
 
@@ -40,7 +41,7 @@ objects() { /usr/bin/python3 "$HERE/objects.py" "$@"; }
 
 is_alive() { [ -f "$RUN/$1.pid" ] && kill -0 "$(cat "$RUN/$1.pid")" 2> /dev/null; }
 
-# launch NAME COMMAND..: starts a daemon; taskset and nice become it, so the id is its own.
+# launch NAME COMMAND..: starts a daemon; taskset, nice and env become it, so the id is its own.
 launch() {
   local name=$1
   shift
@@ -242,11 +243,14 @@ wait_for() {
   fail "never: $* (but $said)"
 }
 
-# wait_clean SECONDS: until all placement groups are whole.
+# wait_clean SECONDS: until all placement groups are whole. Without a pool there are none: Debian 13's manager, which can't load its modules,
+# makes none of its own.
 wait_clean() {
-  local left=$1
+  local left=$1 said
   while [ "$left" -gt 0 ]; do
-    if ceph pg stat 2> /dev/null | grep -qE 'pgs: [0-9]+ active\+clean;'; then return 0; fi
+    said=$(ceph pg stat 2> /dev/null || true)
+    if [[ $said =~ pgs:\ [0-9]+\ active\+clean\; ]]; then return 0; fi
+    if [[ $said == '0 pgs:'* ]] && [ -z "$(ceph osd pool ls 2> /dev/null)" ]; then return 0; fi
     is_alive mon.a || fail 'the monitor has ended'
     sleep 1
     left=$((left - 1))

@@ -1,6 +1,6 @@
 #!/usr/bin/env bash
 # Ten thousand shards of one stopped OSD: rebuild-ceph takes all of them out, and finds them the same when they are to be put back, each
-# in two minutes at most.
+# in four minutes at most, beside other work.
 #   many.sh <rebuild-ceph>
 . "$(dirname "$0")/cluster.sh"
 taking=$1
@@ -13,7 +13,7 @@ timed() {
   local start=$SECONDS
   "$taking" "$1" "$RUN/store" --pool "$pool" --osd "$RUN/osd3" > "$RUN/said" 2> "$RUN/why" || fail "$(cat "$RUN/why" "$RUN/said")"
   step "$1: $(cat "$RUN/said"), $((SECONDS - start)) s"
-  [ $((SECONDS - start)) -le 120 ] || fail 'it took more than two minutes'
+  [ $((SECONDS - start)) -le 240 ] || fail 'it took more than four minutes'
 }
 
 step "a cluster of $osds OSDs, on processors $CPUS"
