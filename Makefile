@@ -32,7 +32,7 @@ LIBRARY := crates/lrc_c/$(if $(TARGET),out/$(TARGET),$(BUILT))
 LIBRARY_CC := $(if $(TARGET),$(subst -unknown,,$(TARGET))-gcc,$(CC))
 
 .PHONY: build notices store demo try install uninstall library link-library install-library uninstall-library ceph install-ceph \
-  uninstall-ceph try-ceph ceph-needs test levels wrong-bodies scale lifetime bench packages try-packages
+  uninstall-ceph try-ceph try-ceph-releases ceph-needs test levels wrong-bodies scale lifetime bench packages try-packages
 
 # The programs, each with its crate, in whose out/ it is built; and what is installed: each has a manual page and completions.
 PROGRAMS := rebuild rebuild-store
@@ -156,6 +156,13 @@ try-ceph:
 	@$(MAKE) --no-print-directory ceph CPU=x86-64-v2
 	@$(MAKE) --no-print-directory ceph
 	ceph/try.sh
+
+# The same in clean roots of Debian 12 and 13, with each release of Ceph that the plugin is for, and a cluster that goes from the one to the
+# other; it needs root's rights, debootstrap and the network.
+try-ceph-releases: store
+	@$(MAKE) --no-print-directory library CPU=x86-64-v3
+	@$(MAKE) --no-print-directory library CPU=x86-64-v2
+	ceph/releases.sh
 
 # What the gate runs after the proofs, over the programs and tests that they leave in each crate's out/. No two of these share a file
 # that one of them writes, so several run at once.

@@ -1,4 +1,4 @@
-/* The plugin "azure_lrc" for Ceph 16.2: the (6,2,2) and (12,2,2) codes of liblrc as an erasure code of pools.
+/* The plugin "azure_lrc" for Ceph 16.2 or 18.2: the (6,2,2) and (12,2,2) codes of liblrc as an erasure code of pools.
  *
  *   plugin=azure_lrc [code=6-2-2|12-2-2] [layout=plain|groups] [k=6|12] [m=4] [stripe_unit=4K]
  *                    [crush-root=default] [crush-failure-domain=host] [crush-device-class=] [crush-locality=]
@@ -13,10 +13,14 @@
 #include <mutex>
 #include <new>
 #include <ostream>
+#include <sys/stat.h>
+#include <sys/sysmacros.h>
 #include <syslog.h>
+#include <unistd.h>
 
 #include "ceph_calls.h"
 #include "lrc.h"
+#include "release.h"
 #include "reports.h"
 
 namespace azure_lrc {
@@ -48,13 +52,21 @@ bufferlist fresh(unsigned length)
 }
 
 /* Which build this is, for those who look into the file: strings -a libec_azure_lrc.so | grep '^azure_lrc ' */
-__attribute__((used)) const char kVersion[] = "azure_lrc " LRC_VERSION " for Ceph 16.2";
+__attribute__((used)) const char kVersion[] = "azure_lrc " LRC_VERSION " for Ceph " CEPH_RELEASE;
 
-/* Says something where the daemon says what goes wrong: on standard error, which systemd keeps. A daemon that went into the background
- * has none that can be written; then in the system's log. Ceph's own log is reached by headers that Debian doesn't ship. */
+/* Whether nobody gets what is written on standard error: a daemon that went into the background has the null device in its place, which
+ * that of Ceph 18 can write. */
+bool is_unheard() noexcept
+{
+    struct stat place;
+    return fstat(STDERR_FILENO, &place) != 0 || (S_ISCHR(place.st_mode) && place.st_rdev == makedev(1, 3));
+}
+
+/* Says something where the daemon says what goes wrong: on standard error, which systemd keeps, or else in the system's log. Ceph's own log
+ * is reached by headers that Debian doesn't ship. */
 void say(const char *call, const char *what) noexcept
 {
-    if (std::fprintf(stderr, "azure_lrc: %s: %s\n", call, what) < 0)
+    if (is_unheard() || std::fprintf(stderr, "azure_lrc: %s: %s\n", call, what) < 0)
         syslog(LOG_DAEMON | LOG_WARNING, "azure_lrc: %s: %s", call, what);
 }
 
@@ -472,12 +484,13 @@ public:
 
 #define EXPORTED extern "C" __attribute__((visibility("default")))
 
-/* A program loads plugins of its own version alone, and shows the other version where it refuses. The calls are those of all of
- * 16.2, so its programs are answered their own version, and others the reason. */
+/* A program loads plugins of its own version alone, and shows the other version where it refuses. Calls and headers are those of all of a
+ * release, so the programs of the one that this is built for are answered their own version, and others the reason. */
 EXPORTED const char *__erasure_code_version()
 {
     const char *program = ceph_version_to_str();
-    return program != nullptr && std::strncmp(program, "16.2.", 5) == 0 ? program : "for Ceph 16.2 alone (azure_lrc)";
+    const bool is_of_release = program != nullptr && std::strncmp(program, CEPH_RELEASE ".", sizeof CEPH_RELEASE) == 0;
+    return is_of_release ? program : "for Ceph " CEPH_RELEASE " alone (azure_lrc)";
 }
 
 EXPORTED int __erasure_code_init(char *name, char *)

@@ -1,6 +1,7 @@
-/* What a plugin has to know of Ceph 16.2 ("pacific"): the names, arguments and order of the functions through which its programs
- * call a code. Debian ships no header of them. They are facts of the binary interface, written down here; tests/abi.sh compares their
- * order and arguments with those of the shipped plugins. `ceph::bufferlist` is that of Debian's libradospp-dev. */
+/* What a plugin has to know of Ceph 16.2 ("pacific") and 18.2 ("reef"), in which it is the same: the names, arguments and order of the
+ * functions through which programs call a code. Debian ships no header of them. They are facts of the binary interface, written down here;
+ * tests/abi.sh compares their order and arguments with those of the shipped plugins. `ceph::bufferlist` is that of the release's own
+ * libradospp-dev. */
 #ifndef CEPH_CALLS_H
 #define CEPH_CALLS_H
 

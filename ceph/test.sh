@@ -10,9 +10,9 @@
 set -euo pipefail
 cd "$(dirname "$0")/.."
 ceph/tests/rebuild-ceph.py
-common=/usr/lib/x86_64-linux-gnu/ceph/libceph-common.so.2
+library=/usr/lib/x86_64-linux-gnu/ceph/libceph-common.so.2
 compiler=${CXX:-g++}
-if ! command -v "$compiler" > /dev/null || [ ! -e "$common" ] ||
+if ! command -v "$compiler" > /dev/null || [ ! -e "$library" ] ||
   ! printf '#include <rados/buffer.h>\n#include <rados/librados.h>\n' | "$compiler" -std=c++17 -x c++ -E - > /dev/null 2>&1; then
   echo "ceph: left out: the plugin for Ceph (Debian's libradospp-dev, librados-dev and g++ aren't all installed)"
   exit 0
@@ -51,8 +51,20 @@ lacks() { # WORD LINE
   if make -s -C ceph needs "$1" > "$scratch/said" 2>&1; then fail "'make ceph' goes on with $1"; fi
   grep -qF "$2" "$scratch/said" || fail "'make ceph' with $1 says $(cat "$scratch/said")"
 }
-lacks "CEPH=$scratch/none" "no $scratch/none/libceph-common.so.2: it needs Ceph 16.2"
+lacks "CEPH=$scratch/none" "no $scratch/none/libceph-common.so.2: it needs Ceph 16.2, as Debian 12 has it, or 18.2"
 lacks CXX=no-such-compiler "no no-such-compiler here: it needs Debian's g++"
+
+# common VERSION: a folder whose common library says that it is of this version of Ceph.
+common() {
+  mkdir "$scratch/$1"
+  echo "const char *ceph_version_to_str() { return \"$1\"; }" |
+    "$compiler" -shared -fPIC -o "$scratch/$1/libceph-common.so.2" -x c++ -
+}
+common 17.2.7
+lacks "CEPH=$scratch/17.2.7" 'Ceph 17.2.7 is installed: it needs 16.2 or 18.2'
+common 18.2.0
+quietly 'the plugin for 18.2' make -s -C ceph "OUT=$scratch/reef" "CEPH=$scratch/18.2.0" CXX="$compiler" "$scratch/reef/libec_azure_lrc.so"
+[[ $(strings -a "$scratch/reef/libec_azure_lrc.so" | grep '^azure_lrc ') = *' for Ceph 18.2' ]] || fail 'the plugin is for another release'
 
 plain=$PWD/ceph/out
 watched=$scratch/watched
@@ -82,7 +94,7 @@ done
 export PLUGINS=$plain/plugins
 quietly 'the least reads of (6,2,2)' "$plain/host" least plugin=azure_lrc 3
 quietly 'the least reads of (12,2,2)' "$plain/host" least plugin=azure_lrc,code=12-2-2 1
-shipped=$(dirname "$common")/erasure-code
+shipped=$(dirname "$library")/erasure-code
 if [ -d "$shipped" ] && command -v readelf > /dev/null; then
   quietly 'the calls beside those of shipped plugins' ceph/tests/abi.sh "$plain" "$shipped"
   quietly 'odd calls beside shipped plugins' "$plain/host" beside plugin=azure_lrc plugin=isa,technique=cauchy,k=6,m=4 \

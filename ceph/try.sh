@@ -17,6 +17,7 @@
 #     recovery  bytes that OSDs send for a lost one, beside Ceph's other codes
 #     bench     encoding and decoding beside isa and the others
 #     store     shards taken out of stopped OSDs by rebuild-ceph, rebuilt by rebuild-store, and put back
+#     many      ten thousand shards of an OSD, taken out by rebuild-ceph
 #     incomplete groups that Ceph calls incomplete: what is determined comes back, and the pool is whole
 #
 # Clusters are on the loopback, on the processors CPUS (0,1), with at most MEMORY megabytes (5000) and SECONDS_MOST seconds (1500) for
@@ -171,6 +172,11 @@ with_store() {
 
 part_store() { with_store 'shards as a store' store.sh; }
 
+part_many() {
+  has 'many shards' "${daemons[@]}" || return 0
+  in_cluster many.sh "$PWD/ceph/rebuild-ceph"
+}
+
 part_incomplete() { with_store 'incomplete groups' incomplete.sh; }
 
 part_levels() {
@@ -213,7 +219,7 @@ if [ -n "$RELEASE" ]; then export RELEASE; else unset RELEASE; fi
 echo "Ceph ${RELEASE:-(no ceph-osd is installed)}; $(sed -n 's/^model name\t: //p' /proc/cpuinfo | head -n 1)," \
   "$(getconf _NPROCESSORS_ONLN) processors"
 parts=("$@")
-[ $# -gt 0 ] || parts=(abi host tool pool images files racks groups four damaged levels reads recovery bench store incomplete)
+[ $# -gt 0 ] || parts=(abi host tool pool images files racks groups four damaged levels reads recovery bench store many incomplete)
 for part in "${parts[@]}"; do
   declare -F "part_$part" > /dev/null || { echo "There is no part $part." >&2; exit 2; }
 done

@@ -18,12 +18,13 @@ NETWORK=${NETWORK:-127.0.0.0/8}
 HERE=$(cd "$(dirname "${BASH_SOURCE[0]}")" && pwd)
 export CEPH_CONF=$RUN/ceph.conf
 unset CEPH_ARGS
-BOUND=(taskset -c "$CPUS" nice -n 5)
+# In the folder in which systemd starts daemons too: Debian's 18.2.7 looks for its classes in lib/ below it.
+BOUND=(taskset -c "$CPUS" nice -n 5 env -C /)
 
 step() { printf '    %s  %s\n' "$(date +%T)" "$*"; }
 
 # fail WHY: also says of each daemon that has ended what it said last, as that asynchronous reads are used up (fs.aio-max-nr: an OSD takes
-# 2,048).
+# 512, by bdev_aio_max_queue_depth below).
 fail() {
   local name last telling='FAILED ceph_assert|aio-max-nr|: \(|ERROR|azure_lrc:'
   echo "    FAILED: $*"
@@ -40,7 +41,7 @@ objects() { /usr/bin/python3 "$HERE/objects.py" "$@"; }
 
 is_alive() { [ -f "$RUN/$1.pid" ] && kill -0 "$(cat "$RUN/$1.pid")" 2> /dev/null; }
 
-# launch NAME COMMAND..: starts a daemon; taskset and nice become it, so the id is its own.
+# launch NAME COMMAND..: starts a daemon; taskset, nice and env become it, so the id is its own.
 launch() {
   local name=$1
   shift
@@ -156,6 +157,8 @@ osd_objectstore = bluestore
 bluestore_block_size = 3221225472
 bluestore_cache_autotune = false
 bluestore_cache_size = 33554432
+bdev_aio_max_queue_depth = 256
+osd_op_queue = wpq
 osd_heartbeat_grace = 8
 osd_heartbeat_interval = 2
 osd_max_backfills = 4
@@ -240,11 +243,14 @@ wait_for() {
   fail "never: $* (but $said)"
 }
 
-# wait_clean SECONDS: until all placement groups are whole.
+# wait_clean SECONDS: until all placement groups are whole. Without a pool there are none: Debian 13's manager, which can't load its modules,
+# makes none of its own.
 wait_clean() {
-  local left=$1
+  local left=$1 said
   while [ "$left" -gt 0 ]; do
-    if ceph pg stat 2> /dev/null | grep -qE 'pgs: [0-9]+ active\+clean;'; then return 0; fi
+    said=$(ceph pg stat 2> /dev/null || true)
+    if [[ $said =~ pgs:\ [0-9]+\ active\+clean\; ]]; then return 0; fi
+    if [[ $said == '0 pgs:'* ]] && [ -z "$(ceph osd pool ls 2> /dev/null)" ]; then return 0; fi
     is_alive mon.a || fail 'the monitor has ended'
     sleep 1
     left=$((left - 1))

@@ -15,12 +15,15 @@
  * A profile is "plugin=name,word=value,..". PLUGINS is the folder of the plugins. It ends with status 1 where ours is not as it has
  * to be; of other plugins it says what they do. */
 #include <algorithm>
+#include <cerrno>
+#include <cstdio>
 #include <cstdlib>
 #include <cstring>
 
 #include <rados/librados.h>
 
 #include "host.h"
+#include "release.h"
 
 namespace ceph::common {
 class CephContext;
@@ -186,17 +189,20 @@ static void refused_words(const std::string &words)
     }
 }
 
+/* A plugin that has been loaded stays, so the release that it is for comes last. */
 static void version(const std::string &words)
 {
-    for (const char *release : {"17.2.7", "15.2.17", "16.20.0", "16.1.0", "16.2.9"}) {
+    const std::string own = CEPH_RELEASE, other = own == "16.2" ? "18.2" : "16.2";
+    for (const std::string &release : {other + ".7", other + ".15", std::string("17.2.7"), std::string("19.2.3"), own + "0.0",
+                                       own.substr(0, 2) + ".1.0", own, own + ".9"}) {
         Code code;
         std::string said;
         given_version = release;
         int r = try_open(words, &code, &said);
-        const bool is_16_2 = strncmp(release, "16.2.", 5) == 0;
-        if (r != (is_16_2 ? 0 : -EXDEV))
-            stop(std::string(release) + " answers " + std::to_string(r));
-        printf("  Ceph %s: %s\n", release, is_16_2 ? "loaded" : said.c_str());
+        const bool is_own = release == own + ".9";
+        if (r != (is_own ? 0 : -EXDEV))
+            stop(release + " answers " + std::to_string(r));
+        printf("  Ceph %s: %s\n", release.c_str(), is_own ? "loaded" : said.c_str());
     }
 }
 
@@ -208,7 +214,7 @@ int main(int argc, char **argv)
     ceph::global::g_ceph_context = static_cast<ceph::common::CephContext *>(rados_cct(cluster));
     ceph_arch_probe();
     const char *release = getenv("RELEASE"); /* that of the shipped plugins, for them */
-    given_version = release ? release : "16.2.15";
+    given_version = release ? release : CEPH_VERSION;
     std::string part = argv[1];
     std::vector<std::string> words(argv + 2, argv + argc);
     if (part == "sets" && words.size() == 1)

@@ -36,7 +36,7 @@ tool() { ceph-objectstore-tool --data-path "$RUN/osd$1" "${@:2}" > "$RUN/tool.ou
 make_pool() {
   local i
   cluster_new "$osds"
-  ceph balancer off 2>> "$RUN/setup.out"
+  ceph balancer off 2>> "$RUN/setup.out" || step 'the manager has no balancer'
   for i in "${fresh[@]}"; do ceph osd crush reweight "osd.$i" 0 2>> "$RUN/setup.out"; done
   for i in min_pg_log_entries max_pg_log_entries pg_log_trim_min; do ceph config set osd "osd_$i" 1; done
   ceph osd erasure-code-profile set words plugin=azure_lrc crush-failure-domain=osd

@@ -12,7 +12,8 @@
     sent                          the sum of the bytes that OSDs sent, of their counters on standard input
     acting POOL OBJECT            the placement group of an object, and its OSDs by shard
     racks POOL GROUP              whether each group of GROUP shards is in one rack, of all placement groups, and p0 and p1 in a third
-    scrubbed POOL SINCE           how many placement groups were scrubbed since then, and their errors; status 1 until all were"""
+    scrubbed POOL SINCE           how many placement groups were scrubbed since then, and their errors; status 1 until all were
+    releases                      of which releases the daemons are, by kind"""
 
 import collections
 import json
@@ -22,6 +23,7 @@ import subprocess
 import sys
 
 NO_OSD = 2147483647    # as Ceph writes that a shard is on none
+AT_ONCE = 32    # writes
 ODD_SIZES = (1, 31, 4096, 24576, 24577, 65536, 1000003)
 
 
@@ -119,9 +121,19 @@ def four(pool, folder, layout="plain"):
 
 
 def fill(pool, count, size):
-    io, data = opened(pool), os.urandom(int(size))
+    io, data, asked = opened(pool), os.urandom(int(size)), collections.deque()
     for i in range(int(count)):
-        io.write_full(f"o{i}", data)
+        asked.append(io.aio_write_full(f"o{i}", data))
+        if len(asked) == AT_ONCE:
+            written(asked.popleft())
+    for it in asked:
+        written(it)
+
+
+def written(asked):
+    asked.wait_for_complete()
+    if asked.get_return_value() < 0:
+        sys.exit(f"an object isn't written: {asked.get_return_value()}")
 
 
 def degraded(pool):
@@ -173,8 +185,14 @@ def scrubbed(pool, since):
     sys.exit(0 if len(done) == len(stats) else 1)
 
 
+def releases():
+    found = ceph("versions")
+    print("; ".join(f"{kind}: " + ", ".join(f"{count} of {name.split()[2]}" for name, count in sorted(found[kind].items()))
+                    for kind in ("mon", "mgr", "osd")))
+
+
 def main(name, *words):
-    jobs = (make, write, compare, partial, four, fill, degraded, fullest, sent, acting, racks, scrubbed)
+    jobs = (make, write, compare, partial, four, fill, degraded, fullest, sent, acting, racks, scrubbed, releases)
     status = 0
     try:
         {it.__name__: it for it in jobs}[name](*words)

@@ -1,4 +1,4 @@
-/* Where the plugin says what goes wrong: on standard error, and where a daemon has closed that, in the system's log. */
+/* Where the plugin says what goes wrong: on standard error, and where nobody gets that, in the system's log. */
 #include <cstdarg>
 #include <cstdio>
 #include <fcntl.h>
@@ -64,11 +64,14 @@ void said(const std::string &words)
     expect(came && line.find("azure_lrc: decode: ") == 0 && line.find("shard 2 is damaged") != line.npos && logged.empty(),
            "a damaged chunk is said on standard error alone");
     expect(line.find('\n') == line.size() - 1, "it is said once where it comes over and over");
-    /* As Ceph leaves standard error where a daemon goes into the background. */
-    const int null = open("/dev/null", O_RDONLY);
-    decode_damaged(code, 3, null);
-    close(null);
-    std::string other = line;
-    other.replace(other.find("shard 2 is"), 7, "shard 3");
-    expect(logged == other, "where that is closed, in the system's log with the same words");
+    /* As the daemons of Ceph 16 and 18 leave standard error where they go into the background. */
+    for (auto [mode, damaged] : {std::make_pair(O_RDONLY, 3), std::make_pair(O_RDWR, 4)}) {
+        const int null = open("/dev/null", mode);
+        logged.clear();
+        decode_damaged(code, damaged, null);
+        close(null);
+        std::string other = line;
+        other.replace(other.find("shard 2 is"), 7, "shard " + std::to_string(damaged));
+        expect(logged == other, "where that is the null device, in the system's log with the same words");
+    }
 }

@@ -1,8 +1,8 @@
 #!/usr/bin/env bash
 # Shards of a pool as the fragments of a store: objects are written, some once more and one removed while an OSD is stopped, all OSDs
 # stopped, the shards of all but two of them taken out by rebuild-ceph, the others' rebuilt by rebuild-store and compared with what these
-# two hold; then shards are damaged in the OSDs and put back, and the OSDs started. At last objects are written over, and what the store has
-# of them isn't put.
+# two hold; then shards are damaged in the OSDs and put back, by a run that is killed while it writes one and by another, and the OSDs
+# started. At last objects are written over, and what the store has of them isn't put.
 #   store.sh <program rebuild-store> <rebuild-ceph>
 . "$(dirname "$0")/cluster.sh"
 program=$1
@@ -87,6 +87,20 @@ give() {
   "$taking" put "$RUN/store" --pool "$pool" "${words[@]}" > "$RUN/said" 2> "$RUN/why" || true
 }
 
+# give_killed: the same, killed as soon as Ceph's tool writes a shard.
+give_killed() {
+  local pid
+  mapfile -t words < <(folders $(seq 0 $((osds - 1))))
+  "$taking" put "$RUN/store" --pool "$pool" "${words[@]}" > "$RUN/said" 2> "$RUN/why" &
+  pid=$!
+  while [[ $(ps -eo args) != *' set-bytes '* ]]; do
+    kill -0 "$pid" 2> /dev/null || fail "put has written nothing: $(cat "$RUN/why" "$RUN/said")"
+    sleep 0.05
+  done
+  kill -KILL "$pid"
+  wait "$pid" 2> /dev/null || true
+}
+
 # start WHEN: starts all OSDs, and compares all objects once they are whole.
 start() {
   for i in $(seq 0 $((osds - 1))); do osd "$i"; done
@@ -98,9 +112,14 @@ start() {
 
 count=0
 for osd in "${dead[@]}"; do for object in o3 o4 o5; do if damage "$object" "$osd"; then count=$((count + 1)); fi; done; done
+give_killed
 give
-step "$count shards damaged; $(cat "$RUN/said")"
-grep -q "^put $count shards" "$RUN/said" || fail "not $count shards were put back: $(cat "$RUN/why")"
+step "$count shards damaged, put back by a run that was killed and by another: $(cat "$RUN/said")"
+rest=$(sed -n 's/^put \([0-9]*\) shards.*/\1/p' "$RUN/said")
+# The killed run had at most one at work on each OSD.
+[ -n "$rest" ] && [ "$rest" -le "$count" ] && [ "$rest" -ge $((count - ${#dead[@]})) ] || fail "$(cat "$RUN/why" "$RUN/said")"
+give
+grep -q '^put 0 shards' "$RUN/said" || fail "not all were put back: $(cat "$RUN/why" "$RUN/said")"
 start 'with all OSDs again'
 
 for object in o4 o5; do head -c 234567 /dev/urandom > "$RUN/late/$object"; done
