@@ -1132,11 +1132,8 @@ def test_line_within_a_file(place, choose):
     line = r"(?:\x1b\[A)?\r\x1b\[K\x1b\[\?7l%s: 0/1 %s  ([\d.]+)/%s MiB  \d+ MiB/s  \d+:\d\d left[^\n]*\x1b\[\?7h\r\n"
     took = "\x1b[A\r\x1b[K"
     commands = [("encode", "files", "300.0", [store, file]), ("verify", "files", "300.0", [store]),
-                ("read", "files", "300.0", [store, "f", "-o", place / "read"]), ("scrub", "stripes", "500.0", [store]),
-                ("repair", "fragments", "450.0", [store])]
+                ("read", "files", "300.0", [store, "f", "-o", place / "read"])]
     for command, unit, all_of_it, words in commands:
-        if command == "repair":
-            (store / "f.x1").unlink()
         said, status = on_terminal(command, *words)
         seen = [float(it) for it in re.findall(line % (command, unit, re.escape(all_of_it)), said)]
         hold(status == 0 and len(seen) > 1 and seen == sorted(seen) and min(seen) < max(seen), f"{command}: {status}, {said!r}")

@@ -1,10 +1,9 @@
 //! Threads that work on stripes side by side.
 pub(crate) mod tasks;
-pub(crate) mod watched;
 
 use lrc_code::Code;
 use std::alloc::{AllocError, Global};
-use std::sync::atomic::{AtomicU64, AtomicUsize, Ordering};
+use std::sync::atomic::{AtomicUsize, Ordering};
 use std::thread;
 use std::thread::Threads;
 use store_files::{CopyWork, DescribedStripe, Progress, tend_descriptions};
@@ -13,7 +12,6 @@ use store_opening::OpenStore;
 use store_repair::{Found, Outcome, Repair, Stripe, plan_stripe, repair_stripe, scrub_stripe};
 use store_reports::{Contents, Descriptions, Done, without_left, without_repeated};
 use tasks::{bytes_of, bytes_read};
-use watched::{Meter, WatchedFolder};
 
 // The memory that is taken and given back before the work. The C library gives free memory back to the system after each stripe, unless
 // it has seen a block come back that is as large: it then keeps twice as much. It looks at no block of more than 32 MiB.
@@ -115,16 +113,7 @@ fn take_stripes(
     next: &AtomicUsize,
 ) -> Result<Vec<Done>, AllocError> {
     let mut all = Vec::new(system.alloc());
-    let read = AtomicU64::new(0);
-    let files = WatchedFolder {
-        files: SystemFolder::new(system),
-        meter: Meter {
-            rt: system,
-            progress: stripes.progress,
-            read: &read,
-        },
-    };
-    let mut store = SeparateStore::new(FolderStore::over(system, files, *stripes.site));
+    let mut store = SeparateStore::new(FolderStore::new(system, *stripes.site));
     for _turn in 0..order.len() {
         let Some(index) = order.get(next.fetch_add(1, Ordering::SeqCst)).copied() else {
             break;
@@ -133,14 +122,7 @@ fn take_stripes(
             break;
         };
         let outcome = outcome_of(system.alloc(), &mut store, work, stripe)?;
-        count(
-            system,
-            stripes,
-            work,
-            stripe,
-            &outcome,
-            read.swap(0, Ordering::SeqCst),
-        );
+        count(system, stripes, work, stripe, &outcome);
         let descriptions = descriptions_of(system, stripes, work, stripe, outcome.length)?;
         all.push(Done {
             index,
@@ -176,7 +158,7 @@ fn descriptions_of(
 // Does the work with the fragments of a stripe.
 fn outcome_of(
     alloc: Global,
-    store: &mut SeparateStore<'_, WatchedFolder<'_, SystemFolder<'_>>>,
+    store: &mut SeparateStore<'_, SystemFolder<'_>>,
     work: Work,
     stripe: &Stripe<'_>,
 ) -> Result<Outcome, AllocError> {
@@ -192,14 +174,13 @@ fn outcome_of(
     }
 }
 
-// Counts a stripe with which the work is done, and of which so many bytes were read.
+// Counts a stripe with which the work is done.
 fn count(
     system: &HostRuntime,
     stripes: &Stripes<'_>,
     work: Work,
     stripe: &Stripe<'_>,
     outcome: &Outcome,
-    read: u64,
 ) {
     let progress = stripes.progress;
     progress.note(outcome);
@@ -210,5 +191,5 @@ fn count(
         ),
         Work::Scrub(code) => (1, bytes_of(code, stripe)),
     };
-    progress.count(system, units, bytes, read);
+    progress.count(system, units, bytes, 0);
 }

@@ -1,4 +1,4 @@
-//! The line on a terminal that says how far a command is, also within a long file.
+//! The line on a terminal that says how far a command is; of files, also within a long one.
 use std::alloc::{AllocError, Global};
 use std::io::{self, IsTerminal};
 use std::sync::atomic::{AtomicU64, Ordering};

@@ -20,7 +20,7 @@ use store_reports::FileFault;
 /// file was killed, what replaces it is written as soon as all of that is there.
 pub fn read_file(
     rt: &HostRuntime,
-    file: &StoredFile<'_>,
+    file: &StoredFile<'_, '_>,
     output: Option<&str>,
 ) -> Result<(), FileFault> {
     let staged = staged_name(rt.alloc(), file.name)?;
@@ -35,14 +35,14 @@ pub fn read_file(
 }
 
 /// Holds a file of a store to its digest, and says what was left out.
-pub fn verify_file(rt: &HostRuntime, file: &StoredFile<'_>) -> Result<(), FileFault> {
+pub fn verify_file(rt: &HostRuntime, file: &StoredFile<'_, '_>) -> Result<(), FileFault> {
     read_fitting(rt, file, None)
 }
 
 // Finds fragments that give a file, and writes it to an output, if there is to be one.
 fn read_fitting(
     rt: &HostRuntime,
-    file: &StoredFile<'_>,
+    file: &StoredFile<'_, '_>,
     output: Option<Option<&str>>,
 ) -> Result<(), FileFault> {
     for described in descriptions_of(rt, file)? {

@@ -26,7 +26,7 @@ pub(crate) fn is_staged(name: &str) -> bool {
 /// Whether a stripe of a name that is to replace another one has been begun: its first fragments are made first and go last.
 pub(crate) fn is_begun(
     rt: &HostRuntime,
-    file: &StoredFile<'_>,
+    file: &StoredFile<'_, '_>,
     code: Code,
 ) -> Result<bool, FileFault> {
     has_some(rt, file, code, &[Place::X0, Place::X1])
@@ -35,7 +35,7 @@ pub(crate) fn is_begun(
 /// Whether there is anything under the name of a fragment of a stripe at one of some places.
 pub(crate) fn has_some(
     rt: &HostRuntime,
-    file: &StoredFile<'_>,
+    file: &StoredFile<'_, '_>,
     code: Code,
     places: &[Place],
 ) -> Result<bool, FileFault> {

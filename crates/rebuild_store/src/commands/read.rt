@@ -5,6 +5,44 @@ use store_reports::{DONE, FileFault};
 
 /// Writes a file to a file or to standard output, says what was left out, and gives the exit status.
 pub(crate) fn read(rt: &HostRuntime, options: &ReadOptions<'_>) -> Result<u8, FileFault> {
+    // Standard output may be the terminal on which the line would be.
+    if options.output.is_none() {
+        let file = StoredFile {
+            folder: options.folder,
+            pattern: options.naming.pattern,
+            name: options.name,
+            links: options.links,
+            progress: None,
+        };
+        read_file(rt, &file, None)?;
+        return Ok(DONE);
+    }
+    let task = Task::files("read", 1, length_of(rt, options)?, 2);
+    let progress = Progress::new(rt, task, options.quiet);
+    let done = read_shown(rt, options, &progress);
+    progress.clear(rt);
+    done?;
+    Ok(DONE)
+}
+
+// Writes a file to a file, and shows how far that is.
+fn read_shown(
+    rt: &HostRuntime,
+    options: &ReadOptions<'_>,
+    progress: &Progress,
+) -> Result<(), FileFault> {
+    let file = StoredFile {
+        folder: options.folder,
+        pattern: options.naming.pattern,
+        name: options.name,
+        links: options.links,
+        progress: Some(progress),
+    };
+    read_file(rt, &file, options.output)
+}
+
+// How long a file is, as far as a description says it.
+fn length_of(rt: &HostRuntime, options: &ReadOptions<'_>) -> Result<u64, FileFault> {
     let file = StoredFile {
         folder: options.folder,
         pattern: options.naming.pattern,
@@ -12,22 +50,8 @@ pub(crate) fn read(rt: &HostRuntime, options: &ReadOptions<'_>) -> Result<u8, Fi
         links: options.links,
         progress: None,
     };
-    // Standard output may be the terminal on which the line would be.
-    if options.output.is_none() {
-        read_file(rt, &file, None)?;
-        return Ok(DONE);
-    }
-    let bytes = match first_described(rt, &file)? {
+    Ok(match first_described(rt, &file)? {
         Some(described) => described.length,
         None => 0,
-    };
-    let progress = Progress::new(rt, Task::files("read", 1, bytes, 2), options.quiet);
-    let watched = StoredFile {
-        progress: Some(&progress),
-        ..file
-    };
-    let done = read_file(rt, &watched, options.output);
-    progress.clear(rt);
-    done?;
-    Ok(DONE)
+    })
 }

@@ -73,7 +73,7 @@ fn bytes_of(
 }
 
 // How long a file is, as far as a description says it.
-fn length_of(rt: &HostRuntime, file: &StoredFile<'_>) -> Result<u64, FileFault> {
+fn length_of(rt: &HostRuntime, file: &StoredFile<'_, '_>) -> Result<u64, FileFault> {
     Ok(match first_described(rt, file)? {
         Some(described) => described.length,
         None => 0,

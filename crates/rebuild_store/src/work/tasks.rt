@@ -27,7 +27,7 @@ pub(crate) fn repair_task(
         others: Some("given up"),
         units: fragments,
         bytes,
-        passes: passes_of(store),
+        passes: 1,
     })
 }
 
@@ -43,13 +43,8 @@ pub(crate) fn scrub_task(store: &OpenStore, stripes: &[Stripe<'_>]) -> Task {
         others: Some("lost"),
         units: stripes.len() as u64,
         bytes,
-        passes: passes_of(store),
+        passes: 1,
     }
-}
-
-// How often survivors are read: for their digests, where the store has these, and for the work.
-fn passes_of(store: &OpenStore) -> u64 {
-    if store.sums.is_some() { 2 } else { 1 }
 }
 
 /// How many bytes of a stripe a repair reads: with few reads nothing of one that lost nothing.

@@ -11,7 +11,7 @@ use store_reports::FileFault;
 /// A set of fragments that gives the file: all, or those that have the digests of the store's sums, or all but one or two.
 pub(crate) fn set_that_fits(
     rt: &HostRuntime,
-    sought: &Sought<'_>,
+    sought: &Sought<'_, '_>,
     fragments: &Fragments,
 ) -> Result<Option<PlaceSet>, FileFault>
     requires { vec_len fragments.now.opened ≡ 16 }
@@ -40,7 +40,7 @@ pub(crate) fn set_that_fits(
 // All fragments but one, if they give the file.
 fn without_one(
     rt: &HostRuntime,
-    sought: &Sought<'_>,
+    sought: &Sought<'_, '_>,
     fragments: &Fragments,
 ) -> Result<Option<PlaceSet>, FileFault>
     requires { vec_len fragments.now.opened ≡ 16 }
@@ -65,7 +65,7 @@ fn without_one(
 // All fragments but two, if they give the file.
 fn without_two(
     rt: &HostRuntime,
-    sought: &Sought<'_>,
+    sought: &Sought<'_, '_>,
     fragments: &Fragments,
 ) -> Result<Option<PlaceSet>, FileFault>
     requires { vec_len fragments.now.opened ≡ 16 }
@@ -99,7 +99,7 @@ fn without_two(
 // The fragments that have the digests of the store's sums, or that they don't name; all, where there are no sums.
 fn with_digests(
     rt: &HostRuntime,
-    sought: &Sought<'_>,
+    sought: &Sought<'_, '_>,
     fragments: &Fragments,
 ) -> Result<PlaceSet, FileFault> {
     let alloc = rt.alloc();

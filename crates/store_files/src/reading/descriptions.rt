@@ -13,7 +13,7 @@ use store_reports::{FileFault, device};
 /// What the copies of a file's description say, each once, first what most say.
 pub(crate) fn descriptions_of(
     rt: &HostRuntime,
-    file: &StoredFile<'_>,
+    file: &StoredFile<'_, '_>,
 ) -> Result<Vec<Described>, FileFault> {
     let alloc = rt.alloc();
     let name = file.name;
@@ -46,7 +46,7 @@ pub(crate) fn descriptions_of(
 }
 
 // That nothing describes a file: it isn't in the store, or its descriptions are lost.
-fn undescribed(rt: &HostRuntime, file: &StoredFile<'_>) -> Result<FileFault, FileFault> {
+fn undescribed(rt: &HostRuntime, file: &StoredFile<'_, '_>) -> Result<FileFault, FileFault> {
     let alloc = rt.alloc();
     let StoredFile { folder, name, .. } = *file;
     fs::metadata(rt, folder).map_err(|error| device(alloc, folder, error))?;
@@ -62,7 +62,7 @@ fn undescribed(rt: &HostRuntime, file: &StoredFile<'_>) -> Result<FileFault, Fil
 /// What the first copy of a file's description says that can be read.
 pub fn first_described(
     rt: &HostRuntime,
-    file: &StoredFile<'_>,
+    file: &StoredFile<'_, '_>,
 ) -> Result<Option<Described>, FileFault> {
     let alloc = rt.alloc();
     for copy in description_names(alloc, &file.pattern, Code::Wide, file.name)? {
@@ -95,7 +95,7 @@ fn in_order(alloc: Global, said: &[Described]) -> Result<Vec<Described>, FileFau
 // The description in a copy; none where there is none.
 fn description_at(
     rt: &HostRuntime,
-    file: &StoredFile<'_>,
+    file: &StoredFile<'_, '_>,
     copy: &str,
 ) -> Result<Option<Described>, FileFault> {
     let alloc = rt.alloc();

@@ -21,7 +21,7 @@ use store_reports::{FileFault, device};
 /// rights of that one; a device, a FIFO or what a link leads to is written as it is.
 pub(crate) fn write_at(
     rt: &HostRuntime,
-    sought: &Sought<'_>,
+    sought: &Sought<'_, '_>,
     fragments: &Fragments,
     set: PlaceSet,
     path: &str,
@@ -61,7 +61,7 @@ fn opened(rt: &HostRuntime, path: &str) -> io::Result<File> {
 }
 
 // Refuses a path in the store's own folder, which may have its digests, or in one that has fragments of it.
-fn refuse_in_store(rt: &HostRuntime, sought: &Sought<'_>, path: &str) -> Result<(), FileFault> {
+fn refuse_in_store(rt: &HostRuntime, sought: &Sought<'_, '_>, path: &str) -> Result<(), FileFault> {
     let alloc = rt.alloc();
     let Ok(folder) = fs::metadata(rt, folder_of(path)) else {
         return Ok(());
@@ -85,7 +85,7 @@ fn refuse_in_store(rt: &HostRuntime, sought: &Sought<'_>, path: &str) -> Result<
 // The file under a temporary name beside a path, with the owner and the rights of what is there.
 fn written(
     rt: &HostRuntime,
-    sought: &Sought<'_>,
+    sought: &Sought<'_, '_>,
     fragments: &Fragments,
     set: PlaceSet,
     path: &str,

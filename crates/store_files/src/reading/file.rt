@@ -8,7 +8,7 @@ use store_reports::{fragment_name, say};
 
 /// A file of a store.
 #[derive(Clone, Copy)]
-pub struct StoredFile<'a> {
+pub struct StoredFile<'a, 'p> {
     /// The path of the store's folder.
     pub folder: &'a str,
     pub pattern: Pattern<'a>,
@@ -16,10 +16,10 @@ pub struct StoredFile<'a> {
     pub name: &'a str,
     pub links: Links,
     /// Where it is counted how far it is read, if somebody sees that.
-    pub progress: Option<&'a Progress>,
+    pub progress: Option<&'p Progress>,
 }
 
-impl StoredFile<'_> {
+impl StoredFile<'_, '_> {
     /// Whether a stripe may have its name: it leads nowhere out of the store then.
     pub(crate) fn has_name(&self, alloc: Global) -> Result<bool, AllocError> {
         let name = self
@@ -39,16 +39,16 @@ impl StoredFile<'_> {
 
 /// A file of a store, as one of its descriptions has it.
 #[derive(Clone, Copy)]
-pub(crate) struct Sought<'a> {
-    pub(crate) file: StoredFile<'a>,
+pub(crate) struct Sought<'a, 'p> {
+    pub(crate) file: StoredFile<'a, 'p>,
     pub(crate) described: Described,
     /// How many bytes each fragment has.
     pub(crate) length: usize,
 }
 
-impl<'a> Sought<'a> {
+impl<'a, 'p> Sought<'a, 'p> {
     /// A file that is described so.
-    pub(crate) fn new(file: &StoredFile<'a>, described: Described) -> Sought<'a> {
+    pub(crate) fn new(file: &StoredFile<'a, 'p>, described: Described) -> Sought<'a, 'p> {
         Sought {
             file: *file,
             described,

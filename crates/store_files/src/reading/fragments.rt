@@ -28,7 +28,7 @@ pub(crate) enum Missing {
 /// Opens the fragments of a file.
 pub(crate) fn open_fragments(
     rt: &HostRuntime,
-    sought: &Sought<'_>,
+    sought: &Sought<'_, '_>,
     missing: Missing,
 ) -> Result<Fragments, FileFault>
     ensures { IfOk result (λ fragments. vec_len fragments.opened ≡ 16) }
@@ -54,7 +54,7 @@ pub(crate) fn open_fragments(
 // Opens a fragment; where that isn't possible, says so.
 fn open_at(
     rt: &HostRuntime,
-    sought: &Sought<'_>,
+    sought: &Sought<'_, '_>,
     place: Place,
     missing: Missing,
 ) -> Result<Option<FileFragment<SystemOpen>>, FileFault> {
@@ -79,7 +79,7 @@ fn open_at(
 // Opens the fragment of a name in the store.
 fn open_below(
     rt: &HostRuntime,
-    sought: &Sought<'_>,
+    sought: &Sought<'_, '_>,
     name: &str,
     path: &str,
 ) -> io::Result<FileFragment<SystemOpen>> {
@@ -90,7 +90,7 @@ fn open_below(
 /// Whether some of the fragments give the file that is described.
 pub(crate) fn gives_file(
     rt: &HostRuntime,
-    sought: &Sought<'_>,
+    sought: &Sought<'_, '_>,
     fragments: &Fragments,
     set: PlaceSet,
 ) -> Result<bool, FileFault>
@@ -112,7 +112,7 @@ pub(crate) fn gives_file(
 
 /// Some of the fragments, as survivors.
 pub(crate) fn survivors_of<'f>(
-    sought: &Sought<'_>,
+    sought: &Sought<'_, '_>,
     fragments: &'f Fragments,
     set: PlaceSet,
 ) -> Survivors<'f, FileFragment<SystemOpen>>

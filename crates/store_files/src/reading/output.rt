@@ -42,7 +42,7 @@ impl NewFragment for Output<'_> {
 /// Writes the file to standard output.
 pub(crate) fn write_out(
     rt: &HostRuntime,
-    sought: &Sought<'_>,
+    sought: &Sought<'_, '_>,
     fragments: &Fragments,
     set: PlaceSet,
 ) -> Result<(), FileFault>
@@ -58,7 +58,7 @@ pub(crate) fn write_out(
 /// Writes the file to what is open at a path.
 pub(crate) fn write_into(
     rt: &HostRuntime,
-    sought: &Sought<'_>,
+    sought: &Sought<'_, '_>,
     fragments: &Fragments,
     set: PlaceSet,
     file: File,
@@ -74,7 +74,7 @@ pub(crate) fn write_into(
 // Writes the file to what has this name.
 fn write_to(
     rt: &HostRuntime,
-    sought: &Sought<'_>,
+    sought: &Sought<'_, '_>,
     fragments: &Fragments,
     set: PlaceSet,
     sink: Sink<'_>,
@@ -101,7 +101,7 @@ fn write_to(
 }
 
 // Why the file couldn't be read, or not be written to what has this name.
-fn unread(alloc: Global, sought: &Sought<'_>, name: &str, fault: MendFault) -> FileFault {
+fn unread(alloc: Global, sought: &Sought<'_, '_>, name: &str, fault: MendFault) -> FileFault {
     match fault {
         MendFault::Unwritten { error, .. } => device(alloc, name, error),
         MendFault::Unread { error, .. } => device(alloc, sought.file.name, error),
@@ -112,7 +112,7 @@ fn unread(alloc: Global, sought: &Sought<'_>, name: &str, fault: MendFault) -> F
 // Ends the output, which is the file that is described unless a fragment has changed since it was tested.
 fn ended(
     alloc: Global,
-    sought: &Sought<'_>,
+    sought: &Sought<'_, '_>,
     output: Output<'_>,
     name: &str,
 ) -> Result<(), FileFault> {
@@ -140,7 +140,7 @@ fn flushed(sink: Sink<'_>) -> io::Result<()> {
 }
 
 /// That a fragment has changed since the fragments were found to give the file.
-pub(crate) fn changed_meanwhile(alloc: Global, sought: &Sought<'_>) -> FileFault {
+pub(crate) fn changed_meanwhile(alloc: Global, sought: &Sought<'_, '_>) -> FileFault {
     let error = io::Error::other("a fragment changed meanwhile: what was written isn't the file");
     device(alloc, sought.file.name, error)
 }
