@@ -45,40 +45,49 @@ returns-clause-unchecked g c = λ off.
     (untouched_unless r c.in-Some-made.made.is_checked s (files c.make_lost.new.store) new off c.put_all.ensures.untouched)
 
 pub returns-in_err-known-clause-kept : goal.returns-in_err-known-clause-kept
-returns-in_err-known-clause-kept g c = λ off. none_given g.S.Store.kept g.S.Store.kept_same g.S.Store.settled g.met.S.Store.settled_stays _ _ _ _ _
+returns-in_err-known-clause-kept g c = λ off.
+    none_given g.S.Store.kept g.S.Store.kept_same g.S.Store.settled g.met.S.Store.settled_stays _ _ _ _ _
     (λ given from before. before)
 
 pub returns-in_default-clause-kept : goal.returns-in_default-clause-kept
-returns-in_default-clause-kept g c = λ off. none_given g.S.Store.kept g.S.Store.kept_same g.S.Store.settled g.met.S.Store.settled_stays _ _ _ _ _
+returns-in_default-clause-kept g c = λ off.
+    none_given g.S.Store.kept g.S.Store.kept_same g.S.Store.settled g.met.S.Store.settled_stays _ _ _ _ _
     (λ given from before. before)
 
 pub returns-in_err-made-clause-kept : goal.returns-in_err-made-clause-kept
-returns-in_err-made-clause-kept g c = λ off. none_given g.S.Store.kept g.S.Store.kept_same g.S.Store.settled g.met.S.Store.settled_stays _ _ _ _ _
+returns-in_err-made-clause-kept g c = λ off.
+    none_given g.S.Store.kept g.S.Store.kept_same g.S.Store.settled g.met.S.Store.settled_stays _ _ _ _ _
     c.make_lost.ensures.kept
 
 pub returns-in_err-note_unknown-clause-kept : goal.returns-in_err-note_unknown-clause-kept
-returns-in_err-note_unknown-clause-kept g c = λ off. none_given g.S.Store.kept g.S.Store.kept_same g.S.Store.settled g.met.S.Store.settled_stays _ _ _ _ _
+returns-in_err-note_unknown-clause-kept g c = λ off.
+    none_given g.S.Store.kept g.S.Store.kept_same g.S.Store.settled g.met.S.Store.settled_stays _ _ _ _ _
     c.make_lost.ensures.kept
 
 pub returns-in_err-settle-clause-kept : goal.returns-in_err-settle-clause-kept
-returns-in_err-settle-clause-kept g c = λ off. none_given g.S.Store.kept g.S.Store.kept_same g.S.Store.settled g.met.S.Store.settled_stays _ _ _ _ _
+returns-in_err-settle-clause-kept g c = λ off.
+    none_given g.S.Store.kept g.S.Store.kept_same g.S.Store.settled g.met.S.Store.settled_stays _ _ _ _ _
     (λ given from before. c.settle.ensures.kept _ given from (c.make_lost.ensures.kept given from before))
 
 pub returns-in_default-made-clause-kept : goal.returns-in_default-made-clause-kept
-returns-in_default-made-clause-kept g c = λ off. none_given g.S.Store.kept g.S.Store.kept_same g.S.Store.settled g.met.S.Store.settled_stays _ _ _ _ _
+returns-in_default-made-clause-kept g c = λ off.
+    none_given g.S.Store.kept g.S.Store.kept_same g.S.Store.settled g.met.S.Store.settled_stays _ _ _ _ _
     (λ given from before. c.settle.ensures.kept _ given from (c.make_lost.ensures.kept given from before))
 
 pub returns-in_err-discard_all-clause-kept : goal.returns-in_err-discard_all-clause-kept
-returns-in_err-discard_all-clause-kept g c = λ off. none_given g.S.Store.kept g.S.Store.kept_same g.S.Store.settled g.met.S.Store.settled_stays _ _ _ _ _
+returns-in_err-discard_all-clause-kept g c = λ off.
+    none_given g.S.Store.kept g.S.Store.kept_same g.S.Store.settled g.met.S.Store.settled_stays _ _ _ _ _
     (λ given from before. c.discard_all.ensures.kept _ given from (c.make_lost.ensures.kept given from before))
 
 pub returns-in_err-settle-2-clause-kept : goal.returns-in_err-settle-2-clause-kept
-returns-in_err-settle-2-clause-kept g c = λ off. none_given g.S.Store.kept g.S.Store.kept_same g.S.Store.settled g.met.S.Store.settled_stays _ _ _ _ _
+returns-in_err-settle-2-clause-kept g c = λ off.
+    none_given g.S.Store.kept g.S.Store.kept_same g.S.Store.settled g.met.S.Store.settled_stays _ _ _ _ _
     (λ given from before. c.settle-then-has_changed.ensures.kept _ given from (c.discard_all.ensures.kept _ given from
     (c.make_lost.ensures.kept given from before)))
 
 pub returns-then-has_changed-clause-kept : goal.returns-then-has_changed-clause-kept
-returns-then-has_changed-clause-kept g c = λ off. none_given g.S.Store.kept g.S.Store.kept_same g.S.Store.settled g.met.S.Store.settled_stays _ _ _ _ _
+returns-then-has_changed-clause-kept g c = λ off.
+    none_given g.S.Store.kept g.S.Store.kept_same g.S.Store.settled g.met.S.Store.settled_stays _ _ _ _ _
     (λ given from before. c.settle-then-has_changed.ensures.kept _ given from (c.discard_all.ensures.kept _ given from
     (c.make_lost.ensures.kept given from before)))
 
@@ -89,7 +98,8 @@ returns-in_err-rebuilt-clause-kept g c = λ off.
     let stripe = c.args.stripe.now.name.now in
     let old = g.S.Store.files c.args.store.now in
     let shown = g.S.New.NewFragment.shown in
-    some_given g.S.Store.kept g.S.Store.kept_same g.S.Store.settled g.met.S.Store.settled_stays code stripe old c.args.store.now c.put_all.new.store shown (is_in made.set)
+    some_given g.S.Store.kept g.S.Store.kept_same g.S.Store.settled g.met.S.Store.settled_stays
+    code stripe old c.args.store.now c.put_all.new.store shown (is_in made.set)
     c.in-Some.length made.places.items made.files.items c.make_lost.new.store
     (subst (λ o. IfSome o (λ m. AreMade shown code (is_in m.set) c.in-Some.length stripe old m.places.items m.files.items))
     c.in-Some-made.is c.in_ok-made.ensures.made)
@@ -102,7 +112,8 @@ returns-in_err-append-clause-kept g c = λ off.
     let stripe = c.args.stripe.now.name.now in
     let old = g.S.Store.files c.args.store.now in
     let shown = g.S.New.NewFragment.shown in
-    some_given g.S.Store.kept g.S.Store.kept_same g.S.Store.settled g.met.S.Store.settled_stays code stripe old c.args.store.now c.put_all.new.store shown (is_in made.set)
+    some_given g.S.Store.kept g.S.Store.kept_same g.S.Store.settled g.met.S.Store.settled_stays
+    code stripe old c.args.store.now c.put_all.new.store shown (is_in made.set)
     c.in-Some.length made.places.items made.files.items c.make_lost.new.store
     (subst (λ o. IfSome o (λ m. AreMade shown code (is_in m.set) c.in-Some.length stripe old m.places.items m.files.items))
     c.in-Some-made.is c.in_ok-made.ensures.made)
@@ -115,7 +126,8 @@ returns-clause-kept g c = λ off.
     let stripe = c.args.stripe.now.name.now in
     let old = g.S.Store.files c.args.store.now in
     let shown = g.S.New.NewFragment.shown in
-    some_given g.S.Store.kept g.S.Store.kept_same g.S.Store.settled g.met.S.Store.settled_stays code stripe old c.args.store.now c.put_all.new.store shown (is_in made.set)
+    some_given g.S.Store.kept g.S.Store.kept_same g.S.Store.settled g.met.S.Store.settled_stays
+    code stripe old c.args.store.now c.put_all.new.store shown (is_in made.set)
     c.in-Some.length made.places.items made.files.items c.make_lost.new.store
     (subst (λ o. IfSome o (λ m. AreMade shown code (is_in m.set) c.in-Some.length stripe old m.places.items m.files.items))
     c.in-Some-made.is c.in_ok-made.ensures.made)
