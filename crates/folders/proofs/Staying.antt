@@ -6,6 +6,7 @@ use Rattle.folders.specs.Files.{Files, IsIn}
 use Rattle.folders.specs.Worlds.{World, IsLawful, IsStep, MayChange, is_closed}
 use Rattle.folders.specs.Kept.{TakesNone, TakeNone}
 use Rattle.folders.specs.Disk.{IsWhole, HasWhole, IsHeld, IsOnDisk}
+use Rattle.folders.specs.Placed.{WasRefused}
 use Rattle.folders.proofs.Steps.{new_seen, other_file, stays_closed}
 use Rattle.folders.proofs.Links.{same_or_other}
 use Rattle.folders.proofs.Runs.{lawful_front}
@@ -81,6 +82,20 @@ module _ (temporary : List ℕ → Type 0) (path bytes : List ℕ) (lasting : te
       → IsOnDisk path bytes new
   on_disk_over more old new are takes held = subst (IsOnDisk path bytes) (sym are) (λ w lawful ours.
       held_over temporary w path ours lasting more old bytes takes lawful (held w (lawful_front w more old lawful) ours))
+
+-- a path that was refused was so after further calls
+refused_since : (path : List ℕ) (more old : List Answered) → WasRefused path old → WasRefused path (more ++ old)
+refused_since path [] old was = was
+refused_since path ((make to, ok) ∷ more) old was = refused_since path more old was
+refused_since path ((sync file written, ok) ∷ more) old was = refused_since path more old was
+refused_since path ((link file to, ok) ∷ more) old was = inr (refused_since path more old was)
+refused_since path ((link_again from to, ok) ∷ more) old was = refused_since path more old was
+refused_since path ((rename file from to, ok) ∷ more) old was = refused_since path more old was
+refused_since path ((remove to, ok) ∷ more) old was = refused_since path more old was
+refused_since path ((sync_folder to, ok) ∷ more) old was = refused_since path more old was
+
+pub refused_over : (path : List ℕ) (more old new : List Answered) → new ≡ more ++ old → WasRefused path old → WasRefused path new
+refused_over path more old new are was = subst (WasRefused path) (sym are) (refused_since path more old was)
 
 -- the names in the path's folder were written to the disk
 pub settled : (folder path bytes : List ℕ) (calls : List Answered) → IsIn folder path → HasWhole path bytes calls

@@ -7,18 +7,20 @@ use Rattle.std.proofs.lemmas.Bool.{cases_Bool}
 use Rattle.std.proofs.lemmas.Slice.Eq.{bytes_eq-Decides}
 use Rattle.std.proofs.Common.{Option, Some, None, IfSome, IfOk, MatchResult, Ok, Err}
 use Rattle.std.specs.declared.result.Result.{Result}
-use Rattle.folders.specs.Calls.{Answered, make, sync, link, link_again, rename, remove, sync_folder}
+use Rattle.folders.specs.Calls.{Answered, sync_folder}
 use Rattle.folders.specs.Placed.{HasPath, WasRefused}
 use Rattle.folders.specs.Files.{IsIn}
 use Rattle.folders.specs.Disk.{HasWhole, IsOnDisk}
 use Rattle.folders.specs.Kept.{Keeps}
-use Rattle.folders.proofs.Staying.{has_whole_over, on_disk_over, settled}
-use Rattle.store_folder.specs.Done.{HasFolderOf, IsDue}
+use Rattle.folders.proofs.Staying.{has_whole_over, on_disk_over, refused_over, settled}
+use Rattle.std.specs.Prelude.{IsSome, IsSomeAnd}
+use Rattle.lrc_code.specs.declared.places.Place.{Place}
+use Rattle.store_folder.specs.declared.site.Site.{Site}
+use Rattle.store_folder.specs.Done.{HasFolderOf, HaveFoldersOf, IsDue, IsNamed, IsSettled}
 use Rattle.store_folder.specs.Kept.{IsTemporary, KeepsEach}
+use Rattle.store_folder.specs.Stays.{lasts}
 use Rattle.store_folder.specs.Temporary.{is_temporary}
-
-pub lasts : (path : List ℕ) → is_temporary path ≡ false → IsTemporary path → ⊥
-lasts path lasting is = let both : true ≡ false = sym is ∙ lasting in cc
+use Rattle.store_repair.specs.Kept.{StaysOver}
 
 -- the last of the folders, or another
 has_last : (path : List ℕ) (front : List (String Global)) (last : String Global) → HasFolderOf path (front ++ last ∷ [])
@@ -95,21 +97,6 @@ pub if_ok : {T E : Type 0} (r : Result T E) (P Q : T → Type 0) → IfOk r P �
 if_ok (Ok x) P Q holds leads = leads x holds
 if_ok (Err e) P Q holds leads = tt
 
--- a path that was refused was so after further calls
-refused_since : (path : List ℕ) (more old : List Answered) → WasRefused path old → WasRefused path (more ++ old)
-refused_since path [] old was = was
-refused_since path ((make to, ok) ∷ more) old was = refused_since path more old was
-refused_since path ((sync file written, ok) ∷ more) old was = refused_since path more old was
-refused_since path ((link file to, ok) ∷ more) old was = inr (refused_since path more old was)
-refused_since path ((link_again from to, ok) ∷ more) old was = refused_since path more old was
-refused_since path ((rename file from to, ok) ∷ more) old was = refused_since path more old was
-refused_since path ((remove to, ok) ∷ more) old was = refused_since path more old was
-refused_since path ((sync_folder to, ok) ∷ more) old was = refused_since path more old was
-
-pub refused_over : (path : List ℕ) (given : List ℕ → List ℕ → Type 0) (old new : List Answered) → Keeps IsTemporary given old new
-    → WasRefused path old → WasRefused path new
-refused_over path given old new keeps was = subst (WasRefused path) (sym keeps.are) (refused_since path keeps.more old was)
-
 -- a file that was to get a path, and then calls that take nothing away
 pub linked : {E : Type 0} (path : List ℕ) (written : Option (List ℕ)) (answer : Result (Unit {0}) E) (first old new : List Answered)
     (folders : List (String Global)) → MatchResult answer (λ _. HasPath path written first) (λ _. WasRefused path first) → old ≡ first
@@ -119,4 +106,58 @@ linked path None (Ok x) first old new folders given same has keeps lasting = inr
 linked path (Some bytes) (Ok x) first old new folders given same has keeps lasting = inr (due_over (λ p b. ⊥) path bytes folders folders
     old new lasting (λ h. h) keeps (inr (subst (HasWhole path bytes) (sym same) given, has)))
 linked path written (Err e) first old new folders given same has keeps lasting =
-    inl (refused_over path (λ p b. ⊥) old new keeps (subst (WasRefused path) (sym same) given))
+    inl (refused_over path keeps.more old new keeps.are (subst (WasRefused path) (sym same) given))
+
+-- bytes that are there
+pub some_due : (Refused : Type 0) (written : Option (List ℕ)) (P : List ℕ → Type 0) → IsSome written → Refused ⊎ IfSome written P
+    → Refused ⊎ IsSomeAnd written P
+some_due Refused None P some due = absurd (cc)
+some_due Refused (Some bytes) P some (inl was) = inl was
+some_due Refused (Some bytes) P some (inr is) = inr is
+
+-- ---- what a store says of fragments that got their names
+
+module _ (path : List ℕ) (lasting : is_temporary path ≡ false) (folders : List (String Global)) (old new : List Answered) where
+  due_later : (given : List ℕ → List ℕ → Type 0) (more : List (String Global)) (written : Option (List ℕ))
+      → HaveFoldersOf folders more → Keeps IsTemporary given old new → WasRefused path old ⊎ IsSomeAnd written (IsDue folders old path)
+      → WasRefused path new ⊎ IsSomeAnd written (IsDue more new path)
+  due_later given more written had keeps (inl was) = inl (refused_over path keeps.more old new keeps.are was)
+  due_later given more None had keeps (inr none) = absurd none
+  due_later given more (Some bytes) had keeps (inr due) =
+      inr (due_over given path bytes folders more old new lasting (had path) keeps due)
+
+  due_done : (written : Option (List ℕ)) → KeepsEach old new → ((bytes : List ℕ) → IsDue folders old path bytes → IsOnDisk path bytes new)
+      → WasRefused path old ⊎ IsSomeAnd written (IsDue folders old path)
+      → WasRefused path new ⊎ IsSomeAnd written (λ bytes. IsOnDisk path bytes new)
+  due_done written keeps done (inl was) = inl (refused_over path keeps.more old new keeps.are was)
+  due_done None keeps done (inr none) = absurd none
+  due_done (Some bytes) keeps done (inr due) = inr (done bytes due)
+
+module _ (old_site new_site : Site) (same : new_site ≡ old_site) (folders : List (String Global)) (old new : List Answered) where
+  -- over calls that take nothing away
+  pub named_over : (given : List ℕ → List ℕ → Type 0) (more : List (String Global)) → HaveFoldersOf folders more
+      → Keeps IsTemporary given old new
+      → StaysOver (λ stripe place written. IsNamed old_site stripe place written folders old)
+      (λ stripe place written. IsNamed new_site stripe place written more new)
+  named_over given more had keeps stripe place written named =
+      subst (λ site. IsNamed site stripe place written more new) (sym same) (record {
+        path = named.path;
+        here = named.here;
+        lasting = named.lasting;
+        due = due_later named.path named.lasting folders old new given more written had keeps named.due;
+        listed = named.listed;
+      })
+
+  -- names were written to the disk
+  pub named_settled : KeepsEach old new
+      → ((path bytes : List ℕ) → is_temporary path ≡ false → IsDue folders old path bytes → IsOnDisk path bytes new)
+      → StaysOver (λ stripe place written. IsNamed old_site stripe place written folders old)
+      (λ stripe place written. IsSettled new_site stripe place written new)
+  named_settled keeps done stripe place written named =
+      subst (λ site. IsSettled site stripe place written new) (sym same) (record {
+        path = named.path;
+        here = named.here;
+        lasting = named.lasting;
+        done = due_done named.path named.lasting folders old new written keeps (λ bytes. done named.path bytes named.lasting) named.due;
+        listed = named.listed;
+      })

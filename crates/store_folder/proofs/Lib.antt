@@ -1,3 +1,4 @@
+pub mod Digests
 pub mod Done
 pub mod Kept
 pub mod Temporary

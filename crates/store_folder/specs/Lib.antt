@@ -1,3 +1,5 @@
+pub mod Digests
 pub mod Done
 pub mod Kept
+pub mod Stays
 pub mod Temporary

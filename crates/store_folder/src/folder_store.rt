@@ -3,8 +3,10 @@ ghost use Rattle.std.specs.Prelude.{◌≡◌, ◌⊎◌, [], true, false, ℕ, 
 ghost use Rattle.folders.specs.Disk.{IsOnDisk};
 ghost use Rattle.folders.specs.Files.{IsIn};
 ghost use Rattle.folders.specs.Placed.{WasRefused};
-ghost use Rattle.store_folder.specs.Done.{HasFolderOf, HaveFoldersOf, IsDue, IsNamed};
+ghost use Rattle.store_folder.specs.Digests.{IsAsListed};
+ghost use Rattle.store_folder.specs.Done.{HasFolderOf, HaveFoldersOf, IsDue, IsNamed, IsSettled};
 ghost use Rattle.store_folder.specs.Kept.{GivesIn, GivesOne, IsKeptIn, IsPathOf, KeepsEach, none_kept};
+ghost use Rattle.store_folder.specs.Stays.{settled_over};
 ghost use Rattle.store_folder.specs.Temporary.{is_temporary};
 ghost use Rattle.store_repair.specs.Store.{never};
 
@@ -72,26 +74,11 @@ impl<'a, F: Folder> FolderStore<'a, F> {
         Ok(path_in(self.rt.alloc(), folder, name.as_str())?)
     }
 
-    // The digest that a fragment has to have, if the store's checksums say one.
-    fn sum_of(&self, stripe: &str, place: Place) -> Result<Option<Digest>, AllocError> {
-        let Some(sums) = self.site.sums else {
-            return Ok(None);
-        };
-        let site = &self.site;
-        let name = site
-            .pattern
-            .name_of(self.rt.alloc(), site.code, stripe, place)?;
-        Ok(match name {
-            Some(name) => sums.digest_of(name.as_str()).copied(),
-            None => None,
-        })
-    }
-
     // The digests that a stripe's fragments have to have, by their places' indexes.
     fn sums_of(&self, alloc: Global, stripe: &str) -> Result<Vec<Option<Digest>>, AllocError> {
         let mut sums = Vec::with_capacity(alloc, Place::ALL.len())?;
         for place in &Place::ALL {
-            sums.push(self.sum_of(stripe, *place)?)?;
+            sums.push(self.site.sum_of(alloc, stripe, *place)?)?;
         }
         Ok(sums)
     }
@@ -121,10 +108,16 @@ impl<'a, F: Folder> FolderStore<'a, F> {
         ensures whenever { KeepsEach (F.calls self.old.files) (F.calls self.new.files) }
         ensures empty { IfOk result (λ new. F.New.written new.unfinished.file ≡ Some []) }
     {
-        let sum = self.sum_of(stripe, place)?;
+        let sum = self.site.sum_of(self.rt.alloc(), stripe, place)?;
         let path = self.new_path(stripe, place)?;
         let tag = self.site.tag;
-        create_file(self.rt, &mut self.files, folder_of(path.as_str()), tag, sum)
+        create_file(
+            self.rt,
+            &mut self.files,
+            folder_of(path.as_str()),
+            tag,
+            sum.is_some(),
+        )
     }
 
     // The path that a new fragment is to have.
@@ -213,10 +206,13 @@ impl<'a, F: Folder> FolderStore<'a, F> {
         place: Place,
     ) -> io::Result<String>
         ensures same { file.new.unfinished ≡ file.old.unfinished }
+        ensures whole { IfOk result (λ _. IsSome (F.New.written file.new.unfinished.file)) }
+        ensures listed { IfOk result (λ _. IsAsListed self.now.site stripe.now place (F.New.written file.new.unfinished.file)) }
         ensures path { IfOk result (λ path. IsPathOf self.now.site stripe.now place (string_bytes path)) }
         ensures lasting { IfOk result (λ path. is_temporary (string_bytes path) ≡ false) }
     {
-        file.refuse_part()?;
+        let sum = self.site.sum_of(self.rt.alloc(), stripe, place)?;
+        file.refuse_part(sum)?;
         if let Some(rights) = self.rights_of(stripe)? {
             take_after(&file.unfinished.file, &rights)?;
         }
@@ -331,7 +327,14 @@ impl<F: Folder> Store for FolderStore<'_, F> {
 
     ghost kept_same = { λ stripe given s. none_kept stripe given s.site (F.calls s.files) };
 
+    ghost got_name = { λ s stripe place written. IsNamed s.site stripe place written s.touched.folders.items (F.calls s.files) };
+
+    ghost settled = { λ s stripe place written. IsSettled s.site stripe place written (F.calls s.files) };
+
     ghost new_shown = { λ s f h. never h };
+
+    ghost settled_stays = { λ stripe given old new kept. settled_over stripe given old.site new.site (F.calls old.files)
+        (F.calls new.files) kept };
 
     fn open(&self, stripe: &str, place: Place, length: usize) -> io::Result<FileFragment<F::Open>> {
         let path = self.path_of(self.site.folder, stripe, place)?;

@@ -1,7 +1,9 @@
 //! A store in a folder in which each new fragment fails by itself: one that can't be made or written is refused when it is to get its name,
 //! so that the others of its stripe get theirs.
 ghost use Rattle.std.specs.Prelude.{◌≡◌, IfSome};
+ghost use Rattle.store_folder.specs.Done.{IsNamed, IsSettled};
 ghost use Rattle.store_folder.specs.Kept.{IsKeptIn, KeepsEach, none_kept};
+ghost use Rattle.store_folder.specs.Stays.{settled_over};
 ghost use Rattle.std.proofs.Props.{props};
 ghost use Rattle.store_repair.specs.Store.{never};
 
@@ -81,6 +83,7 @@ impl<F: Folder> SeparateStore<'_, F> {
     // Discards what there is of a file that met a fault, and gives this.
     fn given_up(&mut self, faulty: Option<Faulty<F::New>>) -> io::Error
         ensures site { self.new.store.site ≡ self.old.store.site }
+        ensures touched { self.new.store.touched ≡ self.old.store.touched }
         ensures whenever { KeepsEach (F.calls self.old.store.files) (F.calls self.new.store.files) }
     {
         let Some(Faulty { error, file }) = faulty else {
@@ -103,7 +106,15 @@ impl<F: Folder> Store for SeparateStore<'_, F> {
 
     ghost kept_same = { λ stripe given s. none_kept stripe given s.store.site (F.calls s.store.files) };
 
+    ghost got_name = { λ s stripe place written. IsNamed s.store.site stripe place written s.store.touched.folders.items
+        (F.calls s.store.files) };
+
+    ghost settled = { λ s stripe place written. IsSettled s.store.site stripe place written (F.calls s.store.files) };
+
     ghost new_shown = { λ s f h. never h };
+
+    ghost settled_stays = { λ stripe given old new kept. settled_over stripe given old.store.site new.store.site (F.calls old.store.files)
+        (F.calls new.store.files) kept };
 
     fn open(&self, stripe: &str, place: Place, length: usize) -> io::Result<FileFragment<F::Open>> {
         self.store.open(stripe, place, length)

@@ -1,10 +1,12 @@
 //! Where a store is.
 ghost use Rattle.std.specs.Prelude.{IfOk, string_bytes};
 ghost use Rattle.store_names.specs.Names.{IsNameOf};
+ghost use Rattle.store_folder.specs.Digests.{IsSumOf};
 
+use crate::digesting::Digest;
 use crate::links::Links;
 use lrc_code::{Code, Place};
-use std::alloc::Global;
+use std::alloc::{AllocError, Global};
 use std::io::{self, ErrorKind};
 use store_names::Pattern;
 use store_records::Sums;
@@ -32,6 +34,24 @@ impl Site<'_> {
         match self.pattern.name_of(alloc, self.code, stripe, place)? {
             Some(name) => Ok(name),
             None => Err(io::Error::from(ErrorKind::InvalidInput)),
+        }
+    }
+
+    /// The digest that a stripe's fragment at a place has to have, if the store's sums say one.
+    pub(crate) fn sum_of(
+        &self,
+        alloc: Global,
+        stripe: &str,
+        place: Place,
+    ) -> Result<Option<Digest>, AllocError>
+        ensures { IfOk result (IsSumOf self.now stripe.now place) }
+    {
+        let Some(sums) = self.sums else {
+            return Ok(None);
+        };
+        match self.pattern.name_of(alloc, self.code, stripe, place)? {
+            Some(name) => Ok(sums.digest_of(name.as_str()).copied()),
+            None => Ok(None),
         }
     }
 }

@@ -1,5 +1,5 @@
 //! Files that aren't whole yet: their names, what a run that was killed has left of them, and the locks of parts.
-ghost use Rattle.std.specs.Prelude.{◌≡◌, ◌++◌, [], true, IfOk, IfSome, IsSome, OnOk, Some, option_map, string_bytes};
+ghost use Rattle.std.specs.Prelude.{◌≡◌, ◌++◌, [], true, IfOk, IfSome, IsSome, None, OnErr, OnOk, Some, option_map, string_bytes};
 ghost use Rattle.store_folder.specs.Temporary.{is_temporary};
 ghost use Rattle.store_folder.specs.Kept.{KeepsEach};
 
@@ -33,7 +33,8 @@ pub struct Unfinished<N: NewFile> {
 impl<N: NewFile> Unfinished<N> {
     /// Writes bytes at its end.
     pub(crate) fn append(&mut self, bytes: &[u8]) -> io::Result<()>
-        ensures { OnOk result (N.written self.new.file ≡ option_map (λ before. before ++ bytes.now) (N.written self.old.file)) }
+        ensures ok { OnOk result (N.written self.new.file ≡ option_map (λ before. before ++ bytes.now) (N.written self.old.file)) }
+        ensures err { OnErr result (N.written self.new.file ≡ None) }
     {
         let appended = self.file.append(bytes);
         self.is_whole = self.is_whole && appended.is_ok();

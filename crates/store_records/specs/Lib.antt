@@ -1,1 +1,2 @@
 pub mod Descriptions
+pub mod Sums

@@ -1,5 +1,9 @@
 //! Sums: the SHA-256 digests of files, listed by names as `sha256sum` writes them. Lines end in a line feed, also after a carriage return.
 //! Empty lines and those that begin with `#` say nothing.
+ghost use Rattle.std.specs.Prelude.{◌≡◌, ℕ, List, None, OnOk, Some, if◌then◌else◌, is_some, option_copied};
+ghost use Rattle.std.specs.Str.{bytes_eq};
+ghost use Rattle.store_records.specs.Sums.{digest_in};
+
 use crate::digits::digits_of;
 use hex::FromHex;
 use std::alloc::{AllocError, AllocFailed, Global};
@@ -50,14 +54,18 @@ struct Sum {
 
 impl Sums {
     /// No sums.
-    pub fn new(alloc: Global) -> Sums {
+    pub fn new(alloc: Global) -> Sums
+        ensures { (name : List ℕ) → digest_in result name ≡ None }
+    {
         Sums {
             digests: BTreeMap::new(alloc),
         }
     }
 
     /// The digest of the file of a name, where there is one.
-    pub fn digest_of(&self, name: &str) -> Option<&[u8; 32]> {
+    pub fn digest_of(&self, name: &str) -> Option<&[u8; 32]>
+        ensures { option_copied result ≡ digest_in self.now name.now }
+    {
         self.digests.get(name.as_bytes())
     }
 
@@ -73,14 +81,21 @@ impl Sums {
     }
 
     /// Sets the digest of the file of a name.
-    pub fn set(&mut self, alloc: Global, name: &str, digest: [u8; 32]) -> Result<(), AllocError> {
+    pub fn set(&mut self, alloc: Global, name: &str, digest: [u8; 32]) -> Result<(), AllocError>
+        ensures { OnOk result ((other : List ℕ) → digest_in self.new other
+            ≡ (if bytes_eq name.now other then Some digest else digest_in self.old other)) }
+    {
         self.digests
             .insert(Vec::from_slice(alloc, name.as_bytes())?, digest)?;
         Ok(())
     }
 
     /// Takes the digest of the file of a name out, and says whether there was one.
-    pub fn remove(&mut self, name: &str) -> bool {
+    pub fn remove(&mut self, name: &str) -> bool
+        ensures had { result ≡ is_some (digest_in self.old name.now) }
+        ensures others { (other : List ℕ) → digest_in self.new other
+            ≡ (if bytes_eq name.now other then None else digest_in self.old other) }
+    {
         self.digests.remove(name.as_bytes()).is_some()
     }
 

@@ -1,15 +1,20 @@
 -- Fragments that are given to places of a stripe.
-use Rattle.std.proofs.Common.{◌≡◌, ◌∙◌, ◌<◌, ℕ, zero, suc, List, [], ◌∷◌, Bool, true, false, cond, refl, sym, ap, subst, arith, inl}
-use Rattle.std.proofs.Common.{inr, get_or, length, Option, Some, None, IfSome}
-use Rattle.std.specs.Prelude.{◌&&◌}
+use Rattle.std.proofs.Common.{◌≡◌, ◌∙◌, ◌<◌, ℕ, zero, suc, List, [], ◌∷◌, ◌++◌, Bool, true, false, cond, refl, sym, ap, subst, arith}
+use Rattle.std.proofs.Common.{inl, inr, get_or, length, All, Option, Some, None, IfSome, Result, Ok, Err}
+use Rattle.std.specs.Prelude.{◌&&◌, IfOk}
+use Rattle.std.specs.declared.io.Error.{Error}
 use Rattle.std.proofs.lemmas.Bool.{cases_Bool}
+use Rattle.std.proofs.lemmas.List.Elements.{All-push}
 use Rattle.lrc_code.specs.declared.places.Place.{Place}
 use Rattle.lrc_code.specs.declared.codes.Code.{Code as CodeName}
 use Rattle.lrc_code.specs.Places.{same_place}
 use Rattle.lrc_code.proofs.PlaceSums.{same_place-eq, same_place-refl}
-use Rattle.store_repair.specs.Kept.{FitOnly, Given, IsRepaired, given_by, nothing}
+use Rattle.store_repair.specs.Kept.{AreDone, FitOnly, Given, IsRepaired, StaysOver, given_by, nothing}
 use Rattle.store_repair.specs.Opened.{AreApart, AreMade, AreOnlyOnes, IsOnlyOne}
+use Rattle.store_repair.specs.Repaired.{IsPlaced}
 use Rattle.store_repair.specs.Store.{Files, ShownFiles}
+use Rattle.store_repair.specs.declared.store.Placed.{Placed as PlacedName}
+use Rattle.store_repair.specs.declared.store.Placed.TheVariants as placed
 
 module _ {N : Type 0} (shown : N → Option (List ℕ)) where
   own : (same : Bool) (a b : Option (List ℕ)) → same ≡ true → cond same a b ≡ a
@@ -73,24 +78,69 @@ none_fit code stripe None = tt
 none_fit code stripe (Some old) = λ p. tt
 
 module _ {S : Type 0} (kept : List ℕ → Given → S → S → Type 0) (same : (stripe : List ℕ) (given : Given) (s : S) → kept stripe given s s)
+    (settled : S → List ℕ → Place → Option (List ℕ) → Type 0)
+    (over : (stripe : List ℕ) (given : Given) (from to : S) → kept stripe given from to → StaysOver (settled from) (settled to))
     (code : CodeName) (stripe : List ℕ) (files : ShownFiles) (old new : S) where
   -- calls that gave nothing
   pub none_given : ((given : Given) (from : S) → kept stripe given from old → kept stripe given from new)
-      → IsRepaired kept code stripe files old new
-  none_given leads =
-      record { given = nothing; fit = none_fit code stripe files; keeps = leads nothing old (same stripe nothing old) }
+      → IsRepaired kept settled code stripe files old new
+  none_given leads = let keeps = leads nothing old (same stripe nothing old) in record {
+    given = nothing;
+    fit = none_fit code stripe files;
+    keeps = keeps;
+    stays = over stripe nothing old new keeps;
+  }
 
   -- or what fits
   pub some_given : {N : Type 0} (shown : N → Option (List ℕ)) (survives : Place → Bool) (len : ℕ) (places : List Place) (made : List N)
       (mid : S) → AreMade shown code survives len stripe files places made
       → ((given : Given) (from : S) → kept stripe given from old → kept stripe given from mid)
       → ((from : S) → kept stripe (given_by shown places made) from mid → kept stripe (given_by shown places made) from new)
-      → IsRepaired kept code stripe files old new
-  some_given shown survives len places made mid are first second = record {
+      → IsRepaired kept settled code stripe files old new
+  some_given shown survives len places made mid are first second =
+      let given = given_by shown places made in
+      let keeps = second old (first given old (same stripe given old)) in record {
+        given = given;
+        fit = are_fit shown code survives len stripe files places made are;
+        keeps = keeps;
+        stays = over stripe given old new keeps;
+      }
+
+module _ {S : Type 0} (settled : S → List ℕ → Place → Option (List ℕ) → Type 0) (code : CodeName) (stripe : List ℕ) (files : ShownFiles)
+    (new : S) where
+  -- where no fragment got a name, all that did are on the disk
+  pub none_done : (places : List Place) → places ≡ [] → AreDone settled code stripe files new places
+  none_done places none = record {
+    given = nothing;
+    fit = none_fit code stripe files;
+    done = λ k d lt. absurd (let long = ap length none in omega (arith, lt, long));
+  }
+
+  pub some_done : {N : Type 0} (shown : N → Option (List ℕ)) (survives : Place → Bool) (len : ℕ) (places : List Place) (made : List N)
+      (put : List Place) → AreMade shown code survives len stripe files places made
+      → All (λ p. settled new stripe p (given_by shown places made p)) put → AreDone settled code stripe files new put
+  some_done shown survives len places made put are done = record {
     given = given_by shown places made;
     fit = are_fit shown code survives len stripe files places made are;
-    keeps = second old (first (given_by shown places made) old (same stripe (given_by shown places made) old));
+    done = done;
   }
+
+-- ---- what is said of one name after the other
+
+module _ (s : List ℕ) (given : Given) (places : List Place) (old new : List ℕ → Place → Option (List ℕ) → Type 0)
+    (stays : StaysOver old new) (are : All (λ p. old s p (given p)) places) where
+  pub all_over : All (λ p. new s p (given p)) places
+  all_over k d lt = stays s (get_or places k d) (given (get_or places k d)) (are k d lt)
+
+  pub all_more : (p : Place) (bytes : Option (List ℕ)) → given p ≡ bytes → new s p bytes
+      → All (λ q. new s q (given q)) (places ++ (p ∷ []))
+  all_more p bytes is has = All-push (λ q. new s q (given q)) places p all_over (subst (new s p) (sym is) has)
+
+-- a fragment that got its name
+pub if_placed : (r : Result PlacedName Error) (P : Type 0) → IfOk r (λ x. x ≡ placed.Placed → P) → IsPlaced r → P
+if_placed (Ok placed.Placed) P so is = so refl
+if_placed (Ok placed.IsThere) P so is = absurd is
+if_placed (Err e) P so is = absurd is
 
 pub off_with : (r c : Bool) → r ≡ false → (r && c) ≡ false
 off_with r c off = rw off refl

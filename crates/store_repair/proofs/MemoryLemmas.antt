@@ -8,7 +8,7 @@ use Rattle.lrc_code.specs.declared.places.Place.{Place}
 use Rattle.lrc_code.specs.Places.{same_place}
 use Rattle.lrc_code.proofs.PlaceSums.{same_place-eq, same_place-refl}
 use Rattle.std.specs.declared.io.Error.{Error}
-use Rattle.store_repair.specs.Kept.{Given, KeepsOrHas}
+use Rattle.store_repair.specs.Kept.{Given, HasBytes, KeepsOrHas, StaysOver}
 use Rattle.store_repair.specs.Memory.{ExchangesName, GivesName, put_name, with_fragment, with_kept, with_old}
 use Rattle.store_repair.specs.Store.{AreUntouched, Files, HasName, IsUntouched, KeepsAll, Names, SameElsewhere}
 use Rattle.store_repair.specs.declared.store.Placed.{Placed as PlacedName}
@@ -144,6 +144,19 @@ given_kept (Ok placed.Placed) s p bytes given from old new (none, are) is before
     subst (KeepsOrHas s given from) (sym are) (kept_given s p bytes given from old none is before)
 given_kept (Ok placed.IsThere) s p bytes given from old new (there, are) is before = subst (KeepsOrHas s given from) (sym are) before
 given_kept (Err e) s p bytes given from old new are is before = subst (KeepsOrHas s given from) (sym are) before
+
+keeps_bytes : (old new : Files) → KeepsAll old.fragments new.fragments → StaysOver (HasBytes old) (HasBytes new)
+keeps_bytes old new keeps s p shown has = (has.0, has.1, keeps s p has.0 has.2)
+
+pub given_others : (r : Result PlacedName Error) (s : List ℕ) (p : Place) (bytes : List ℕ) (old new : Files)
+    → GivesName r s p bytes old new → StaysOver (HasBytes old) (HasBytes new)
+given_others r s p bytes old new so = keeps_bytes old new ((given_untouched r s p bytes old new so).stays refl)
+
+pub given_named : (r : Result PlacedName Error) (s : List ℕ) (p : Place) (bytes : List ℕ) (old new : Files)
+    → GivesName r s p bytes old new → IfOk r (λ x. x ≡ placed.Placed → HasBytes new s p (Some bytes))
+given_named (Ok placed.Placed) s p bytes old new so = λ is. (bytes, refl, given_placed (Ok placed.Placed) s p bytes old new so)
+given_named (Ok placed.IsThere) s p bytes old new so = λ is. absurd (cc)
+given_named (Err e) s p bytes old new so = tt
 
 -- ---- a name that was exchanged
 

@@ -1,13 +1,14 @@
 -- What lists of findings name.
 use Rattle.std.proofs.Common.{◌≡◌, ◌≢◌, ◌∙◌, ◌<◌, ℕ, zero, suc, List, [], ◌∷◌, ◌++◌}
 use Rattle.std.proofs.Common.{ap, sym, subst, arith, get_or, length, append-nil, append_assoc}
-use Rattle.std.proofs.Common.{◌+◌, refl, inl, inr, Option, Some, None}
-use Rattle.std.specs.Prelude.{Contains}
-use Rattle.std.proofs.lemmas.Bool.{cases_lt}
+use Rattle.std.proofs.Common.{◌+◌, refl, inl, inr, Bool, true, false, Option, Some, None}
+use Rattle.std.specs.Prelude.{◌||◌, Contains}
+use Rattle.std.proofs.lemmas.Bool.{cases_lt, or_parts}
 use Rattle.std.proofs.lemmas.List.{get_or_default}
 use Rattle.std.proofs.lemmas.List.Elements.{Contains-append_left, Contains-append_right, Contains-push}
 use Rattle.lrc_code.specs.declared.places.Place.{Place}
-use Rattle.store_repair.specs.Findings.{AreAllMended, IsMendedBy, differing_by, named, named_by, said_differing}
+use Rattle.store_repair.specs.Findings.{AreAllMended, IsMendedBy, differing_by, is_unsettled, named, named_by, said_differing}
+use Rattle.store_repair.specs.Findings.{says_unsettled}
 use Rattle.store_repair.specs.Scrubbed.{damaged_by, said_damaged}
 use Rattle.store_repair.specs.declared.outcomes.Finding.{Finding}
 
@@ -25,6 +26,28 @@ pub differing_append : (xs ys : List Finding) → said_differing (xs ++ ys) ≡ 
 differing_append [] ys = refl
 differing_append (x ∷ xs) ys = ap (λ ps. differing_by x.reason x.place ++ ps) (differing_append xs ys)
     ∙ sym (append_assoc (differing_by x.reason x.place) (said_differing xs) (said_differing ys))
+
+or_assoc : (a b c : Bool) → (a || (b || c)) ≡ ((a || b) || c)
+or_assoc true b c = refl
+or_assoc false b c = refl
+
+or_none : (a : Bool) → (a || false) ≡ a
+or_none true = refl
+or_none false = refl
+
+pub unsettled_append : (xs ys : List Finding) → is_unsettled (xs ++ ys) ≡ (is_unsettled xs || is_unsettled ys)
+unsettled_append [] ys = refl
+unsettled_append (x ∷ xs) ys =
+    ap (λ b. says_unsettled x.reason || b) (unsettled_append xs ys)
+    ∙ or_assoc (says_unsettled x.reason) (is_unsettled xs) (is_unsettled ys)
+
+pub unsettled_push : (xs : List Finding) (f : Finding) → is_unsettled (xs ++ (f ∷ [])) ≡ (is_unsettled xs || says_unsettled f.reason)
+unsettled_push xs f = unsettled_append xs (f ∷ []) ∙ ap (λ b. is_unsettled xs || b) (or_none (says_unsettled f.reason))
+
+-- where none of two lists of findings says so, the second doesn't
+pub settled_later : (all first later : List Finding) → all ≡ first ++ later → is_unsettled all ≡ false → is_unsettled later ≡ false
+settled_later all first later are none =
+    (or_parts (is_unsettled first) (is_unsettled later) (sym (unsettled_append first later) ∙ ap is_unsettled (sym are) ∙ none)).1
 
 -- a finding more
 pub named_push : (xs : List Finding) (f : Finding) → named (xs ++ (f ∷ [])) ≡ named xs ++ named_by f.place

@@ -1,5 +1,5 @@
 -- What findings say of the places of a stripe.
-use Rattle.std.specs.Prelude.{List, [], ◌∷◌, ◌++◌, All, Contains, Option, Some, None}
+use Rattle.std.specs.Prelude.{List, [], ◌∷◌, ◌++◌, ◌||◌, All, Bool, true, false, Contains, Option, Some, None}
 use Rattle.lrc_code.specs.declared.places.Place.{Place}
 use Rattle.store_repair.specs.declared.outcomes.Finding.{Finding}
 use Rattle.store_repair.specs.declared.outcomes.Reason.{Reason as ReasonName}
@@ -24,6 +24,16 @@ differing_by reason place = []
 abbrev pub said_differing : List Finding → List Place
 said_differing [] = []
 said_differing (finding ∷ findings) = differing_by finding.reason finding.place ++ said_differing findings
+
+-- whether a finding says that something was left over, or isn't known to be on the disk
+abbrev pub says_unsettled : ReasonName → Bool
+says_unsettled (reason.Unsettled fault) = true
+says_unsettled reason = false
+
+-- whether one of them does
+abbrev pub is_unsettled : List Finding → Bool
+is_unsettled [] = false
+is_unsettled (finding ∷ findings) = says_unsettled finding.reason || is_unsettled findings
 
 -- a finding's place has its fragment again; a finding without a place isn't mended
 abbrev pub IsMendedBy : List Place → Option Place → Type 0

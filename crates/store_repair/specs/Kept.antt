@@ -1,6 +1,6 @@
 -- What calls on a stripe of a store leave that replace nothing, whenever they end.
-use Rattle.std.specs.Prelude.{◌≡◌, ◌⊎◌, ℕ, List, [], ◌∷◌, Bool, true, bytes_eq, if◌then◌else◌, Option, Some, None, IfSome}
-use Rattle.std.proofs.Common.{inl, refl}
+use Rattle.std.specs.Prelude.{◌≡◌, ◌⊎◌, ℕ, List, [], ◌∷◌, All, Bool, true, bytes_eq, if◌then◌else◌, Option, Some, None, IfSome}
+use Rattle.std.proofs.Common.{◌∙◌, inl, inr, refl, sym}
 use Rattle.lrc_code.specs.declared.places.Place.{Place}
 use Rattle.lrc_code.specs.declared.codes.Code.{Code as CodeName}
 use Rattle.lrc_code.specs.Places.{same_place}
@@ -39,9 +39,34 @@ KeepsOrHas stripe given old new =
 pub unchanged : (stripe : List ℕ) (given : Given) (files : Files) → KeepsOrHas stripe given files files
 unchanged stripe given files s p = inl refl
 
--- A stripe was given fragments that fit, at places at which nothing was, or none, and all else is kept as `kept` says.
-pub record IsRepaired {S : Type 0} (kept : List ℕ → Given → S → S → Type 0) (code : CodeName) (stripe : List ℕ) (files : ShownFiles)
-    (old : S) (new : S) : Type 0 where
+-- what was so of stripes' fragments and their bytes is so afterwards
+abbrev pub StaysOver : (List ℕ → Place → Option (List ℕ) → Type 0) → (List ℕ → Place → Option (List ℕ) → Type 0) → Type 0
+StaysOver old new = (stripe : List ℕ) (place : Place) (bytes : Option (List ℕ)) → old stripe place bytes → new stripe place bytes
+
+-- a name has these bytes
+abbrev pub HasBytes : Files → List ℕ → Place → Option (List ℕ) → Type 0
+HasBytes files stripe place shown = (bytes : List ℕ) × (shown ≡ Some bytes) × (files.fragments stripe place ≡ Some bytes)
+
+-- a name that has bytes has them where each name has what it had
+pub still_has : (stripe : List ℕ) (given : Given) (old new : Files) → KeepsOrHas stripe given old new
+    → StaysOver (HasBytes old) (HasBytes new)
+still_has stripe given old new keeps s p shown has = elim (keeps s p) [
+  | inl same ↦ (has.0, has.1, same ∙ has.2)
+  | inr was ↦ absurd (let none : None ≡ Some has.0 = sym was.1 ∙ has.2 in cc)
+]
+
+-- A stripe was given fragments that fit, at places at which nothing was, or none, and all else is kept as `kept` says. What was on the disk
+-- is there.
+pub record IsRepaired {S : Type 0} (kept : List ℕ → Given → S → S → Type 0) (settled : S → List ℕ → Place → Option (List ℕ) → Type 0)
+    (code : CodeName) (stripe : List ℕ) (files : ShownFiles) (old : S) (new : S) : Type 0 where
   pub given : Given
   pub fit : FitOnly code stripe files given
   pub keeps : kept stripe given old new
+  pub stays : StaysOver (settled old) (settled new)
+
+-- The fragments at these places got their names, with bytes that fit, and are on the disk.
+pub record AreDone {S : Type 0} (settled : S → List ℕ → Place → Option (List ℕ) → Type 0) (code : CodeName) (stripe : List ℕ)
+    (files : ShownFiles) (new : S) (places : List Place) : Type 0 where
+  pub given : Given
+  pub fit : FitOnly code stripe files given
+  pub done : All (λ place. settled new stripe place (given place)) places

@@ -7,7 +7,7 @@ ghost use Rattle.store_repair.specs.Findings.{named};
 ghost use Rattle.store_repair.specs.declared.settings.Reads.TheVariants.{All as ReadsAll, Few as ReadsFew};
 ghost use Rattle.store_repair.specs.Losses.{AreChecked, has_file};
 ghost use Rattle.lrc_code.specs.Sets.{is_in};
-ghost use Rattle.store_repair.specs.Kept.{Given};
+ghost use Rattle.store_repair.specs.Kept.{Given, StaysOver};
 ghost use Rattle.store_repair.specs.Mended.{AreEmpty};
 ghost use Rattle.store_repair.specs.Opened.{AreMade, AreOpened};
 ghost use Rattle.store_repair.specs.Repaired.{IfMade, IfNotMade, IsAccountedFor, IsNotMade};
@@ -235,6 +235,7 @@ pub(crate) fn discard<S: Store>(
     ensures named { OnOk result (named findings.new.items ≡ named findings.old.items) }
     ensures some { OnOk result (findings.old.items ≢ [] → findings.new.items ≢ []) }
     ensures kept { (stripe : List ℕ) (given : Given) (from : S) → S.kept stripe given from store.old → S.kept stripe given from store.new }
+    ensures others { StaysOver (S.got_name store.old) (S.got_name store.new) }
 {
     match store.discard(file) {
         Ok(()) => Ok(()),

@@ -1,7 +1,7 @@
 //! A store in memory.
 ghost use Rattle.std.specs.Prelude.{◌≡◌, ◌<◌, List, ℕ, IfOk, None, OnErr, OnOk, Some, drop, find, option_copied, option_map};
 ghost use Rattle.std.specs.Prelude.{false, refl, true, vec_len};
-ghost use Rattle.store_repair.specs.Kept.{Given, KeepsOrHas, unchanged};
+ghost use Rattle.store_repair.specs.Kept.{Given, HasBytes, KeepsOrHas, StaysOver, still_has, unchanged};
 ghost use Rattle.lrc_code.specs.Code.{AreBytes};
 ghost use Rattle.lrc_code.specs.declared.places.Place.{Place};
 ghost use Rattle.store_repair.specs.Memory.{ExchangesName, GivesName, bytes_of, files_of, is_entry, names_of, put_name, with_fragment};
@@ -208,7 +208,13 @@ impl Store for MemoryStore {
 
     ghost kept_same = { λ stripe given s. unchanged stripe given (files_of s) };
 
+    ghost got_name = { λ s. HasBytes (files_of s) };
+
+    ghost settled = { λ s. HasBytes (files_of s) };
+
     ghost new_shown = { λ s f h. refl };
+
+    ghost settled_stays = { λ stripe given old new keeps. still_has stripe given (files_of old) (files_of new) keeps };
 
     fn open(&self, stripe: &str, place: Place, length: usize) -> io::Result<MemoryFragment> {
         let Some(bytes) = self.fragment(stripe, place) else {
@@ -244,6 +250,9 @@ impl Store for MemoryStore {
         ensures kept { (given : Given) (from : MemoryStore) → given place ≡ Some (bytes_of file)
             → KeepsOrHas stripe.now given (files_of from) (files_of self.old)
             → KeepsOrHas stripe.now given (files_of from) (files_of self.new) }
+        ensures others { StaysOver (HasBytes (files_of self.old)) (HasBytes (files_of self.new)) }
+        ensures named { IfOk result (λ placed. placed ≡ Placed.Placed → HasBytes (files_of self.new) stripe.now place
+            (Some (bytes_of file))) }
         ensures gives { GivesName result stripe.now place (bytes_of file) (files_of self.old) (files_of self.new) }
     {
         self.give_name(stripe, place, file.bytes)

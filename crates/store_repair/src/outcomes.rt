@@ -1,8 +1,8 @@
 //! What becomes of a stripe.
-ghost use Rattle.std.specs.Prelude.{◌≡◌, ◌≢◌, ◌++◌, ◌↔◌, [], true, false, Contains, IsTrue, Option, IfOk, OnOk};
+ghost use Rattle.std.specs.Prelude.{◌≡◌, ◌≢◌, ◌++◌, ◌||◌, ◌↔◌, [], true, false, Contains, IsTrue, Option, IfOk, OnOk};
 ghost use Rattle.lrc_code.specs.declared.places.Place.{Place};
 ghost use Rattle.lrc_code.specs.Sets.{is_in};
-ghost use Rattle.store_repair.specs.Findings.{IsMendedBy, differing_by, named, named_by, said_differing};
+ghost use Rattle.store_repair.specs.Findings.{IsMendedBy, differing_by, is_unsettled, named, named_by, said_differing, says_unsettled};
 ghost use Rattle.store_repair.specs.Losses.{IsCovered};
 ghost use Rattle.store_repair.specs.Scrubbed.{damaged_by, said_damaged};
 
@@ -260,6 +260,7 @@ pub(crate) fn note(
     ensures said { OnOk result (said_damaged findings.new.items ≡ said_damaged findings.old.items ++ damaged_by reason place) }
     ensures named { OnOk result (named findings.new.items ≡ named findings.old.items ++ named_by place) }
     ensures some { OnOk result (findings.new.items ≢ []) }
+    ensures unsettled { OnOk result (is_unsettled findings.new.items ≡ (is_unsettled findings.old.items || says_unsettled reason)) }
 {
     findings.push(Finding { place, reason })?;
     Ok(())

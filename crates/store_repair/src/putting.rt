@@ -2,8 +2,8 @@
 ghost use Rattle.std.specs.Prelude.{◌≡◌, ◌≢◌, ◌&&◌, ◌++◌, ◌⊎◌, ℕ, List, [], IfOk, OnOk, All, Contains, true, false, length};
 ghost use Rattle.lrc_code.specs.declared.places.Place.{Place};
 ghost use Rattle.lrc_code.specs.Sets.{is_in};
-ghost use Rattle.store_repair.specs.Findings.{named};
-ghost use Rattle.store_repair.specs.Kept.{Given, given_by};
+ghost use Rattle.store_repair.specs.Findings.{is_unsettled, named};
+ghost use Rattle.store_repair.specs.Kept.{Given, StaysOver, given_by};
 ghost use Rattle.store_repair.specs.Opened.{AreApart, IsPutOf};
 ghost use Rattle.store_repair.specs.Repaired.{HasCause, IsPlaced, MayReplace, OnlyReplaces, SameBeside, is_silent, replaces};
 ghost use Rattle.store_repair.specs.Store.{AreUntouched, HasName, SameElsewhere};
@@ -65,6 +65,8 @@ pub(crate) fn put_all<S: Store>(
         v.items) }
     ensures all { IfOk result (λ v. All (λ p. Contains v.items p ⊎ Contains (named known.now.findings.now ++ named later.new.items) p)
         made.places.items) }
+    ensures done { (repair.now.replace_damaged && known.now.is_checked) ≡ false → IfOk result (λ v. is_unsettled later.new.items ≡ false
+        → All (λ p. S.settled store.new stripe.now.name.now p (given_by S.New.shown made.places.items made.files.items p)) v.items) }
 {
     let places = made.places;
     let mut left = made.files;
@@ -86,6 +88,7 @@ pub(crate) fn settle<S: Store>(store: &mut S, findings: &mut Vec<Finding>) -> Re
     ensures named { OnOk result (named findings.new.items ≡ named findings.old.items) }
     ensures some { OnOk result (findings.old.items ≢ [] → findings.new.items ≢ []) }
     ensures kept { (stripe : List ℕ) (given : Given) (from : S) → S.kept stripe given from store.old → S.kept stripe given from store.new }
+    ensures done { OnOk result (is_unsettled findings.new.items ≡ false → StaysOver (S.got_name store.old) (S.settled store.new)) }
 {
     match store.settle() {
         Ok(()) => Ok(()),
@@ -161,6 +164,8 @@ fn put_one<S: Store>(
     ensures put { IfOk result (λ b. b ≡ true → HasName stripe.now.name.now place (S.New.shown file) (S.files store.new) placed.Placed) }
     ensures grows { OnOk result ((p : Place) → Contains (named findings.old.items) p → Contains (named findings.new.items) p) }
     ensures said { IfOk result (λ b. b ≡ false → is_silent way ≡ false → Contains (named findings.new.items) place) }
+    ensures others { replaces way ≡ false → StaysOver (S.got_name store.old) (S.got_name store.new) }
+    ensures named { replaces way ≡ false → IfOk result (λ b. b ≡ true → S.got_name store.new stripe.now.name.now place (S.New.shown file)) }
 {
     match way {
         Way::Place => {

@@ -2,9 +2,9 @@
 ghost use Rattle.std.specs.Prelude.{◌≡◌, ◌≢◌, [], IfNone, IfOk, IfSome, false, true};
 ghost use Rattle.lrc_code.specs.declared.places.Place.{Place};
 ghost use Rattle.store_repair.specs.declared.settings.Reads.TheVariants.{All as ReadsAll};
-ghost use Rattle.store_repair.specs.Findings.{AreAllMended};
+ghost use Rattle.store_repair.specs.Findings.{AreAllMended, is_unsettled};
 ghost use Rattle.store_repair.specs.Repaired.{IsAccountedFor, IsWhole, MayReplace, OnlyReplaces};
-ghost use Rattle.store_repair.specs.Kept.{Given, IsRepaired};
+ghost use Rattle.store_repair.specs.Kept.{AreDone, Given, IsRepaired};
 ghost use Rattle.store_repair.specs.Losses.{AreChecked};
 ghost use Rattle.lrc_code.specs.Sets.{is_in};
 ghost use Rattle.store_repair.specs.Opened.{AreMade, AreRebuilt};
@@ -34,13 +34,15 @@ pub fn repair_stripe<S: Store>(
         (S.files store.new)) }
     ensures checked { IfOk result (λ o. o.is_checked ≡ true → AreChecked repair.now.code (is_in o.survivors) o.length) }
     ensures kept { repair.now.replace_damaged ≡ false
-        → IsRepaired S.kept repair.now.code stripe.now.name.now (S.files store.old) store.old store.new }
+        → IsRepaired S.kept S.settled repair.now.code stripe.now.name.now (S.files store.old) store.old store.new }
     ensures replaced { IfOk result (λ o. OnlyReplaces (MayReplace repair.now.replace_damaged repair.now.code (is_in o.survivors)
         o.is_checked o.length stripe.now.files.found o.findings.items) stripe.now.name.now (S.files store.old) (S.files store.new)) }
     ensures whole { repair.now.reads ≡ ReadsAll → IfOk result (λ o. AreAllMended o.findings.items o.rebuilt.items
         → IsWhole repair.now.code o.length stripe.now.name.now (S.files store.new)) }
     ensures rebuilt { IfOk result (λ o. AreRebuilt repair.now.code (is_in o.survivors) o.length stripe.now.name.now (S.files store.old)
         (S.files store.new) o.rebuilt.items) }
+    ensures done { repair.now.replace_damaged ≡ false → IfOk result (λ o. is_unsettled o.findings.items ≡ false
+        → AreDone S.settled repair.now.code stripe.now.name.now (S.files store.old) store.new o.rebuilt.items) }
 {
     let mut findings = Vec::new(alloc);
     let known = length_or_note(alloc, &*store, repair.code, stripe, &mut findings)?;

@@ -1,6 +1,7 @@
 //! What a store gives for a repair: fragments that survive, and new ones that get their names when they are whole.
 ghost use Rattle.std.specs.Prelude.{◌≡◌, ◌++◌, ℕ, List, Option, None, IfOk, OnOk, IsSome, true, false, option_map};
-ghost use Rattle.store_repair.specs.Kept.{Given};
+ghost use Rattle.lrc_code.specs.declared.places.Place.{Place};
+ghost use Rattle.store_repair.specs.Kept.{Given, StaysOver};
 ghost use Rattle.store_repair.specs.Mended.{IsEmpty};
 ghost use Rattle.store_repair.specs.Shown.{IsReadAt};
 ghost use Rattle.store_repair.specs.Store.{AreUntouched, HasName, IsOpened, SameElsewhere, ShownFiles};
@@ -72,6 +73,12 @@ pub trait Store {
     /// Where nothing was called, all is as it was.
     ghost kept_same: { (stripe : List ℕ) (given : Given) (s : Self) → kept stripe given s s };
 
+    /// A stripe's fragment at a place got its name, with these bytes. The name may still have to be written to the disk.
+    ghost got_name: { Self → List ℕ → Place → Option (List ℕ) → Type 0 };
+
+    /// So it did, and its name and its bytes are on the disk.
+    ghost settled: { Self → List ℕ → Place → Option (List ℕ) → Type 0 };
+
     /// Opens a stripe's fragment, which has to have so many bytes.
     fn open(&self, stripe: &str, place: Place, length: usize) -> io::Result<Self::Survivor>
         ensures { IfOk result (λ f. IsOpened stripe.now place length (files self.now) (Self.Survivor.shown f)) };
@@ -99,7 +106,9 @@ pub trait Store {
         ensures elsewhere { SameElsewhere stripe.now place (files self.old) (files self.new) }
         ensures placed { IfOk result (HasName stripe.now place (Self.New.shown file) (files self.new)) }
         ensures kept { (given : Given) (from : Self) → given place ≡ Self.New.shown file → kept stripe.now given from self.old
-            → kept stripe.now given from self.new };
+            → kept stripe.now given from self.new }
+        ensures others { StaysOver (got_name self.old) (got_name self.new) }
+        ensures named { IfOk result (λ placed. placed ≡ Placed.Placed → got_name self.new stripe.now place (Self.New.shown file)) };
 
     /// Gives a fragment the name of one that is there, which is kept under its second name; if one is kept there already, the new one is
     /// discarded. After a failure the name has the one fragment or the other.
@@ -112,14 +121,20 @@ pub trait Store {
     fn discard(&mut self, file: Self::New) -> io::Result<()>
         ensures same { files self.new ≡ files self.old }
         ensures kept { (stripe : List ℕ) (given : Given) (from : Self) → kept stripe given from self.old
-            → kept stripe given from self.new };
+            → kept stripe given from self.new }
+        ensures others { StaysOver (got_name self.old) (got_name self.new) };
 
     /// Writes the names that were given to the disk, and says what was left over since it was called last.
     fn settle(&mut self) -> Result<(), NameFault>
         ensures same { files self.new ≡ files self.old }
         ensures kept { (stripe : List ℕ) (given : Given) (from : Self) → kept stripe given from self.old
-            → kept stripe given from self.new };
+            → kept stripe given from self.new }
+        ensures done { OnOk result (StaysOver (got_name self.old) (settled self.new)) };
 
     /// Where they are shown, so are new fragments.
     ghost new_shown: { (s : Self) (f : Self.New) → IsSome (files s) → IsSome (Self.New.shown f) };
+
+    /// What is on the disk stays there over a stripe's calls that replace nothing.
+    ghost settled_stays: { (stripe : List ℕ) (given : Given) (old new : Self) → kept stripe given old new
+        → StaysOver (settled old) (settled new) };
 }

@@ -1,7 +1,7 @@
 use Rattle.std.proofs.Common.{◌∙◌, ap, sym}
 use Rattle.store_repair.specs.Scrubbed.{said_damaged}
-use Rattle.store_repair.specs.Findings.{named}
-use Rattle.store_repair.proofs.NamedLemmas.{named_push}
+use Rattle.store_repair.specs.Findings.{is_unsettled, named}
+use Rattle.store_repair.proofs.NamedLemmas.{named_push, unsettled_push}
 use Rattle.store_repair.proofs.ScrubLemmas.{push_some, said_push}
 use Rattle.store_repair.proofs.outcomes.note.Goals as goal
 
@@ -16,3 +16,8 @@ returns-clause-some c = λ none. push_some c.args.findings.now.items _ (sym c.in
 pub returns-clause-named : goal.returns-clause-named
 returns-clause-named c =
     ap named c.in_ok-push.ensures.items ∙ named_push c.args.findings.now.items (record { place = c.args.place; reason = c.args.reason })
+
+pub returns-clause-unsettled : goal.returns-clause-unsettled
+returns-clause-unsettled c =
+    ap is_unsettled c.in_ok-push.ensures.items
+    ∙ unsettled_push c.args.findings.now.items (record { place = c.args.place; reason = c.args.reason })

@@ -10,7 +10,7 @@ use Rattle.store_repair.specs.Findings.{named}
 use Rattle.store_repair.specs.Kept.{given_by}
 use Rattle.store_repair.specs.Opened.{IsPutOf}
 use Rattle.store_repair.specs.Repaired.{MayReplace, is_silent, replaces}
-use Rattle.store_repair.proofs.KeptLemmas.{given_here}
+use Rattle.store_repair.proofs.KeptLemmas.{all_more, all_over, given_here}
 use Rattle.store_repair.proofs.PutLemmas.{IsSaid, asked, beside_at, beside_trans, replaces_at, replaces_trans, said_left, said_more}
 use Rattle.store_repair.proofs.RepairLemmas.{far_before, far_more, off_too, popped_before, popped_last, put_before, put_more}
 use Rattle.store_repair.proofs.RepairLemmas.{untouched_trans, untouched_weaker}
@@ -286,6 +286,13 @@ files-preserved-in-Continue-branch-2 g c =
       places = refl;
       few = omega (arith, more, few);
       same = popped_before c.files.left.items c.pop.new.self.items made file n c.in-Some.ensures.items long same;
+      done = λ off. subst (All (λ q. g.S.Store.got_name c.put_one.new.store s q (given_by shown places made q)))
+          (sym c.in_ok-push.ensures.items)
+          (all_more s (given_by shown places made) c.files.put.items (g.S.Store.got_name c.files.store)
+          (g.S.Store.got_name c.put_one.new.store) (c.put_one.ensures.others (off_too way (r && checked) on off))
+          (c.files.invariant.done off) p (shown file)
+          (given_here shown places made n p file c.requires.apart even less here last)
+          (c.in_ok-put_one.ensures.named (off_too way (r && checked) on off) c.if-branch.true));
       put = subst (All (IsPutOf shown places made s next)) (sym c.in_ok-push.ensures.items)
           (put_more shown places made s now next n p file c.files.put.items c.requires.apart even less here last
           c.put_one.ensures.elsewhere c.files.invariant.put far (c.in_ok-put_one.ensures.put c.if-branch.true));
@@ -348,6 +355,9 @@ files-preserved g c =
       places = refl;
       few = omega (arith, more, few);
       same = popped_before c.files.left.items c.pop.new.self.items made file n c.in-Some.ensures.items long same;
+      done = λ off. all_over s (given_by shown places made) c.files.put.items (g.S.Store.got_name c.files.store)
+          (g.S.Store.got_name c.put_one.new.store) (c.put_one.ensures.others (off_too way (r && checked) on off))
+          (c.files.invariant.done off);
       put = put_before shown places made s now next n p file c.files.put.items c.requires.apart even less here last
           c.put_one.ensures.elsewhere c.files.invariant.put far;
       far = far_before shown places made s now next n p file c.files.put.items c.requires.apart even less here last
@@ -366,3 +376,10 @@ returns-clause-all g c = λ k d lt.
     let places = c.args.made.places.items in
     subst (λ later. IsSaid before c.files.put.items later (get_or places k d)) (sym c.in_ok-settle.ensures.named)
     (c.files.invariant.all k d (let none = c.in_default.ensures.cases in omega (arith, none)) lt)
+
+pub returns-clause-done : goal.returns-clause-done
+returns-clause-done g c = λ off settled.
+    all_over c.args.stripe.now.name.now
+    (given_by g.S.New.NewFragment.shown c.args.made.places.items c.args.made.files.items) c.files.put.items
+    (g.S.Store.got_name c.files.store) (g.S.Store.settled c.settle.new.store) (c.in_ok-settle.ensures.done settled)
+    (c.files.invariant.done off)

@@ -29,6 +29,9 @@ invariant-files g l =
       places : l.places.items ≡ l.fn.made.places.items;
       few : vec_len l.left ≤ length made;
       same : (k : ℕ) (e : _) → k < vec_len l.left → get_or l.left.items k e ≡ get_or made k e;
+      done : (l.fn.repair.replace_damaged && l.fn.known.is_checked) ≡ false
+          → All (λ p. g.S.Store.got_name l.store l.fn.stripe.name.now p
+          (given_by g.S.New.NewFragment.shown l.fn.made.places.items made p)) l.put.items;
       put : All (IsPutOf g.S.New.NewFragment.shown l.places.items made l.fn.stripe.name.now (files l.store)) l.put.items;
       far : All (λ q. (k : ℕ) (d : Place) → k < vec_len l.left → same_place (get_or l.places.items k d) q ≡ false) l.put.items;
     }

@@ -3,12 +3,12 @@ use Rattle.std.specs.Prelude.{◌⊎◌, Contains, IfNone}
 use Rattle.lrc_code.specs.declared.places.Place.{Place}
 use Rattle.store_repair.specs.Findings.{AreAllMended, named}
 use Rattle.store_repair.specs.Repaired.{IsAccountedFor, MayReplace, OnlyReplaces, SameBeside}
-use Rattle.store_repair.proofs.NamedLemmas.{none_mended}
+use Rattle.store_repair.proofs.NamedLemmas.{none_mended, settled_later}
 use Rattle.store_repair.proofs.WholeLemmas.{is_whole, may_later, replaces_weaker}
 use Rattle.lrc_code.specs.Sets.{is_in}
 use Rattle.store_repair.specs.Opened.{AreMade}
 use Rattle.store_repair.specs.Store.{AreUntouched}
-use Rattle.store_repair.proofs.KeptLemmas.{none_given, off_with, some_given}
+use Rattle.store_repair.proofs.KeptLemmas.{none_done, none_given, off_with, some_done, some_given}
 use Rattle.store_repair.proofs.RepairLemmas.{are_rebuilt, untouched_if, untouched_unless}
 use Rattle.store_repair.proofs.repairing.repair_stripe.Goals as goal
 
@@ -45,40 +45,49 @@ returns-clause-unchecked g c = λ off.
     (untouched_unless r c.in-Some-made.made.is_checked s (files c.make_lost.new.store) new off c.put_all.ensures.untouched)
 
 pub returns-in_err-known-clause-kept : goal.returns-in_err-known-clause-kept
-returns-in_err-known-clause-kept g c = λ off. none_given g.S.Store.kept g.S.Store.kept_same _ _ _ _ _
+returns-in_err-known-clause-kept g c = λ off.
+    none_given g.S.Store.kept g.S.Store.kept_same g.S.Store.settled g.met.S.Store.settled_stays _ _ _ _ _
     (λ given from before. before)
 
 pub returns-in_default-clause-kept : goal.returns-in_default-clause-kept
-returns-in_default-clause-kept g c = λ off. none_given g.S.Store.kept g.S.Store.kept_same _ _ _ _ _
+returns-in_default-clause-kept g c = λ off.
+    none_given g.S.Store.kept g.S.Store.kept_same g.S.Store.settled g.met.S.Store.settled_stays _ _ _ _ _
     (λ given from before. before)
 
 pub returns-in_err-made-clause-kept : goal.returns-in_err-made-clause-kept
-returns-in_err-made-clause-kept g c = λ off. none_given g.S.Store.kept g.S.Store.kept_same _ _ _ _ _
+returns-in_err-made-clause-kept g c = λ off.
+    none_given g.S.Store.kept g.S.Store.kept_same g.S.Store.settled g.met.S.Store.settled_stays _ _ _ _ _
     c.make_lost.ensures.kept
 
 pub returns-in_err-note_unknown-clause-kept : goal.returns-in_err-note_unknown-clause-kept
-returns-in_err-note_unknown-clause-kept g c = λ off. none_given g.S.Store.kept g.S.Store.kept_same _ _ _ _ _
+returns-in_err-note_unknown-clause-kept g c = λ off.
+    none_given g.S.Store.kept g.S.Store.kept_same g.S.Store.settled g.met.S.Store.settled_stays _ _ _ _ _
     c.make_lost.ensures.kept
 
 pub returns-in_err-settle-clause-kept : goal.returns-in_err-settle-clause-kept
-returns-in_err-settle-clause-kept g c = λ off. none_given g.S.Store.kept g.S.Store.kept_same _ _ _ _ _
+returns-in_err-settle-clause-kept g c = λ off.
+    none_given g.S.Store.kept g.S.Store.kept_same g.S.Store.settled g.met.S.Store.settled_stays _ _ _ _ _
     (λ given from before. c.settle.ensures.kept _ given from (c.make_lost.ensures.kept given from before))
 
 pub returns-in_default-made-clause-kept : goal.returns-in_default-made-clause-kept
-returns-in_default-made-clause-kept g c = λ off. none_given g.S.Store.kept g.S.Store.kept_same _ _ _ _ _
+returns-in_default-made-clause-kept g c = λ off.
+    none_given g.S.Store.kept g.S.Store.kept_same g.S.Store.settled g.met.S.Store.settled_stays _ _ _ _ _
     (λ given from before. c.settle.ensures.kept _ given from (c.make_lost.ensures.kept given from before))
 
 pub returns-in_err-discard_all-clause-kept : goal.returns-in_err-discard_all-clause-kept
-returns-in_err-discard_all-clause-kept g c = λ off. none_given g.S.Store.kept g.S.Store.kept_same _ _ _ _ _
+returns-in_err-discard_all-clause-kept g c = λ off.
+    none_given g.S.Store.kept g.S.Store.kept_same g.S.Store.settled g.met.S.Store.settled_stays _ _ _ _ _
     (λ given from before. c.discard_all.ensures.kept _ given from (c.make_lost.ensures.kept given from before))
 
 pub returns-in_err-settle-2-clause-kept : goal.returns-in_err-settle-2-clause-kept
-returns-in_err-settle-2-clause-kept g c = λ off. none_given g.S.Store.kept g.S.Store.kept_same _ _ _ _ _
+returns-in_err-settle-2-clause-kept g c = λ off.
+    none_given g.S.Store.kept g.S.Store.kept_same g.S.Store.settled g.met.S.Store.settled_stays _ _ _ _ _
     (λ given from before. c.settle-then-has_changed.ensures.kept _ given from (c.discard_all.ensures.kept _ given from
     (c.make_lost.ensures.kept given from before)))
 
 pub returns-then-has_changed-clause-kept : goal.returns-then-has_changed-clause-kept
-returns-then-has_changed-clause-kept g c = λ off. none_given g.S.Store.kept g.S.Store.kept_same _ _ _ _ _
+returns-then-has_changed-clause-kept g c = λ off.
+    none_given g.S.Store.kept g.S.Store.kept_same g.S.Store.settled g.met.S.Store.settled_stays _ _ _ _ _
     (λ given from before. c.settle-then-has_changed.ensures.kept _ given from (c.discard_all.ensures.kept _ given from
     (c.make_lost.ensures.kept given from before)))
 
@@ -89,7 +98,8 @@ returns-in_err-rebuilt-clause-kept g c = λ off.
     let stripe = c.args.stripe.now.name.now in
     let old = g.S.Store.files c.args.store.now in
     let shown = g.S.New.NewFragment.shown in
-    some_given g.S.Store.kept g.S.Store.kept_same code stripe old c.args.store.now c.put_all.new.store shown (is_in made.set)
+    some_given g.S.Store.kept g.S.Store.kept_same g.S.Store.settled g.met.S.Store.settled_stays
+    code stripe old c.args.store.now c.put_all.new.store shown (is_in made.set)
     c.in-Some.length made.places.items made.files.items c.make_lost.new.store
     (subst (λ o. IfSome o (λ m. AreMade shown code (is_in m.set) c.in-Some.length stripe old m.places.items m.files.items))
     c.in-Some-made.is c.in_ok-made.ensures.made)
@@ -102,7 +112,8 @@ returns-in_err-append-clause-kept g c = λ off.
     let stripe = c.args.stripe.now.name.now in
     let old = g.S.Store.files c.args.store.now in
     let shown = g.S.New.NewFragment.shown in
-    some_given g.S.Store.kept g.S.Store.kept_same code stripe old c.args.store.now c.put_all.new.store shown (is_in made.set)
+    some_given g.S.Store.kept g.S.Store.kept_same g.S.Store.settled g.met.S.Store.settled_stays
+    code stripe old c.args.store.now c.put_all.new.store shown (is_in made.set)
     c.in-Some.length made.places.items made.files.items c.make_lost.new.store
     (subst (λ o. IfSome o (λ m. AreMade shown code (is_in m.set) c.in-Some.length stripe old m.places.items m.files.items))
     c.in-Some-made.is c.in_ok-made.ensures.made)
@@ -115,7 +126,8 @@ returns-clause-kept g c = λ off.
     let stripe = c.args.stripe.now.name.now in
     let old = g.S.Store.files c.args.store.now in
     let shown = g.S.New.NewFragment.shown in
-    some_given g.S.Store.kept g.S.Store.kept_same code stripe old c.args.store.now c.put_all.new.store shown (is_in made.set)
+    some_given g.S.Store.kept g.S.Store.kept_same g.S.Store.settled g.met.S.Store.settled_stays
+    code stripe old c.args.store.now c.put_all.new.store shown (is_in made.set)
     c.in-Some.length made.places.items made.files.items c.make_lost.new.store
     (subst (λ o. IfSome o (λ m. AreMade shown code (is_in m.set) c.in-Some.length stripe old m.places.items m.files.items))
     c.in-Some-made.is c.in_ok-made.ensures.made)
@@ -185,3 +197,28 @@ returns-then-has_changed-clause-whole g c = λ reads mended. absurd (none_mended
     c.of-then-has_changed.ensures.rebuilt
     (c.in_ok-settle-2.ensures.some (c.in_ok-discard_all.ensures.some
     (subst (λ fs. fs ≢ []) c.as_slice.ensures.value (c.has_changed.ensures c.if-has_changed.true)))) mended)
+
+pub returns-in_default-clause-done : goal.returns-in_default-clause-done
+returns-in_default-clause-done g c = λ off settled. none_done g.S.Store.settled _ _ _ _ c.of.result.rebuilt.items c.of.ensures.rebuilt
+
+pub returns-in_default-made-clause-done : goal.returns-in_default-made-clause-done
+returns-in_default-made-clause-done g c = λ off settled. none_done g.S.Store.settled _ _ _ _
+    c.of-in_default-made.result.rebuilt.items c.of-in_default-made.ensures.rebuilt
+
+pub returns-then-has_changed-clause-done : goal.returns-then-has_changed-clause-done
+returns-then-has_changed-clause-done g c = λ off settled. none_done g.S.Store.settled _ _ _ _
+    c.of-then-has_changed.result.rebuilt.items c.of-then-has_changed.ensures.rebuilt
+
+pub returns-clause-done : goal.returns-clause-done
+returns-clause-done g c = λ off settled.
+    let made = c.in-Some-made.made in
+    let code = c.args.repair.now.code in
+    let stripe = c.args.stripe.now.name.now in
+    let old = g.S.Store.files c.args.store.now in
+    let shown = g.S.New.NewFragment.shown in
+    some_done g.S.Store.settled code stripe old c.put_all.new.store shown (is_in made.set) c.in-Some.length made.places.items
+    made.files.items c.in_ok-rebuilt.rebuilt.items
+    (subst (λ o. IfSome o (λ m. AreMade shown code (is_in m.set) c.in-Some.length stripe old m.places.items m.files.items))
+    c.in-Some-made.is c.in_ok-made.ensures.made)
+    (c.in_ok-rebuilt.ensures.done (off_with c.args.repair.now.replace_damaged made.is_checked off)
+    (settled_later _ c.make_lost.new.findings.items c.put_all.new.later.items c.in_ok-append.ensures.items settled))

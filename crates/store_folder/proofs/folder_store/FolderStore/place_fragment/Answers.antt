@@ -1,9 +1,10 @@
-use Rattle.std.proofs.Common.{◌≡◌, false, IfOk, ap, string_bytes, subst, sym, ◌∙◌}
+use Rattle.std.proofs.Common.{◌≡◌, false, IfOk, IsSome, ap, string_bytes, subst, sym, ◌∙◌}
+use Rattle.store_folder.specs.Digests.{IsAsListed}
 use Rattle.store_folder.specs.Done.{HasFolderOf, IsNamed}
 use Rattle.store_folder.specs.Kept.{GivesIn, IsPathOf}
 use Rattle.store_folder.specs.Temporary.{is_temporary}
 use Rattle.store_repair.specs.declared.store.Placed.TheVariants as outcome
-use Rattle.store_folder.proofs.Done.{if_ok}
+use Rattle.store_folder.proofs.Done.{if_ok, some_due}
 use Rattle.store_folder.proofs.Kept.{gives_here, gives_none}
 use Rattle.store_folder.proofs.folder_store.FolderStore.place_fragment.Goals as goal
 
@@ -35,12 +36,18 @@ returns-in-Ok-clause-named g c =
     let here = subst (IsPathOf site stripe place) (sym c.as_str.ensures.value) path in
     let free = subst (λ r. IfOk r (λ path. is_temporary (string_bytes path) ≡ false)) c.in-Ok.is c.finish-finished.ensures.lasting in
     let lasting = ap is_temporary c.as_str.ensures.value ∙ free in
+    let some = subst (λ r. IfOk r (λ _. IsSome (written c.finish-finished.new.file.unfinished.file))) c.in-Ok.is
+    c.finish-finished.ensures.whole in
+    let listed = subst (λ r. IfOk r (λ _. IsAsListed site stripe place (written c.finish-finished.new.file.unfinished.file))) c.in-Ok.is
+    c.finish-finished.ensures.listed in
     subst (λ w. IfOk c.link.result (λ placed. placed ≡ outcome.Placed → IsNamed site stripe place w new.touched.folders.items
     (g.F.Folder.calls new.files))) (ap (λ u. written u.file) c.finish-finished.ensures.same)
     (if_ok c.link.result _ _ c.link.ensures.due (λ placed due is. record {
       path = c.as_str.result.now;
       here = here;
-      due = due is lasting;
+      lasting = lasting;
+      due = some_due _ (written c.finish-finished.new.file.unfinished.file) _ some (due is lasting);
+      listed = listed;
     }))
 
 pub returns-in-Err-clause-whenever : goal.returns-in-Err-clause-whenever
