@@ -209,7 +209,7 @@ debian() {
     dpkg-deb -c "$it" > "$scratch/listed"
     ! awk '$2 != "root/root"' "$scratch/listed" | grep . || fail "$it has other owners than root"
     ! awk '{ print $6 }' "$scratch/listed" | grep -vE '^\./(usr/.*)?$' || fail "$it has files outside of usr"
-    [[ $(dpkg-deb -f "$it" Version) = *"${version#*+}-1" ]] || fail "$it doesn't name the commit"
+    [[ $(dpkg-deb -f "$it" Version) = *"${version#*+}-1"?(+ceph*) ]] || fail "$it doesn't name the commit"
     dpkg-deb -x "$it" "$scratch/root"
     dpkg-deb -x "$it" "$scratch/of/$(dpkg-deb -f "$it" Package)"
   done

@@ -168,7 +168,7 @@ describe() {
   printf 'bucketuntil (%s-1) unstable; urgency=medium\n\n  * Packed from commit %s.\n\n -- %s  %s\n' "$version" "$commit" \
     "$(sed -n 's/^Maintainer: //p' packaging/debian/control)" "$(date -u -R -d "@$SOURCE_DATE_EPOCH")" > "$tree/debian/changelog"
   printf '%s := %s\n' LIBRARY_VERSION "$header" LIBRARY_PACKAGE "$library-1" FIRST_LEVEL "$first" HIGHER_LEVELS "${levels[*]:1}" \
-    CEPH_VERSION "$ceph" > "$tree/debian/built.mk"
+    CEPH_VERSION "$ceph" PLUGIN_PACKAGE "$version-1+ceph${ceph%%+*}" > "$tree/debian/built.mk"
 }
 
 # sources: the Debian source package: what is committed, and in a tar of its own what was built, since no package has the toolchain.

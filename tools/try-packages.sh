@@ -1,7 +1,8 @@
 #!/usr/bin/env bash
 # Installs the packages of out/packages in clean roots of Debian 12 and 13, which debootstrap makes, as root and with the network: an older
 # version first, then the packages; README's commands, the manual pages, the completions, a program in C, and the library that the loader
-# takes; then it purges them, and compares the files that are left with those before. It is no part of the gate.
+# takes; then it purges them, and compares the files that are left with those before. The plugin for Ceph has to go in where Debian has the
+# version of Ceph that it is for, and nowhere else. It is no part of the gate.
 #   try-packages.sh [SUITE..]
 set -euo pipefail
 cd "$(dirname "$0")/.."
@@ -98,15 +99,37 @@ diff before after
 END
 }
 
+fail() {
+  tail -n 5 "$scratch/said"
+  echo "try-packages: $1"
+  exit 1
+}
+
+# in_root COMMAND..: runs it in the root; what it says is in the file said.
+in_root() { DEBIAN_FRONTEND=noninteractive LC_ALL=C chroot "$root" "$@" > "$scratch/said" 2>&1; }
+
+# plugin SUITE FILE: installs the plugin for Ceph if the suite has the version of Ceph that it is for, and purges it; else apt refuses it.
+plugin() {
+  local file=/try/${2##*/} wanted offered at=$root/usr/lib/x86_64-linux-gnu/ceph/erasure-code/libec_azure_lrc.so
+  wanted=$(dpkg-deb -f "$2" Depends | sed -n 's/.*ceph-base (= \([^)]*\)).*/\1/p')
+  offered=$(chroot "$root" apt-cache policy ceph-base | sed -n 's/^  Candidate: //p')
+  echo "try-packages: $1: the plugin is for Ceph $wanted, and ceph-base $offered is here"
+  if [ "$wanted" != "$offered" ]; then
+    ! in_root apt-get install -s --no-install-recommends "$file" || fail "$1: apt takes the plugin for another Ceph"
+    return
+  fi
+  in_root apt-get install -y --no-install-recommends "$file" || fail "$1: the plugin isn't installed"
+  strings -a "$at" | grep "^azure_lrc .* for Ceph ${wanted%.*}$" || fail "$1: the plugin is of another release"
+  in_root rebuild-ceph --help || fail "$1: rebuild-ceph doesn't run"
+  in_root apt-get purge -y ceph-plugin-azure-lrc || fail "$1: the plugin isn't purged"
+  [ ! -e "$at" ] && [ ! -e "$root/usr/bin/rebuild-ceph" ] || fail "$1: something of the plugin is left"
+}
+
 for suite in "${suites[@]}"; do
   prepare "$suite"
   within > "$root/try/within.sh"
   chroot "$root" /bin/bash /try/within.sh 2>&1 || { echo "try-packages: $suite: the last command failed"; exit 1; }
-  if compgen -G 'out/packages/ceph-plugin-azure-lrc_*.deb' > /dev/null; then
-    echo "try-packages: $suite: what apt says of the plugin for Ceph, whose version of Ceph is in Debian 12:"
-    chroot "$root" bash -c 'apt-get install -s --no-install-recommends /try/ceph-plugin-azure-lrc_*.deb' > "$scratch/said" 2>&1 || true
-    tail -n 3 "$scratch/said"
-  fi
+  for it in out/packages/ceph-plugin-azure-lrc_*.deb; do [ ! -e "$it" ] || plugin "$suite" "$it"; done
   umount "$root/proc"
   echo "try-packages: $suite: installed, upgraded, used and purged; nothing is left"
 done

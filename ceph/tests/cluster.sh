@@ -243,8 +243,8 @@ wait_for() {
   fail "never: $* (but $said)"
 }
 
-# wait_clean SECONDS: until all placement groups are whole. Without a pool there are none: Debian 13's manager, which can't load its modules,
-# makes none of its own.
+# wait_clean SECONDS: until all placement groups are whole. Without a pool there are none: Debian 13's manager, which loads none of its
+# modules, has no pool of its own.
 wait_clean() {
   local left=$1 said
   while [ "$left" -gt 0 ]; do

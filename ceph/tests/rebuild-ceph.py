@@ -286,26 +286,42 @@ def cut_short(place):
         os.remove(osd.path(mark))
 
 
-# Of group 2.1s2 of an OSD of 16.2.15, whose `--op export` is group.export.xz: what `--op list`, `dump` and `get-bytes` gave of its shards:
-# name, number of the snapshot, write, and SHA-256 of the bytes.
+# Of a group of OSDs of 16.2.15 and 18.2.7: the file with its `--op export`, its name, its last write, and what `--op list`, `dump` and
+# `get-bytes` gave of its shards: name, number of the snapshot, write, and SHA-256 of the bytes.
 OF_CEPH = [
-    ("o3", -2, "44'3", "8a0a9846460872214c6bf47f295bedca0dd55a8a40673ddeaa3f26134c04be2e"),
-    ("o0", -2, "44'1", "ad7facb2586fc6e966c004d7d1d16b024f5805ff7cb47c7a85dabd8b48892ca7"),
-    ("o2", 1, "48'4", "fd68bae0da84814cff302a01652e9cbcae3cf9041b5dcbcef5baee082c3d8b86"),
-    ("o2", -2, "48'5", "ad7facb2586fc6e966c004d7d1d16b024f5805ff7cb47c7a85dabd8b48892ca7"),
-    ("later", -2, "48'6", "2cc4649e541368a415e08caeb0c31b9da2a0ed017b8bd6365c4661dad1206d7c"),
+    ("group-16.export.xz", "2.1s2", "48'6", [
+        ("o3", -2, "44'3", "8a0a9846460872214c6bf47f295bedca0dd55a8a40673ddeaa3f26134c04be2e"),
+        ("o0", -2, "44'1", "ad7facb2586fc6e966c004d7d1d16b024f5805ff7cb47c7a85dabd8b48892ca7"),
+        ("o2", 1, "48'4", "fd68bae0da84814cff302a01652e9cbcae3cf9041b5dcbcef5baee082c3d8b86"),
+        ("o2", -2, "48'5", "ad7facb2586fc6e966c004d7d1d16b024f5805ff7cb47c7a85dabd8b48892ca7"),
+        ("later", -2, "48'6", "2cc4649e541368a415e08caeb0c31b9da2a0ed017b8bd6365c4661dad1206d7c"),
+    ]),
+    ("group-18.export.xz", "2.0s2", "37'9", [    # 1.0s2 there
+        ("gone", 1, "37'8", "ad7facb2586fc6e966c004d7d1d16b024f5805ff7cb47c7a85dabd8b48892ca7"),
+        ("gone", -2, "37'9", "e3b0c44298fc1c149afbf4c8996fb92427ae41e4649b934ca495991b7852b855"),
+        ("o3", -2, "36'2", "0c6de4af79014ddf104b4946ab801876055d87ffe343fa5e5e3637d81bacdbc7"),
+        ("o0", -2, "36'1", "ad7facb2586fc6e966c004d7d1d16b024f5805ff7cb47c7a85dabd8b48892ca7"),
+        ("o2", 1, "37'5", "3c8b52f449f591adc40e02bd149a95e6237c1eef978b29d9e7f41097c6102612"),
+        ("o2", -2, "37'6", "ad7facb2586fc6e966c004d7d1d16b024f5805ff7cb47c7a85dabd8b48892ca7"),
+        ("later", -2, "37'7", "0937251d3f23fdb072215ed224bfdc240d2764feacac0790824e5ccc87bce00e"),
+    ]),
 ]
 
 
 def of_ceph(place):
-    """What Ceph's own tool exported."""
+    """What Ceph's own tools exported."""
+    for file, group, last, shards in OF_CEPH:
+        of_release(place / group, file, group, last, shards)
+
+
+def of_release(place, file, group, last, shards):
     osd, store = Stopped(place / "osd"), place / "store"
-    osd.group("2.1s2", last="48'6")
-    for oid, snapshot, _, _ in OF_CEPH:
-        osd.shard("2.1s2", oid, b"not these bytes", "1'1", snapid=snapshot)
-    pathlib.Path(osd.path("recorded")).write_bytes(lzma.decompress((HERE / "group.export.xz").read_bytes()))
+    osd.group(group, last=last)
+    for oid, snapshot, _, _ in shards:
+        osd.shard(group, oid, b"not these bytes", "1'1", snapid=snapshot)
+    pathlib.Path(osd.path("recorded")).write_bytes(lzma.decompress((HERE / file).read_bytes()))
     said = run("export", store, [osd], status=0)
-    wanted = {f"{oid}{'' if snapshot < 0 else f'%s{snapshot}'}.x2": (version, digest) for oid, snapshot, version, digest in OF_CEPH}
+    wanted = {f"{oid}{'' if snapshot < 0 else f'%s{snapshot}'}.x2": (version, digest) for oid, snapshot, version, digest in shards}
     check({name: hashlib.sha256(data).hexdigest() for name, data in fragments(store).items()}
           == {name: digest for name, (_, digest) in wanted.items()}, said)
     record = json.loads((store / ".rebuild-ceph.json").read_text())
