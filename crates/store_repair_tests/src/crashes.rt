@@ -1,11 +1,13 @@
 //! Repairs over a folder in memory: with each call failing, and with all that a crash at each call may leave.
 use crate::samples::{SHORT, fragment_of};
+use folders::{Folder, NewFile};
 use lrc_code::{Code, Place};
 use memory_folder::{Fault, MemoryFolder};
 use std::alloc::{AllocError, Global};
+use std::io;
 use std::process::Abort;
-use store_folder::{FolderStore, Links, Pattern, SeparateStore, Site};
-use store_repair::{Found, Outcome, Reads, Repair, Stripe, StripeFiles, repair_stripe};
+use store_folder::{FolderStore, Links, Pattern, SeparateStore, Site, Sums};
+use store_repair::{Found, Outcome, Reads, Reason, Repair, Stripe, StripeFiles, repair_stripe};
 
 // More ways for a crash to go than these aren't tried at one call.
 const MOST_WAYS: u64 = 300;
@@ -21,6 +23,12 @@ const SITE: Site<'static> = Site {
 };
 
 const OTHER: &[u8] = b"\x77";
+
+// The SHA-256 digest of the byte 02, as `sha256sum` prints it.
+const OF_02: [u8; 32] = [
+    0xdb, 0xc1, 0xb4, 0xc9, 0x00, 0xff, 0xe4, 0x8d, 0x57, 0x5b, 0x5d, 0xa5, 0xc6, 0x38, 0x04, 0x01,
+    0x25, 0xf6, 0x5d, 0xb0, 0xfe, 0x3e, 0x24, 0x49, 0x4b, 0x76, 0xea, 0x98, 0x64, 0x57, 0xd9, 0x86,
+];
 
 // The path of the sample's fragment at a place.
 fn path_of(alloc: Global, place: Place) -> Result<String, AllocError> {
@@ -77,6 +85,16 @@ fn repaired(
     files: MemoryFolder,
     replace_damaged: bool,
 ) -> Result<(Result<Outcome, AllocError>, MemoryFolder), AllocError> {
+    repaired_at(rt, files, SITE, replace_damaged)
+}
+
+// The same at a site of the folder.
+fn repaired_at(
+    rt: &HostRuntime,
+    files: MemoryFolder,
+    site: Site<'_>,
+    replace_damaged: bool,
+) -> Result<(Result<Outcome, AllocError>, MemoryFolder), AllocError> {
     let alloc = rt.alloc();
     let repair = Repair {
         code: SHORT.code,
@@ -86,7 +104,7 @@ fn repaired(
         elsewhere: false,
     };
     let stripe = stripe_in(alloc, &files)?;
-    let mut store = SeparateStore::new(FolderStore::over(rt, files, SITE));
+    let mut store = SeparateStore::new(FolderStore::over(rt, files, site));
     let outcome = repair_stripe(alloc, &mut store, &repair, &stripe);
     Ok((outcome, store.into_files()))
 }
@@ -216,6 +234,60 @@ fn a_crash_leaves_what_is_replaced(rt: HostRuntime) -> Result<(), AllocError> {
                 assert_whole_or_absent(&rt, rt.alloc(), &whole, &[])?;
             }
         }
+    }
+    Ok(())
+}
+
+// Of two that are lost the sums say the digest of one, and another digest of the other, which gets no name.
+#[test]
+fn what_differs_from_its_digest_gets_no_name(rt: HostRuntime) -> Result<(), AllocError> {
+    let alloc = rt.alloc();
+    let mut sums = Sums::new(alloc);
+    sums.set(alloc, "a.x1", OF_02)?;
+    sums.set(alloc, "a.py", OF_02)?;
+    let lost = [Place::X1, Place::Py];
+    let site = Site {
+        sums: Some(&sums),
+        ..SITE
+    };
+    let (outcome, files) = repaired_at(&rt, folder_without(alloc, &lost, None)?, site, false)?;
+    let outcome = outcome?;
+    assert!(&rt; outcome.rebuilt.as_slice() == [Place::X1].as_slice());
+    assert!(&rt;
+        outcome.findings.iter().any(|finding| finding.place == Some(Place::Py)
+            && matches!(finding.reason, Reason::RebuiltDiffers))
+    );
+    assert_whole_or_absent(&rt, alloc, &files, &[Place::Py])?;
+    assert!(&rt; files.bytes_at("store/a.py").is_none());
+    Ok(())
+}
+
+// A crash leaves of a file that isn't on the disk nothing, a half, all or other bytes, and leaves its path or not.
+#[test]
+fn a_crash_tears_what_is_not_on_the_disk(rt: HostRuntime) -> Result<(), io::Error> {
+    let mut files = MemoryFolder::new(rt.alloc());
+    files.fail(Fault {
+        at: 1,
+        lasts: false,
+        is_done: false,
+    });
+    let mut new = files.create_new("store/a", 0o600)?;
+    new.append(b"abcd")?;
+    assert!(&rt; files.sync(new).is_err());
+    let left: [Option<&[u8]>; 5] = [
+        None,
+        Some(b""),
+        Some(b"ab"),
+        Some(b"abcd"),
+        Some(b"\x3b8\x39\x3e"),
+    ];
+    for wanted in left {
+        let mut is_left = false;
+        for way in 0..files.crashes() {
+            let after = files.after_crash(way)?;
+            is_left = is_left || after.bytes_at("store/a") == wanted;
+        }
+        assert!(&rt; is_left, "{wanted:?}");
     }
     Ok(())
 }
