@@ -21,7 +21,8 @@ tree=$work/bucketuntil
 # The arguments of a make that runs this script are not for the runs below, nor are a user's wishes for packages in general.
 unset MAKEFLAGS MFLAGS MAKELEVEL MAKEOVERRIDES PREFIX DESTDIR TARGET LEVEL
 unset DEB_BUILD_OPTIONS DEB_BUILD_PROFILES DH_OPTIONS DH_VERBOSE XZ_OPT GZIP TAR_OPTIONS
-export LC_ALL=C TZ=UTC
+# What Python keeps of modules would be no part of the commit.
+export LC_ALL=C TZ=UTC PYTHONDONTWRITEBYTECODE=1
 umask 022
 
 fail() {

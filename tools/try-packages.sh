@@ -62,6 +62,11 @@ quietly() { "$@" > said 2>&1 || { cat said; exit 1; }; }
 files() { find / -xdev \( -path /proc -o -path /tmp -o -path /try -o -path /var/cache -o -path /var/log -o -path /var/lib/apt \
   -o -path /var/lib/dpkg -o -path /run \) -prune -o -print | sort; }
 quietly apt-get update
+# The programs and the library take no Python, which fish does.
+quietly apt-get install -y --no-install-recommends ./bucketuntil_*.deb ./liblrc0_*.deb ./liblrc-dev_*.deb
+test ! -e /usr/bin/python3
+quietly apt-get purge -y bucketuntil liblrc0 liblrc-dev
+quietly apt-get autoremove -y --purge
 quietly apt-get install -y --no-install-recommends man-db bash-completion zsh fish gcc libc6-dev pkg-config
 files > before
 set -x
@@ -69,7 +74,6 @@ apt-get install -y --no-install-recommends ./older.deb > said
 test -e /usr/share/doc/bucketuntil/OLDER
 apt-get install -y --no-install-recommends ./bucketuntil_*.deb ./liblrc0_*.deb ./liblrc-dev_*.deb > said
 test ! -e /usr/share/doc/bucketuntil/OLDER
-test ! -e /usr/bin/python3
 apt-get install -y --no-install-recommends ./rebuild-lists_*.deb ./bucketuntil-doc_*.deb > said
 dpkg-query -W bucketuntil rebuild-lists bucketuntil-doc liblrc0 liblrc-dev
 printf 'a x0 1 x1=02 x2=03 px=00\n' | rebuild
