@@ -225,9 +225,9 @@ def encode_row(bench):
     """Encoding of a file, beside a C program with the same digests."""
     file, theirs = new_file(bench)
     store = bench.scratch / "encoded"
-    ours = Run("ours", [PROGRAM, "encode", store, file], lambda: shutil.rmtree(store, ignore_errors=True),
-               made=tuple((store / f"file.{place}", theirs / f"file.{place}") for place in PLACES) if bench.has_encode else ())
-    peer = Run("C, ISA-L and OpenSSL", [bench.scratch / "encode", "write", file, theirs], lambda: remove(theirs.iterdir()))
+    made = tuple((theirs / f"file.{place}", store / f"file.{place}") for place in PLACES)
+    ours = Run("ours", [PROGRAM, "encode", store, file], lambda: shutil.rmtree(store, ignore_errors=True))
+    peer = Run("C, ISA-L and OpenSSL", [bench.scratch / "encode", "write", file, theirs], lambda: remove(theirs.iterdir()), made=made)
     return Row("encode of a file of 120 MB", ours, peer if bench.has_encode else None, "0.8")
 
 
