@@ -112,6 +112,26 @@ def test_full(place, choose):
     hold_whole(store, files)
 
 
+def test_most_lost_first(place, choose):
+    """A disk with room for three rebuilt fragments: they are those of the stripe that lost three, and not of the one before it by name."""
+    disk = place / "urgent"
+    mount(disk, 2_000 * KIB)
+    store = disk / "store"
+    files = lay(store, {"a": stripe("6-2-2", 16 * KIB, choose), "b": stripe("6-2-2", 16 * KIB, choose)})
+    lost = ["a.x0", "b.x0", "b.y1", "b.p0"]
+    for name in lost:
+        (store / name).unlink()
+    taken = shutil.disk_usage(disk).used
+    system("mount", "-o", f"remount,size={taken + 3 * 16 * KIB + 4 * KIB}", disk)
+    said = run("repair", store, "--workers", 1, status=3)
+    there = [name for name in lost if (store / name).exists()]
+    hold(there == lost[1:], f"rebuilt {there}: {said}")
+    hold_named(said, "a.x0", "No space left on device")
+    system("mount", "-o", f"remount,size={2_000 * KIB}", disk)
+    run("repair", store, status=0)
+    hold_whole(store, files)
+
+
 def test_read_only(place, choose):
     """A disk that is mounted read-only can be listed and scrubbed; a repair names what it can't write, and changes nothing."""
     disk = place / "read-only"
@@ -297,7 +317,8 @@ def main(program):
     global PROGRAM
     PROGRAM = pathlib.Path(program or PROGRAM).resolve()
     choose = random.Random(2026)
-    tests = (test_full, test_read_only, test_links, test_long_names, test_leftover_folder, test_other_users, test_owner, test_cut)
+    tests = (test_full, test_most_lost_first, test_read_only, test_links, test_long_names, test_leftover_folder, test_other_users, test_owner,
+             test_cut)
     with tempfile.TemporaryDirectory() as scratch:
         place = pathlib.Path(scratch)
         place.chmod(0o755)
