@@ -317,8 +317,8 @@ def main(program):
     global PROGRAM
     PROGRAM = pathlib.Path(program or PROGRAM).resolve()
     choose = random.Random(2026)
-    tests = (test_full, test_most_lost_first, test_read_only, test_links, test_long_names, test_leftover_folder, test_other_users, test_owner,
-             test_cut)
+    tests = (test_full, test_most_lost_first, test_read_only, test_links, test_long_names, test_leftover_folder, test_other_users,
+             test_owner, test_cut)
     with tempfile.TemporaryDirectory() as scratch:
         place = pathlib.Path(scratch)
         place.chmod(0o755)
