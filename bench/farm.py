@@ -156,7 +156,7 @@ def main(level, numbers):
         peers = build(scratch, level)
         print(f"\nFolders of so many racks and requests for fragments of so many bytes, half of them in one group, in {scratch.parent}:")
         print(f"ms from the program's start to its end, the least of {PASSES} runs in turn. A ratio is the C program's time over ours.\n")
-        print("| | Folder | Workers | ours | careful C | ratio | by eight | ratio | careless C | ratio | page faults (careless C's) |"
+        print("| | Folder | Workers | ours | careful C | ratio | batching C | ratio | careless C | ratio | page faults (careless C's) |"
               " switches (careless C's) | our peak MB | load |")
         print("|---|---|---|---|---|---|---|---|---|---|---|---|---|---|")
         with_sha = has_sha()

@@ -13,7 +13,7 @@ ROOT = pathlib.Path(__file__).resolve().parent.parent
 PAGE, PLOT = ROOT / "docs/BENCHMARKS.md", ROOT / "docs/speeds.svg"
 # Whose times the farm's bars are of.
 SHAPE = "8 x 200, 64 KiB"
-WIDTH, LEFT, STEP, TOP = 900, 560, 24, 66
+WIDTH, LEFT, STEP, TOP = 980, 640, 24, 66
 # The ratio at the right end of the axis.
 END = 3.0
 
@@ -29,8 +29,8 @@ def farm_rows(lines):
         cells = re.split(r"\s{2,}", line.strip())
         shape, cells = (cells[0], cells[1:]) if len(cells) > 8 else (shape, cells)
         if shape == SHAPE and cells[0] in ("1", "4"):
-            for peer, ratio in zip(("careful", "by eight", "careless"), cells[3::2]):
-                yield f"lists, 64 KiB, workers: {cells[0]}", peer, float(ratio)
+            for peer, ratio in zip(("the careful", "the batching", "the careless"), cells[3::2]):
+                yield f"lists, 64 KiB, workers: {cells[0]}", f"{peer} C program", float(ratio)
 
 
 def store_rows(lines):
