@@ -172,7 +172,7 @@ AFTER := $(addprefix gate/,refusals.py no-compile.sh reference-lines.sh ends.sh 
   tools/try.sh tools/demo.sh ceph/test.sh
 
 # What it runs before them, of sources and pages.
-BEFORE := $(addprefix gate/,formatted.sh wrong-bodies.sh architecture.py sweep.py documented.py pages.py messages.py lifetime.py) \
+BEFORE := $(addprefix gate/,formatted.sh wrong-bodies.sh architecture.py sweep.py documented.py pages.py sentences.py messages.py lifetime.py) \
   tools/format-page.py tools/speeds.py
 
 # Last comes a table of the time that all of it took.

@@ -1,10 +1,11 @@
 /* Local Reconstruction Codes with six or twelve data fragments, two local and two global parities: encoding, updating, plans,
  * rebuilding and verifying over the caller's buffers. docs/LIBRARY.md says how to link it and what is proved of it.
  *
- * A stripe has a fragment of equal length at each place of its code. Lengths are in bytes, and have no limit but memory. Codes
- * are those of Huang et al., "Erasure Coding in Windows Azure Storage" (USENIX ATC 2012), over the field of 256 elements with the
- * polynomial 11D; what holds of a stripe holds position by position, so fragments can be cut anywhere, and all pieces of one
- * position are a stripe again.
+ * A stripe has a fragment of equal length at each place of its code. Lengths are in bytes, and have no limit but memory. The codes
+ * have the form of Huang et al., "Erasure Coding in Windows Azure Storage" (USENIX ATC 2012), over the field of 256 elements with
+ * the polynomial 11D. Their coefficients are this project's own (docs/FORMATS.md), so fragments that Azure or another code of that
+ * form wrote can't be rebuilt. What holds of a stripe holds position by position, so fragments can be cut anywhere, and all pieces
+ * of one position are a stripe again.
  *
  *     uint8_t *stripe[LRC_PLACES] = {0};          // 16 pointers by place; NULL where the code has no place
  *     ..                                          // the data, and room for LRC_PX to LRC_P1
@@ -27,7 +28,7 @@
  *
  * Sets of places are bits: bit p of a mask is that of place p. Bits 16 and higher are ignored by every call.
  *
- * Numbers of no code, place, layout or status, such as (enum lrc_code)2, are answered too: each call says how.
+ * Numbers of no code, place, layout or status, such as (enum lrc_code)2, are safe: each call says what it answers.
  *
  * Length 0. The calls that rebuild refuse it; the others answer LRC_OK, and write no byte of a fragment.
  *
