@@ -171,14 +171,15 @@ AFTER := $(addprefix gate/,refusals.py no-compile.sh reference-lines.sh ends.sh 
   store-strangers.py store-files.py store-life.py store-damage.py store-faults.py file-faults.py packages.sh) \
   tools/try.sh tools/demo.sh ceph/test.sh
 
-# What it runs before them, of sources and pages.
-BEFORE := $(addprefix gate/,formatted.sh wrong-bodies.sh architecture.py sweep.py documented.py pages.py sentences.py messages.py lifetime.py) \
+# What it runs before them, of sources and pages; none of these writes a file of the repository.
+BEFORE := $(addprefix gate/,formatted.sh wrong-bodies.sh architecture.py sweep.py documented.py pages.py sentences.py messages.py \
+  lifetime.py) \
   tools/format-page.py tools/speeds.py
 
 # Last comes a table of the time that all of it took.
 test:
 	@tools/timed.py anew
-	@$(MAKE) --no-print-directory $(BEFORE)
+	@$(MAKE) --no-print-directory --output-sync=target -j$(shell nproc) $(BEFORE)
 	@$(MAKE) --no-print-directory proofs
 	@$(MAKE) --no-print-directory --output-sync=target -j$(shell nproc) $(AFTER)
 	@tools/timed.py table

@@ -41,7 +41,7 @@ What the gate took. First rt ci, by crates, in seconds of its processes' process
   proof       the crate's proof, and building it if it is a program
   tests       the proof of its tests, and building them
   seed        its proof once more, over which its wrong bodies are tried
-  edits       its wrong bodies, and how many they are
+  edits       its wrong bodies, and how many they are; below, each by itself
   from, to    minutes and seconds after rt ci began, when it was first and last at work on the crate, which may have waited in between
 """
 
@@ -76,15 +76,22 @@ def script(command):
 
 
 def work_of(words, folder):
-    """For which crate and which part of its proof a process with these words works in this folder, or None where it isn't the prover's.
-    Edits are tried in folders of their own, over what the seed holds."""
+    """For which crate and which part of its proof a process with these words works in this folder, and for which edit, or None where it
+    isn't the prover's. Edits are tried in folders of their own, over what the seed holds: the copy of it has the edit's number."""
     if "--crate-name" not in words[:-1]:
         return None
     name = words[words.index("--crate-name") + 1]
     if folder.parent.name == "crates" and folder.name == name:
-        return name, "tests" if "--test" in words else "proof"
+        return name, "tests" if "--test" in words else "proof", None
     over = words[words.index("--incremental") + 1] if "--incremental" in words[:-1] else ""
-    return name, "seed" if pathlib.Path(over).name == "seed" else "edits"
+    number = pathlib.Path(over).name
+    return name, "seed" if number == "seed" else "edits", number if number.isdigit() else None
+
+
+def name_of(crate, number):
+    """The name of a crate's edit with this number, which is that of its file among all in order."""
+    names = sorted(it.stem for it in (ROOT / "crates" / crate / "must-fail").glob("*.edit"))
+    return names[int(number)].replace("_", " ") if int(number) < len(names) else number
 
 
 class Seen:
@@ -137,9 +144,16 @@ class Seen:
         return self.work[number, start]
 
     def keep(self):
+        parts = collections.defaultdict(list)
         for work in self.first:
-            seconds = sum(had for its, had in self.seconds.values() if its == work)
-            keep(crate=work[0], part=work[1], seconds=seconds, first=self.first[work], last=self.last[work])
+            parts[work[:2]].append(work)
+        for part, works in parts.items():
+            had = {work: sum(had for its, had in self.seconds.values() if its == work) for work in works}
+            first, last = min(self.first[it] for it in works), max(self.last[it] for it in works)
+            keep(crate=part[0], part=part[1], seconds=sum(had.values()), first=first, last=last)
+            for work in works:
+                if work[2]:
+                    keep(edit=name_of(work[0], work[2]), of=work[0], seconds=had[work])
 
 
 def proofs(crate, beside, command):
@@ -204,6 +218,9 @@ def table():
     rows.append(("all", *[f"{it:.0f}" for it in sums], f"({sum(counts.values())})", "", ""))
     for name, *others in rows:
         print(f"{name:<20}" + "".join(f"{it:>8}" for it in others).rstrip())
+    print("\nThe seconds of each wrong body.")
+    for it in sorted(kept("edit"), key=lambda it: -it["seconds"]):
+        print(f"{it['of']:<16}{it['edit']:<56}{it['seconds']:>8.0f}")
     known = [it["known"] for it in kept("known")]
     if known:
         print(f"Proved by an earlier run, and kept: {', '.join(known)}")

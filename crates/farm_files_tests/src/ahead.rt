@@ -1,6 +1,7 @@
 //! Files that a shelf over a folder reads ahead, in one thread to sixteen, and what a shelf is asked for.
 use crate::shared::{
-    MOST_FAILURES, assert_fails, assert_none, assert_reads, input_of, serve_with, shelf_of, written,
+    MOST_FAILURES, assert_fails, assert_failures, assert_none, assert_reads, assert_writes,
+    input_of, serve_with, shelf_of,
 };
 use crate::watched::WatchedShelf;
 use farm_core::NoPause;
@@ -66,6 +67,21 @@ fn assert_gives<S: Shelf>(
     Ok(())
 }
 
+// Asserts the same of the files of these numbers, and that no read failed.
+fn assert_gives_all<S: Shelf>(
+    rt: &impl Abort,
+    shelf: &mut S,
+    alloc: Global,
+    first: usize,
+    end: usize,
+) -> Result<(), AllocError> {
+    for number in first..end {
+        assert_gives(rt, shelf, alloc, number)?;
+    }
+    assert_eq!(rt; shelf.failures(), 0);
+    Ok(())
+}
+
 // How many files are read ahead.
 const COUNTS: &[usize] = &[0, 1, 5, 300];
 
@@ -77,11 +93,8 @@ fn files_read_ahead_are_given_as_they_are(rt: HostRuntime) -> Result<(), AllocEr
         let mut shelf = ReadAheadShelf::open(&rt, alloc, "ahead/many")?;
         for count in COUNTS {
             shelf.read_ahead(&rt, alloc, names(alloc, 0, *count)?, threads);
-            for number in 0..*count {
-                assert_gives(&rt, &mut shelf, alloc, number)?;
-            }
+            assert_gives_all(&rt, &mut shelf, alloc, 0, *count)?;
         }
-        assert_eq!(&rt; shelf.failures(), 0);
     }
     Ok(())
 }
@@ -97,11 +110,11 @@ fn other_reads_and_writes_drop_what_was_read_ahead(rt: HostRuntime) -> Result<()
         assert_gives(&rt, &mut shelf, alloc, number)?;
     }
     shelf.read_ahead(&rt, alloc, names(alloc, 0, 300)?, 4);
-    assert_eq!(&rt; written(&mut shelf, alloc, "0", b"new"), Ok(()));
+    assert_writes(&rt, &mut shelf, alloc, "0", b"new");
     assert_reads(&rt, &mut shelf, alloc, "0", 4, b"new");
     shelf.read_ahead(&rt, alloc, names(alloc, 1, 2)?, 4);
     assert_reads(&rt, &mut shelf, alloc, "1", 0, b"");
-    assert_eq!(&rt; shelf.failures(), 0);
+    assert_failures(&rt, &shelf, 0);
     Ok(())
 }
 
@@ -139,10 +152,7 @@ fn files_read_into_memory_of_others_are_given_as_they_are(
         shelf.keep_rooms(rooms);
         let end = first.saturating_add(290);
         shelf.read_ahead(&rt, alloc, names(alloc, first, end)?, 4);
-        for number in first..end {
-            assert_gives(&rt, &mut shelf, alloc, number)?;
-        }
-        assert_eq!(&rt; shelf.failures(), 0);
+        assert_gives_all(&rt, &mut shelf, alloc, first, end)?;
     }
     Ok(())
 }
@@ -160,14 +170,11 @@ fn reads_that_fail_ahead_are_counted_once(rt: HostRuntime) -> Result<(), AllocEr
     for threads in THREADS {
         let mut shelf = ReadAheadShelf::open(&rt, alloc, "ahead/failing")?;
         shelf.read_ahead(&rt, alloc, names(alloc, 290, 302)?, *threads);
-        for number in 290..300usize {
-            assert_gives(&rt, &mut shelf, alloc, number)?;
-        }
-        assert_eq!(&rt; shelf.failures(), 0);
+        assert_gives_all(&rt, &mut shelf, alloc, 290, 300)?;
         assert_fails(&rt, &mut shelf, alloc, "300");
-        assert_eq!(&rt; shelf.failures(), 1);
+        assert_failures(&rt, &shelf, 1);
         assert_fails(&rt, &mut shelf, alloc, "301");
-        assert_eq!(&rt; shelf.failures(), 2);
+        assert_failures(&rt, &shelf, 2);
     }
     Ok(())
 }
@@ -180,10 +187,10 @@ fn memory_reads_nothing_ahead(rt: HostRuntime) -> Result<(), AllocError> {
     shelf.fail_at(1);
     shelf.read_ahead(&rt, alloc, names(alloc, 0, 300)?, 4);
     assert_gives(&rt, &mut shelf, alloc, 0)?;
-    assert_eq!(&rt; shelf.failures(), 0);
+    assert_failures(&rt, &shelf, 0);
     assert_fails(&rt, &mut shelf, alloc, "1");
     assert_gives(&rt, &mut shelf, alloc, 1)?;
-    assert_eq!(&rt; shelf.failures(), 1);
+    assert_failures(&rt, &shelf, 1);
     Ok(())
 }
 

@@ -125,12 +125,18 @@ fn given_back<R: Threads + Wait + Sync>(
 // racks, of these again, and none.
 #[test]
 fn the_memory_of_batches_is_given_back(rt: HostRuntime) -> Result<(), AllocError> {
-    assert_eq!(&rt; given_back(&rt, rt.alloc(), 1)?, 30);
-    assert_eq!(&rt; given_back(&rt, rt.alloc(), 5 * OF_REQUEST)?, 22);
-    assert_eq!(&rt; given_back(&rt, rt.alloc(), 10 * OF_REQUEST)?, 22);
-    assert_eq!(&rt; given_back(&rt, rt.alloc(), 15 * OF_REQUEST)?, 0);
+    for (most, rooms) in GIVEN_BACK {
+        assert_eq!(&rt; given_back(&rt, rt.alloc(), *most)?, *rooms);
+    }
     Ok(())
 }
+
+const GIVEN_BACK: &[(u64, usize)] = &[
+    (1, 30),
+    (5 * OF_REQUEST, 22),
+    (10 * OF_REQUEST, 22),
+    (15 * OF_REQUEST, 0),
+];
 
 const WORKERS: &[usize] = &[1, 3, 16];
 

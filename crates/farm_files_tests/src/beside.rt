@@ -1,5 +1,8 @@
 //! Files that a shelf reads ahead while a batch is answered.
-use crate::shared::{LIST_OF_FOUR, OF_REQUEST, are_answered, assert_reads, shelf_of, written};
+use crate::shared::{
+    LIST_OF_FOUR, OF_REQUEST, are_answered, assert_failures, assert_reads, assert_writes, put_file,
+    shelf_of,
+};
 use crate::watched::WatchedShelf;
 use farm_core::NoPause;
 use farm_files::{FolderShelf, ReadAheadShelf, Shelf};
@@ -32,30 +35,34 @@ fn gives(number: u64) -> Result<u64, AllocError> {
     Ok(number)
 }
 
+// What it gives, where files of these names are read beside it.
+fn given_beside<R: Threads + Sync>(
+    rt: &R,
+    shelf: &mut ReadAheadShelf,
+    alloc: Global,
+    names: &[&str],
+    threads: usize,
+    number: u64,
+) -> Result<u64, AllocError> {
+    let files = limited(alloc, names)?;
+    shelf.read_beside(rt, alloc, files, threads, || gives(number))
+}
+
 // What was read beside the work is what the reads after it give, also where it is asked for once more: the file has changed since.
 #[test]
 fn files_read_beside_work_are_given_once(rt: HostRuntime) -> Result<(), AllocError> {
     let alloc = rt.alloc();
     assert!(&rt; make_files(&rt, "beside/work", "beside/work/a", "beside/work/b"));
     let mut shelf = ReadAheadShelf::open(&rt, alloc, "beside/work")?;
-    assert_eq!(&rt;
-        shelf.read_beside(&rt, alloc, limited(alloc, &["a", "b"])?, 4, || gives(7)),
-        Ok(7)
-    );
-    assert!(&rt; fs::write(&rt, "beside/work/a", b"new").is_ok());
+    assert_eq!(&rt; given_beside(&rt, &mut shelf, alloc, &["a", "b"], 4, 7)?, 7);
+    put_file(&rt, "beside/work/a", b"new");
     shelf.read_ahead(&rt, alloc, limited(alloc, &["a", "b"])?, 4);
-    assert_eq!(&rt;
-        shelf.read_beside(&rt, alloc, limited(alloc, &["a", "b"])?, 4, || gives(8)),
-        Ok(8)
-    );
-    assert_eq!(&rt;
-        shelf.read_beside(&rt, alloc, Vec::new(alloc), 4, || gives(9)),
-        Ok(9)
-    );
+    assert_eq!(&rt; given_beside(&rt, &mut shelf, alloc, &["a", "b"], 4, 8)?, 8);
+    assert_eq!(&rt; given_beside(&rt, &mut shelf, alloc, &[], 4, 9)?, 9);
     assert_reads(&rt, &mut shelf, alloc, "a", 4, b"one");
     assert_reads(&rt, &mut shelf, alloc, "b", 4, b"two");
     assert_reads(&rt, &mut shelf, alloc, "a", 4, b"new");
-    assert_eq!(&rt; shelf.failures(), 0);
+    assert_failures(&rt, &shelf, 0);
     Ok(())
 }
 
@@ -67,21 +74,15 @@ fn other_reads_and_writes_drop_what_was_read_beside_work(
     let alloc = rt.alloc();
     assert!(&rt; make_files(&rt, "beside/other", "beside/other/a", "beside/other/b"));
     let mut shelf = ReadAheadShelf::open(&rt, alloc, "beside/other")?;
-    assert_eq!(&rt;
-        shelf.read_beside(&rt, alloc, limited(alloc, &["a", "b"])?, 1, || gives(7)),
-        Ok(7)
-    );
-    assert_eq!(&rt; written(&mut shelf, alloc, "a", b"new"), Ok(()));
+    assert_eq!(&rt; given_beside(&rt, &mut shelf, alloc, &["a", "b"], 1, 7)?, 7);
+    assert_writes(&rt, &mut shelf, alloc, "a", b"new");
     assert_reads(&rt, &mut shelf, alloc, "a", 4, b"new");
-    assert_eq!(&rt;
-        shelf.read_beside(&rt, alloc, limited(alloc, &["a"])?, 1, || gives(7)),
-        Ok(7)
-    );
-    assert!(&rt; fs::write(&rt, "beside/other/a", b"newer").is_ok());
+    assert_eq!(&rt; given_beside(&rt, &mut shelf, alloc, &["a"], 1, 7)?, 7);
+    put_file(&rt, "beside/other/a", b"newer");
     shelf.read_ahead(&rt, alloc, limited(alloc, &["a", "b"])?, 1);
     assert_reads(&rt, &mut shelf, alloc, "a", 4, b"newe");
     assert_reads(&rt, &mut shelf, alloc, "b", 4, b"two");
-    assert_eq!(&rt; shelf.failures(), 0);
+    assert_failures(&rt, &shelf, 0);
     Ok(())
 }
 
@@ -93,6 +94,17 @@ fn fails_once(calls: &AtomicU64) -> Result<u64, AllocError> {
     }
 }
 
+// What such work gives, where these files are read beside it.
+fn failing_beside<R: Threads + Sync, S: Shelf>(
+    rt: &R,
+    shelf: &mut S,
+    alloc: Global,
+    files: Vec<FileRead>,
+    calls: &AtomicU64,
+) -> Result<u64, AllocError> {
+    shelf.read_beside(rt, alloc, files, 4, || fails_once(calls))
+}
+
 // Work that fails while files are read is done once more, alone: what was read ahead is dropped by then. Where nothing is read beside it
 // it is done once.
 #[test]
@@ -101,27 +113,18 @@ fn work_that_fails_beside_reading_is_done_again(rt: HostRuntime) -> Result<(), A
     assert!(&rt; make_files(&rt, "beside/again", "beside/again/a", "beside/again/b"));
     let mut shelf = ReadAheadShelf::open(&rt, alloc, "beside/again")?;
     let calls = AtomicU64::new(0);
+    let files = limited(alloc, &["a", "b"])?;
     assert_eq!(&rt;
-        shelf.read_beside(
-            &rt,
-            alloc,
-            limited(alloc, &["a", "b"])?,
-            4,
-            || fails_once(&calls)
-        ),
+        failing_beside(&rt, &mut shelf, alloc, files, &calls),
         Ok(2)
     );
-    assert!(&rt; fs::write(&rt, "beside/again/a", b"new").is_ok());
+    put_file(&rt, "beside/again/a", b"new");
     assert_reads(&rt, &mut shelf, alloc, "a", 4, b"new");
     let calls = AtomicU64::new(0);
-    assert_eq!(&rt;
-        shelf.read_beside(&rt, alloc, Vec::new(alloc), 4, || fails_once(&calls)),
-        Err(AllocError)
-    );
-    assert_eq!(&rt;
-        shelf.read_beside(&rt, alloc, Vec::new(alloc), 4, || fails_once(&calls)),
-        Ok(2)
-    );
+    let alone = failing_beside(&rt, &mut shelf, alloc, Vec::new(alloc), &calls);
+    assert_eq!(&rt; alone, Err(AllocError));
+    let again = failing_beside(&rt, &mut shelf, alloc, Vec::new(alloc), &calls);
+    assert_eq!(&rt; again, Ok(2));
     Ok(())
 }
 
@@ -133,16 +136,11 @@ fn work_that_fails_alone_is_done_once(rt: HostRuntime) -> Result<(), AllocError>
     let mut shelf = FolderShelf::open(&rt, alloc, "beside/alone")?;
     shelf.read_ahead(&rt, alloc, limited(alloc, &["a", "b"])?, 4);
     let calls = AtomicU64::new(0);
-    let done = shelf.read_beside(
-        &rt,
-        alloc,
-        limited(alloc, &["a", "b"])?,
-        4,
-        || fails_once(&calls),
-    );
+    let files = limited(alloc, &["a", "b"])?;
+    let done = failing_beside(&rt, &mut shelf, alloc, files, &calls);
     assert_eq!(&rt; done, Err(AllocError));
     assert_eq!(&rt; calls.load(Ordering::SeqCst), 1);
-    assert!(&rt; fs::write(&rt, "beside/alone/a", b"new").is_ok());
+    put_file(&rt, "beside/alone/a", b"new");
     assert_reads(&rt, &mut shelf, alloc, "a", 4, b"new");
     Ok(())
 }
@@ -172,9 +170,15 @@ fn named_and_read<R: Threads + Wait + Sync>(
 // two racks, of one, and none. A rack lists five requests, the second one six.
 #[test]
 fn the_files_of_the_next_batch_are_read_beside_work(rt: HostRuntime) -> Result<(), AllocError> {
-    assert_eq!(&rt; named_and_read(&rt, rt.alloc(), 1)?, 36);
-    assert_eq!(&rt; named_and_read(&rt, rt.alloc(), 6 * OF_REQUEST)?, 27);
-    assert_eq!(&rt; named_and_read(&rt, rt.alloc(), 11 * OF_REQUEST)?, 12);
-    assert_eq!(&rt; named_and_read(&rt, rt.alloc(), 16 * OF_REQUEST)?, 0);
+    for (most, files) in READ {
+        assert_eq!(&rt; named_and_read(&rt, rt.alloc(), *most)?, *files);
+    }
     Ok(())
 }
+
+const READ: &[(u64, usize)] = &[
+    (1, 36),
+    (6 * OF_REQUEST, 27),
+    (11 * OF_REQUEST, 12),
+    (16 * OF_REQUEST, 0),
+];

@@ -40,6 +40,12 @@ fn counts_of(counts: &[AtomicU64; 3]) -> [u64; 3] {
     found
 }
 
+// Asserts that these are the counts, and says what was counted where they aren't.
+fn assert_counted(rt: &impl Abort, counts: &[AtomicU64; 3], expected: [u64; 3], what: &str) {
+    let found = counts_of(counts);
+    assert!(rt; found == expected, "{what}: {found:?}");
+}
+
 impl Pause for Calls {
     fn before(&self, rack: usize, number: u64) {
         count(&self.before, rack, number);
@@ -71,9 +77,9 @@ impl Calls {
 
     /// Asserts that these numbers name the requests that were drawn and answered, and the orders that were come to and passed.
     pub(crate) fn assert_are(&self, rt: &impl Abort, requests: [u64; 3], orders: [u64; 3]) {
-        assert_eq!(rt; counts_of(&self.before), requests, "drawn");
-        assert_eq!(rt; counts_of(&self.after), requests, "answered");
-        assert_eq!(rt; counts_of(&self.ahead), orders, "come to");
-        assert_eq!(rt; counts_of(&self.behind), orders, "passed");
+        assert_counted(rt, &self.before, requests, "drawn");
+        assert_counted(rt, &self.after, requests, "answered");
+        assert_counted(rt, &self.ahead, orders, "come to");
+        assert_counted(rt, &self.behind, orders, "passed");
     }
 }

@@ -60,6 +60,15 @@ fn list_of(alloc: Global, orders: &str) -> Result<Vec<u8>, AllocError> {
     Ok(list)
 }
 
+// A shelf with the lists of these feeds.
+fn input_of(alloc: Global, feeds: &[&str]) -> Result<MemoryShelf, AllocError> {
+    let mut input = shelf_of(alloc, &FRAGMENTS)?;
+    for (name, orders) in FEEDS.iter().zip(feeds.iter()) {
+        input.place(alloc, name, list_of(alloc, orders)?.as_slice())?;
+    }
+    Ok(input)
+}
+
 // Whether the answers to the one rack with these feeds are as asked, with so many workers and batches of so many bytes.
 fn is_answered<R: Threads + Wait + Sync, P: Pause, F: Fn(&Answered) -> bool>(
     rt: &R,
@@ -71,10 +80,7 @@ fn is_answered<R: Threads + Wait + Sync, P: Pause, F: Fn(&Answered) -> bool>(
 ) -> Result<bool, AllocError>
     requires { F.IsAlwaysCallable is_right }
 {
-    let mut input: MemoryShelf = shelf_of(alloc, &FRAGMENTS)?;
-    for (name, orders) in FEEDS.iter().zip(feeds.iter()) {
-        input.place(alloc, name, list_of(alloc, orders)?.as_slice())?;
-    }
+    let mut input = input_of(alloc, feeds)?;
     are_answered(rt, alloc, &mut input, settings, pause, is_right)
 }
 
@@ -159,6 +165,18 @@ fn is_whole(feeds: &[&str], answered: &Answered) -> bool {
     }
 }
 
+// Whether the answers to the one rack with these feeds are those to a lawful merge.
+fn is_merged<R: Threads + Wait + Sync, P: Pause>(
+    rt: &R,
+    alloc: Global,
+    feeds: &[&str],
+    settings: (usize, u64),
+    pause: &P,
+) -> Result<bool, AllocError> {
+    let whole = |answered: &Answered| is_whole(feeds, answered);
+    is_answered(rt, alloc, feeds, settings, pause, whole)
+}
+
 const WORKERS: &[usize] = &[1, 4];
 
 const MOST: &[u64] = &[
@@ -176,9 +194,7 @@ fn feeds_in_any_batches_are_merged_up_to_a_close(rt: HostRuntime) -> Result<(), 
     for workers in WORKERS {
         for most in MOST {
             for feeds in RACKS {
-                let settings = (*workers, *most);
-                let whole = |answered: &Answered| is_whole(feeds, answered);
-                let is = is_answered(&rt, rt.alloc(), feeds, settings, &NoPause, whole)?;
+                let is = is_merged(&rt, rt.alloc(), feeds, (*workers, *most), &NoPause)?;
                 assert!(&rt; is, "{feeds:?}, {workers} workers, batches of {most} bytes");
             }
         }
@@ -214,8 +230,7 @@ fn a_pause_is_given_the_numbers_of_both_feeds(rt: HostRuntime) -> Result<(), All
     let feeds: &[&str] = &["abcd", "dcba"];
     for most in MOST {
         let calls = Calls::new();
-        let whole = |answered: &Answered| is_whole(feeds, answered);
-        let is = is_answered(&rt, rt.alloc(), feeds, (2, *most), &calls, whole)?;
+        let is = is_merged(&rt, rt.alloc(), feeds, (2, *most), &calls)?;
         assert!(&rt; is, "batches of {most} bytes");
         calls.assert_are(&rt, ALL_NUMBERS, ALL_POSITIONS);
     }

@@ -1,9 +1,10 @@
 //! Shelves whose calls fail, one at a time.
 use crate::shared::{
-    REPORT_WITHOUT_X1, REPORT_WITHOUT_X2, Run, assert_fails, assert_file, assert_none,
-    assert_reads, input_of, serve_failing, serve_onto, shelf_of, written,
+    REPORT_WITHOUT_X1, REPORT_WITHOUT_X2, Run, assert_fails, assert_failures, assert_file,
+    assert_none, assert_reads, assert_write_fails, assert_writes, input_of, serve_failing,
+    serve_onto, shelf_of,
 };
-use farm_files::{ListFault, MemoryShelf, ServeFault, Shelf, ShelfFault};
+use farm_files::{ListFault, MemoryShelf, ServeFault, Shelf};
 use farm_lists_tests::samples::{LIST, REPORT, REPORT_WITHOUT_PX};
 use std::alloc::{AllocError, Global};
 use std::process::Abort;
@@ -18,23 +19,20 @@ const FRAGMENT_FILE: &str = "rack0-0.abc.x0";
 fn a_shelf_in_memory_fails_at_the_call_that_is_set(rt: HostRuntime) -> Result<(), AllocError> {
     let alloc = rt.alloc();
     let mut shelf = MemoryShelf::new(alloc);
-    assert_eq!(&rt; shelf.failures(), 0);
-    assert_eq!(&rt; written(&mut shelf, alloc, "a", b"four"), Ok(()));
+    assert_failures(&rt, &shelf, 0);
+    assert_writes(&rt, &mut shelf, alloc, "a", b"four");
     shelf.fail_at(1);
     assert_reads(&rt, &mut shelf, alloc, "a", 3, b"fou");
-    assert_eq!(&rt; shelf.failures(), 0);
-    assert_eq!(&rt;
-        written(&mut shelf, alloc, "a", b"later"),
-        Err(ShelfFault::Device)
-    );
+    assert_failures(&rt, &shelf, 0);
+    assert_write_fails(&rt, &mut shelf, alloc, "a", b"later");
     assert_file(&rt, &shelf, "a", b"la");
-    assert_eq!(&rt; shelf.failures(), 1);
+    assert_failures(&rt, &shelf, 1);
     assert_none(&rt, &mut shelf, alloc, "b");
     shelf.fail_at(0);
-    assert_eq!(&rt; shelf.failures(), 1);
+    assert_failures(&rt, &shelf, 1);
     assert_fails(&rt, &mut shelf, alloc, "a");
     assert_file(&rt, &shelf, "a", b"la");
-    assert_eq!(&rt; shelf.failures(), 2);
+    assert_failures(&rt, &shelf, 2);
     Ok(())
 }
 
@@ -54,14 +52,34 @@ fn a_failed_read_ends_serving_for_a_list_alone(rt: HostRuntime) -> Result<(), Al
         run.assert_ended(&rt, ServeFault::Device, 1, &[REPORT_FILE, FRAGMENT_FILE]);
     }
     for (call, report) in REPORTS {
-        let run = serve_failing(&rt, rt.alloc(), &[], *call)?;
-        run.assert_gave(&rt, 1, 1, &[(REPORT_FILE, report)], &[FRAGMENT_FILE]);
-        assert_eq!(&rt; run.failures, 1, "call {call}");
+        assert_left_out(&rt, rt.alloc(), *call, report)?;
     }
-    let run = serve_failing(&rt, rt.alloc(), &[], 6)?;
+    assert_served(&rt, rt.alloc(), 6)
+}
+
+// Asserts that a fragment whose read is this call is left out, as the report says.
+fn assert_left_out<R: Abort + Threads + Wait + Sync>(
+    rt: &R,
+    alloc: Global,
+    call: u64,
+    report: &[u8],
+) -> Result<(), AllocError> {
+    let run = serve_failing(rt, alloc, &[], call)?;
+    run.assert_gave(rt, 1, 1, &[(REPORT_FILE, report)], &[FRAGMENT_FILE]);
+    assert_eq!(rt; run.failures, 1, "call {call}");
+    Ok(())
+}
+
+// Asserts that there is no such call.
+fn assert_served<R: Abort + Threads + Wait + Sync>(
+    rt: &R,
+    alloc: Global,
+    call: u64,
+) -> Result<(), AllocError> {
+    let run = serve_failing(rt, alloc, &[], call)?;
     let files: &[(&str, &[u8])] = &[(REPORT_FILE, REPORT), (FRAGMENT_FILE, b"abc")];
-    run.assert_gave(&rt, 1, 1, files, &[]);
-    assert_eq!(&rt; run.failures, 0);
+    run.assert_gave(rt, 1, 1, files, &[]);
+    assert_eq!(rt; run.failures, 0);
     Ok(())
 }
 
@@ -75,7 +93,7 @@ fn failed_read_leaves_the_output(rt: HostRuntime) -> Result<(), AllocError> {
         output.fail_at(0);
         let run = serve_onto(&rt, rt.alloc(), (2, 1), &mut input, output);
         run.assert_ended(&rt, ServeFault::Device, 1, &[FRAGMENT_FILE]);
-        assert_eq!(&rt; run.output.failures(), 0, "call {call}");
+        assert_failures(&rt, &run.output, 0);
         run.assert_wrote(&rt, REPORT_FILE, b"kept");
     }
     Ok(())
@@ -112,17 +130,14 @@ fn assert_front(rt: &impl Abort, run: &Run, report: &[u8], count: usize) {
 fn a_failed_write_leaves_half_of_its_bytes(rt: HostRuntime) -> Result<(), AllocError> {
     let alloc = rt.alloc();
     assert_eq!(&rt; REPORT.len(), 135);
-    let run = serve_onto_failing(&rt, alloc, input_of(alloc, LIST)?, 0);
-    run.assert_ended(&rt, ServeFault::Device, 0, &[REPORT_FILE]);
-    run.assert_wrote(&rt, FRAGMENT_FILE, b"a");
-    assert_eq!(&rt; run.output.failures(), 1);
-
-    let run = serve_onto_failing(&rt, alloc, input_of(alloc, LIST)?, 1);
-    run.assert_ended(&rt, ServeFault::Device, 0, &[]);
-    assert_front(&rt, &run, REPORT, 67);
-    run.assert_wrote(&rt, FRAGMENT_FILE, b"abc");
-    assert_eq!(&rt; run.output.failures(), 1);
-
+    assert_fragment_half_written(
+        &rt,
+        &serve_onto_failing(&rt, alloc, input_of(alloc, LIST)?, 0),
+    );
+    assert_report_half_written(
+        &rt,
+        &serve_onto_failing(&rt, alloc, input_of(alloc, LIST)?, 1),
+    );
     let run = serve_onto_failing(&rt, alloc, input_of(alloc, LIST)?, 2);
     run.assert_gave(
         &rt,
@@ -131,8 +146,23 @@ fn a_failed_write_leaves_half_of_its_bytes(rt: HostRuntime) -> Result<(), AllocE
         &[(FRAGMENT_FILE, b"abc"), (REPORT_FILE, REPORT)],
         &[],
     );
-    assert_eq!(&rt; run.output.failures(), 0);
+    assert_failures(&rt, &run.output, 0);
     Ok(())
+}
+
+// Asserts what the first failed write leaves.
+fn assert_fragment_half_written(rt: &impl Abort, run: &Run) {
+    run.assert_ended(rt, ServeFault::Device, 0, &[REPORT_FILE]);
+    run.assert_wrote(rt, FRAGMENT_FILE, b"a");
+    assert_failures(rt, &run.output, 1);
+}
+
+// Asserts what the second leaves.
+fn assert_report_half_written(rt: &impl Abort, run: &Run) {
+    run.assert_ended(rt, ServeFault::Device, 0, &[]);
+    assert_front(rt, run, REPORT, 67);
+    run.assert_wrote(rt, FRAGMENT_FILE, b"abc");
+    assert_failures(rt, &run.output, 1);
 }
 
 // The lists are read in order, each tested ahead of the next read: of a failed read and a refused list the first in that order is reported.
@@ -165,7 +195,7 @@ fn failures_are_counted_at_their_own_devices(rt: HostRuntime) -> Result<(), Allo
     input.fail_at(3);
     let run = serve_onto_failing(&rt, rt.alloc(), input, 0);
     run.assert_ended(&rt, ServeFault::Device, 1, &[FRAGMENT_FILE]);
-    assert_eq!(&rt; run.output.failures(), 1);
+    assert_failures(&rt, &run.output, 1);
     assert_eq!(&rt; REPORT_WITHOUT_X1.len(), 73);
     assert_front(&rt, &run, REPORT_WITHOUT_X1, 36);
     Ok(())

@@ -290,16 +290,18 @@ const REPORTS: &[(u64, &[u8])] = &[
 #[test]
 fn a_failed_read_ends_serving_for_the_list_of_a_feed(rt: HostRuntime) -> Result<(), AllocError> {
     for (call, report) in REPORTS {
-        let run = serve_failing(&rt, rt.alloc(), &[("rack0.feed1.csv", HEADER)], *call)?;
+        let run = serve_failing(&rt, rt.alloc(), WITH_A_FEED, *call)?;
         run.assert_gave(&rt, 1, 1, &[("rack0.report.csv", report)], &[]);
         assert_eq!(&rt; run.failures, 1, "call {call}");
     }
     for call in 0..4 {
-        let run = serve_failing(&rt, rt.alloc(), &[("rack0.feed1.csv", HEADER)], call)?;
+        let run = serve_failing(&rt, rt.alloc(), WITH_A_FEED, call)?;
         run.assert_ended(&rt, ServeFault::Device, 1, &["rack0.report.csv"]);
     }
     Ok(())
 }
+
+const WITH_A_FEED: &[(&str, &[u8])] = &[("rack0.feed1.csv", HEADER)];
 
 // Sixteen racks of four feeds each.
 fn most_lists(alloc: Global) -> Result<MemoryShelf, AllocError> {
@@ -307,12 +309,18 @@ fn most_lists(alloc: Global) -> Result<MemoryShelf, AllocError> {
     for rack in 0..16 {
         let name = format!(in alloc; "rack{rack}.csv")?;
         input.place(alloc, &name, HEADER)?;
-        for feed in 1..4 {
-            let name = format!(in alloc; "rack{rack}.feed{feed}.csv")?;
-            input.place(alloc, &name, HEADER)?;
-        }
+        add_feeds(&mut input, alloc, rack)?;
     }
     Ok(input)
+}
+
+// The three feeds of a rack beside its list.
+fn add_feeds(input: &mut MemoryShelf, alloc: Global, rack: usize) -> Result<(), AllocError> {
+    for feed in 1..4 {
+        let name = format!(in alloc; "rack{rack}.feed{feed}.csv")?;
+        input.place(alloc, &name, HEADER)?;
+    }
+    Ok(())
 }
 
 // Each rack's reads are five, and there is one after them all.

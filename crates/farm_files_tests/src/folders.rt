@@ -1,6 +1,9 @@
 //! One run over real folders, which the test makes where it runs.
-use crate::shared::{FRAGMENTS, assert_none, assert_reads, serve_with, written};
-use farm_core::{NoPause, Settings};
+use crate::shared::{
+    FRAGMENTS, add_file, assert_failures, assert_none, assert_reads, assert_write_fails, put_file,
+    served_between, written,
+};
+use farm_core::Settings;
 use farm_files::{FolderShelf, Folders, ServeFault, Served, Shelf, ShelfFault, serve_folders};
 use farm_lists_tests::samples::{LIST, REPORT};
 use farm_shelves::read_front;
@@ -28,26 +31,23 @@ fn make_folders<R: Files>(
         return Ok(false);
     }
     for (name, bytes) in &FRAGMENTS {
-        let path = format!(in alloc; "{input}/{name}")?;
-        if fs::write(rt, path.as_str(), *bytes).is_err() {
+        if !add_file(rt, alloc, input, name, bytes)? {
             return Ok(false);
         }
     }
-    let list = format!(in alloc; "{input}/rack0.csv")?;
-    Ok(fs::write(rt, list.as_str(), LIST).is_ok())
+    add_file(rt, alloc, input, "rack0.csv", LIST)
 }
 
 #[test]
 fn a_run_over_folders_writes_its_files(rt: HostRuntime) -> Result<(), AllocError> {
     let alloc = rt.alloc();
     assert!(&rt; make_folders(&rt, alloc, "served/in", "served/out")?);
-    let mut input = FolderShelf::open(&rt, alloc, "served/in")?;
+    let served = served_between(&rt, alloc, "served/in", "served/out")?;
+    assert_eq!(&rt; served, (Ok(ONE), (0, 0)));
     let mut output = FolderShelf::open(&rt, alloc, "served/out")?;
-    let served = serve_with(&rt, alloc, (1, 1), &mut input, &mut output, &NoPause);
-    assert_eq!(&rt; served, Ok(ONE));
     assert_reads(&rt, &mut output, alloc, "rack0.report.csv", 1000, REPORT);
     assert_reads(&rt, &mut output, alloc, "rack0-0.abc.x0", 2, b"ab");
-    assert_eq!(&rt; output.failures(), 0);
+    assert_failures(&rt, &output, 0);
     Ok(())
 }
 
@@ -56,7 +56,7 @@ fn a_run_over_folders_writes_its_files(rt: HostRuntime) -> Result<(), AllocError
 fn the_first_folder_is_read_and_the_second_written(rt: HostRuntime) -> Result<(), AllocError> {
     let alloc = rt.alloc();
     assert!(&rt; make_folders(&rt, alloc, "ordered/in", "ordered/out")?);
-    assert!(&rt; fs::write(&rt, "ordered/out/rack0.csv", b"x").is_ok());
+    put_file(&rt, "ordered/out/rack0.csv", b"x");
     let Ok(settings) = Settings::new(2, 1) else {
         return Err(AllocError);
     };
@@ -111,11 +111,9 @@ fn a_list_that_is_a_folder_fails_the_input(rt: HostRuntime) -> Result<(), AllocE
     let alloc = rt.alloc();
     assert!(&rt; fs::create_dir_all(&rt, "unread/in/rack0.csv").is_ok());
     assert!(&rt; fs::create_dir_all(&rt, "unread/out").is_ok());
-    let mut input = FolderShelf::open(&rt, alloc, "unread/in")?;
+    let served = served_between(&rt, alloc, "unread/in", "unread/out")?;
+    assert_eq!(&rt; served, (Err(ServeFault::Device), (1, 0)));
     let mut output = FolderShelf::open(&rt, alloc, "unread/out")?;
-    let served = serve_with(&rt, alloc, (1, 1), &mut input, &mut output, &NoPause);
-    assert_eq!(&rt; served, Err(ServeFault::Device));
-    assert_eq!(&rt; (input.failures(), output.failures()), (1, 0));
     assert_none(&rt, &mut output, alloc, "rack0.report.csv");
     Ok(())
 }
@@ -127,7 +125,7 @@ fn a_file_of_an_unknown_length_is_read(rt: HostRuntime) -> Result<(), AllocError
     let mut shelf = FolderShelf::open(&rt, alloc, "/proc/sys/kernel")?;
     assert_reads(&rt, &mut shelf, alloc, "ostype", usize::MAX, b"Linux\n");
     assert_reads(&rt, &mut shelf, alloc, "ostype", 3, b"Lin");
-    assert_eq!(&rt; shelf.failures(), 0);
+    assert_failures(&rt, &shelf, 0);
     Ok(())
 }
 
@@ -136,14 +134,11 @@ fn a_file_of_an_unknown_length_is_read(rt: HostRuntime) -> Result<(), AllocError
 fn an_absent_folder_has_no_files_and_takes_none(rt: HostRuntime) -> Result<(), AllocError> {
     let alloc = rt.alloc();
     let mut shelf = FolderShelf::open(&rt, alloc, "no such folder")?;
-    assert_eq!(&rt; shelf.failures(), 0);
+    assert_failures(&rt, &shelf, 0);
     assert_none(&rt, &mut shelf, alloc, "a");
-    assert_eq!(&rt; shelf.failures(), 0);
-    assert_eq!(&rt;
-        written(&mut shelf, alloc, "a", b"x"),
-        Err(ShelfFault::Device)
-    );
-    assert_eq!(&rt; shelf.failures(), 1);
+    assert_failures(&rt, &shelf, 0);
+    assert_write_fails(&rt, &mut shelf, alloc, "a", b"x");
+    assert_failures(&rt, &shelf, 1);
     Ok(())
 }
 

@@ -1,6 +1,5 @@
 //! Links in a folder, and what they lead to: files, folders, nothing, and each other.
-use crate::shared::{assert_fails, assert_none, assert_reads, serve_with, written};
-use farm_core::NoPause;
+use crate::shared::{add_file, assert_fails, assert_none, assert_reads, served_between, written};
 use farm_files::{FolderShelf, ReadAheadShelf, ServeFault, Served, Shelf, ShelfFault};
 use farm_lists_tests::samples::LIST;
 use farm_shelves::FileRead;
@@ -10,22 +9,30 @@ use std::os::unix::fs::symlink;
 use std::process::Abort;
 use std::rt::Files;
 
+// Puts a link into a folder.
+fn add_link<R: Files>(
+    rt: &R,
+    alloc: Global,
+    folder: &str,
+    name: &str,
+    to: &str,
+) -> Result<bool, AllocError> {
+    let path = format!(in alloc; "{folder}/{name}")?;
+    Ok(symlink(rt, to, path.as_str()).is_ok())
+}
+
 // A folder with a file `there`, a folder `folder`, and links to both, to nothing and to each other.
 fn make_links<R: Files>(rt: &R, alloc: Global, folder: &str) -> Result<bool, AllocError> {
     let inner = format!(in alloc; "{folder}/folder")?;
-    let there = format!(in alloc; "{folder}/there")?;
-    if fs::create_dir_all(rt, inner.as_str()).is_err()
-        || fs::write(rt, there.as_str(), b"abc").is_err()
-    {
+    if fs::create_dir_all(rt, inner.as_str()).is_err() {
         return Ok(false);
     }
     for (to, name) in LINKS {
-        let link = format!(in alloc; "{folder}/{name}")?;
-        if symlink(rt, *to, link.as_str()).is_err() {
+        if !add_link(rt, alloc, folder, name, to)? {
             return Ok(false);
         }
     }
-    Ok(true)
+    add_file(rt, alloc, folder, "there", b"abc")
 }
 
 // What each link leads to, and its name.
@@ -105,53 +112,79 @@ fn writes_by_links_reach_regular_files_alone(rt: HostRuntime) -> Result<(), Allo
     assert!(&rt; make_links(&rt, alloc, "links/written")?);
     let mut shelf = FolderShelf::open(&rt, alloc, "links/written")?;
     for name in FAILING {
-        let failures = shelf.failures();
-        let answer = written(&mut shelf, alloc, name, b"new");
-        assert_eq!(&rt; answer, Err(ShelfFault::Device), "{name}");
-        assert_eq!(&rt; shelf.failures(), failures.saturating_add(1), "{name}");
+        assert_not_written(&rt, &mut shelf, alloc, name);
     }
-    for (name, leads_to) in &[("to-link", "there"), ("to-nothing", "nowhere")] {
-        assert_eq!(&rt; written(&mut shelf, alloc, name, name.as_bytes()), Ok(()));
-        assert_reads(&rt, &mut shelf, alloc, leads_to, 100, name.as_bytes());
-    }
+    assert_written_at(&rt, &mut shelf, alloc, "to-link", "there");
+    assert_written_at(&rt, &mut shelf, alloc, "to-nothing", "nowhere");
     Ok(())
+}
+
+// Asserts that a write under a name of the folder fails, and counts.
+fn assert_not_written<S: Shelf>(rt: &impl Abort, shelf: &mut S, alloc: Global, name: &str) {
+    let failures = shelf.failures();
+    let answer = written(shelf, alloc, name, b"new");
+    assert_eq!(rt; answer, Err(ShelfFault::Device), "{name}");
+    assert_eq!(rt; shelf.failures(), failures.saturating_add(1), "{name}");
+}
+
+// Asserts that what is written by a link is read where that leads to.
+fn assert_written_at<S: Shelf>(
+    rt: &impl Abort,
+    shelf: &mut S,
+    alloc: Global,
+    name: &str,
+    leads_to: &str,
+) {
+    assert_eq!(rt; written(shelf, alloc, name, name.as_bytes()), Ok(()));
+    assert_reads(rt, shelf, alloc, leads_to, 100, name.as_bytes());
+}
+
+// A folder with these links, a list, and links by the names of two lists.
+fn make_lists<R: Files>(
+    rt: &R,
+    alloc: Global,
+    folder: &str,
+    first: &str,
+    second: &str,
+) -> Result<bool, AllocError> {
+    Ok(
+        make_links(rt, alloc, folder)?
+            && add_file(rt, alloc, folder, "list", LIST)?
+            && add_link(rt, alloc, folder, "rack0.csv", first)?
+            && add_link(rt, alloc, folder, "rack1.csv", second)?,
+    )
 }
 
 // Lists that can't be read end the work, wherever they are. Racks that follow an absent list are not served.
 #[test]
 fn lists_that_are_links_are_read_or_end_serving(rt: HostRuntime) -> Result<(), AllocError> {
-    let alloc = rt.alloc();
-    for (first, second, served) in LISTS {
-        let folder = format!(in alloc; "links/{first}-{second}")?;
-        let folder = folder.as_str();
-        assert!(&rt; make_links(&rt, alloc, folder)?);
-        let there = format!(in alloc; "{folder}/list")?;
-        assert!(&rt; fs::write(&rt, there.as_str(), LIST).is_ok());
-        for (to, name) in &[(*first, "rack0.csv"), (*second, "rack1.csv")] {
-            let link = format!(in alloc; "{folder}/{name}")?;
-            assert!(&rt; symlink(&rt, *to, link.as_str()).is_ok());
-        }
-        let mut input = FolderShelf::open(&rt, alloc, folder)?;
-        let mut output = FolderShelf::open(&rt, alloc, folder)?;
-        let run = serve_with(&rt, alloc, (1, 1), &mut input, &mut output, &NoPause);
-        match served {
-            Ok((racks, answers)) => {
-                let served = Served {
-                    racks: *racks,
-                    answers: *answers,
-                };
-                assert_eq!(&rt; run, Ok(served), "{first}, {second}");
-            }
-            Err(fault) => assert_eq!(&rt; run, Err(*fault), "{first}, {second}"),
-        }
+    for (first, second, wanted) in LISTS {
+        let folder = format!(in rt.alloc(); "links/{first}-{second}")?;
+        assert!(&rt; make_lists(&rt, rt.alloc(), folder.as_str(), first, second)?);
+        let (served, _) = served_between(&rt, rt.alloc(), folder.as_str(), folder.as_str())?;
+        assert_eq!(&rt; served, *wanted, "{folder}");
     }
     Ok(())
 }
 
-// What the lists of racks 0 and 1 lead to; then how many racks and answers are served, or the fault.
-const LISTS: &[(&str, &str, Result<(usize, u64), ServeFault>)] = &[
-    ("list", "nowhere", Ok((1, 1))),
-    ("list", "list", Ok((2, 2))),
+// What the lists of racks 0 and 1 lead to; then what is served, or the fault.
+const LISTS: &[(&str, &str, Result<Served, ServeFault>)] = &[
+    (
+        "list",
+        "nowhere",
+        Ok(Served {
+            racks: 1,
+            answers: 1,
+        }),
+    ),
+    (
+        "list",
+        "list",
+        Ok(Served {
+            racks: 2,
+            answers: 2,
+        }),
+    ),
     ("list", "loop", Err(ServeFault::Device)),
     ("loop", "list", Err(ServeFault::Device)),
     ("to-device", "list", Err(ServeFault::Device)),

@@ -1,7 +1,7 @@
 //! Serving where memory or a thread is refused.
 ghost use Rattle.std.specs.Prelude.{None};
 
-use crate::shared::{assert_file, input_of, serve_with, written};
+use crate::shared::{assert_failures, assert_file, input_of, serve_with, written};
 use farm_core::NoPause;
 use farm_files::{MemoryShelf, ServeFault, Shelf, ShelfFault};
 use farm_lists_tests::samples::LIST;
@@ -91,13 +91,13 @@ fn a_failed_write_without_memory_changes_nothing(rt: HostRuntime) -> Result<(), 
     match written(&mut shelf, alloc, "a", b"other") {
         Err(ShelfFault::Device) => {
             assert_file(&rt, &shelf, "a", b"ot");
-            assert_eq!(&rt; shelf.failures(), 1);
+            assert_failures(&rt, &shelf, 1);
             Ok(())
         }
         other => {
             assert_eq!(&rt; other, Err(ShelfFault::OutOfMemory));
             assert_file(&rt, &shelf, "a", b"kept");
-            assert_eq!(&rt; shelf.failures(), 0);
+            assert_failures(&rt, &shelf, 0);
             Err(AllocError)
         }
     }

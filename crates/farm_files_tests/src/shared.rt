@@ -1,12 +1,14 @@
 //! Lists, fragments and reports, and calls of `serve` and `answer_lists`.
 use farm_core::{NoPause, Pause, Settings};
 use farm_files::{
-    Answered, Batching, MemoryShelf, ServeFault, Served, Shelf, ShelfFault, answer_lists,
-    read_lists, serve,
+    Answered, Batching, FolderShelf, MemoryShelf, ServeFault, Served, Shelf, ShelfFault,
+    answer_lists, read_lists, serve,
 };
 use farm_lists_tests::samples::LIST;
 use std::alloc::{AllocError, Global};
+use std::fs;
 use std::process::Abort;
+use std::rt::Files;
 use std::sync::Wait;
 use std::thread::Threads;
 
@@ -201,6 +203,39 @@ pub(crate) fn written<S: Shelf>(
     shelf.write(alloc, name, bytes)
 }
 
+/// Asserts that a write of these bytes is done.
+pub(crate) fn assert_writes<S: Shelf>(
+    rt: &impl Abort,
+    shelf: &mut S,
+    alloc: Global,
+    name: &str,
+    bytes: &[u8],
+) {
+    assert_eq!(rt; written(shelf, alloc, name, bytes), Ok(()), "{name}");
+}
+
+/// Asserts that a write of these bytes fails on the device.
+pub(crate) fn assert_write_fails<S: Shelf>(
+    rt: &impl Abort,
+    shelf: &mut S,
+    alloc: Global,
+    name: &str,
+    bytes: &[u8],
+) {
+    let answer = written(shelf, alloc, name, bytes);
+    assert_eq!(rt; answer, Err(ShelfFault::Device), "{name}");
+}
+
+/// Asserts that a shelf's device failed so often.
+pub(crate) fn assert_failures<S: Shelf>(rt: &impl Abort, shelf: &S, failures: u64) {
+    assert_eq!(rt; shelf.failures(), failures);
+}
+
+/// Puts a file where another program would.
+pub(crate) fn put_file<R: Abort + Files>(rt: &R, path: &str, bytes: &[u8]) {
+    assert!(rt; fs::write(rt, path, bytes).is_ok(), "{path}");
+}
+
 /// Serves the list, its fragments and more lists from a device that fails at this call, with two workers and a queue of one.
 pub(crate) fn serve_failing<R: Threads + Wait + Sync>(
     rt: &R,
@@ -265,6 +300,32 @@ pub(crate) fn serve_with<R: Threads + Wait + Sync, I: Shelf, O: Shelf, P: Pause>
         return Err(ServeFault::Device);
     }
     serve(rt, alloc, input, output, settings, pause)
+}
+
+/// Puts a file into a folder.
+pub(crate) fn add_file<R: Files>(
+    rt: &R,
+    alloc: Global,
+    folder: &str,
+    name: &str,
+    bytes: &[u8],
+) -> Result<bool, AllocError> {
+    let path = format!(in alloc; "{folder}/{name}")?;
+    Ok(fs::write(rt, path.as_str(), bytes).is_ok())
+}
+
+/// Serves the files of one folder into another, with one worker and a queue of one, and gives what was served and how often each device
+/// failed.
+pub(crate) fn served_between<R: Files + Threads + Wait + Sync + Clone + Drop>(
+    rt: &R,
+    alloc: Global,
+    from: &str,
+    to: &str,
+) -> Result<(Result<Served, ServeFault>, (u64, u64)), AllocError> {
+    let mut input = FolderShelf::open(rt, alloc, from)?;
+    let mut output = FolderShelf::open(rt, alloc, to)?;
+    let served = serve_with(rt, alloc, (1, 1), &mut input, &mut output, &NoPause);
+    Ok((served, (input.failures(), output.failures())))
 }
 
 /// Whether the answers to the lists of a shelf are as asked, with so many workers, a queue of one and batches of so many bytes.

@@ -9,7 +9,6 @@ use farm_lists_tests::samples::{LIST, REPORT};
 use lrc_code::{Bytes, Code, Outcome, Place};
 use std::alloc::{AllocError, Global};
 use std::process::Abort;
-use std::rt::Files;
 use std::sync::Wait;
 use std::thread::Threads;
 
@@ -69,59 +68,95 @@ fn is_as_listed(listed: &Listed) -> bool {
         && listed.survivors() == [Place::X1, Place::X2, Place::Px].as_slice()
 }
 
-// The report on a list's only request, by either call.
-#[test]
-fn lists_reports_and_shelves_are_at_this_crate(rt: HostRuntime) -> Result<(), AllocError> {
-    let alloc = rt.alloc();
-    let Ok(list) = read_list(alloc, LIST) else {
-        panic!(&rt; "the list is refused");
-    };
-    let Some(listed) = first_listed(list.as_slice()) else {
-        panic!(&rt; "no request");
-    };
-    assert!(&rt; is_as_listed(listed), "{listed:?}");
-    let outcome = Outcome::Rebuilt(Bytes::new(Vec::from_slice(alloc, b"abc")?));
+// The report on a list's only request, whose fragment is rebuilt.
+fn report_on(alloc: Global, listed: &Listed, outcome: &Outcome) -> Result<Vec<u8>, AllocError> {
     let row = ReportRow {
         feed: 0,
         listed,
-        outcome: &outcome,
+        outcome,
         unread: &[],
     };
     let shape = ReportShape {
         feeds: false,
         codes: false,
     };
-    let merged = merged_report_text(alloc, shape, &[row])?;
-    assert_eq!(&rt; str::from_utf8(&merged), str::from_utf8(REPORT));
-    if count_requests(&list) != 1 {
-        panic!(&rt; "not one request");
+    merged_report_text(alloc, shape, &[row])
+}
+
+// The same by the call for a whole list; none where it has more requests or fewer.
+fn report_on_list(
+    alloc: Global,
+    list: &[Record],
+    outcome: Outcome,
+) -> Result<Option<Vec<u8>>, AllocError> {
+    if count_requests(list) != 1 {
+        return Ok(None);
     }
-    let text = report_text(alloc, &list, &[outcome], &[Vec::new(alloc)])?;
-    assert_eq!(&rt; text, merged);
-    assert_shelves(&rt, alloc)
+    let text = report_text(alloc, list, &[outcome], &[Vec::new(alloc)])?;
+    Ok(Some(text))
+}
+
+// Asserts that either call gives the report on a list's only request.
+fn assert_reports(rt: &impl Abort, alloc: Global, list: &[Record]) -> Result<(), AllocError> {
+    let Some(listed) = first_listed(list) else {
+        panic!(rt; "no request");
+    };
+    assert!(rt; is_as_listed(listed), "{listed:?}");
+    let outcome = Outcome::Rebuilt(Bytes::new(Vec::from_slice(alloc, b"abc")?));
+    assert!(rt; report_on(alloc, listed, &outcome)?.as_slice() == REPORT);
+    match report_on_list(alloc, list, outcome)? {
+        Some(text) => assert!(rt; text.as_slice() == REPORT),
+        None => panic!(rt; "not one request"),
+    }
+    Ok(())
+}
+
+#[test]
+fn lists_and_reports_are_at_this_crate(rt: HostRuntime) -> Result<(), AllocError> {
+    match read_list(rt.alloc(), LIST) {
+        Ok(list) => assert_reports(&rt, rt.alloc(), list.as_slice()),
+        Err(_) => panic!(&rt; "the list is refused"),
+    }
+}
+
+// Serves one shelf into another, and gives the number of the fault.
+fn fault_of_serving<R: Threads + Wait + Sync, I: Shelf, O: Shelf>(
+    rt: &R,
+    alloc: Global,
+    input: &mut I,
+    output: &mut O,
+) -> Option<u8> {
+    let Ok(settings) = Settings::new(4, 16) else {
+        return None;
+    };
+    if input.failures() > MOST_FAILURES || output.failures() > MOST_FAILURES {
+        return None;
+    }
+    match serve(rt, alloc, input, output, settings, &NoPause) {
+        Ok(
+            Served {
+                racks: _,
+                answers: _,
+            },
+        ) => None,
+        Err(fault) => Some(number_of_fault(fault)),
+    }
 }
 
 // A folder that isn't there, and a shelf in memory of which the first read fails.
-fn assert_shelves<R: Abort + Threads + Wait + Sync + Files + Clone + Drop>(
-    rt: &R,
-    alloc: Global,
-) -> Result<(), AllocError> {
+#[test]
+fn shelves_are_at_this_crate(rt: HostRuntime) -> Result<(), AllocError> {
+    let alloc = rt.alloc();
     let mut input = MemoryShelf::new(alloc);
     input.place(alloc, "rack0.csv", LIST)?;
-    assert!(rt; input.file("rack0.csv") == Some(LIST));
+    assert!(&rt; input.file("rack0.csv") == Some(LIST));
     input.fail_at(0);
-    let mut output = FolderShelf::open(rt, alloc, "no such folder")?;
+    let mut output = FolderShelf::open(&rt, alloc, "no such folder")?;
     let refused = written(&mut output, alloc, "a", b"x");
-    assert_eq!(rt; refused.map_err(number_of_shelf_fault), Err(24));
-    let Ok(settings) = Settings::new(4, 16) else {
-        panic!(rt; "settings out of their limits");
-    };
-    if input.failures() > MOST_FAILURES || output.failures() > MOST_FAILURES {
-        panic!(rt; "more failures than calls");
-    }
-    match serve(rt, alloc, &mut input, &mut output, settings, &NoPause) {
-        Ok(Served { racks, answers }) => panic!(rt; "{racks} racks, {answers} answers"),
-        Err(fault) => assert_eq!(rt; number_of_fault(fault), 24),
-    }
+    assert_eq!(&rt; refused.map_err(number_of_shelf_fault), Err(24));
+    assert_eq!(&rt;
+        fault_of_serving(&rt, alloc, &mut input, &mut output),
+        Some(24)
+    );
     Ok(())
 }

@@ -316,12 +316,15 @@ fn assert_windows_combined(rt: &impl Abort, alloc: Global, b: u8, c: u8) -> Resu
         term_of(b, &second),
         term_of(c, &third),
     ];
+    assert_terms_combined(rt, alloc, &terms)
+}
+
+// Asserts that the sums of these terms are so in all windows.
+fn assert_terms_combined(rt: &impl Abort, alloc: Global, terms: &[Term]) -> Result<(), AllocError> {
     for from in [0usize, 1, 33, 100] {
         for len in WINDOWS {
-            assert!(rt;
-                is_combined_into(alloc, from, *len, &terms)?,
-                "{len} bytes from {from}, scalars {b} and {c}"
-            );
+            let is = is_combined_into(alloc, from, *len, terms)?;
+            assert!(rt; is, "{len} bytes from {from}");
         }
     }
     Ok(())
@@ -352,16 +355,19 @@ fn are_combined_in_pairs(
         return Ok(false);
     }
     combine_pairs_into(&mut first, &mut second, from, pairs);
-    for index in 0..len {
-        let made = match (first.get(index), second.get(index)) {
-            (Some(one), Some(other)) => Some((*one, *other)),
-            _ => None,
-        };
-        if made.is_none() || made != pair_sums_at(from + index, pairs) {
-            return Ok(false);
+    Ok(first.len() == len && are_pair_sums(&first, &second, from, pairs))
+}
+
+// Whether these bytes are both sums of the pairs, by shifts, from an index on.
+fn are_pair_sums(first: &[u8], second: &[u8], from: usize, pairs: &[Pair]) -> bool {
+    let mut index = from;
+    for (one, other) in first.iter().zip(second.iter()) {
+        if pair_sums_at(index, pairs) != Some((*one, *other)) {
+            return false;
         }
+        index = index.wrapping_add(1);
     }
-    Ok(true)
+    first.len() == second.len()
 }
 
 #[test]
@@ -374,12 +380,15 @@ fn sums_of_pairs_in_windows_are_those_by_shifts(rt: HostRuntime) -> Result<(), A
     let seconds = [Gf::new(0x01), Gf::new(0x8e), Gf::new(0x04)];
     let mut room = no_pairs();
     let pairs = pairs_in(&mut room, &firsts, &seconds, &sources);
+    assert_pairs_combined(&rt, rt.alloc(), pairs)
+}
+
+// Asserts that they are so in all windows.
+fn assert_pairs_combined(rt: &impl Abort, alloc: Global, pairs: &[Pair]) -> Result<(), AllocError> {
     for from in [0usize, 1, 33, 100] {
         for len in PAIR_WINDOWS {
-            assert!(&rt;
-                are_combined_in_pairs(rt.alloc(), from, *len, pairs)?,
-                "{len} bytes from {from}"
-            );
+            let are = are_combined_in_pairs(alloc, from, *len, pairs)?;
+            assert!(rt; are, "{len} bytes from {from}");
         }
     }
     Ok(())

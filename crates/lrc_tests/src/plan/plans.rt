@@ -119,14 +119,8 @@ fn plans_have_the_known_numbers_of_checks(rt: HostRuntime) -> Result<(), AllocEr
         (PlaceSet::empty(), Place::X0, (false, 0)),
     ];
     for (survivors, target, expected) in cases {
-        assert_eq!(&rt;
-            counts(alloc, Code::Narrow, survivors, target)?,
-            Some(expected)
-        );
-        assert_eq!(&rt;
-            counts(&bump, Code::Narrow, survivors, target)?,
-            Some(expected)
-        );
+        assert!(&rt; counts(alloc, Code::Narrow, survivors, target)? == Some(expected));
+        assert!(&rt; counts(&bump, Code::Narrow, survivors, target)? == Some(expected));
     }
     Ok(())
 }
@@ -167,36 +161,46 @@ fn recovered<A: Allocator + Clone>(
     code: Code,
     len: usize,
 ) -> Result<(usize, usize), AllocError> {
-    let mut sets = Vec::new(alloc);
-    let mut whole = Vec::new(alloc);
+    let mut sets = 0usize;
+    let mut whole = 0usize;
     let end: usize = match code {
         Code::Narrow => 1024,
         Code::Wide => 65_536,
     };
     for bits in 0..end {
         if bits.count_ones() as usize == len {
-            let lost = places_of(alloc, bits)?;
-            sets.push(bits)?;
-            if all_have_values(plan_alloc, code, &lost)? {
-                whole.push(bits)?;
+            sets = sets.saturating_add(1);
+            if all_have_values(plan_alloc, code, places_of(alloc, bits)?.as_slice())? {
+                whole = whole.saturating_add(1);
             }
         }
     }
-    Ok((sets.len(), whole.len()))
+    Ok((sets, whole))
 }
 
 #[test]
 fn each_three_and_most_four_lost_places_have_plans(rt: HostRuntime) -> Result<(), AllocError> {
     let alloc = rt.alloc();
     let bump = Bump::new(alloc);
-    assert_eq!(&rt; recovered(alloc, &alloc, Code::Narrow, 3)?, (120, 120));
-    assert_eq!(&rt; recovered(alloc, &alloc, Code::Narrow, 4)?, (210, 180));
-    assert_eq!(&rt; recovered(alloc, &&bump, Code::Narrow, 3)?, (120, 120));
-    assert_eq!(&rt; recovered(alloc, &&bump, Code::Narrow, 4)?, (210, 180));
-    assert_eq!(&rt; recovered(alloc, &alloc, Code::Wide, 3)?, (560, 560));
-    assert_eq!(&rt; recovered(alloc, &&bump, Code::Wide, 3)?, (560, 560));
+    for (code, lost, expected) in RECOVERED {
+        assert!(&rt;
+            recovered(alloc, &alloc, *code, *lost)? == *expected,
+            "in the heap"
+        );
+        assert!(&rt;
+            recovered(alloc, &&bump, *code, *lost)? == *expected,
+            "in an arena"
+        );
+    }
     Ok(())
 }
+
+// A code, how many are lost, and how many such sets there are and in how many all targets have values.
+const RECOVERED: &[(Code, usize, (usize, usize))] = &[
+    (Code::Narrow, 3, (120, 120)),
+    (Code::Narrow, 4, (210, 180)),
+    (Code::Wide, 3, (560, 560)),
+];
 
 // The others of the group of x0 in the (12,2,2) code.
 const SIX: [Place; 6] = [

@@ -236,14 +236,29 @@ fn solves_in_turn(alloc: Global, case: &Case) -> Result<bool, AllocError> {
             continue;
         };
         let number = fitting(&heap, same.checks.len());
-        let planned = plan_in_heap(&heap, case.code, survivors, case.target, &same);
-        match (planned, solve_in_heap(alloc, &heap, &request, case.answer)) {
-            (Ended::Granted, Ended::Granted) => return Ok(refused.next == allocations(&same)),
-            (Ended::Refused, Ended::Refused) if refused.follows(number) => {}
+        match both_in_heap(alloc, &heap, case, &request, &same) {
+            Ended::Granted => return Ok(refused.next == allocations(&same)),
+            Ended::Refused if refused.follows(number) => {}
             _ => return Ok(false),
         }
     }
     Ok(false)
+}
+
+// How both end in this heap.
+fn both_in_heap<A: Allocator>(
+    alloc: Global,
+    heap: &LocalHeap,
+    case: &Case,
+    request: &Request,
+    same: &Plan<A>,
+) -> Ended {
+    let planned = plan_in_heap(heap, case.code, request.survivors(), case.target, same);
+    match (planned, solve_in_heap(alloc, heap, request, case.answer)) {
+        (Ended::Granted, Ended::Granted) => Ended::Granted,
+        (Ended::Refused, Ended::Refused) => Ended::Refused,
+        _ => Ended::Wrongly,
+    }
 }
 
 // A plan that is made elsewhere than in the heap meets fewer refusals than it has allocations.
