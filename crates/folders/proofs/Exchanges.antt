@@ -537,6 +537,22 @@ module _ (temporary : List ℕ → Type 0) (path second : List ℕ) (not_path : 
             (named_prepared folder true mid kept named is asked names)
 
 
+-- no call
+pub exchanges_nothing : (temporary : List ℕ → Type 0) (written : Option (List ℕ)) (path second : List ℕ) (calls : List Answered)
+    → Exchanges temporary written path second calls calls
+exchanges_nothing temporary written path second calls = record {
+  more = [];
+  are = refl;
+  whenever = λ w sound our_path our_second lawful. (
+    sound,
+    record {
+      seen = record { at = inl refl; beside = inl refl };
+      left = record { at = inl refl; beside = inl refl };
+      others = λ p ours lasting not_first not_other. (refl, refl);
+    },
+  );
+}
+
 -- ---- an exchange, and then calls that change no path but temporary ones
 
 kept_same : (shown old new : Files) (path : List ℕ) → IsKept (λ p bytes. ⊥) shown old new path → under new path ≡ under old path
