@@ -1,7 +1,7 @@
 -- A call that was made answered one thing or the other.
-use Rattle.std.proofs.Common.{◌≡◌, ℕ, List, ◌∷◌, Bool, true, false, Ok, Err, OnOk, OnErr}
+use Rattle.std.proofs.Common.{◌≡◌, ℕ, List, ◌∷◌, Bool, true, false, Ok, Err, IfOk, OnOk, OnErr}
 use Rattle.std.specs.declared.result.Result.{Result}
-use Rattle.folders.specs.Calls.{Call, Answered}
+use Rattle.folders.specs.Calls.{Call, Answered, same_file}
 use Rattle.folders.specs.Kept.{Keeps}
 use Rattle.folders.specs.Worlds.{World}
 use Rattle.folders.proofs.Runs.{keeps_quiet}
@@ -19,3 +19,10 @@ pub keeps_answered : (temporary : List ℕ → Type 0) (given : List ℕ → Lis
     → Keeps temporary given old new
 keeps_answered temporary given result call old new ok err quiet =
     let last = answered result call old new ok err in keeps_quiet temporary given call last.0 old new last.1 quiet
+
+-- whether two paths lead to one file was asked
+pub asked_same : {E : Type 0} (result : Result Bool E) (path other : List ℕ) (old new : List Answered)
+    → IfOk result (λ is. new ≡ (same_file path other, is) ∷ old) → OnErr result (new ≡ (same_file path other, false) ∷ old)
+    → (ok : Bool) × (new ≡ (same_file path other, ok) ∷ old)
+asked_same (Ok is) path other old new ok err = (is, ok)
+asked_same (Err e) path other old new ok err = (false, err)

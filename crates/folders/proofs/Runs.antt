@@ -1,7 +1,7 @@
 -- Runs of calls that keep what they have to keep: none, one more, and one after another.
 use Rattle.std.proofs.Common.{◌≡◌, inl, inr, ℕ, List, [], ◌∷◌, ◌++◌, Bool, false, Some, None, refl, sym, ◌∙◌, ap, subst}
 use Rattle.std.proofs.lemmas.List.{append_assoc}
-use Rattle.folders.specs.Calls.{Call, Answered, make, sync, link, link_again, rename, remove, sync_folder}
+use Rattle.folders.specs.Calls.{Call, Answered, make, sync, link, link_again, rename, remove, sync_folder, same_file}
 use Rattle.folders.specs.Files.{Files}
 use Rattle.folders.specs.Worlds.{World, IsLawful}
 use Rattle.folders.specs.Kept.{AtEach, IsSound, IsKept, AreKept, Keeps, TakeNone, TakesNone}
@@ -41,7 +41,7 @@ module _ (P : List Answered → Type 0) where
   )
 
 -- what holds of each front of a run if what was before it is lawful, holds of each that is lawful
-each_given : (w : World) (P : List Answered → Type 0) (later mid : List Answered)
+pub each_given : (w : World) (P : List Answered → Type 0) (later mid : List Answered)
     → (IsLawful w mid → AtEach (λ calls. IsLawful w calls → P calls) later mid) → AtEach (λ calls. IsLawful w calls → P calls) later mid
 each_given w P [] mid each = λ lawful. each lawful lawful
 each_given w P (call ∷ later) mid each = (
@@ -135,6 +135,7 @@ module _ (temporary : List ℕ → Type 0) where
   quiet_takes w (rename file from to) quiet = quiet
   quiet_takes w (remove path) quiet = quiet
   quiet_takes w (sync_folder path) quiet = tt
+  quiet_takes w (same_file path other) quiet = tt
 
   pub keeps_after : (given : List ℕ → List ℕ → Type 0) (old mid new : List Answered)
       → Keeps temporary given old mid → Keeps temporary given mid new → Keeps temporary given old new

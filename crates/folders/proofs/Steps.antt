@@ -2,7 +2,7 @@
 use Rattle.std.proofs.Common.{◌≡◌, ◌≢◌, inl, ℕ, suc, List, ◌∷◌, length, Bool, true, not, ◌==◌}
 use Rattle.std.proofs.Common.{Option, Some, None, option_map, refl, sym, ◌∙◌, ap, subst, arith}
 use Rattle.std.proofs.lemmas.Bool.{and_from, or_right}
-use Rattle.folders.specs.Calls.{Call, Answered, make, sync, link, link_again, rename, remove, sync_folder}
+use Rattle.folders.specs.Calls.{Call, Answered, make, sync, link, link_again, rename, remove, sync_folder, same_file}
 use Rattle.folders.specs.Files.{Files, under}
 use Rattle.folders.specs.Worlds.{World, IsStep, MayChange, Makes, IsNew, KeepsClosed, is_closed}
 use Rattle.folders.specs.Kept.{IsSound, AreKept}
@@ -29,6 +29,7 @@ stays_closed (link_again from to) ok calls file other closed = closed
 stays_closed (rename f from to) ok calls file other closed = closed
 stays_closed (remove path) ok calls file other closed = closed
 stays_closed (sync_folder path) ok calls file other closed = closed
+stays_closed (same_file path to) ok calls file other closed = closed
 
 pub new_seen : (w : World) (call : Call) (calls : List Answered) (path : List ℕ) → Makes w call calls → call ≡ make path → IsNew w.ours (suc
     (length calls)) (w.seen calls)
@@ -39,6 +40,7 @@ new_seen w (link_again from to) calls path makes same = cc
 new_seen w (rename f from to) calls path makes same = cc
 new_seen w (remove p) calls path makes same = cc
 new_seen w (sync_folder p) calls path makes same = cc
+new_seen w (same_file p other) calls path makes same = cc
 
 new_left : (w : World) (call : Call) (calls : List Answered) (path : List ℕ) → Makes w call calls → call ≡ make path → IsNew w.ours (suc
     (length calls)) (w.left calls)
@@ -49,8 +51,9 @@ new_left w (link_again from to) calls path makes same = cc
 new_left w (rename f from to) calls path makes same = cc
 new_left w (remove p) calls path makes same = cc
 new_left w (sync_folder p) calls path makes same = cc
+new_left w (same_file p other) calls path makes same = cc
 
-same_map : (f g : ℕ → List ℕ) (o : Option ℕ) → ((j : ℕ) → o ≡ Some j → f j ≡ g j) → option_map f o ≡ option_map g o
+pub same_map : (f g : ℕ → List ℕ) (o : Option ℕ) → ((j : ℕ) → o ≡ Some j → f j ≡ g j) → option_map f o ≡ option_map g o
 same_map f g None same = refl
 same_map f g (Some j) same = ap (λ (x : List ℕ). Some x) (same j refl)
 
@@ -85,6 +88,7 @@ module _ (temporary : List ℕ → Type 0) (w : World) where
   IsQuiet (rename file from to) = ⊥
   IsQuiet (remove path) = temporary path
   IsQuiet (sync_folder path) = Unit {0}
+  IsQuiet (same_file path other) = Unit {0}
 
   other_path : (path other : List ℕ) → temporary other → (temporary path → ⊥) → path ≡ other → ⊥
   other_path path other is not_temporary same = not_temporary (subst temporary (sym same) is)
@@ -98,6 +102,7 @@ module _ (temporary : List ℕ → Type 0) (w : World) where
   quiet_named shown old new made (rename f from to) quiet may path ours not_temporary = absurd quiet
   quiet_named shown old new made (remove p) quiet may path ours not_temporary = may.0 path ours (other_path path p quiet not_temporary)
   quiet_named shown old new made (sync_folder p) quiet may path ours not_temporary = may path ours (λ none. none)
+  quiet_named shown old new made (same_file p other) quiet may path ours not_temporary = may path ours (λ none. none)
 
   module _ (call : Call) (ok : Bool) (calls : List Answered) (step : IsStep w call ok calls) (sound : IsSound temporary w calls)
       (quiet : IsQuiet call) where

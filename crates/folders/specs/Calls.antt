@@ -18,8 +18,10 @@ pub data Call : Type 0 where
   remove : List ℕ → Call
   -- the names in a folder to the disk
   sync_folder : List ℕ → Call
+  -- whether two paths lead to one file
+  same_file : List ℕ → List ℕ → Call
 
--- a call, and whether it answered Ok
+-- a call, and whether it answered Ok; `same_file`, whether it answered that they do
 abbrev pub Answered : Type 0
 Answered = Call × Bool
 
@@ -36,12 +38,14 @@ to_parts (link_again from to) = (3, (0, (None, (from, to))))
 to_parts (rename file from to) = (4, (file, (None, (from, to))))
 to_parts (remove path) = (5, (0, (None, (path, []))))
 to_parts (sync_folder path) = (6, (0, (None, (path, []))))
+to_parts (same_file path other) = (7, (0, (None, (path, other))))
 
 abbrev from_parts : Parts → Call
 from_parts p =
     cond (p.0 == 0) (make p.1.1.1.0) (cond (p.0 == 1) (sync p.1.0 p.1.1.0) (cond (p.0 == 2) (link p.1.0 p.1.1.1.0) (cond (p.0 == 3)
     (link_again p.1.1.1.0 p.1.1.1.1)
-    (cond (p.0 == 4) (rename p.1.0 p.1.1.1.0 p.1.1.1.1) (cond (p.0 == 5) (remove p.1.1.1.0) (sync_folder p.1.1.1.0))))))
+    (cond (p.0 == 4) (rename p.1.0 p.1.1.1.0 p.1.1.1.1) (cond (p.0 == 5) (remove p.1.1.1.0) (cond (p.0 == 6) (sync_folder p.1.1.1.0)
+    (same_file p.1.1.1.0 p.1.1.1.1)))))))
 
 pub from_parts-to_parts : (call : Call) → from_parts (to_parts call) ≡ call
 from_parts-to_parts (make path) = refl
@@ -51,6 +55,7 @@ from_parts-to_parts (link_again from to) = refl
 from_parts-to_parts (rename file from to) = refl
 from_parts-to_parts (remove path) = refl
 from_parts-to_parts (sync_folder path) = refl
+from_parts-to_parts (same_file path other) = refl
 
 abbrev pub answered_code : Coded (List Answered)
 answered_code =

@@ -1,5 +1,6 @@
 pub mod Calls
 pub mod Disk
+pub mod Exchanged
 pub mod Files
 pub mod Kept
 pub mod Placed

@@ -13,6 +13,7 @@ call_of (made.LinkAgain from to) = calls.link_again from.now to.now
 call_of (made.Rename file from to) = calls.rename (length file.now.calls) from.now to.now
 call_of (made.Remove path) = calls.remove path.now
 call_of (made.SyncFolder path) = calls.sync_folder path.now
+call_of (made.SameFile path other) = calls.same_file path.now other.now
 
 -- the call, and whether it answered Ok
 abbrev pub recorded : Call → Bool → Answered

@@ -1,6 +1,6 @@
 //! What a store asks of a file system: each method is one of its calls.
 ghost use Rattle.std.specs.Prelude.{◌≡◌, ◌∷◌, ◌++◌, [], ℕ, List, length, Option, Some, None, true, false, option_map, IfOk, OnOk, OnErr};
-ghost use Rattle.folders.specs.Calls.{Answered, make, sync, link, link_again, rename, remove, sync_folder};
+ghost use Rattle.folders.specs.Calls.{Answered, make, sync, link, link_again, rename, remove, sync_folder, same_file};
 
 use crate::status::{Rights, Status};
 use std::io;
@@ -127,4 +127,9 @@ pub trait Folder {
     fn sync_folder(&mut self, path: &str) -> io::Result<()>
         ensures ok { OnOk result (calls self.new ≡ (sync_folder path.now, true) ∷ calls self.old) }
         ensures err { OnErr result (calls self.new ≡ (sync_folder path.now, false) ∷ calls self.old) };
+
+    /// Whether two paths lead to one file, which is not asked of what links lead to.
+    fn is_same_file(&mut self, path: &str, other: &str) -> io::Result<bool>
+        ensures ok { IfOk result (λ is. calls self.new ≡ (same_file path.now other.now, is) ∷ calls self.old) }
+        ensures err { OnErr result (calls self.new ≡ (same_file path.now other.now, false) ∷ calls self.old) };
 }

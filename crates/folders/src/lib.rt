@@ -13,6 +13,7 @@
 //! ```
 #![tactic(auto)]
 
+mod exchanging;
 mod folder;
 mod paths;
 mod placing;
@@ -21,6 +22,7 @@ mod status;
 mod system;
 mod temporary;
 
+pub use exchanging::{Exchanged, exchange};
 pub use folder::{Folder, NewFile, OpenFile, WholeFile};
 pub use paths::folder_of;
 pub use placing::{Placed, place};

@@ -35,6 +35,7 @@ pub enum Call<'a> {
     Rename(&'a Record, &'a str, &'a str),
     Remove(&'a str),
     SyncFolder(&'a str),
+    SameFile(&'a str, &'a str),
 }
 
 impl Record {

@@ -248,4 +248,13 @@ impl Folder for SystemFolder<'_> {
         self.note(&Call::SyncFolder(path), answer.is_ok());
         answer
     }
+
+    fn is_same_file(&mut self, path: &str, other: &str) -> io::Result<bool> {
+        let answer = match (self.status(path), self.status(other)) {
+            (Ok(one), Ok(another)) => Ok(one.identity == another.identity),
+            (Err(error), _) | (_, Err(error)) => Err(error),
+        };
+        self.note(&Call::SameFile(path, other), matches!(answer, Ok(true)));
+        answer
+    }
 }

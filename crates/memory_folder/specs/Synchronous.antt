@@ -2,7 +2,7 @@
 -- that premise can be met.
 use Rattle.std.specs.Prelude.{◌≡◌, ◌≤◌, ℕ, suc, List, [], ◌∷◌, length, Bool, true, false, ◌==◌, bytes_eq, if◌then◌else◌}
 use Rattle.std.specs.Prelude.{Option, Some, None}
-use Rattle.folders.specs.Calls.{Call, Answered, make, sync, link, link_again, rename, remove, sync_folder}
+use Rattle.folders.specs.Calls.{Call, Answered, make, sync, link, link_again, rename, remove, sync_folder, same_file}
 use Rattle.folders.specs.Files.{Files}
 use Rattle.folders.specs.Worlds.{World, is_closed}
 
@@ -28,13 +28,15 @@ done (link_again from to) file files = with_name files to (files.named from)
 done (rename f from to) file files = with_name (with_name files from None) to (Some f)
 done (remove path) file files = with_name files path None
 done (sync_folder path) file files = files
+done (same_file path other) file files = files
 
 -- what is there after calls: those that answered Ok are done, and the others aren't
 abbrev pub after : List Answered → Files
 after [] = empty
 after ((call, ok) ∷ calls) = if ok then done call (suc (length calls)) (after calls) else after calls
 
--- when a call can answer Ok: nothing is at a path that is given, and a file that is written to the disk or gets a path was made before
+-- when a call can answer Ok: nothing is at a path that is given, a file that is written to the disk or gets a path was made before, and
+-- paths of one file lead to one
 abbrev pub CanBeDone : Call → List Answered → Type 0
 CanBeDone (make path) calls = (after calls).named path ≡ None
 CanBeDone (sync f bytes) calls = is_closed f calls ≡ false
@@ -43,6 +45,7 @@ CanBeDone (link_again from to) calls = (after calls).named to ≡ None
 CanBeDone (rename f from to) calls = f ≤ length calls
 CanBeDone (remove path) calls = Unit {0}
 CanBeDone (sync_folder path) calls = Unit {0}
+CanBeDone (same_file path other) calls = (after calls).named path ≡ (after calls).named other
 
 -- each answer Ok was one that could be
 abbrev pub AreAnswered : List Answered → Type 0

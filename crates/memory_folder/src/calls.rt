@@ -102,4 +102,13 @@ impl Folder for MemoryFolder {
         self.note(&Call::SyncFolder(path), answer.is_ok());
         answer
     }
+
+    fn is_same_file(&mut self, path: &str, other: &str) -> io::Result<bool> {
+        let is = match (self.node_at(path), self.node_at(other)) {
+            (Some(node), Some(another)) => node == another,
+            _ => false,
+        };
+        self.note(&Call::SameFile(path, other), is);
+        Ok(is)
+    }
 }

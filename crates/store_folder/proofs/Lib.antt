@@ -1,4 +1,5 @@
 pub mod Digests
 pub mod Done
 pub mod Kept
+pub mod Replaced
 pub mod Temporary

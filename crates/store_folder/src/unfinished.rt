@@ -27,6 +27,7 @@ pub struct Unfinished<N: NewFile> {
     // Whether all appends succeeded.
     is_whole: bool,
     ghost temporary: { is_temporary (string_bytes made_at) ≡ true },
+    ghost made: { is_temporary (N.path file) ≡ true },
     ghost whole: { is_whole ≡ true → IsSome (N.written file) },
 }
 

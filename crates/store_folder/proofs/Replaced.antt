@@ -1,0 +1,49 @@
+-- A fragment that is replaced.
+use Rattle.std.proofs.Common.{◌≡◌, ◌∙◌, ◌⊎◌, ◌+◌, ap, sym, inl, inr, arith, length-append, ℕ, List, ◌++◌, length, Bool, true, false, Option, Some}
+use Rattle.std.proofs.Common.{None, IfSome}
+use Rattle.std.specs.Prelude.{codes}
+use Rattle.std.proofs.Common.{String, Global}
+use Rattle.folders.specs.Calls.{Answered}
+use Rattle.lrc_code.specs.declared.places.Place.{Place}
+use Rattle.store_folder.specs.declared.site.Site.{Site}
+use Rattle.folders.specs.Placed.{HasPath}
+use Rattle.folders.proofs.Exchanges.{exchanges_nothing, exchanges_then, not_on}
+use Rattle.store_folder.specs.Done.{HasFolderOf, IsDue}
+use Rattle.store_folder.specs.Kept.{IsPathOf, IsTemporary, KeepsEach}
+use Rattle.store_folder.specs.Replaced.{ReplacesIn, ReplacesOne, second_path}
+use Rattle.store_folder.specs.Temporary.{is_temporary}
+
+-- a path isn't its second one
+pub apart : (path : List ℕ) → path ≡ second_path path → ⊥
+apart path same =
+    let len : length path ≡ length path + 8 = ap length same ∙ length-append path (codes ".damaged") in absurd (omega (arith, len))
+
+-- nothing was called
+pub replaces_nothing : (path : List ℕ) (written : Option (List ℕ)) (calls : List Answered) → ReplacesOne path written calls calls
+replaces_nothing path written calls = exchanges_nothing IsTemporary written path (second_path path) calls
+
+-- what was called then changes no path but temporary ones
+pub replaces_then : (path second : List ℕ) (written : Option (List ℕ)) (old mid new : List Answered) → is_temporary path ≡ false
+    → second ≡ second_path path → is_temporary second ≡ false → ReplacesOne path written old mid → KeepsEach mid new
+    → ReplacesOne path written old new
+replaces_then path second written old mid new lasting is free first quiet = exchanges_then IsTemporary written path (second_path path)
+    (not_on (is_temporary path) lasting) (not_on (is_temporary (second_path path)) (ap is_temporary (sym is) ∙ free)) old mid new first quiet
+
+-- the path that was given is still to be written to the disk
+pub given_due : (path : List ℕ) (written : Option (List ℕ)) (folders : List (String Global)) (calls : List Answered)
+    → HasPath path written calls → HasFolderOf path folders → IfSome written (IsDue folders calls path)
+given_due path None folders calls whole has = tt
+given_due path (Some bytes) folders calls whole has = inr (whole, has)
+
+-- the path of a stripe's fragment
+pub replaces_here : (site : Site) (stripe : List ℕ) (place : Place) (written : Option (List ℕ)) (path : List ℕ) (old new : List Answered)
+    → IsPathOf site stripe place path → is_temporary path ≡ false → KeepsEach old new ⊎ ReplacesOne path written old new
+    → ReplacesIn site stripe place written old new
+replaces_here site stripe place written path old new here lasting (inl keeps) = inl keeps
+replaces_here site stripe place written path old new here lasting (inr replaces) =
+    inr (record { path = path; here = here; lasting = lasting; at = replaces })
+
+-- or of none
+pub replaces_none : (site : Site) (stripe : List ℕ) (place : Place) (written : Option (List ℕ)) (old new : List Answered)
+    → KeepsEach old new → ReplacesIn site stripe place written old new
+replaces_none site stripe place written old new keeps = inl keeps
