@@ -16,7 +16,7 @@ MOST_WORDS = 60
 # Each construction, what is written in its place, and how it is found in text without quoted code.
 RULES = [
     ("'Where' for a condition", "'If'", r"(?:^|(?<=[.;:!?|] ))Where\b"),
-    ("'of' for 'about'", "'about'", r"\b(?:sa(?:y|ys|id|ying)|speaks?|spoken|known?|shows?) (?:nothing |something |more |less |little )?of\b"),
+    ("'of' for 'about'", "'about'", r"\b(?:sa(?:y|ys|id|ying)|speaks?|spoken|known?|shows?) (?:\w+thing |more |less |little )?of\b"),
     ("a clause for a default", "'(default)'", r"\bwhich (?:it is|they are) (?:without|unless|if)\b"),
     ("a word for what was named before", "the name again", r"\bthe (?:former|latter)\b"),
     ("a figure of speech", "the plain word", r"\b(?:tells?|told|stands?(?!-)|stood|behind|in front of|want of|by heart|beneath)\b"),

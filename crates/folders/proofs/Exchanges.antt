@@ -1,18 +1,16 @@
 -- A new file gets the path of another one, which a second path keeps.
-use Rattle.std.proofs.Common.{◌≡◌, ◌⊎◌, inl, inr, ℕ, suc, List, [], ◌∷◌, ◌++◌, length, Bool, true, false, Option, Some, None, option_map}
+use Rattle.std.proofs.Common.{◌≡◌, ◌⊎◌, inl, inr, ℕ, suc, List, ◌∷◌, length, Bool, true, false, Option, Some, None, option_map}
 use Rattle.std.proofs.Common.{IfSome, IsSome, refl, sym, ◌∙◌, ap, subst}
 use Rattle.folders.specs.Calls.{Call, Answered, make, sync, link, link_again, rename, remove, sync_folder, same_file}
 use Rattle.folders.specs.Files.{Files, under, IsIn}
 use Rattle.folders.specs.Worlds.{World, IsLawful, IsStep, MayChange, is_closed}
-use Rattle.folders.specs.Kept.{AtEach, IsSound, IsKept, AreKept, AreClosed, Keeps}
+use Rattle.folders.specs.Kept.{IsSound, AreClosed}
 use Rattle.folders.specs.Placed.{HasPath}
 use Rattle.folders.specs.Disk.{HasWhole}
-use Rattle.folders.specs.Exchanged.{seen_at, HasNew, IsExchanged, AreExchanged, Exchanges, LeadToOne, WasAsked}
+use Rattle.folders.specs.Exchanged.{seen_at, IsExchanged, AreExchanged, LeadToOne, WasAsked}
 use Rattle.folders.proofs.Links.{same_or_other}
-use Rattle.folders.proofs.Runs.{at_last, each_after, each_given, each_weaker, Holds}
 use Rattle.folders.proofs.Steps.{equal, same_map, same_under, stays_closed}
 use Rattle.std.proofs.lemmas.Bool.{or_left}
-use Rattle.std.proofs.lemmas.List.{append_assoc}
 
 -- the calls before the path is given away
 abbrev pub Prepares : List ℕ → List ℕ → Call → Type 0
@@ -55,9 +53,9 @@ pub record IsReady (temporary : List ℕ → Type 0) (path second : List ℕ) (w
   pub left_second : Second path second (w.seen before) (w.left before) (w.left calls)
   pub bytes : Stays w before calls
 
-module _ (temporary : List ℕ → Type 0) (path second : List ℕ) (w : World) (our_path : w.ours path ≡ true) (our_second : w.ours second ≡ true)
-    (not_path : temporary path → ⊥) (not_second : temporary second → ⊥) (apart : path ≡ second → ⊥) (before : List Answered) where
-  ready_first : IsSound temporary w before → IsReady temporary path second w before before
+module _ (temporary : List ℕ → Type 0) (path second : List ℕ) (w : World) (our_path : w.ours path ≡ true)
+    (our_second : w.ours second ≡ true) (not_path : temporary path → ⊥) (not_second : temporary second → ⊥) (apart : path ≡ second → ⊥) (before : List Answered) where
+  pub ready_first : IsSound temporary w before → IsReady temporary path second w before before
   ready_first sound = record {
     sound = sound;
     seen = λ p ours other. refl;
@@ -152,7 +150,7 @@ module _ (temporary : List ℕ → Type 0) (path second : List ℕ) (w : World) 
   at_second_next shown mid new n (sync_folder q) prepares may = inl (may second our_second (λ none. none))
   at_second_next shown mid new n (same_file q to) prepares may = inl (may second our_second (λ none. none))
 
-  ready_next : (call : Call) (ok : Bool) (calls : List Answered) → Prepares path second call → IsStep w call ok calls
+  pub ready_next : (call : Call) (ok : Bool) (calls : List Answered) → Prepares path second call → IsStep w call ok calls
       → IsReady temporary path second w before calls → IsReady temporary path second w before ((call, ok) ∷ calls)
   ready_next call ok calls prepares step ready =
       let next : List Answered = (call, ok) ∷ calls in
@@ -340,20 +338,8 @@ pub file_stays : (path second : List ℕ) (file : ℕ) (all : List ℕ) (call : 
 file_stays path second file all call ok calls prepares has w lawful =
     let was = has w lawful.0 in
     let still : is_closed file ((call, ok) ∷ calls) ≡ true =
-        stays_closed call ok calls file (λ p is. absurd (makes_none path second call prepares p is)) was.0 in
+    stays_closed call ok calls file (λ p is. absurd (makes_none path second call prepares p is)) was.0 in
     (still, (lawful.1.seen_bytes file was.0 still ∙ was.1.0, lawful.1.left_bytes file was.0 still ∙ was.1.1))
-
--- the second path was given
-pub one_linked : (path second : List ℕ) (calls : List Answered) → (path ≡ second → ⊥)
-    → LeadToOne path second ((link_again path second, true) ∷ calls)
-one_linked path second calls apart w lawful our_path our_second =
-    (lawful.1.done refl our_second our_path).1 ∙ sym (lawful.1.seen.0 path our_path apart)
-
--- they were found to lead to one file
-pub one_found : (path second : List ℕ) (calls : List Answered) → LeadToOne path second ((same_file path second, true) ∷ calls)
-one_found path second calls w lawful our_path our_second =
-    lawful.1.seen second our_second (λ none. none) ∙ sym (lawful.1.done refl our_path our_second)
-    ∙ sym (lawful.1.seen path our_path (λ none. none))
 
 -- the names in the second path's folder were written to the disk
 pub one_settled : (path second folder : List ℕ) (calls : List Answered) → IsIn folder second → LeadToOne path second calls
@@ -361,8 +347,8 @@ pub one_settled : (path second folder : List ℕ) (calls : List Answered) → Is
 one_settled path second folder calls inside one w lawful our_path our_second =
     let next : List Answered = (sync_folder folder, true) ∷ calls in
     let seen : (w.seen next).named second ≡ (w.seen next).named path =
-        lawful.1.seen second our_second (λ none. none) ∙ one w lawful.0 our_path our_second
-        ∙ sym (lawful.1.seen path our_path (λ none. none)) in
+    lawful.1.seen second our_second (λ none. none) ∙ one w lawful.0 our_path our_second
+    ∙ sym (lawful.1.seen path our_path (λ none. none)) in
     (seen, lawful.1.done refl second our_second inside ∙ seen)
 
 -- the path was given away
@@ -378,13 +364,13 @@ renamed_whole file all from path calls has w lawful ours =
     }
 
 -- the bytes of a file to which no append failed
-some_bytes : (written : Option (List ℕ)) → IsSome written → (all : List ℕ) × (written ≡ Some all)
+pub some_bytes : (written : Option (List ℕ)) → IsSome written → (all : List ℕ) × (written ≡ Some all)
 some_bytes None some = absurd (cc)
 some_bytes (Some all) some = (all, refl)
 
 -- the second path was asked for
 module _ (path second : List ℕ) where
-  asked_file : (file : ℕ) (all : List ℕ) (mid new : List Answered) → WasAsked path second mid new → HasFile file all mid
+  pub asked_file : (file : ℕ) (all : List ℕ) (mid new : List Answered) → WasAsked path second mid new → HasFile file all mid
       → HasFile file all new
   asked_file file all mid new asked has =
       let linked = λ (ok : Bool). file_stays path second file all (link_again path second) ok mid (refl, refl) has in elim asked.1 [
@@ -395,7 +381,8 @@ module _ (path second : List ℕ) where
 
   -- the path was given away
   pub ends_given : (file : ℕ) (written : Option (List ℕ)) (old : List Answered) (from folder : List ℕ)
-      (mid kept named new : List Answered) → mid ≡ (sync file written, true) ∷ old → WasAsked path second mid kept → named ≡ (sync_folder folder, true) ∷ kept → new ≡ (rename file from path, true) ∷ named
+      (mid kept named new : List Answered) → mid ≡ (sync file written, true) ∷ old → WasAsked path second mid kept
+      → named ≡ (sync_folder folder, true) ∷ kept → new ≡ (rename file from path, true) ∷ named
       → HasPath path written new
   ends_given file written old from folder mid kept named new is asked names renames = has_path written refl where
     has_path : (o : Option (List ℕ)) → written ≡ o → IfSome o (λ all. HasWhole path all new)
@@ -406,216 +393,3 @@ module _ (path second : List ℕ) where
         let has_named = subst (HasFile file all) (sym names)
         (file_stays path second file all (sync_folder folder) true kept tt has_kept) in
         subst (HasWhole path all) (sym renames) (renamed_whole file all from path named has_named)
-
--- ---- runs
-
--- a run of calls after each of which the path still leads where it led
-pub record Prepared (temporary : List ℕ → Type 0) (path second : List ℕ) (old new : List Answered) : Type 0 where
-  pub more : List Answered
-  pub are : new ≡ more ++ old
-  pub whenever : (w : World) → IsSound temporary w old → w.ours path ≡ true → w.ours second ≡ true
-      → AtEach (λ calls. IsLawful w calls → IsReady temporary path second w old calls) more old
-
-module _ (temporary : List ℕ → Type 0) (path second : List ℕ) (not_path : temporary path → ⊥) (not_second : temporary second → ⊥)
-    (apart : path ≡ second → ⊥) where
-  pub prepared_none : (calls : List Answered) → Prepared temporary path second calls calls
-  prepared_none calls = record {
-    more = [];
-    are = refl;
-    whenever = λ w sound our_path our_second lawful. ready_first temporary path second w our_path our_second not_path not_second apart
-        calls sound;
-  }
-
-  pub prepared_more : (call : Call) (ok : Bool) (old mid new : List Answered) → Prepares path second call → new ≡ (call, ok) ∷ mid
-      → Prepared temporary path second old mid → Prepared temporary path second old new
-  prepared_more call ok old mid new prepares is before = record {
-    more = (call, ok) ∷ before.more;
-    are = is ∙ ap (λ (calls : List Answered). (call, ok) ∷ calls) before.are;
-    whenever = λ w sound our_path our_second.
-        let each = before.whenever w sound our_path our_second in (
-          λ lawful. ready_next temporary path second w our_path our_second not_path not_second apart old call ok (before.more ++ old)
-              prepares lawful.1 (at_last (λ calls. IsLawful w calls → IsReady temporary path second w old calls) before.more old each
-              lawful.0),
-          each,
-        );
-  }
-
-  each_early : (written : Option (List ℕ)) (w : World) (more old : List Answered) → IsSound temporary w old → w.ours path ≡ true → w.ours second ≡ true
-      → AtEach (λ calls. IsLawful w calls → IsReady temporary path second w old calls) more old
-      → AtEach (λ calls. IsLawful w calls → IsSound temporary w calls × AreExchanged temporary written path second w old calls) more old
-  each_early written w more old sound our_path our_second each =
-      each_weaker (λ calls. IsLawful w calls → IsReady temporary path second w old calls)
-      (λ calls. IsLawful w calls → IsSound temporary w calls × AreExchanged temporary written path second w old calls)
-      (λ calls ready lawful. let is = ready lawful in (
-        is.sound,
-        ready_exchanged temporary path second w our_path our_second not_path not_second apart old written calls sound is,
-      )) more old each
-
-  -- the path isn't given away
-  pub exchanges_none : (written : Option (List ℕ)) (old new : List Answered) → Prepared temporary path second old new
-      → Exchanges temporary written path second old new
-  exchanges_none written old new run = record {
-    more = run.more;
-    are = run.are;
-    whenever = λ w sound our_path our_second. each_early written w run.more old sound our_path our_second
-        (run.whenever w sound our_path our_second);
-  }
-
-  -- the path is given away
-  pub exchanges_all : (file : ℕ) (all : List ℕ) (written : Option (List ℕ)) → written ≡ Some all → (from : List ℕ) → temporary from
-      → (ok : Bool) (old mid new : List Answered) → HasFile file all mid → LeadFor path second mid
-      → new ≡ (rename file from path, ok) ∷ mid → Prepared temporary path second old mid
-      → Exchanges temporary written path second old new
-  exchanges_all file all written whole from is_from ok old mid new has both is run = record {
-    more = (rename file from path, ok) ∷ run.more;
-    are = is ∙ ap (λ (calls : List Answered). (rename file from path, ok) ∷ calls) run.are;
-    whenever = λ w sound our_path our_second.
-        let each = run.whenever w sound our_path our_second in
-        let calls = run.more ++ old in
-        let has_here = subst (HasFile file all) run.are has in
-        let both_here = subst (LeadFor path second) run.are both in (
-          λ lawful.
-              let ready = at_last (λ so. IsLawful w so → IsReady temporary path second w old so) run.more old each lawful.0 in
-              let at_file = has_here w lawful.0 in
-              let at_both = both_here w lawful.0 our_path our_second in (
-                renamed_sound temporary path second w our_path our_second not_path not_second apart old file all written whole from
-                    is_from ok calls at_file.0 at_file.1.0 at_file.1.1 at_both.0 at_both.1 lawful.1 sound ready,
-                renamed_exchanged temporary path second w our_path our_second not_path not_second apart old file all written whole from
-                    is_from ok calls at_file.0 at_file.1.0 at_file.1.1 at_both.0 at_both.1 lawful.1 sound ready,
-              ),
-          each_early written w run.more old sound our_path our_second each,
-        );
-  }
-
-  -- the second path was asked for
-  asked_prepared : (old mid new : List Answered) → WasAsked path second mid new → Prepared temporary path second old mid
-      → Prepared temporary path second old new
-  asked_prepared old mid new asked run = elim asked.1 [
-    | inl is ↦ prepared_more (link_again path second) asked.0 old mid new (refl, refl) is run
-    | inr is ↦ prepared_more (same_file path second) asked.0 old ((link_again path second, false) ∷ mid) new tt is
-        (prepared_more (link_again path second) false old mid ((link_again path second, false) ∷ mid) (refl, refl) refl run)
-  ]
-
-  -- ---- where an exchange ends
-  module _ (file : ℕ) (written : Option (List ℕ)) (old : List Answered) where
-    first_prepared : (ok : Bool) (new : List Answered) → new ≡ (sync file written, ok) ∷ old → Prepared temporary path second old new
-    first_prepared ok new is = prepared_more (sync file written) ok old old new tt is (prepared_none old)
-
-    -- the file couldn't be written to the disk
-    pub ends_unwritten : (new : List Answered) → new ≡ (sync file written, false) ∷ old → Exchanges temporary written path second old new
-    ends_unwritten new is = exchanges_none written old new (first_prepared false new is)
-
-    -- the second path wasn't given
-    pub ends_unkept : (mid new : List Answered) → mid ≡ (sync file written, true) ∷ old → WasAsked path second mid new
-        → Exchanges temporary written path second old new
-    ends_unkept mid new is asked = exchanges_none written old new (asked_prepared old mid new asked (first_prepared true mid is))
-
-    named_prepared : (folder : List ℕ) (ok : Bool) (mid kept new : List Answered) → mid ≡ (sync file written, true) ∷ old
-        → WasAsked path second mid kept → new ≡ (sync_folder folder, ok) ∷ kept → Prepared temporary path second old new
-    named_prepared folder ok mid kept new is asked named = prepared_more (sync_folder folder) ok old kept new tt named
-        (asked_prepared old mid kept asked (first_prepared true mid is))
-
-    -- it couldn't be written to the disk
-    pub ends_unnamed : (folder : List ℕ) (mid kept new : List Answered) → mid ≡ (sync file written, true) ∷ old
-        → WasAsked path second mid kept → new ≡ (sync_folder folder, false) ∷ kept → Exchanges temporary written path second old new
-    ends_unnamed folder mid kept new is asked named =
-        exchanges_none written old new (named_prepared folder false mid kept new is asked named)
-
-    -- the path was to be given
-    pub ends_renamed : IsSome written → (from : List ℕ) → temporary from → (folder : List ℕ) → IsIn folder second → (ok : Bool)
-        → (mid kept named new : List Answered) → mid ≡ (sync file written, true) ∷ old → WasAsked path second mid kept
-        → LeadToOne path second kept → named ≡ (sync_folder folder, true) ∷ kept → new ≡ (rename file from path, ok) ∷ named
-        → Exchanges temporary written path second old new
-    ends_renamed some from is_from folder inside ok mid kept named new is asked one names renames =
-        let all = some_bytes written some in
-        let has_mid = subst (HasFile file all.0) (sym is) (file_synced file all.0 written old all.1) in
-        let has_kept = asked_file path second file all.0 mid kept asked has_mid in
-        exchanges_all file all.0 written all.1 from is_from ok old named new
-            (subst (HasFile file all.0) (sym names)
-            (file_stays path second file all.0 (sync_folder folder) true kept tt has_kept))
-            (subst (LeadFor path second) (sym names) (one_settled path second folder kept inside one)) renames
-            (named_prepared folder true mid kept named is asked names)
-
-
--- no call
-pub exchanges_nothing : (temporary : List ℕ → Type 0) (written : Option (List ℕ)) (path second : List ℕ) (calls : List Answered)
-    → Exchanges temporary written path second calls calls
-exchanges_nothing temporary written path second calls = record {
-  more = [];
-  are = refl;
-  whenever = λ w sound our_path our_second lawful. (
-    sound,
-    record {
-      seen = record { at = inl refl; beside = inl refl };
-      left = record { at = inl refl; beside = inl refl };
-      others = λ p ours lasting not_first not_other. (refl, refl);
-    },
-  );
-}
-
--- ---- an exchange, and then calls that change no path but temporary ones
-
-kept_same : (shown old new : Files) (path : List ℕ) → IsKept (λ p bytes. ⊥) shown old new path → under new path ≡ under old path
-kept_same shown old new path (inl same) = same
-kept_same shown old new path (inr had) = absurd had.1.1
-
-exchanged_then : (written : Option (List ℕ)) (path second : List ℕ) (shown old mid new : Files)
-    → under new path ≡ under mid path → under new second ≡ under mid second → IsExchanged written path second shown old mid
-    → IsExchanged written path second shown old new
-exchanged_then written path second shown old mid new same same_second is = record {
-  at = elim is.at [
-    | inl had ↦ inl (same ∙ had)
-    | inr has ↦ inr (record { bytes = has.bytes; whole = has.whole; here = same ∙ has.here; kept = same_second ∙ has.kept })
-  ];
-  beside = elim is.beside [
-    | inl had ↦ inl (same_second ∙ had)
-    | inr got ↦ inr (got.0, same_second ∙ got.1)
-  ];
-}
-
-module _ (temporary : List ℕ → Type 0) (written : Option (List ℕ)) (path second : List ℕ) (not_path : temporary path → ⊥)
-    (not_second : temporary second → ⊥) where
-  are_exchanged_then : (w : World) (old mid new : List Answered) → w.ours path ≡ true → w.ours second ≡ true
-      → AreExchanged temporary written path second w old mid → AreKept temporary (λ p bytes. ⊥) w mid new
-      → AreExchanged temporary written path second w old new
-  are_exchanged_then w old mid new our_path our_second are kept =
-      let first = kept path our_path not_path in
-      let other = kept second our_second not_second in record {
-        seen = exchanged_then written path second (w.seen old) (w.seen old) (w.seen mid) (w.seen new)
-            (kept_same (w.seen mid) (w.seen mid) (w.seen new) path first.0)
-            (kept_same (w.seen mid) (w.seen mid) (w.seen new) second other.0) are.seen;
-        left = exchanged_then written path second (w.seen old) (w.left old) (w.left mid) (w.left new)
-            (kept_same (w.seen mid) (w.left mid) (w.left new) path first.1)
-            (kept_same (w.seen mid) (w.left mid) (w.left new) second other.1) are.left;
-        others = λ p ours lasting not_first not_other.
-            let had = are.others p ours lasting not_first not_other in let at = kept p ours lasting in (
-              kept_same (w.seen mid) (w.seen mid) (w.seen new) p at.0 ∙ had.0,
-              kept_same (w.seen mid) (w.left mid) (w.left new) p at.1 ∙ had.1,
-            );
-      }
-
-  abbrev IsAll : World → List Answered → List Answered → Type 0
-  IsAll w old calls = IsSound temporary w calls × AreExchanged temporary written path second w old calls
-
-  pub exchanges_then : (old mid new : List Answered) → Exchanges temporary written path second old mid
-      → Keeps temporary (λ p bytes. ⊥) mid new → Exchanges temporary written path second old new
-  exchanges_then old mid new first quiet =
-      let later = quiet.more in let more = first.more in
-      let whole : new ≡ later ++ (more ++ old) = quiet.are ∙ ap (λ (calls : List Answered). later ++ calls) first.are in
-      let again = subst (λ (calls : List Answered). (w : World) → IsSound temporary w calls
-      → AtEach (λ so. IsLawful w so → Holds temporary (λ p bytes. ⊥) w calls so) later calls) first.are quiet.whenever in
-      record {
-        more = later ++ more;
-        are = whole ∙ sym (append_assoc later more old);
-        whenever = λ w sound our_path our_second.
-            let each = first.whenever w sound our_path our_second in
-            each_after (λ calls. IsLawful w calls → IsAll w old calls) later more old each
-            (each_given w (IsAll w old) later (more ++ old) (λ lawful.
-            let mid = at_last (λ calls. IsLawful w calls → IsAll w old calls) more old each lawful in
-            each_weaker (λ calls. IsLawful w calls → Holds temporary (λ p bytes. ⊥) w (more ++ old) calls)
-            (λ calls. IsLawful w calls → IsAll w old calls)
-            (λ calls holds so. let found = holds so in (
-              found.0,
-              are_exchanged_then w old (more ++ old) calls our_path our_second mid.1 found.1,
-            )) later (more ++ old) (again w mid.0)));
-      }

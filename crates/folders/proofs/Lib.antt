@@ -1,4 +1,5 @@
 pub mod Answers
+pub mod ExchangeRuns
 pub mod Exchanges
 pub mod Links
 pub mod LastNames

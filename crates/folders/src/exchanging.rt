@@ -15,8 +15,8 @@ pub struct Exchanged<W> {
 }
 
 /// Writes a file to the disk and gives it the path of another one, which the second path then keeps. Not done if something else is at the
-/// second path. Whenever that ends, the path has what it had, or all the bytes of the file, and then what was there is at the second path. If it is
-/// done the path leads to the file, whose bytes are on the disk.
+/// second path. Whenever that ends, the path has what it had, or all the bytes of the file, and then what was there is at the second path.
+/// If it is done, the path leads to the file, whose bytes are on the disk.
 ///
 /// # Errors
 ///
@@ -50,8 +50,8 @@ pub fn exchange<F: Folder>(
     })
 }
 
-// Gives the file at a path a second one, or finds that it has that already, as a run that was killed has left it. False if something else is
-// there.
+// Gives the file at a path a second one, or finds that it has that already, as a run that was killed has left it. False if something else
+// is there.
 fn keep_at<F: Folder>(folder: &mut F, path: &str, second: &str) -> io::Result<bool>
     ensures asked { WasAsked path.now second.now (F.calls folder.old) (F.calls folder.new) }
     ensures one { path.now ≢ second.now → IfOk result (λ is. is ≡ true → LeadToOne path.now second.now (F.calls folder.new)) }

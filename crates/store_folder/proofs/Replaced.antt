@@ -1,13 +1,14 @@
 -- A fragment that is replaced.
-use Rattle.std.proofs.Common.{◌≡◌, ◌∙◌, ◌⊎◌, ◌+◌, ap, sym, inl, inr, arith, length-append, ℕ, List, ◌++◌, length, Bool, true, false, Option, Some}
-use Rattle.std.proofs.Common.{None, IfSome}
+use Rattle.std.proofs.Common.{◌≡◌, ◌∙◌, ◌⊎◌, ◌+◌, ap, sym, inl, inr, arith, length-append, ℕ, List, ◌++◌, length, true, false, Option}
+use Rattle.std.proofs.Common.{Some, None, IfSome}
 use Rattle.std.specs.Prelude.{codes}
 use Rattle.std.proofs.Common.{String, Global}
 use Rattle.folders.specs.Calls.{Answered}
 use Rattle.lrc_code.specs.declared.places.Place.{Place}
 use Rattle.store_folder.specs.declared.site.Site.{Site}
 use Rattle.folders.specs.Placed.{HasPath}
-use Rattle.folders.proofs.Exchanges.{exchanges_nothing, exchanges_then, not_on}
+use Rattle.folders.proofs.ExchangeRuns.{exchanges_nothing, exchanges_then}
+use Rattle.folders.proofs.Exchanges.{not_on}
 use Rattle.store_folder.specs.Done.{HasFolderOf, IsDue}
 use Rattle.store_folder.specs.Kept.{IsPathOf, IsTemporary, KeepsEach}
 use Rattle.store_folder.specs.Replaced.{ReplacesIn, ReplacesOne, second_path}
@@ -27,7 +28,8 @@ pub replaces_then : (path second : List ℕ) (written : Option (List ℕ)) (old 
     → second ≡ second_path path → is_temporary second ≡ false → ReplacesOne path written old mid → KeepsEach mid new
     → ReplacesOne path written old new
 replaces_then path second written old mid new lasting is free first quiet = exchanges_then IsTemporary written path (second_path path)
-    (not_on (is_temporary path) lasting) (not_on (is_temporary (second_path path)) (ap is_temporary (sym is) ∙ free)) old mid new first quiet
+    (not_on (is_temporary path) lasting) (not_on (is_temporary (second_path path)) (ap is_temporary (sym is) ∙ free)) old mid new first
+    quiet
 
 -- the path that was given is still to be written to the disk
 pub given_due : (path : List ℕ) (written : Option (List ℕ)) (folders : List (String Global)) (calls : List Answered)

@@ -1,6 +1,7 @@
-use Rattle.std.proofs.Common.{◌≡◌, ◌∙◌, ap, ℕ, List, ◌∷◌, Bool, true, false}
+use Rattle.std.proofs.Common.{◌≡◌, ◌∙◌, ap, ℕ, List, ◌∷◌, true, false}
 use Rattle.folders.specs.Calls.{rename}
-use Rattle.folders.proofs.Exchanges.{not_on, ends_unwritten, ends_unkept, ends_unnamed, ends_renamed, ends_given}
+use Rattle.folders.proofs.ExchangeRuns.{ends_unwritten, ends_unkept, ends_unnamed, ends_renamed}
+use Rattle.folders.proofs.Exchanges.{not_on, ends_given}
 use Rattle.folders.proofs.exchanging.exchange.Goals as goal
 
 pub returns-in_err-whole-clause-whenever : goal.returns-in_err-whole-clause-whenever
