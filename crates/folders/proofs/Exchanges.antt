@@ -54,7 +54,8 @@ pub record IsReady (temporary : List ℕ → Type 0) (path second : List ℕ) (w
   pub bytes : Stays w before calls
 
 module _ (temporary : List ℕ → Type 0) (path second : List ℕ) (w : World) (our_path : w.ours path ≡ true)
-    (our_second : w.ours second ≡ true) (not_path : temporary path → ⊥) (not_second : temporary second → ⊥) (apart : path ≡ second → ⊥) (before : List Answered) where
+    (our_second : w.ours second ≡ true) (not_path : temporary path → ⊥) (not_second : temporary second → ⊥)
+    (apart : path ≡ second → ⊥) (before : List Answered) where
   pub ready_first : IsSound temporary w before → IsReady temporary path second w before before
   ready_first sound = record {
     sound = sound;
