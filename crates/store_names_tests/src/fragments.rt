@@ -135,27 +135,53 @@ fn code_of(word: &str) -> Code {
     Code::parse(word.as_bytes()).unwrap_or(Code::Narrow)
 }
 
+// The name that a pattern gives a fragment; none where it is no pattern, or there is no such place or memory.
+fn name_by(
+    alloc: Global,
+    pattern: Result<Pattern, PatternFault>,
+    code: Code,
+    stripe: &str,
+    place: &str,
+) -> Option<Option<String>> {
+    match (pattern, Place::parse(place)) {
+        (Ok(pattern), Some(place)) => pattern.name_of(alloc, code, stripe, place).ok(),
+        _ => None,
+    }
+}
+
+// Whether a pattern reads a name as that of this fragment.
+fn is_read(
+    pattern: Result<Pattern, PatternFault>,
+    code: Code,
+    name: &str,
+    stripe: &str,
+    place: &str,
+) -> bool {
+    match (pattern, Place::parse(place)) {
+        (Ok(pattern), Some(place)) => pattern.read(code, name) == Some((stripe, place)),
+        _ => false,
+    }
+}
+
+// Whether a line of the table of names is so.
+fn is_named(alloc: Global, words: &[&str]) -> bool {
+    match words {
+        [text, layout, code, stripe, place, wanted] => {
+            let layout = layout_of(layout);
+            let code = code_of(code);
+            let name = name_by(alloc, Pattern::parse(text, layout), code, stripe, place);
+            matches!(&name, Some(Some(name)) if name.as_str() == *wanted)
+                && is_read(Pattern::parse(text, layout), code, wanted, stripe, place)
+        }
+        _ => false,
+    }
+}
+
 #[test]
 fn names_are_made_and_read(rt: HostRuntime) {
     for line in NAMES.lines() {
         let words = words_of(rt.alloc(), line);
-        let [text, layout, code, stripe, place, wanted] = words.as_slice() else {
-            panic!(rt; "{line}");
-        };
-        let (code, place) = (code_of(code), Place::parse(place));
-        match (Pattern::parse(text, layout_of(layout)), place) {
-            (Ok(pattern), Some(place)) => {
-                let name = pattern.name_of(rt.alloc(), code, stripe, place);
-                let is_wanted = matches!(&name, Ok(Some(name)) if name.as_str() == *wanted);
-                assert!(rt; is_wanted, "{line}: {name:?}");
-                assert_eq!(rt;
-                    pattern.read(code, wanted),
-                    Some((*stripe, place)),
-                    "{line}"
-                );
-            }
-            (_, _) => panic!(rt; "{line}"),
-        }
+        assert!(rt; is_named(rt.alloc(), words.as_slice()), "{line}");
     }
 }
 
@@ -252,36 +278,49 @@ disk{shard}/{stripe}|6-2-2|.rebuild-store-3-16-0123456789abcdef|x0
 {place}{stripe}|6-2-2|.damaged|x0";
 
 #[test]
-fn what_is_no_pattern_and_no_name_is_refused(rt: HostRuntime) {
+fn what_is_no_pattern_is_refused(rt: HostRuntime) {
     for (text, wanted) in FAULTS {
         let fault = Pattern::parse(text, Layout::Plain).err();
-        assert_eq!(rt; fault, Some(*wanted), "{text}");
+        assert!(rt; fault == Some(*wanted), "{text}");
     }
     for text in PATTERNS {
-        let fault = Pattern::parse(text, Layout::Plain).err();
-        assert_eq!(rt; fault, None, "{text}");
+        assert!(rt; Pattern::parse(text, Layout::Plain).is_ok(), "{text}");
     }
+}
+
+// Whether a name is none of a fragment's, as a line says.
+fn is_nothing(words: &[&str]) -> bool {
+    match words {
+        [text, code, name] => match Pattern::parse(text, Layout::Plain) {
+            Ok(pattern) => pattern.read(code_of(code), name).is_none(),
+            Err(_) => false,
+        },
+        _ => false,
+    }
+}
+
+// Whether a stripe has no fragment with a name, as a line says.
+fn is_unnamed(alloc: Global, words: &[&str]) -> bool {
+    match words {
+        [text, code, stripe, place] => {
+            let pattern = Pattern::parse(text, Layout::Plain);
+            matches!(
+                name_by(alloc, pattern, code_of(code), stripe, place),
+                Some(None)
+            )
+        }
+        _ => false,
+    }
+}
+
+#[test]
+fn what_has_no_name_is_refused(rt: HostRuntime) {
     for line in NOTHING.lines() {
         let words = words_of(rt.alloc(), line);
-        let [text, code, name] = words.as_slice() else {
-            panic!(rt; "{line}");
-        };
-        match Pattern::parse(text, Layout::Plain) {
-            Ok(pattern) => assert_eq!(rt; pattern.read(code_of(code), name), None, "{line}"),
-            Err(fault) => panic!(rt; "{line}: {fault}"),
-        }
+        assert!(rt; is_nothing(words.as_slice()), "{line}");
     }
     for line in UNNAMED.lines() {
         let words = words_of(rt.alloc(), line);
-        let [text, code, stripe, place] = words.as_slice() else {
-            panic!(rt; "{line}");
-        };
-        match (Pattern::parse(text, Layout::Plain), Place::parse(place)) {
-            (Ok(pattern), Some(place)) => {
-                let name = pattern.name_of(rt.alloc(), code_of(code), stripe, place);
-                assert!(rt; matches!(name, Ok(None)), "{line}: {name:?}");
-            }
-            (_, _) => panic!(rt; "{line}"),
-        }
+        assert!(rt; is_unnamed(rt.alloc(), words.as_slice()), "{line}");
     }
 }

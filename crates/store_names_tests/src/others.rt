@@ -2,6 +2,7 @@
 //! hashlib gives.
 use folders::folder_of;
 use lrc_code::Code;
+use std::alloc::{AllocError, Global};
 use store_names::{
     Layout, Part, Pattern, described_stripe, description_names, folder_in, is_ambiguous,
     is_left_by, is_of_runs, last_of, lock_name, path_in, tag_of_part,
@@ -68,20 +69,31 @@ fn files_of_runs_are_known(rt: HostRuntime) {
     for (name, tag, wanted) in LEFT {
         assert_eq!(rt; is_left_by(name, tag), *wanted, "{name} {tag}");
     }
+}
+
+// Whether a path has these parts.
+fn has_parts(path: &str, folder: &str, last: &str, inside: &str) -> bool {
+    folder_of(path) == folder && last_of(path) == last && folder_in(path) == inside
+}
+
+#[test]
+fn paths_have_their_parts(rt: HostRuntime) {
     for (path, folder, last, inside) in PATHS {
-        assert_eq!(rt;
-            (folder_of(path), last_of(path)),
-            (*folder, *last),
-            "{path}"
-        );
-        assert_eq!(rt; folder_in(path), *inside, "{path}");
+        assert!(rt; has_parts(path, folder, last, inside), "{path}");
     }
-    let lock = lock_name(rt.alloc(), 3, 16);
-    assert!(rt; matches!(&lock, Ok(name) if name.as_str() == ".rebuild-store-part-3-of-16"));
-    let tag = tag_of_part(rt.alloc(), 3, 16);
-    assert!(rt; matches!(&tag, Ok(tag) if tag.as_str() == "3-16-"));
-    let path = path_in(rt.alloc(), "a/b", "c/d");
-    assert!(rt; matches!(&path, Ok(path) if path.as_str() == "a/b/c/d"));
+}
+
+// Whether a text was made, and is this.
+fn is_text(made: Result<String, AllocError>, wanted: &str) -> bool {
+    matches!(&made, Ok(text) if text.as_str() == wanted)
+}
+
+#[test]
+fn names_of_parts_are_made(rt: HostRuntime) {
+    let alloc = rt.alloc();
+    assert!(rt; is_text(lock_name(alloc, 3, 16), ".rebuild-store-part-3-of-16"));
+    assert!(rt; is_text(tag_of_part(alloc, 3, 16), "3-16-"));
+    assert!(rt; is_text(path_in(alloc, "a/b", "c/d"), "a/b/c/d"));
 }
 
 // The last part of a name, and the stripe that it describes.
@@ -159,28 +171,49 @@ fn descriptions_have_their_names(rt: HostRuntime) {
     for last in UNDESCRIBED {
         assert_eq!(rt; described_stripe(last), None, "{last}");
     }
+}
+
+// Whether these are the names.
+fn are_names(names: &[String], wanted: &[&str]) -> bool {
+    names.len() == wanted.len()
+        && names
+            .iter()
+            .zip(wanted.iter())
+            .all(|(name, other)| name.as_str() == *other)
+}
+
+// Whether the descriptions of a stripe have these names.
+fn are_described(alloc: Global, text: &str, code: Code, stripe: &str, wanted: &[&str]) -> bool {
+    match Pattern::parse(text, Layout::Plain) {
+        Ok(pattern) => match description_names(alloc, &pattern, code, stripe) {
+            Ok(names) => are_names(names.as_slice(), wanted),
+            Err(_) => false,
+        },
+        Err(_) => false,
+    }
+}
+
+// Whether a pattern takes the names of descriptions for those of fragments, where there is memory to say so.
+fn takes_descriptions(alloc: Global, text: &str) -> Option<bool> {
+    match Pattern::parse(text, Layout::Plain) {
+        Ok(pattern) => is_ambiguous(alloc, &pattern, Code::Narrow).ok(),
+        Err(_) => None,
+    }
+}
+
+#[test]
+fn descriptions_are_in_their_folders(rt: HostRuntime) {
     for (text, code, stripe, wanted) in DESCRIPTIONS {
-        match Pattern::parse(text, Layout::Plain) {
-            Ok(pattern) => match description_names(rt.alloc(), &pattern, *code, stripe) {
-                Ok(names) => {
-                    assert_eq!(rt; names.len(), wanted.len(), "{text}");
-                    for (name, other) in names.iter().zip(wanted.iter()) {
-                        assert_eq!(rt; name.as_str(), *other, "{text}");
-                    }
-                }
-                Err(fault) => panic!(rt; "{text}: {fault:?}"),
-            },
-            Err(fault) => panic!(rt; "{text}: {fault}"),
-        }
+        assert!(rt;
+            are_described(rt.alloc(), text, *code, stripe, wanted),
+            "{text}"
+        );
     }
     for (text, wanted) in AMBIGUOUS {
-        match Pattern::parse(text, Layout::Plain) {
-            Ok(pattern) => {
-                let is = is_ambiguous(rt.alloc(), &pattern, Code::Narrow);
-                assert!(rt; matches!(is, Ok(is) if is == *wanted), "{text}: {is:?}");
-            }
-            Err(fault) => panic!(rt; "{text}: {fault}"),
-        }
+        assert!(rt;
+            takes_descriptions(rt.alloc(), text) == Some(*wanted),
+            "{text}"
+        );
     }
 }
 

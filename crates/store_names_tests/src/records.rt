@@ -114,27 +114,35 @@ fn read(alloc: Global, line: &[u8]) -> Result<Sums, LineFault> {
     Ok(sums)
 }
 
+// Whether a line says the digest of `a` for a file.
+fn says_sum(alloc: Global, line: &[u8], name: &str) -> bool {
+    match read(alloc, line) {
+        Ok(sums) => sums.digest_of(name) == Some(&OF_A),
+        Err(_) => false,
+    }
+}
+
+// Whether a line is read and says no sum.
+fn says_nothing(alloc: Global, line: &[u8]) -> bool {
+    match read(alloc, line) {
+        Ok(sums) => matches!(sums.text(alloc), Ok(text) if text.is_empty()),
+        Err(_) => false,
+    }
+}
+
 #[test]
 fn lines_say_sums(rt: HostRuntime) {
     for (line, name) in LINES {
-        match read(rt.alloc(), line) {
-            Ok(sums) => assert_eq!(rt; sums.digest_of(name), Some(&OF_A), "{name:?}"),
-            Err(fault) => panic!(rt; "{name:?}: {fault}"),
-        }
+        assert!(rt; says_sum(rt.alloc(), line, name), "{name:?}");
     }
     for line in SILENT {
-        let sums = read(rt.alloc(), line);
-        let text = sums.map(|sums| sums.text(rt.alloc()));
-        assert!(rt;
-            matches!(&text, Ok(Ok(text)) if text.is_empty()),
-            "{line:?}"
-        );
+        assert!(rt; says_nothing(rt.alloc(), line), "{line:?}");
     }
     for line in NO_SUMS {
         let fault = read(rt.alloc(), line).err();
         assert!(rt;
             matches!(fault, Some(LineFault::NotASum { line: 7 })),
-            "{line:?}: {fault:?}"
+            "{line:?}"
         );
     }
     let digits = digits_of(rt.alloc(), &OF_A);
@@ -191,13 +199,14 @@ fn sums_are_written_and_read(rt: HostRuntime) {
         }
         Err(fault) => panic!(rt; "{fault}"),
     }
+}
+
+#[test]
+fn another_digest_of_a_file_is_refused(rt: HostRuntime) {
     let mut sums = Sums::new(rt.alloc());
     let is_set = sums.set(rt.alloc(), LINES[0].1, OF_B).is_ok();
     let fault = sums.read_line(rt.alloc(), LINES[0].0, 2).err();
-    assert!(rt;
-        is_set && matches!(fault, Some(LineFault::Contradicts { line: 2 })),
-        "{fault:?}"
-    );
+    assert!(rt; is_set && matches!(fault, Some(LineFault::Contradicts { line: 2 })));
 }
 
 // The line of a description, its length, whether its digest is that of `a` or else of `b`, and its code.
@@ -253,6 +262,17 @@ const NO_DESCRIPTIONS: &[&[u8]] = &[
     b"4096 ca978112ca1bbdcafac231b39a23dc4da786eff8147c4e72b9807785afee48bb 6-2-2\n\0",
 ];
 
+// Whether a description's line is this.
+fn is_written(alloc: Global, described: &Described, line: &[u8]) -> bool {
+    line.len() as u64 <= MOST_BYTES
+        && matches!(described.text(alloc), Ok(text) if text.as_bytes() == line)
+}
+
+// Whether a line is read as this description.
+fn is_parsed(alloc: Global, described: &Described, line: &[u8]) -> bool {
+    matches!(Described::parse(alloc, line), Ok(Some(parsed)) if parsed == *described)
+}
+
 #[test]
 fn descriptions_are_written_and_read(rt: HostRuntime) {
     for (line, length, is_a, code) in DESCRIPTIONS {
@@ -261,15 +281,11 @@ fn descriptions_are_written_and_read(rt: HostRuntime) {
             digest: if *is_a { OF_A } else { OF_B },
             code: *code,
         };
-        let text = described.text(rt.alloc());
-        let is_line = matches!(&text, Ok(text) if text.as_bytes() == *line);
-        assert!(rt; is_line && line.len() as u64 <= MOST_BYTES, "{text:?}");
-        let parsed = Described::parse(rt.alloc(), line);
-        let is_it = matches!(&parsed, Ok(Some(parsed)) if *parsed == described);
-        assert!(rt; is_it, "{parsed:?}");
+        assert!(rt; is_written(rt.alloc(), &described, line), "{line:?}");
+        assert!(rt; is_parsed(rt.alloc(), &described, line), "{line:?}");
     }
     for line in NO_DESCRIPTIONS {
         let parsed = Described::parse(rt.alloc(), line);
-        assert!(rt; matches!(&parsed, Ok(None)), "{line:?}: {parsed:?}");
+        assert!(rt; matches!(&parsed, Ok(None)), "{line:?}");
     }
 }

@@ -75,11 +75,11 @@ fn assert_checked(
         elsewhere: false,
     };
     let planned = plan(alloc, &store, sample, &all)?;
-    assert_eq!(rt; planned.rebuilt.len(), 2);
-    assert_eq!(rt; planned.is_checked_at(sample.code, lost[0]), is_checked);
+    assert!(rt; planned.rebuilt.len() == 2);
+    assert!(rt; planned.is_checked_at(sample.code, lost[0]) == is_checked);
     let outcome = repair(alloc, &mut store, sample, false)?;
     assert!(rt; outcome.is_checked);
-    assert_eq!(rt; outcome.is_checked_at(sample.code, lost[0]), is_checked);
+    assert!(rt; outcome.is_checked_at(sample.code, lost[0]) == is_checked);
     Ok(())
 }
 
@@ -90,27 +90,27 @@ fn damage_of_two_that_does_not_show_is_unchecked(rt: HostRuntime) -> Result<(), 
     for sample in [NARROW, WIDE] {
         assert_checked(&rt, rt.alloc(), &sample, [Place::X0, Place::Y1], true)?;
         assert_checked(&rt, rt.alloc(), &sample, [Place::X0, Place::X1], false)?;
-        let mut store = MemoryStore::new(rt.alloc());
-        put_without(&mut store, &sample, &[Place::X0, Place::X1])?;
-        for place in [Place::X2, Place::Px] {
-            let mut bytes = Vec::new(rt.alloc());
-            for byte in fragment_of(&sample, place) {
-                bytes.push(*byte ^ 0x5a)?;
-            }
-            store.put(sample.name, place, bytes.as_slice())?;
-        }
+        let mut store = changed_alike(rt.alloc(), &sample)?;
         let outcome = repair(rt.alloc(), &mut store, &sample, false)?;
         assert_eq!(&rt; outcome.findings.len(), 0);
         assert_eq!(&rt; outcome.rebuilt.len(), 2);
-        assert!(&rt;
-            !is_there(
-                &store,
-                sample.name,
-                Place::X0,
-                fragment_of(&sample, Place::X0)
-            )
-        );
+        let x0 = fragment_of(&sample, Place::X0);
+        assert!(&rt; !is_there(&store, sample.name, Place::X0, x0));
         assert!(&rt; !outcome.is_checked_at(sample.code, Place::X0));
     }
     Ok(())
+}
+
+// A store with a sample's fragments but for x0 and x1, whose x2 and px are damaged by the same bytes.
+fn changed_alike(alloc: Global, sample: &Sample) -> Result<MemoryStore, AllocError> {
+    let mut store = MemoryStore::new(alloc);
+    put_without(&mut store, sample, &[Place::X0, Place::X1])?;
+    for place in [Place::X2, Place::Px] {
+        let mut bytes = Vec::new(alloc);
+        for byte in fragment_of(sample, place) {
+            bytes.push(*byte ^ 0x5a)?;
+        }
+        store.put(sample.name, place, bytes.as_slice())?;
+    }
+    Ok(store)
 }

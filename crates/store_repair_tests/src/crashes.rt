@@ -160,22 +160,50 @@ fn a_crash_leaves_each_name_absent_or_whole(rt: HostRuntime) -> Result<(), Alloc
     let calls = calls_of(&rt, &lost, None)?;
     assert!(&rt; calls > 8, "{calls} calls");
     for at in 0..calls {
-        for (lasts, is_done) in [(true, false), (true, true), (false, false), (false, true)] {
-            let mut files = folder_without(alloc, &lost, None)?;
-            files.fail(Fault { at, lasts, is_done });
-            let (_, files) = repaired(&rt, files, false)?;
-            assert_whole_or_absent(&rt, rt.alloc(), &files, &lost)?;
+        for (lasts, is_done) in WAYS_TO_FAIL {
+            let files = left_by(&rt, &lost, None, Fault { at, lasts, is_done })?;
+            assert_whole_or_absent(&rt, alloc, &files, &lost)?;
             for way in 0..files.crashes().min(MOST_WAYS) {
-                let left = files.after_crash(way)?;
-                assert_whole_or_absent(&rt, rt.alloc(), &left, &lost)?;
-                assert_nothing_else(&rt, &left)?;
-                let (again, whole) = repaired(&rt, left, false)?;
-                assert!(&rt; again?.findings.is_empty());
-                assert_whole_or_absent(&rt, rt.alloc(), &whole, &[])?;
+                assert_made_whole(&rt, &rt, files.after_crash(way)?, &lost)?;
             }
         }
     }
     Ok(())
+}
+
+// Whether a call and all after it fail, and whether it is done all the same.
+const WAYS_TO_FAIL: [(bool, bool); 4] = [
+    (true, false),
+    (true, true),
+    (false, false),
+    (false, true),
+];
+
+// What a repair leaves of which a call fails. A damaged fragment is replaced.
+fn left_by(
+    rt: &HostRuntime,
+    lost: &[Place],
+    damaged: Option<Place>,
+    fault: Fault,
+) -> Result<MemoryFolder, AllocError> {
+    let mut files = folder_without(rt.alloc(), lost, damaged)?;
+    files.fail(fault);
+    let (_, files) = repaired(rt, files, damaged.is_some())?;
+    Ok(files)
+}
+
+// Asserts that a crash left each name absent or whole, and that the same repair then makes them whole.
+fn assert_made_whole(
+    rt: &impl Abort,
+    runtime: &HostRuntime,
+    left: MemoryFolder,
+    lost: &[Place],
+) -> Result<(), AllocError> {
+    assert_whole_or_absent(rt, runtime.alloc(), &left, lost)?;
+    assert_nothing_else(rt, &left)?;
+    let (again, whole) = repaired(runtime, left, false)?;
+    assert!(rt; again?.findings.is_empty());
+    assert_whole_or_absent(rt, runtime.alloc(), &whole, &[])
 }
 
 // What a repair said to be done is on the disk.
@@ -220,22 +248,29 @@ fn a_crash_leaves_what_is_replaced(rt: HostRuntime) -> Result<(), AllocError> {
     let damaged = Place::X2;
     let calls = calls_of(&rt, &[], Some(damaged))?;
     for at in 0..calls {
-        for (lasts, is_done) in [(true, false), (true, true), (false, false), (false, true)] {
-            let mut files = folder_without(alloc, &[], Some(damaged))?;
-            files.fail(Fault { at, lasts, is_done });
-            let (_, files) = repaired(&rt, files, true)?;
-            assert_kept(&rt, rt.alloc(), &files, damaged)?;
+        for (lasts, is_done) in WAYS_TO_FAIL {
+            let files = left_by(&rt, &[], Some(damaged), Fault { at, lasts, is_done })?;
+            assert_kept(&rt, alloc, &files, damaged)?;
             for way in 0..files.crashes().min(MOST_WAYS) {
-                let left = files.after_crash(way)?;
-                assert_kept(&rt, rt.alloc(), &left, damaged)?;
-                assert_nothing_else(&rt, &left)?;
-                let (again, whole) = repaired(&rt, left, true)?;
-                again?;
-                assert_whole_or_absent(&rt, rt.alloc(), &whole, &[])?;
+                assert_kept_and_replaced(&rt, &rt, files.after_crash(way)?, damaged)?;
             }
         }
     }
     Ok(())
+}
+
+// Asserts that a crash left a damaged fragment, and that the same repair then replaces it.
+fn assert_kept_and_replaced(
+    rt: &impl Abort,
+    runtime: &HostRuntime,
+    left: MemoryFolder,
+    damaged: Place,
+) -> Result<(), AllocError> {
+    assert_kept(rt, runtime.alloc(), &left, damaged)?;
+    assert_nothing_else(rt, &left)?;
+    let (again, whole) = repaired(runtime, left, true)?;
+    again?;
+    assert_whole_or_absent(rt, runtime.alloc(), &whole, &[])
 }
 
 // Of two that are lost the sums say the digest of one, and another digest of the other, which gets no name.
@@ -245,21 +280,23 @@ fn what_differs_from_its_digest_gets_no_name(rt: HostRuntime) -> Result<(), Allo
     let mut sums = Sums::new(alloc);
     sums.set(alloc, "a.x1", OF_02)?;
     sums.set(alloc, "a.py", OF_02)?;
-    let lost = [Place::X1, Place::Py];
+    let files = folder_without(alloc, &[Place::X1, Place::Py], None)?;
     let site = Site {
         sums: Some(&sums),
         ..SITE
     };
-    let (outcome, files) = repaired_at(&rt, folder_without(alloc, &lost, None)?, site, false)?;
-    let outcome = outcome?;
-    assert!(&rt; outcome.rebuilt.as_slice() == [Place::X1].as_slice());
-    assert!(&rt;
-        outcome.findings.iter().any(|finding| finding.place == Some(Place::Py)
-            && matches!(finding.reason, Reason::RebuiltDiffers))
-    );
+    let (outcome, files) = repaired_at(&rt, files, site, false)?;
+    assert!(&rt; is_x1_alone_rebuilt(&outcome?));
     assert_whole_or_absent(&rt, alloc, &files, &[Place::Py])?;
     assert!(&rt; files.bytes_at("store/a.py").is_none());
     Ok(())
+}
+
+// Whether x1 alone is rebuilt, and what py would be differs from its digest.
+fn is_x1_alone_rebuilt(outcome: &Outcome) -> bool {
+    outcome.rebuilt.as_slice() == [Place::X1].as_slice()
+        && outcome.findings.iter().any(|finding| finding.place == Some(Place::Py)
+            && matches!(finding.reason, Reason::RebuiltDiffers))
 }
 
 // A crash leaves of a file that isn't on the disk nothing, a half, all or other bytes, and leaves its path or not.
@@ -282,12 +319,17 @@ fn a_crash_tears_what_is_not_on_the_disk(rt: HostRuntime) -> Result<(), io::Erro
         Some(b"\x3b8\x39\x3e"),
     ];
     for wanted in left {
-        let mut is_left = false;
-        for way in 0..files.crashes() {
-            let after = files.after_crash(way)?;
-            is_left = is_left || after.bytes_at("store/a") == wanted;
-        }
-        assert!(&rt; is_left, "{wanted:?}");
+        assert!(&rt; may_be_left(&files, wanted)?, "{wanted:?}");
     }
     Ok(())
+}
+
+// Whether some crash leaves these bytes of the file, or no file.
+fn may_be_left(files: &MemoryFolder, wanted: Option<&[u8]>) -> Result<bool, AllocError> {
+    for way in 0..files.crashes() {
+        if files.after_crash(way)?.bytes_at("store/a") == wanted {
+            return Ok(true);
+        }
+    }
+    Ok(false)
 }

@@ -194,14 +194,24 @@ fn assert_scrubbed_and_repaired(
     }
     let outcome = repair(alloc, &mut store, sample, true)?;
     if expected.len() == 1 {
-        assert_there(rt, &store, sample, &[]);
         assert!(rt; outcome.is_checked);
-        assert!(rt; store.kept(sample.name, damaged) == Some(bytes.as_slice()));
+        assert_replaced(rt, &store, sample, (damaged, bytes.as_slice()));
     } else {
         assert_eq!(rt; outcome.rebuilt.len(), 0);
         assert_known(rt, &store, sample, &changes);
     }
     Ok(())
+}
+
+// Asserts that all of a sample's fragments are there, and one that was damaged is kept.
+fn assert_replaced(
+    rt: &impl Abort,
+    store: &MemoryStore,
+    sample: &Sample,
+    (damaged, bytes): (Place, &[u8]),
+) {
+    assert_there(rt, store, sample, &[]);
+    assert!(rt; store.kept(sample.name, damaged) == Some(bytes));
 }
 
 // A damaged fragment is named where nothing is lost, since any two stripes differ in four places; else the suspects are those that the
@@ -212,22 +222,26 @@ fn one_damaged_fragment_is_named_or_suspected(rt: HostRuntime) -> Result<(), All
         let places = sample.code.places();
         for damaged in places {
             assert_scrubbed_and_repaired(&rt, rt.alloc(), &sample, &[], *damaged)?;
-            let may_be_lost = to_be_lost(sample.code);
-            for (index, one) in may_be_lost.iter().enumerate() {
-                if one != damaged {
-                    assert_scrubbed_and_repaired(&rt, rt.alloc(), &sample, &[*one], *damaged)?;
-                    for other in &may_be_lost[..index] {
-                        if other != damaged {
-                            let lost = [*one, *other];
-                            assert_scrubbed_and_repaired(
-                                &rt,
-                                rt.alloc(),
-                                &sample,
-                                &lost,
-                                *damaged,
-                            )?;
-                        }
-                    }
+            assert_with_losses(&rt, rt.alloc(), &sample, *damaged)?;
+        }
+    }
+    Ok(())
+}
+
+// Asserts the same with one or two more lost.
+fn assert_with_losses(
+    rt: &impl Abort,
+    alloc: Global,
+    sample: &Sample,
+    damaged: Place,
+) -> Result<(), AllocError> {
+    let may_be_lost = to_be_lost(sample.code);
+    for (index, one) in may_be_lost.iter().enumerate() {
+        if *one != damaged {
+            assert_scrubbed_and_repaired(rt, alloc, sample, &[*one], damaged)?;
+            for other in &may_be_lost[..index] {
+                if *other != damaged {
+                    assert_scrubbed_and_repaired(rt, alloc, sample, &[*one, *other], damaged)?;
                 }
             }
         }

@@ -125,12 +125,7 @@ fn assert_says(
     match (differ, case.says) {
         (None, Ok(length)) => assert_eq!(rt; outcome.length, length),
         (Some(finding), Err(groups)) => {
-            let reason = &finding.reason;
-            let said = format!(in alloc; "{reason}")?;
-            let wanted = format!(in alloc;
-                "its fragments have different lengths, and no check says which is right: {groups}"
-            )?;
-            assert_eq!(rt; said.as_str(), wanted.as_str());
+            assert!(rt; is_said(alloc, &finding.reason, groups)?, "{groups}");
             assert_eq!(rt; outcome.rebuilt.len(), 0);
             assert_eq!(rt; outcome.findings.len(), 1);
         }
@@ -139,38 +134,58 @@ fn assert_says(
     Ok(())
 }
 
+// Whether a finding's line names these groups of fragments.
+fn is_said(alloc: Global, reason: &Reason, groups: &str) -> Result<bool, AllocError> {
+    let said = format!(in alloc; "{reason}")?;
+    let wanted = format!(in alloc;
+        "its fragments have different lengths, and no check says which is right: {groups}"
+    )?;
+    Ok(said.as_str() == wanted.as_str())
+}
+
 // A scrub, a plan and a repair say the same of the length, and the checks decide it and not the files' number. Where they don't, nothing is
 // written; a fragment without bytes is made where all are empty, and isn't checked.
 #[test]
 fn checks_decide_between_lengths(rt: HostRuntime) -> Result<(), AllocError> {
     for case in &CASES {
         let mut store = cut_store(rt.alloc(), &NARROW, case)?;
-        assert_says(&rt, rt.alloc(), &scrub(rt.alloc(), &store, &NARROW)?, case)?;
-        assert_says(
-            &rt,
-            rt.alloc(),
-            &plan(rt.alloc(), &store, &NARROW, &REPAIR)?,
-            case,
-        )?;
+        let scrubbed = scrub(rt.alloc(), &store, &NARROW)?;
+        assert_says(&rt, rt.alloc(), &scrubbed, case)?;
+        let planned = plan(rt.alloc(), &store, &NARROW, &REPAIR)?;
+        assert_says(&rt, rt.alloc(), &planned, case)?;
         let outcome = repair_as(rt.alloc(), &mut store, &NARROW, &REPAIR)?;
         assert_says(&rt, rt.alloc(), &outcome, case)?;
-        match case.says {
-            Ok(0) => {
-                assert_eq!(&rt; outcome.rebuilt.as_slice(), case.lost);
-                assert!(&rt; !outcome.is_checked);
-            }
-            Ok(_) => assert_there(&rt, &store, &NARROW, left_of(&outcome, case)),
-            Err(_) => {
-                let untouched = cut_store(rt.alloc(), &NARROW, case)?;
-                for place in Place::ALL {
-                    let is = store.fragment(NARROW.name, place);
-                    assert!(&rt; is == untouched.fragment(NARROW.name, place));
-                    assert!(&rt; store.kept(NARROW.name, place).is_none());
-                }
-            }
-        }
+        assert_left(&rt, rt.alloc(), &store, &outcome, case)?;
     }
     Ok(())
+}
+
+// Asserts what a repair leaves of a case.
+fn assert_left(
+    rt: &impl Abort,
+    alloc: Global,
+    store: &MemoryStore,
+    outcome: &Outcome,
+    case: &Case,
+) -> Result<(), AllocError> {
+    match case.says {
+        Ok(0) => {
+            assert_eq!(rt; outcome.rebuilt.as_slice(), case.lost);
+            assert!(rt; !outcome.is_checked);
+        }
+        Ok(_) => assert_there(rt, store, &NARROW, left_of(outcome, case)),
+        Err(_) => assert_untouched(rt, store, &cut_store(alloc, &NARROW, case)?),
+    }
+    Ok(())
+}
+
+// Asserts that a store has the fragments of another, and none that is kept under a second name.
+fn assert_untouched(rt: &impl Abort, store: &MemoryStore, untouched: &MemoryStore) {
+    for place in Place::ALL {
+        let is = store.fragment(NARROW.name, place);
+        assert!(rt; is == untouched.fragment(NARROW.name, place));
+        assert!(rt; store.kept(NARROW.name, place).is_none());
+    }
 }
 
 // The places at which a repair couldn't mend what a case has cut.

@@ -137,7 +137,7 @@ fn assert_damaged_or_replaced(rt: &impl Abort, store: &MemoryStore) {
 fn damaged_fragment_is_replaced_and_kept(rt: HostRuntime) -> Result<(), AllocError> {
     let mut store = damaged_store(rt.alloc())?;
     let outcome = repair(rt.alloc(), &mut store, &SHORT, true)?;
-    assert!(&rt; is_damaged(&outcome, Place::Py), "{:?}", outcome.findings);
+    assert!(&rt; is_damaged(&outcome, Place::Py), "py isn't damaged");
     assert!(&rt; outcome.is_checked);
     assert_eq!(&rt; outcome.rebuilt.len(), 2);
     assert_there(&rt, &store, &SHORT, &[]);
@@ -149,8 +149,8 @@ fn damaged_fragment_is_replaced_and_kept(rt: HostRuntime) -> Result<(), AllocErr
 fn damaged_fragment_stays_where_none_is_to_be_replaced(rt: HostRuntime) -> Result<(), AllocError> {
     let mut store = damaged_store(rt.alloc())?;
     let outcome = repair(rt.alloc(), &mut store, &SHORT, false)?;
-    assert!(&rt; is_damaged(&outcome, Place::Py), "{:?}", outcome.findings);
-    assert_eq!(&rt; outcome.rebuilt.as_slice(), [Place::X0].as_slice());
+    assert!(&rt; is_damaged(&outcome, Place::Py), "py isn't damaged");
+    assert!(&rt; outcome.rebuilt.as_slice() == [Place::X0].as_slice());
     assert_there(&rt, &store, &SHORT, &[Place::Py]);
     assert!(&rt; is_there(&store, SHORT.name, Place::Py, b"\x01"));
     assert!(&rt; store.kept(SHORT.name, Place::Py).is_none());
@@ -196,13 +196,18 @@ fn other_stripes_are_as_they_were(rt: HostRuntime) -> Result<(), AllocError> {
     put_without(&mut store, &WIDE, &[Place::X3, Place::Y5])?;
     repair(rt.alloc(), &mut store, &WIDE, true)?;
     assert_there(&rt, &store, &WIDE, &[]);
-    assert_there(&rt, &store, &NARROW, &[Place::X0]);
-    assert!(&rt; store.fragment(NARROW.name, Place::X0).is_none());
-    assert_there(&rt, &store, &SHORT, &[Place::X0, Place::Py]);
-    assert!(&rt; store.fragment(SHORT.name, Place::X0).is_none());
-    assert!(&rt; is_there(&store, SHORT.name, Place::Py, b"\x01"));
-    assert!(&rt; store.kept(SHORT.name, Place::Py).is_none());
+    assert_others_there(&rt, &store);
     Ok(())
+}
+
+// Asserts that the two other stripes are as they were.
+fn assert_others_there(rt: &impl Abort, store: &MemoryStore) {
+    assert_there(rt, store, &NARROW, &[Place::X0]);
+    assert!(rt; store.fragment(NARROW.name, Place::X0).is_none());
+    assert_there(rt, store, &SHORT, &[Place::X0, Place::Py]);
+    assert!(rt; store.fragment(SHORT.name, Place::X0).is_none());
+    assert!(rt; is_there(store, SHORT.name, Place::Py, b"\x01"));
+    assert!(rt; store.kept(SHORT.name, Place::Py).is_none());
 }
 
 // Fragments that are longer than a window. At each position they are those of the short stripe.

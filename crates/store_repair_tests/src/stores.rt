@@ -2,6 +2,7 @@
 use lrc_code::Place;
 use std::alloc::AllocError;
 use std::io::{self, ErrorKind};
+use std::process::Abort;
 use store_repair::{Fragment, MemoryStore, NewFragment, Placed, Store};
 
 #[test]
@@ -11,13 +12,27 @@ fn put_is_found(rt: HostRuntime) -> Result<(), AllocError> {
     store.put("ab", Place::X0, b"two")?;
     store.put("a", Place::P1, b"three")?;
     store.put("a", Place::X0, b"four")?;
-    assert!(&rt; store.fragment("a", Place::X0) == Some(b"four".as_slice()));
-    assert!(&rt; store.fragment("ab", Place::X0) == Some(b"two".as_slice()));
-    assert!(&rt; store.fragment("a", Place::P1) == Some(b"three".as_slice()));
-    assert!(&rt; store.fragment("b", Place::X0).is_none());
-    assert!(&rt; store.fragment("a", Place::X1).is_none());
+    assert_has(&rt, &store, "a", Place::X0, Some(b"four"));
+    assert_has(&rt, &store, "ab", Place::X0, Some(b"two"));
+    assert_has(&rt, &store, "a", Place::P1, Some(b"three"));
+    assert_has(&rt, &store, "b", Place::X0, None);
+    assert_has(&rt, &store, "a", Place::X1, None);
     assert!(&rt; store.kept("a", Place::X0).is_none());
     Ok(())
+}
+
+// Asserts what a store has of a stripe at a place.
+fn assert_has(
+    rt: &impl Abort,
+    store: &MemoryStore,
+    stripe: &str,
+    place: Place,
+    bytes: Option<&[u8]>,
+) {
+    assert!(rt;
+        store.fragment(stripe, place) == bytes,
+        "{stripe} {place:?}"
+    );
 }
 
 #[test]
@@ -43,21 +58,38 @@ fn new_fragment_gets_its_name(rt: HostRuntime) -> Result<(), io::Error> {
     let mut first = store.create("a", Place::X0)?;
     first.append(b"ab")?;
     first.append(b"c")?;
-    assert!(&rt; store.fragment("a", Place::X0).is_none());
+    assert_has(&rt, &store, "a", Place::X0, None);
     assert_eq!(&rt; store.place(first, "a", Place::X0)?, Placed::Placed);
-    assert!(&rt; store.fragment("a", Place::X0) == Some(b"abc".as_slice()));
+    assert_has(&rt, &store, "a", Place::X0, Some(b"abc"));
     let second = store.create("a", Place::X0)?;
     assert_eq!(&rt; store.place(second, "a", Place::X0)?, Placed::IsThere);
-    assert!(&rt; store.fragment("a", Place::X0) == Some(b"abc".as_slice()));
-    let third = store.create("a", Place::X0)?;
-    assert_eq!(&rt; store.replace(third, "a", Place::X0)?, Placed::Placed);
-    assert!(&rt; store.fragment("a", Place::X0) == Some(b"".as_slice()));
+    assert_has(&rt, &store, "a", Place::X0, Some(b"abc"));
+    Ok(())
+}
+
+// Replaces a stripe's x0 by a fragment without bytes.
+fn replaced(store: &mut MemoryStore) -> Result<Placed, io::Error> {
+    let fragment = store.create("a", Place::X0)?;
+    store.replace(fragment, "a", Place::X0)
+}
+
+#[test]
+fn replaced_fragment_is_kept_once(rt: HostRuntime) -> Result<(), io::Error> {
+    let mut store = MemoryStore::new(rt.alloc());
+    store.put("a", Place::X0, b"abc")?;
+    assert_eq!(&rt; replaced(&mut store)?, Placed::Placed);
+    assert_has(&rt, &store, "a", Place::X0, Some(b""));
     assert!(&rt; store.kept("a", Place::X0) == Some(b"abc".as_slice()));
-    let fourth = store.create("a", Place::X0)?;
-    assert_eq!(&rt; store.replace(fourth, "a", Place::X0)?, Placed::IsThere);
-    let fifth = store.create("a", Place::X1)?;
-    store.discard(fifth)?;
+    assert_eq!(&rt; replaced(&mut store)?, Placed::IsThere);
+    Ok(())
+}
+
+#[test]
+fn discarded_fragment_has_no_name(rt: HostRuntime) -> Result<(), io::Error> {
+    let mut store = MemoryStore::new(rt.alloc());
+    let fragment = store.create("a", Place::X1)?;
+    store.discard(fragment)?;
     assert!(&rt; store.settle().is_ok());
-    assert!(&rt; store.fragment("a", Place::X1).is_none());
+    assert_has(&rt, &store, "a", Place::X1, None);
     Ok(())
 }
