@@ -122,8 +122,9 @@ fn encode_one<R: Threads + Sync>(
         progress,
     };
     let encoded = encode_file(threads, rt, target, &source);
-    spool.remove(rt)?;
-    encoded
+    let removed = spool.remove(rt, target.folder);
+    encoded?;
+    removed
 }
 
 // Makes the store's folder, unless it is there.
