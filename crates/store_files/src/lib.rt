@@ -19,6 +19,7 @@ mod reading;
 mod reads;
 mod removing;
 mod staging;
+mod taking;
 
 pub use copies::{CopyWork, DescribedStripe, tend_descriptions};
 pub use encoding::spool::Spool;
@@ -33,3 +34,4 @@ pub use reading::file::StoredFile;
 pub use reading::{read_file, verify_file};
 pub use reads::{CountedOpen, CountedReads, CountingFolder};
 pub use removing::remove_stored;
+pub use taking::{take_away, take_files};
