@@ -188,6 +188,38 @@ def test_read_to_a_file(place, choose):
     hold(not [*place.glob(".rebuild-store-*")], "a temporary file was left")
 
 
+def test_read_to_a_file_once(place, choose):
+    """What is written to a new file is read once, and another time only where it isn't the file that is described."""
+    store, data, calls, out = place / "store", choose.randbytes(3_000_000), Calls(place), place / "out"
+    run("encode", store, source(place, "a", data), status=0)
+
+    def reads(*words):
+        return sum(kind == "read" for kind in calls.run([PROGRAM, *words]).kinds)
+
+    once = reads("verify", store, "a")
+    for _ in range(2):
+        # Some calls read what the system says of the process.
+        many = reads("read", store, "a", "-o", out)
+        hold(once <= many < once * 3 // 2 and out.read_bytes() == data, f"{many} reads, where once is {once}")
+    fragment = store / "a.x1"
+    whole = bytearray(fragment.read_bytes())
+    whole[1_000] ^= 1
+    fragment.write_bytes(whole)
+    out.write_bytes(b"older")
+    _, err = run("read", store, "a", "-o", out, status=0)
+    hold("read without the fragments that differ" in err and out.read_bytes() == data, err)
+    (store / "SHA256SUMS").unlink()
+    out.unlink()
+    _, err = run("read", store, "a", "-o", out, status=0)
+    hold("a fragment is damaged: read without x1" in err and out.read_bytes() == data, err)
+    for shard in ("x0", "x2"):
+        (store / f"a.{shard}").write_bytes(bytes(len(whole)))
+    out.write_bytes(b"older")
+    _, err = run("read", store, "a", "-o", out, status=1)
+    hold("don't give the file" in err and out.read_bytes() == b"older", err)
+    hold(not [*place.glob(".rebuild-store-*")], "a temporary file was left")
+
+
 def test_read_to_a_file_killed(place, choose):
     """A run that is killed while it reads to a file, or whose calls fail, leaves it as it was or whole."""
     store, data, calls = place / "store", choose.randbytes(3_000), Calls(place)

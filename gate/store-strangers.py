@@ -1144,6 +1144,32 @@ def test_line_within_a_file(place, choose):
     hold(status == 3 and re.search(refused, said), repr(said))
 
 
+def test_line_within_a_stripe(place, choose):
+    """A repair and a scrub of one long stripe show how far they are in it, also where its fragments are held to digests."""
+    bare, store, file, size = place / "bare", place / "store", place / "f", 300 * 2**20
+    bare.mkdir()
+    for shard in ("x0", "x1", "x2", "y0", "y1", "y2", "px", "py", "p0", "p1"):
+        # Zeros are a stripe, and those of a sparse file take no room.
+        with open(bare / f"s.{shard}", "wb") as fragment:
+            fragment.truncate(size)
+    with open(file, "wb") as long:
+        long.truncate(2 * size)
+    run("encode", store, file, status=0)
+    line = r"(?:\x1b\[A)?\r\x1b\[K\x1b\[\?7l%s: 0/1 %s  ([\d.]+)/%s MiB  \d+ MiB/s  \d+:\d\d left  0 damaged, 0 %s\x1b\[\?7h\r\n"
+    commands = [("scrub", "stripes", 10, "lost"), ("repair", "fragments", 9, "given up")]
+    for fragment, mebibytes in ((bare / "s.px", 300), (store / "f.px", 100)):
+        for command, unit, many, others in commands:
+            if command == "repair":
+                fragment.unlink()
+            all_of_it = many * mebibytes
+            said, status = on_terminal(command, fragment.parent)
+            seen = [float(it) for it in re.findall(line % (command, unit, rf"{all_of_it}\.0", others), said)]
+            hold(status == 0 and len({it for it in seen if 0 < it < all_of_it}) > 1 and seen == sorted(seen),
+                 f"{command} {fragment.name}: status {status}, {said!r}")
+            hold(said.endswith("\x1b[A\r\x1b[K"), f"{command} left its line: {said!r}")
+        fragment.unlink()
+
+
 def main(program=None, only=""):
     global PROGRAM
     PROGRAM = pathlib.Path(program or PROGRAM).resolve()

@@ -3,10 +3,13 @@ pub(crate) mod tasks;
 
 use lrc_code::Code;
 use std::alloc::{AllocError, Global};
+use std::sync::Arc;
 use std::sync::atomic::{AtomicUsize, Ordering};
 use std::thread;
 use std::thread::Threads;
-use store_files::{CopyWork, DescribedStripe, Progress, tend_descriptions};
+use store_files::{
+    CopyWork, CountedReads, CountingFolder, DescribedStripe, Progress, tend_descriptions,
+};
 use store_folder::{FolderStore, SeparateStore, Site, SystemFolder};
 use store_opening::OpenStore;
 use store_repair::{Found, Outcome, Repair, Stripe, plan_stripe, repair_stripe, scrub_stripe};
@@ -31,7 +34,7 @@ pub(crate) struct Stripes<'a> {
     pub(crate) store: &'a OpenStore,
     pub(crate) site: &'a Site<'a>,
     pub(crate) all: &'a [Stripe<'a>],
-    pub(crate) progress: &'a Progress,
+    pub(crate) progress: &'a Arc<Progress, Global>,
 }
 
 impl<'a> Stripes<'a> {
@@ -56,6 +59,24 @@ impl Work {
                 replaces: repair.replace_damaged,
             },
             Work::Scrub(_) => CopyWork::Name,
+        }
+    }
+
+    // How many bytes of a stripe are read.
+    fn bytes_of(&self, stripe: &Stripe<'_>) -> u64 {
+        match self {
+            Work::Repair(repair) | Work::Plan(repair) => {
+                bytes_read(repair.code, repair.reads, stripe)
+            }
+            Work::Scrub(code) => bytes_of(*code, stripe),
+        }
+    }
+
+    // How many units a stripe is of which this became.
+    fn units_of(&self, outcome: &Outcome) -> u64 {
+        match self {
+            Work::Repair(_) | Work::Plan(_) => outcome.rebuilt.len() as u64,
+            Work::Scrub(_) => 1,
         }
     }
 }
@@ -113,7 +134,11 @@ fn take_stripes(
     next: &AtomicUsize,
 ) -> Result<Vec<Done>, AllocError> {
     let mut all = Vec::new(system.alloc());
-    let mut store = SeparateStore::new(FolderStore::new(system, *stripes.site));
+    let reads = CountedReads::new(system, stripes.progress)?;
+    let reads = Arc::new(system.alloc(), reads)?;
+    let counted = Arc::try_clone(&reads)?;
+    let files = CountingFolder::new(SystemFolder::new(system), counted);
+    let mut store = SeparateStore::new(FolderStore::over(system, files, *stripes.site));
     for _turn in 0..order.len() {
         let Some(index) = order.get(next.fetch_add(1, Ordering::SeqCst)).copied() else {
             break;
@@ -121,8 +146,11 @@ fn take_stripes(
         let Some(stripe) = stripes.all.get(index) else {
             break;
         };
+        let bytes = work.bytes_of(stripe);
+        reads.begin(bytes);
         let outcome = outcome_of(system.alloc(), &mut store, work, stripe)?;
-        count(system, stripes, work, stripe, &outcome);
+        stripes.progress.note(&outcome);
+        reads.end(work.units_of(&outcome), bytes);
         let descriptions = descriptions_of(system, stripes, work, stripe, outcome.length)?;
         all.push(Done {
             index,
@@ -158,7 +186,7 @@ fn descriptions_of(
 // Does the work with the fragments of a stripe.
 fn outcome_of(
     alloc: Global,
-    store: &mut SeparateStore<'_, SystemFolder<'_>>,
+    store: &mut SeparateStore<'_, CountingFolder<SystemFolder<'_>>>,
     work: Work,
     stripe: &Stripe<'_>,
 ) -> Result<Outcome, AllocError> {
@@ -172,24 +200,4 @@ fn outcome_of(
         }
         Work::Scrub(code) => scrub_stripe(alloc, store, code, stripe),
     }
-}
-
-// Counts a stripe with which the work is done.
-fn count(
-    system: &HostRuntime,
-    stripes: &Stripes<'_>,
-    work: Work,
-    stripe: &Stripe<'_>,
-    outcome: &Outcome,
-) {
-    let progress = stripes.progress;
-    progress.note(outcome);
-    let (units, bytes) = match work {
-        Work::Repair(repair) | Work::Plan(repair) => (
-            outcome.rebuilt.len() as u64,
-            bytes_read(repair.code, repair.reads, stripe),
-        ),
-        Work::Scrub(code) => (1, bytes_of(code, stripe)),
-    };
-    progress.count(system, units, bytes, 0);
 }

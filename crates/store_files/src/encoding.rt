@@ -2,7 +2,7 @@
 pub(crate) mod descriptions;
 pub(crate) mod fragments;
 pub(crate) mod placing;
-pub(crate) mod replacing;
+mod replacing;
 pub(crate) mod source;
 pub(crate) mod spool;
 pub(crate) mod subfolders;

@@ -1,4 +1,4 @@
-//! The line on a terminal that says how far a command is; of files, also within a long one.
+//! The line on a terminal that says how far a command is, also within a long file or stripe.
 use std::alloc::{AllocError, Global};
 use std::io::{self, IsTerminal};
 use std::sync::atomic::{AtomicU64, Ordering};
@@ -18,15 +18,50 @@ const END: &str = "\x1b[?7h\n";
 
 const BACK: &str = "\x1b[A";
 
+/// A command that shows how far it is. A task has no text of its own, since no lifetime may be in what a file system opens.
+#[derive(Clone, Copy, Debug, PartialEq, Eq)]
+pub enum Operation {
+    Repair,
+    Scrub,
+    Encode,
+    Verify,
+    Read,
+}
+
+impl Operation {
+    fn name(self) -> &'static str {
+        match self {
+            Operation::Repair => "repair",
+            Operation::Scrub => "scrub",
+            Operation::Encode => "encode",
+            Operation::Verify => "verify",
+            Operation::Read => "read",
+        }
+    }
+
+    // What it counts.
+    fn unit(self) -> &'static str {
+        match self {
+            Operation::Repair => "fragments",
+            Operation::Scrub => "stripes",
+            Operation::Encode | Operation::Verify | Operation::Read => "files",
+        }
+    }
+
+    // What findings of no damage are; none if it finds nothing.
+    fn others(self) -> Option<&'static str> {
+        match self {
+            Operation::Repair => Some("given up"),
+            Operation::Scrub => Some("lost"),
+            Operation::Encode | Operation::Verify | Operation::Read => None,
+        }
+    }
+}
+
 /// What a line counts.
 #[derive(Clone, Copy, Debug)]
 pub struct Task {
-    /// The command.
-    pub name: &'static str,
-    /// What it has done of each.
-    pub unit: &'static str,
-    /// What findings of no damage are; none if a task finds nothing.
-    pub others: Option<&'static str>,
+    pub operation: Operation,
     pub units: u64,
     /// The bytes of all units together.
     pub bytes: u64,
@@ -49,20 +84,6 @@ pub struct Progress {
     shown: AtomicU64,
     // 1 while the line is there.
     lines: AtomicU64,
-}
-
-impl Task {
-    /// Work on so many files, which have so many bytes together and are gone over so often.
-    pub fn files(name: &'static str, files: u64, bytes: u64, passes: u64) -> Task {
-        Task {
-            name,
-            unit: "files",
-            others: None,
-            units: files,
-            bytes,
-            passes,
-        }
-    }
 }
 
 impl Progress {
@@ -88,6 +109,16 @@ impl Progress {
     /// Whether a line is shown.
     pub fn is_seen(rt: &HostRuntime, is_quiet: bool) -> bool {
         !is_quiet && rt.stderr().is_terminal()
+    }
+
+    /// Whether the line is shown.
+    pub(crate) fn is_shown(&self) -> bool {
+        self.start.is_some()
+    }
+
+    /// How often each byte is gone over.
+    pub(crate) fn passes(&self) -> u64 {
+        self.task.passes
     }
 
     /// Notes what became of a stripe.
@@ -157,12 +188,13 @@ impl Progress {
     // Shows the line, so many milliseconds after the start, in place of an earlier one.
     fn show(&self, rt: &HostRuntime, now: u64) -> io::Result<()> {
         let Task {
-            name,
-            unit,
+            operation,
             units,
             bytes,
             ..
         } = self.task;
+        let name = operation.name();
+        let unit = operation.unit();
         let done = self.done.load(Ordering::SeqCst);
         let done_bytes = self.bytes_done();
         let speed = done_bytes.saturating_mul(1_000) / now.max(1);
@@ -190,7 +222,7 @@ impl Progress {
 
     // What is said of findings.
     fn found(&self, alloc: Global) -> Result<String, AllocError> {
-        let Some(others) = self.task.others else {
+        let Some(others) = self.task.operation.others() else {
             return Ok(String::new(alloc));
         };
         let damaged = self.damaged.load(Ordering::SeqCst);

@@ -3,10 +3,11 @@
 use crate::encoding::sums::write_new_sums;
 use crate::encoding::target::Target;
 use crate::own_folders::remove_own_folders;
-use crate::staging::{is_absent, is_there, no_stored, refuse_linked, staged_name};
+use crate::staging::{is_there, no_stored, refuse_linked, staged_name};
+use crate::taking::take_files;
 use std::alloc::{AllocError, Global};
-use std::fs;
-use store_folder::{folder_of, sync_folder};
+use store_folder::SystemFolder;
+use store_repair::NameFault;
 use store_reports::{FileFault, device};
 
 /// Takes the file of a name out of a store, with what a run has left that was to replace it, and with the folders that it had alone. What
@@ -65,34 +66,21 @@ pub(crate) fn remove_names(
     names: &[String],
 ) -> Result<(), FileFault> {
     let alloc = rt.alloc();
-    let mut odd = None;
-    for name in names.iter().rev() {
-        let path = target.path(alloc, name.as_str())?;
+    let mut paths = Vec::with_capacity(alloc, names.len())?;
+    for name in names {
+        paths.push(target.path(alloc, name.as_str())?)?;
         target.is_changed = target.sums.remove(name.as_str()) || target.is_changed;
-        match fs::symlink_metadata(rt, path.as_str()) {
-            Ok(there) if there.is_file() => {
-                remove(rt, path.as_str())?;
-            }
-            Ok(_) => odd = Some(no_file(alloc, name.as_str())?),
-            Err(error) if is_absent(error.kind()) => {}
-            Err(error) => return Err(device(alloc, path.as_str(), error)),
-        }
     }
-    match odd {
-        Some(fault) => Err(fault),
-        None => Ok(()),
+    match take_files(&mut SystemFolder::new(rt), paths) {
+        Ok(None) => Ok(()),
+        Ok(Some(index)) => Err(no_file(alloc, names, index)?),
+        Err(NameFault { name, error }) => Err(device(alloc, name.as_str(), error)),
     }
 }
 
-// Removes the file at a path, and writes that to the disk.
-fn remove(rt: &HostRuntime, path: &str) -> Result<(), FileFault> {
-    let alloc = rt.alloc();
-    fs::remove_file(rt, path).map_err(|error| device(alloc, path, error))?;
-    let folder = folder_of(path);
-    sync_folder(rt, folder).map_err(|error| device(alloc, folder, error))
-}
-
-fn no_file(alloc: Global, name: &str) -> Result<FileFault, AllocError> {
+// That the name at an index has no regular file.
+fn no_file(alloc: Global, names: &[String], index: usize) -> Result<FileFault, AllocError> {
+    let name = names.get(index).map_or("", |name| name.as_str());
     Ok(FileFault::Refused {
         what: format!(in alloc; "{name}: is no regular file, and isn't removed")?,
     })

@@ -5,7 +5,7 @@ use std::io::ErrorKind;
 use std::thread::Threads;
 use store_arguments::EncodeOptions;
 use store_files::{
-    Progress, SourceFile, Spool, Target, Task, encode_file, stored_sums, write_new_sums,
+    Operation, Progress, SourceFile, Spool, Target, Task, encode_file, stored_sums, write_new_sums,
 };
 use store_folder::{Listing, Others, Wanted, list};
 use store_opening::{
@@ -56,7 +56,12 @@ fn task_of(rt: &HostRuntime, options: &EncodeOptions<'_>) -> Task {
     for path in &options.files {
         bytes = bytes.saturating_add(length_of(rt, path));
     }
-    Task::files("encode", options.files.len() as u64, bytes, 2)
+    Task {
+        operation: Operation::Encode,
+        units: options.files.len() as u64,
+        bytes,
+        passes: 2,
+    }
 }
 
 // How long a file is, as far as the system says it.
@@ -117,8 +122,9 @@ fn encode_one<R: Threads + Sync>(
         progress,
     };
     let encoded = encode_file(threads, rt, target, &source);
-    spool.remove(rt)?;
-    encoded
+    let removed = spool.remove(rt, target.folder);
+    encoded?;
+    removed
 }
 
 // Makes the store's folder, unless it is there.

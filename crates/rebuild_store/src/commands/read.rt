@@ -1,48 +1,10 @@
 //! The command `read`.
 use store_arguments::ReadOptions;
-use store_files::{Progress, StoredFile, Task, first_described, read_file};
+use store_files::{Operation, Progress, StoredFile, Task, first_described, passes_to, read_file};
 use store_reports::{DONE, FileFault};
 
 /// Writes a file to a file or to standard output, says what was left out, and gives the exit status.
 pub(crate) fn read(rt: &HostRuntime, options: &ReadOptions<'_>) -> Result<u8, FileFault> {
-    // Standard output may be the terminal on which the line would be.
-    if options.output.is_none() {
-        let file = StoredFile {
-            folder: options.folder,
-            pattern: options.naming.pattern,
-            name: options.name,
-            links: options.links,
-            progress: None,
-        };
-        read_file(rt, &file, None)?;
-        return Ok(DONE);
-    }
-    let task = Task::files("read", 1, length_of(rt, options)?, 2);
-    let progress = Progress::new(rt, task, options.quiet);
-    let done = read_shown(rt, options, &progress);
-    progress.clear(rt);
-    done?;
-    Ok(DONE)
-}
-
-// Writes a file to a file, and shows how far that is.
-fn read_shown(
-    rt: &HostRuntime,
-    options: &ReadOptions<'_>,
-    progress: &Progress,
-) -> Result<(), FileFault> {
-    let file = StoredFile {
-        folder: options.folder,
-        pattern: options.naming.pattern,
-        name: options.name,
-        links: options.links,
-        progress: Some(progress),
-    };
-    read_file(rt, &file, options.output)
-}
-
-// How long a file is, as far as a description says it.
-fn length_of(rt: &HostRuntime, options: &ReadOptions<'_>) -> Result<u64, FileFault> {
     let file = StoredFile {
         folder: options.folder,
         pattern: options.naming.pattern,
@@ -50,8 +12,35 @@ fn length_of(rt: &HostRuntime, options: &ReadOptions<'_>) -> Result<u64, FileFau
         links: options.links,
         progress: None,
     };
-    Ok(match first_described(rt, &file)? {
-        Some(described) => described.length,
-        None => 0,
-    })
+    match options.output {
+        // Standard output may be the terminal on which the line would be.
+        None => read_file(rt, &file, None)?,
+        Some(path) => read_shown(rt, &file, path, options.quiet)?,
+    }
+    Ok(DONE)
+}
+
+// Writes a file to a path, and shows how far that is.
+fn read_shown(
+    rt: &HostRuntime,
+    file: &StoredFile<'_, '_>,
+    path: &str,
+    is_quiet: bool,
+) -> Result<(), FileFault> {
+    // How long it is, as far as a description says it.
+    let bytes = first_described(rt, file)?.map_or(0, |described| described.length);
+    let task = Task {
+        operation: Operation::Read,
+        units: 1,
+        bytes,
+        passes: passes_to(rt, path),
+    };
+    let progress = Progress::new(rt, task, is_quiet);
+    let shown = StoredFile {
+        progress: Some(&progress),
+        ..*file
+    };
+    let done = read_file(rt, &shown, Some(path));
+    progress.clear(rt);
+    done
 }

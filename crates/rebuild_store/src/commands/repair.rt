@@ -6,6 +6,7 @@ use crate::work::{Stripes, Work, work_on};
 use lrc_code::Code;
 use std::alloc::{AllocError, Global};
 use std::io;
+use std::sync::Arc;
 use std::thread::Threads;
 use store_arguments::RepairOptions;
 use store_files::{Progress, most_file_bytes, refuse_over_limit};
@@ -133,7 +134,8 @@ fn repair_at<'a, R: Threads + Sync>(
 ) -> io::Result<u8> {
     let alloc = system.alloc();
     let task = repair_task(alloc, store, options.reads, stripes)?;
-    let progress = Progress::new(system, task, options.test.quiet || options.dry_run);
+    let is_quiet = options.test.quiet || options.dry_run;
+    let progress = Arc::new(alloc, Progress::new(system, task, is_quiet))?;
     let repair = repair_of(store.code, options);
     let (work, word) = if options.dry_run {
         (Work::Plan(repair), "would be rebuilt")

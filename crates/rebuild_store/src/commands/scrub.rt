@@ -4,6 +4,7 @@ use crate::output::{refuse_report, say_alone, say_rows, say_summary};
 use crate::work::tasks::scrub_task;
 use crate::work::{Stripes, Work, work_on};
 use std::io;
+use std::sync::Arc;
 use std::thread::Threads;
 use store_arguments::{ScrubOptions, TestOptions};
 use store_files::Progress;
@@ -39,6 +40,7 @@ fn scrub_all<'a, R: Threads + Sync>(
     say_alone(system, store, opening, false);
     let task = scrub_task(store, stripes.as_slice());
     let progress = Progress::new(system, task, test.quiet);
+    let progress = Arc::new(system.alloc(), progress)?;
     let of_store = Stripes {
         store,
         site: &site,

@@ -1,7 +1,7 @@
 //! The command `verify`.
 use crate::commands::reading_of;
 use store_arguments::VerifyOptions;
-use store_files::{Progress, StoredFile, Task, first_described, verify_file};
+use store_files::{Operation, Progress, StoredFile, Task, first_described, verify_file};
 use store_opening::open_store;
 use store_reports::{DONE, FileFault, device, verified, write};
 
@@ -18,7 +18,12 @@ pub(crate) fn verify(rt: &HostRuntime, options: &VerifyOptions<'_>) -> Result<u8
     } else {
         0
     };
-    let task = Task::files("verify", names.len() as u64, bytes, 1);
+    let task = Task {
+        operation: Operation::Verify,
+        units: names.len() as u64,
+        bytes,
+        passes: 1,
+    };
     let progress = Progress::new(rt, task, !is_seen);
     for name in &names {
         let file = StoredFile {

@@ -1,7 +1,7 @@
 //! How much there is to do of stripes, as the line on a terminal counts it: in bytes that are read.
 use lrc_code::Code;
 use std::alloc::{AllocError, Global};
-use store_files::Task;
+use store_files::{Operation, Task};
 use store_opening::OpenStore;
 use store_repair::{Reads, Stripe};
 
@@ -22,12 +22,10 @@ pub(crate) fn repair_task(
         bytes = bytes.saturating_add(bytes_read(store.code, reads, stripe));
     }
     Ok(Task {
-        name: "repair",
-        unit: "fragments",
-        others: Some("given up"),
+        operation: Operation::Repair,
         units: fragments,
         bytes,
-        passes: 1,
+        passes: passes_over(store),
     })
 }
 
@@ -38,13 +36,16 @@ pub(crate) fn scrub_task(store: &OpenStore, stripes: &[Stripe<'_>]) -> Task {
         bytes = bytes.saturating_add(bytes_of(store.code, stripe));
     }
     Task {
-        name: "scrub",
-        unit: "stripes",
-        others: Some("lost"),
+        operation: Operation::Scrub,
         units: stripes.len() as u64,
         bytes,
-        passes: 1,
+        passes: passes_over(store),
     }
+}
+
+// How often each fragment is read: where there are digests once more, for its own.
+fn passes_over(store: &OpenStore) -> u64 {
+    if store.sums.is_some() { 2 } else { 1 }
 }
 
 /// How many bytes of a stripe a repair reads: with few reads nothing of one that lost nothing.

@@ -6,12 +6,13 @@ use crate::counting::CountedSource;
 use crate::encoding::Given;
 use crate::encoding::placing::{Made, discard_all};
 use crate::encoding::target::Target;
+use lrc_code::Place;
 use std::io::{self, ErrorKind};
 use std::thread::{Threads, join};
 use store_folder::{
     Digest, Links, NewFile, digest_of, digests_of, folder_of, open_fragment, refuse_linked_folders,
 };
-use store_repair::{encode, fragment_length};
+use store_repair::{Fragment, encode, fragment_length};
 use store_reports::{FileFault, device, encode_fault, source_fault};
 
 /// What is made of a file before anything gets a name: its digest, and its fragments.
@@ -81,29 +82,40 @@ fn make_fragments(
         rt,
         progress: given.progress,
     };
+    // Taken before there are files, so that none is left where memory is refused.
+    let mut made = Vec::with_capacity(alloc, target.code.places().len())?;
     let mut files = new_files(rt, target, name)?;
-    let done = encode(
-        alloc,
-        target.code,
-        &source,
-        length as usize,
-        files.as_mut_slice(),
-    );
-    let refused = match done {
-        Ok(()) => {
-            let many = fragment_length(target.code, length as usize);
-            match digests_at(rt, target, files.as_slice(), many) {
-                Ok(digests) => return with_digests(rt, files, digests),
-                Err(fault) => fault,
-            }
-        }
+    let digests = match fill(rt, target, name, given, &source, files.as_mut_slice()) {
+        Ok(digests) => digests,
         Err(fault) => {
-            let fragments = target.path(alloc, name)?;
-            encode_fault(alloc, path, fragments.as_str(), fault)
+            discard_files(rt, target, files)?;
+            return Err(fault);
         }
     };
-    discard_files(rt, target, files)?;
-    Err(refused)
+    for (file, digest) in files.into_iter().zip(digests) {
+        made.push(Made { file, digest })?;
+    }
+    Ok(made)
+}
+
+// Writes the fragments of a file into new files, and gives their digests.
+fn fill<F: Fragment>(
+    rt: &HostRuntime,
+    target: &Target<'_>,
+    name: &str,
+    given: &Given<'_>,
+    source: &F,
+    files: &mut [NewFile],
+) -> Result<Vec<Digest>, FileFault>
+    requires { length files.old ≡ length (tables_of target.now.code).places }
+{
+    let alloc = rt.alloc();
+    let length = given.before.len() as usize;
+    if let Err(fault) = encode(alloc, target.code, source, length, files) {
+        let fragments = target.path(alloc, name)?;
+        return Err(encode_fault(alloc, given.path, fragments.as_str(), fault));
+    }
+    digests_at(rt, target, files, fragment_length(target.code, length))
 }
 
 // A new file for each fragment of a stripe, in the folder that the fragment is to be in. Where one is refused, the others are removed
@@ -115,31 +127,45 @@ fn new_files(rt: &HostRuntime, target: &Target<'_>, stripe: &str) -> Result<Vec<
     let places = target.code.places();
     let mut files = Vec::with_capacity(alloc, places.len())?;
     'files: while files.len() < places.len() {
-        let name = target.name_of(alloc, stripe, places[files.len()])?;
-        let path = target.path(alloc, name.as_str())?;
-        let folder = folder_of(path.as_str());
-        match new_file(rt, target, name.as_str(), folder) {
+        match new_file_at(rt, target, stripe, places[files.len()]) {
             Ok(file) => files.push(file)?,
-            Err(error) => {
+            Err(fault) => {
                 discard_files(rt, target, files)?;
-                return Err(device(alloc, folder, unmade(error)));
+                return Err(fault);
             }
         }
     }
     Ok(files)
 }
 
-// Removes new files.
+// A new file for the fragment of a stripe at a place.
+fn new_file_at(
+    rt: &HostRuntime,
+    target: &Target<'_>,
+    stripe: &str,
+    place: Place,
+) -> Result<NewFile, FileFault> {
+    let alloc = rt.alloc();
+    let name = target.name_of(alloc, stripe, place)?;
+    let path = target.path(alloc, name.as_str())?;
+    let folder = folder_of(path.as_str());
+    match new_file(rt, target, name.as_str(), folder) {
+        Ok(file) => Ok(file),
+        Err(error) => Err(device(alloc, folder, unmade(error))),
+    }
+}
+
+// Removes new files, all that can be removed.
 fn discard_files(
     rt: &HostRuntime,
     target: &Target<'_>,
     files: Vec<NewFile>,
 ) -> Result<(), FileFault> {
+    let mut done: io::Result<()> = Ok(());
     for file in files {
-        file.discard(rt)
-            .map_err(|error| device(rt.alloc(), target.folder, error))?;
+        done = file.discard(rt).and(done);
     }
-    Ok(())
+    done.map_err(|error| device(rt.alloc(), target.folder, error))
 }
 
 // The digests of new files of so many bytes, which are read again.
@@ -167,19 +193,6 @@ fn digests_at(
         digests.push(digest.map_err(|error| device(alloc, target.folder, error))?)?;
     }
     Ok(digests)
-}
-
-// New files, each with the digest at its index.
-fn with_digests(
-    rt: &HostRuntime,
-    files: Vec<NewFile>,
-    digests: Vec<Digest>,
-) -> Result<Vec<Made>, FileFault> {
-    let mut made = Vec::with_capacity(rt.alloc(), files.len())?;
-    for (file, digest) in files.into_iter().zip(digests) {
-        made.push(Made { file, digest })?;
-    }
-    Ok(made)
 }
 
 // Why a file can't be made in a folder, with what to do if that isn't there.

@@ -2,7 +2,7 @@
 use crate::digesting::digest_at;
 use crate::encoding::target::Target;
 use crate::staging::is_there;
-use std::io::ErrorKind;
+use std::io::{self, ErrorKind};
 use store_folder::{Digest, Links, NewFile, Placed, folder_of, place_new, sync_folder};
 use store_reports::{FileFault, device};
 
@@ -29,17 +29,17 @@ pub(crate) fn is_there_already(rt: &HostRuntime, name: &str) -> Result<FileFault
     Ok(FileFault::Refused { what })
 }
 
-/// Removes new files.
+/// Removes new files, all that can be removed.
 pub(crate) fn discard_all(
     rt: &HostRuntime,
     folder: &str,
     made: Vec<Made>,
 ) -> Result<(), FileFault> {
+    let mut done: io::Result<()> = Ok(());
     for Made { file, .. } in made {
-        file.discard(rt)
-            .map_err(|error| device(rt.alloc(), folder, error))?;
+        done = file.discard(rt).and(done);
     }
-    Ok(())
+    done.map_err(|error| device(rt.alloc(), folder, error))
 }
 
 // What is under the name at a path, beside a file of a length and a digest.
@@ -83,10 +83,8 @@ pub(crate) fn place_fragments(
     let mut refused = None;
     for (name, made_file) in names.iter().zip(made) {
         if refused.is_some() {
-            made_file
-                .file
-                .discard(rt)
-                .map_err(|error| device(alloc, target.folder, error))?;
+            // The next run removes what can't be removed now.
+            let _ = made_file.file.discard(rt);
             continue;
         }
         refused = place_one(rt, target, name.as_str(), length as u64, made_file).err();
@@ -140,7 +138,10 @@ pub(crate) fn place_one(
     made: Made,
 ) -> Result<(), FileFault> {
     let alloc = rt.alloc();
-    let path = target.path(alloc, name)?;
+    let Ok(path) = target.path(alloc, name) else {
+        let _ = made.file.discard(rt);
+        return Err(FileFault::OutOfMemory);
+    };
     let digest = made.digest;
     match place_new(rt, made.file, path.as_str()) {
         Ok(Placed::Placed) => {}

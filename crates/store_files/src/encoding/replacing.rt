@@ -13,7 +13,7 @@ use crate::staging::{is_begun, is_there, refuse_linked, staged_name};
 use std::random::RandomSource;
 use std::thread::Threads;
 use std::{fs, io, slice};
-use store_folder::{description_names, folder_of, path_in, sync_folder};
+use store_folder::{Links, description_names, folder_of, open_regular, path_in, sync_folder};
 use store_reports::{FileFault, device};
 
 /// Replaces the file of a name.
@@ -129,6 +129,11 @@ fn give_names(
 // Gives the file at a path another name too, in place of what has that, and writes it to the disk. The link beside it has a name that runs
 // which were killed leave.
 fn give_name(rt: &HostRuntime, path: &str, to: &str) -> io::Result<()> {
+    // The lock says meanwhile that a run works on the file, so that no other takes the link for one that was left.
+    let held = open_regular(rt, path, Links::NotFollowed);
+    if let Ok(held) = &held {
+        let _ = held.file.try_lock();
+    }
     let link = temporary_path(rt, folder_of(to))?;
     fs::hard_link(rt, path, link.as_str())?;
     if let Err(error) = fs::rename(rt, link.as_str(), to) {
@@ -140,8 +145,8 @@ fn give_name(rt: &HostRuntime, path: &str, to: &str) -> io::Result<()> {
     sync_folder(rt, folder_of(to))
 }
 
-/// A path in a folder whose name is one that runs which were killed leave.
-pub(crate) fn temporary_path(rt: &HostRuntime, folder: &str) -> io::Result<String> {
+// A path in a folder whose name is one that runs which were killed leave.
+fn temporary_path(rt: &HostRuntime, folder: &str) -> io::Result<String> {
     let alloc = rt.alloc();
     let mut bytes = [0u8; 8];
     rt.fill_bytes(&mut bytes)?;

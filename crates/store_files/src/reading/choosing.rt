@@ -8,7 +8,7 @@ use store_folder::{SUMS_NAME, digests_of, path_in, read_sums};
 use store_repair::without;
 use store_reports::FileFault;
 
-/// A set of fragments that gives the file: all, or those that have the digests of the store's sums, or all but one or two.
+/// A set of fragments that gives the file: all, or some of them.
 pub(crate) fn set_that_fits(
     rt: &HostRuntime,
     sought: &Sought<'_, '_>,
@@ -20,6 +20,18 @@ pub(crate) fn set_that_fits(
     if gives_file(rt, sought, fragments, all)? {
         return Ok(Some(all));
     }
+    some_that_fit(rt, sought, fragments)
+}
+
+/// A set of fragments that gives the file where all don't: those that have the digests of the store's sums, or all but one or two.
+pub(crate) fn some_that_fit(
+    rt: &HostRuntime,
+    sought: &Sought<'_, '_>,
+    fragments: &Fragments,
+) -> Result<Option<PlaceSet>, FileFault>
+    requires { vec_len fragments.now.opened ≡ 16 }
+{
+    let all = fragments.set;
     let name = sought.file.name;
     let listed = with_digests(rt, sought, fragments)?;
     if listed.len() < all.len() && gives_file(rt, sought, fragments, listed)? {
