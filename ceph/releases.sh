@@ -165,5 +165,8 @@ for part in "${parts[@]}"; do
 done
 finish || true
 table
-echo "releases: $([ -z "$has_failed" ] && echo passed || echo FAILED); $(date +%T), load $(cut -d ' ' -f 1 /proc/loadavg)"
+end='all passed'
+! grep -q ': left out, [0-9]* s, load ' "$said" || end='passed, but for what was left out'
+[ -z "$has_failed" ] || end=FAILED
+echo "releases: $end; $(date +%T), load $(cut -d ' ' -f 1 /proc/loadavg)"
 [ -z "$has_failed" ]
