@@ -1,12 +1,14 @@
 #!/usr/bin/env bash
 # Tries the plugin in each release of Ceph that it is for, in a clean root of the Debian that has it, made by debootstrap: 16.2 in bookworm
-# and 18.2 in trixie. In each the plugin is built from these sources, and ceph/try.sh runs; then a cluster goes from the one to the other.
+# and 18.2 in trixie. In each the plugin is built from these sources, and the parts of ceph/try.sh run; a cluster goes from the one to the
+# other. Clusters mostly wait, so several parts run beside each other, each in a network of its own. At the end a table has them all.
 #
 #   ceph/releases.sh [16.2|18.2|upgrade].. [-- part..]    all of these without a word; PART is one of try.sh's
 #
 # `make library` for both levels, and `make store` for two of the parts, come before. It needs root's rights, debootstrap and the network
 # for Debian's packages; what runs in the roots reaches no machine. Roots take 2 GB each below TMPDIR, and are removed at the end; those of
-# ROOTS=FOLDER stay, and are taken again. CPUS, MEMORY and SECONDS_MOST are try.sh's.
+# ROOTS=FOLDER stay, and are taken again. All of it runs on the processors CPUS (0,1), with CLUSTERS parts (4) at once. MEMORY and
+# SECONDS_MOST are try.sh's, for each of them.
 set -euo pipefail
 cd "$(dirname "$0")/.."
 declare -A suites=([16.2]=bookworm [18.2]=trixie)
@@ -14,12 +16,14 @@ packages=(ceph-mon ceph-mgr ceph-osd ceph-mds ceph-common python3-rados python3-
   python3 binutils iproute2 procps qemu-user)
 tests=$PWD/ceph/tests
 export CPUS=${CPUS:-0,1}
+most=${CLUSTERS:-4}
 what=()
 while [ $# -gt 0 ] && [ "$1" != -- ]; do
   what+=("$1")
   shift
 done
 parts=("${@:2}")
+[ ${#parts[@]} -gt 0 ] || read -ra parts <<< "$(ceph/try.sh parts)"
 [ ${#what[@]} -gt 0 ] || what=(16.2 18.2 upgrade)
 for it in "${what[@]}"; do
   [ "$it" = upgrade ] || [ -n "${suites[$it]:-}" ] || { echo "There is no release $it here." >&2; exit 2; }
@@ -31,11 +35,30 @@ fi
 for it in crates/lrc_c/out/{x86-64-v2,x86-64-v3}/liblrc_c.a; do
   [ -f "$it" ] || { echo "releases: no $it: run 'make library' with CPU=x86-64-v2, and with CPU=x86-64-v3, first" >&2; exit 1; }
 done
+taskset -cp "$CPUS" $$ > /dev/null
 scratch=$(mktemp -d "${TMPDIR:-/tmp}/ceph-releases.XXXXXX")
-mkdir "$scratch/shared"
+shared=$scratch/shared
+said=$scratch/said
 roots=${ROOTS:-$scratch/roots}
-kept=
-trap '[ -n "$kept" ] || rm -rf --one-file-system "$scratch"' EXIT
+mkdir "$shared"
+: > "$said"
+# What runs, by its process id, and whether something of it has failed.
+declare -A running=()
+has_failed=
+
+# leave: ends what still runs, and removes all, but for the files of parts where one has failed.
+leave() {
+  local it
+  for it in "${!running[@]}"; do kill -KILL -- "-$it" 2> /dev/null || true; done
+  wait
+  rm -rf --one-file-system "$scratch/roots"
+  if [ -n "$has_failed" ] && compgen -G "$shared/*" > /dev/null; then
+    echo "releases: files of what failed are kept in $scratch"
+  else
+    rm -rf --one-file-system "$scratch"
+  fi
+}
+trap leave EXIT
 
 # quietly WHAT COMMAND..: runs the command, and shows the end of what it wrote only where it fails.
 quietly() {
@@ -85,41 +108,65 @@ build() {
   echo "releases: $1: $(strings -a "$to/ceph/out/libec_azure_lrc.so" | grep '^azure_lrc '), by g++ $(in_root "$1" g++ -dumpfullversion)"
 }
 
-# each COMMAND RELEASE..: runs it of all of these beside each other.
-each() {
-  local it pids=() ended=0
-  for it in "${@:2}"; do
-    "$1" "$it" &
-    pids+=($!)
-  done
-  for it in "${pids[@]}"; do wait "$it" || ended=1; done
-  return "$ended"
+# await: until one of those that run has ended.
+await() {
+  local id ended=0
+  wait -n -p id "${!running[@]}" || ended=$?
+  unset "running[$id]"
+  [ "$ended" = 0 ] || has_failed=yes
 }
 
-# try RELEASE: the parts of try.sh in its root.
+# begin COMMAND..: runs it beside the others, in a group of its own, as soon as fewer of them run than may.
+begin() {
+  while [ ${#running[@]} -ge "$most" ]; do await; done
+  set -m
+  "$@" &
+  running[$!]=$*
+  set +m
+}
+
+# finish: until all have ended. Whether none has failed.
+finish() {
+  while [ ${#running[@]} -gt 0 ]; do await; done
+  [ -z "$has_failed" ]
+}
+
+# shown NAME COMMAND..: shows what it says with the name before each line, and keeps it for the table.
+shown() { "${@:2}" 2>&1 | sed -u "s/^/$1: /" | tee -a "$said"; }
+
+# try RELEASE PART: a part of try.sh in its root, which keeps files where the part fails.
 try() {
-  "$tests/inside.sh" "$scratch/shared" "$roots/$1" -- chroot "$roots/$1" /try/ceph/try.sh ${parts[@]+"${parts[@]}"} 2>&1 |
-    sed -u "s/^/$1: /"
+  shown "$1 $2" env "TMPDIR=$shared" "$tests/inside.sh" "$shared" "$roots/$1" -- chroot "$roots/$1" /try/ceph/try.sh "$2"
 }
 
 upgrade() {
-  mkdir "$scratch/shared/run"
-  RUN=$scratch/shared/run "$tests/inside.sh" "$scratch/shared" "$roots/16.2" "$roots/18.2" -- \
-    timeout --kill-after=60 "${SECONDS_MOST:-1500}" "$tests/upgrade.sh" "$roots/16.2" "$roots/18.2" && return
-  kept=yes
-  echo "releases: its files are kept in $scratch"
-  return 1
+  local start=$SECONDS run=$shared/upgrade end=passed
+  mkdir "$run"
+  RUN=$run "$tests/inside.sh" "$shared" "$roots/16.2" "$roots/18.2" -- \
+    timeout --kill-after=60 "${SECONDS_MOST:-1500}" "$tests/upgrade.sh" "$roots/16.2" "$roots/18.2" || end=FAILED
+  echo "upgrade: $end, $((SECONDS - start)) s, load $(cut -d ' ' -f 1 /proc/loadavg)"
+  [ "$end" = passed ] && rm -rf "$run"
 }
+
+# table: how each part ended, as try.sh says it.
+table() { sed -n 's/^\([^:]*\): [a-z]*: \(\(passed\|FAILED\|left out\), [0-9]* s, load .*\)$/releases: \1: \2/p' "$said" | sort -V; }
 
 own=$(grep -q avx2 /proc/cpuinfo && echo x86-64-v3 || echo x86-64-v2)
 needed=("${what[@]}")
 [[ " ${what[*]} " != *' upgrade '* ]] || needed=(16.2 18.2)
 echo "releases: ${what[*]}; $(date +%T), load $(cut -d ' ' -f 1 /proc/loadavg)"
-each make_root "${needed[@]}"
-each build "${needed[@]}"
-ended=0
-for it in "${what[@]}"; do
-  if [ "$it" = upgrade ]; then upgrade || ended=1; else try "$it" || ended=1; fi
+for it in "${needed[@]}"; do begin make_root "$it"; done
+finish
+for it in "${needed[@]}"; do begin build "$it"; done
+finish
+[[ " ${what[*]} " != *' upgrade '* ]] || begin shown upgrade upgrade
+for part in "${parts[@]}"; do
+  for it in "${what[@]}"; do [ "$it" = upgrade ] || begin try "$it" "$part"; done
 done
-echo "releases: $([ "$ended" = 0 ] && echo passed || echo FAILED); $(date +%T), load $(cut -d ' ' -f 1 /proc/loadavg)"
-exit "$ended"
+finish || true
+table
+end='all passed'
+! grep -q ': left out, [0-9]* s, load ' "$said" || end='passed, but for what was left out'
+[ -z "$has_failed" ] || end=FAILED
+echo "releases: $end; $(date +%T), load $(cut -d ' ' -f 1 /proc/loadavg)"
+[ -z "$has_failed" ]

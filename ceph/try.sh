@@ -1,6 +1,7 @@
 #!/usr/bin/env bash
 # Tries the built plugin in the Ceph that is installed. It installs nothing, says what it left out, and stops what it started.
 #
+#   ceph/try.sh parts         prints their names
 #   ceph/try.sh [part]..      all parts without a word:
 #     abi       the table of calls, and what odd calls do, beside those of the shipped plugins
 #     host      every set of one to four lost shards, errors, refused memory, least reads, by a program that loads plugins as Ceph does
@@ -33,9 +34,12 @@ export PLUGINS CPUS
 codes=(code=6-2-2 code=6-2-2,layout=groups code=12-2-2 code=12-2-2,layout=groups)
 peers=(plugin=isa,technique=cauchy,k=6,m=4 plugin=jerasure,technique=reed_sol_van,k=6,m=4 plugin=lrc,k=6,m=2,l=4
   plugin=shec,k=6,m=4,c=3 plugin=clay,k=6,m=4,d=9)
+# What takes seconds goes first, then what takes longest, and what measures times last.
+all=(abi reads host pool recovery store incomplete many tool levels groups images racks four files damaged bench)
 left_out=()
 failed=()
 
+[ "$*" != parts ] || { echo "${all[@]}"; exit; }
 [ -f "$PLUGINS/libec_azure_lrc.so" ] && [ -x "$host" ] || {
   echo "The plugin isn't built: run 'make ceph' first." >&2
   exit 1
@@ -219,7 +223,7 @@ if [ -n "$RELEASE" ]; then export RELEASE; else unset RELEASE; fi
 echo "Ceph ${RELEASE:-(no ceph-osd is installed)}; $(sed -n 's/^model name\t: //p' /proc/cpuinfo | head -n 1)," \
   "$(getconf _NPROCESSORS_ONLN) processors"
 parts=("$@")
-[ $# -gt 0 ] || parts=(abi host tool pool images files racks groups four damaged levels reads recovery bench store many incomplete)
+[ $# -gt 0 ] || parts=("${all[@]}")
 for part in "${parts[@]}"; do
   declare -F "part_$part" > /dev/null || { echo "There is no part $part." >&2; exit 2; }
 done
