@@ -179,6 +179,12 @@ def test_report_in_the_store(place, choose):
             hold(report in said, f"no line names {report}: {said}")
         run("scrub", store, "--report", store / report, status=2)
         hold(there(store) == files, f"--report {report} changed the store")
+    # A link outside the store that leads to the name of a lost fragment, and one that leads to that.
+    (place / "in-report").symlink_to(store / "s.x0")
+    (place / "in-chain").symlink_to("in-report")
+    for path in (place / "in-report", place / "in-chain"):
+        run("repair", store, "--report", path, status=2)
+        hold(there(store) == files, f"--report {path.name} changed the store")
     run("repair", store, "--to", to, "--report", to / "s.x0", status=2)
     hold(not there(to), "a report was written in place of a fragment")
     run("repair", store, "--report", store / "report.csv", status=0)

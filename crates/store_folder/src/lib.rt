@@ -30,7 +30,7 @@ pub use expecting::expect_listed;
 pub use folder_store::FolderStore;
 pub use folders::{SystemFolder, SystemNew, SystemOpen, folder_of};
 pub use leaving::left_in;
-pub use links::{Links, look_at, refuse_linked_folders};
+pub use links::{Links, followed, look_at, refuse_linked_folders};
 pub use listing::{Listing, list};
 pub use placing::{NewFile, place_again, place_new, sync_folder};
 pub use regular::{Identity, RegularFile, is_named, open_as, open_regular};

@@ -9,7 +9,8 @@ use lrc_code::Code;
 use std::alloc::AllocError;
 use std::mem;
 use store_folder::{
-    DESCRIPTION, Listing, Site, StoreStripes, StripeNames, Sums, Wanted, Watched, is_ambiguous,
+    DESCRIPTION, Listing, Site, StoreStripes, StripeNames, Sums, Wanted, Watched, followed,
+    is_ambiguous,
 };
 use store_repair::Stripe;
 use store_reports::StoreFault;
@@ -94,8 +95,12 @@ impl Unlocked {
 
 // Opens a store whose locks are taken.
 fn open_locked(rt: &HostRuntime, opening: &Opening<'_>) -> Result<Unlocked, StoreFault> {
-    let watched = match opening.report {
-        Some(path) => Watched::at(rt, path),
+    let report = match opening.report {
+        Some(path) => Some(followed_report(rt, path)?),
+        None => None,
+    };
+    let watched = match report.as_ref() {
+        Some(path) => Watched::at(rt, path.as_str()),
         None => None,
     };
     let wanted = Wanted {
@@ -136,6 +141,14 @@ fn open_locked(rt: &HostRuntime, opening: &Opening<'_>) -> Result<Unlocked, Stor
         has_unlisted,
         unmounted,
     })
+}
+
+// The path that a report's links lead to, which may be the name of a fragment that is lost; its own if they lead nowhere.
+fn followed_report(rt: &HostRuntime, path: &str) -> Result<String, AllocError> {
+    match followed(rt, String::from_str(rt.alloc(), path)?) {
+        Ok(end) => Ok(end),
+        Err(_) => String::from_str(rt.alloc(), path),
+    }
 }
 
 // What runs have left in the folder that rebuilt fragments are written to, if that isn't the store's.
