@@ -93,23 +93,37 @@ impl Unlocked {
     }
 }
 
-// Opens a store whose locks are taken.
+// Opens a store whose locks are taken. What a report's path leads to is looked out for: it may be the name of a fragment that is lost.
 fn open_locked(rt: &HostRuntime, opening: &Opening<'_>) -> Result<Unlocked, StoreFault> {
-    let report = match opening.report {
-        Some(path) => Some(followed_report(rt, path)?),
-        None => None,
+    let Some(path) = opening.report else {
+        return open_watched(rt, opening, None);
     };
-    let watched = match report.as_ref() {
-        Some(path) => Watched::at(rt, path.as_str()),
-        None => None,
-    };
+    let path = end_of_links(rt, path)?;
+    let watched = Watched::at(rt, path.as_str());
+    open_watched(rt, opening, watched.as_ref())
+}
+
+// The path that a path's links lead to, or itself if they lead nowhere.
+fn end_of_links(rt: &HostRuntime, path: &str) -> Result<String, AllocError> {
+    match followed(rt, String::from_str(rt.alloc(), path)?) {
+        Ok(end) => Ok(end),
+        Err(_) => String::from_str(rt.alloc(), path),
+    }
+}
+
+// Opens a store, and looks out for a path that may be one of its own.
+fn open_watched(
+    rt: &HostRuntime,
+    opening: &Opening<'_>,
+    watched: Option<&Watched<'_>>,
+) -> Result<Unlocked, StoreFault> {
     let wanted = Wanted {
         pattern: opening.pattern,
         code: opening.code.unwrap_or(Code::Wide),
         has_stripes: true,
         part: opening.part,
         links: opening.links,
-        watched: watched.as_ref(),
+        watched,
     };
     let mut listing = listed(rt, opening.folder, &wanted)?;
     let target = listed_target(rt, opening, &wanted)?;
@@ -141,14 +155,6 @@ fn open_locked(rt: &HostRuntime, opening: &Opening<'_>) -> Result<Unlocked, Stor
         has_unlisted,
         unmounted,
     })
-}
-
-// The path that a report's links lead to, which may be the name of a fragment that is lost; its own if they lead nowhere.
-fn followed_report(rt: &HostRuntime, path: &str) -> Result<String, AllocError> {
-    match followed(rt, String::from_str(rt.alloc(), path)?) {
-        Ok(end) => Ok(end),
-        Err(_) => String::from_str(rt.alloc(), path),
-    }
 }
 
 // What runs have left in the folder that rebuilt fragments are written to, if that isn't the store's.
