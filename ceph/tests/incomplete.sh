@@ -45,7 +45,7 @@ make_pool() {
   wait_clean 240
   objects make "$RUN/files" 48 200000
   for i in 1 2 3; do objects write coded "$RUN/files"; done
-  ask remember coded "$RUN/acting"
+  ask remember coded "$RUN/acting" "$RUN/files"
 }
 
 lose() {
