@@ -37,6 +37,8 @@ for it in crates/lrc_c/out/{x86-64-v2,x86-64-v3}/liblrc_c.a; do
 done
 taskset -cp "$CPUS" $$ > /dev/null
 scratch=$(mktemp -d "${TMPDIR:-/tmp}/ceph-releases.XXXXXX")
+# What runs in a root has no such folder.
+unset TMPDIR
 shared=$scratch/shared
 said=$scratch/said
 roots=${ROOTS:-$scratch/roots}

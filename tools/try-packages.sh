@@ -17,6 +17,8 @@ if ! compgen -G 'out/packages/*.deb' > /dev/null; then
   exit 1
 fi
 scratch=$(mktemp -d)
+# What runs in a root has no such folder.
+unset TMPDIR
 root=$scratch/root
 leave() {
   umount -q "$root/proc" || true
@@ -104,7 +106,7 @@ END
 }
 
 fail() {
-  tail -n 5 "$scratch/said"
+  tail -n 50 "$scratch/said"
   echo "try-packages: $1"
   exit 1
 }

@@ -37,6 +37,9 @@ fail() {
   exit 1
 }
 
+# A command of a script that fails, and isn't in a function, is shown, with what a command that writes there said last.
+trap 'echo "    FAILED: line $LINENO: $BASH_COMMAND: $(tail -n 1 "$RUN/setup.out" 2> /dev/null)"' ERR
+
 objects() { /usr/bin/python3 "$HERE/objects.py" "$@"; }
 
 is_alive() { [ -f "$RUN/$1.pid" ] && kill -0 "$(cat "$RUN/$1.pid")" 2> /dev/null; }
@@ -107,6 +110,7 @@ guard() {
   done
 }
 
+# After mon_lease seconds (5, if not set) a monitor takes its trial of a new pool's rule for failed, as beside much other work.
 configure() { # FSID
   cat > "$CEPH_CONF" << END
 [global]
@@ -137,6 +141,7 @@ mon_max_pg_per_osd = 1000
 mon_allow_pool_delete = true
 mon_warn_on_insecure_global_id_reclaim_allowed = false
 [mon]
+mon_lease = 60
 admin_socket = $RUN/asok/\$name.asok
 mon_data = $RUN/mon
 mon_osd_down_out_interval = 36000
@@ -224,7 +229,7 @@ cluster_new() {
 
 # replicated POOL: a pool with five copies, so that it serves with three OSDs stopped.
 replicated() {
-  ceph osd pool create "$1" 8 8 replicated 2> /dev/null
+  ceph osd pool create "$1" 8 8 replicated 2>> "$RUN/setup.out"
   ceph osd pool set "$1" size 5 2> /dev/null
   ceph osd pool set "$1" min_size 1 2> /dev/null
 }

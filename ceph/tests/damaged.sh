@@ -44,7 +44,7 @@ parts_until_said() {
 step "a cluster of $osds OSDs, on processors $CPUS"
 cluster_new "$osds"
 ceph osd erasure-code-profile set words plugin=azure_lrc crush-failure-domain=osd
-ceph osd pool create coded 8 8 erasure words 2> /dev/null
+ceph osd pool create coded 8 8 erasure words 2>> "$RUN/setup.out"
 ceph osd pool application enable coded rados 2> /dev/null
 wait_clean 240
 objects make "$RUN/files" 10 1500000

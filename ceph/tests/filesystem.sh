@@ -15,7 +15,7 @@ change() {
 step "a cluster of $osds OSDs and a file system, on processors $CPUS"
 cluster_new "$osds"
 ceph osd erasure-code-profile set words plugin=azure_lrc crush-failure-domain=osd
-ceph osd pool create data 8 8 erasure words 2> /dev/null
+ceph osd pool create data 8 8 erasure words 2>> "$RUN/setup.out"
 ceph osd pool set data allow_ec_overwrites true 2> /dev/null
 for pool in names first; do replicated "$pool"; done
 ceph fs new files names first 2> /dev/null

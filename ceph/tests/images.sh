@@ -17,7 +17,7 @@ change() {
 step "a cluster of $osds OSDs with cephx, on processors $CPUS"
 cluster_new "$osds"
 ceph osd erasure-code-profile set words plugin=azure_lrc crush-failure-domain=osd
-ceph osd pool create data 8 8 erasure words 2> /dev/null
+ceph osd pool create data 8 8 erasure words 2>> "$RUN/setup.out"
 ceph osd pool set data allow_ec_overwrites true 2> /dev/null
 replicated names
 for pool in data names; do ceph osd pool application enable "$pool" rbd 2> /dev/null; done

@@ -1,7 +1,8 @@
 """What incomplete.sh asks: which groups Ceph must call incomplete, and which of their fragments the equations determine. These are answered
 by tools/reference.py, which shares nothing with the plugin. The first word names a job.
 
-    remember POOL FILE                   writes for each placement group its OSDs by shard, and for each object its group
+    remember POOL FILE FILES             writes for each placement group its OSDs by shard, and for each object its group, and the length of
+                                         its file in a folder
     choose FILE OSDS                     five of so many OSDs to be dead, and of these three to be gone and one whose disk is to be damaged,
                                          so that a group is incomplete though one of its lost fragments is determined: GONE, DEAD, DAMAGED
     incomplete FILE DEAD                 the groups with objects that are incomplete without the dead OSDs, a line each
@@ -10,7 +11,8 @@ by tools/reference.py, which shares nothing with the plugin. The first word name
     compare FILE DEAD LOST TRUTH STORE   of the incomplete groups' stripes STORE must have all fragments but those of the LOST OSDs that
                                          aren't determined, with the bytes of TRUTH, a store of the dead OSDs' shards
     damageable FILE GONE DEAD OSD        a fragment on an OSD, of an incomplete group, that is determined without it and the OSDs that are
-                                         gone: its group, its shard and its name
+                                         gone: its group, its shard and its name; of an object that fills a stripe, since in others shards
+                                         may be nothing but zeros, as other parts of the disk are
     damage DISK FRAGMENT                 changes a byte of an OSD's disk wherever it has the bytes of this file, or had them before
 
 DEAD, LOST and GONE are numbers of OSDs, with commas between."""
@@ -37,11 +39,12 @@ def ceph(*words):
     return json.loads(subprocess.run(["ceph", *words, "-f", "json"], check=True, capture_output=True, text=True).stdout)
 
 
-def remember(pool, file):
+def remember(pool, file, files):
     groups = {it["pgid"]: it["acting"] for it in ceph("pg", "ls-by-pool", pool)["pg_stats"]}
     listed = subprocess.run(["rados", "-p", pool, "ls"], check=True, capture_output=True, text=True).stdout.split()
     objects = {name: ceph("osd", "map", pool, name)["pgid"] for name in sorted(listed)}
-    pathlib.Path(file).write_text(json.dumps({"groups": groups, "objects": objects}))
+    lengths = {name: pathlib.Path(files, name).stat().st_size for name in objects}
+    pathlib.Path(file).write_text(json.dumps({"groups": groups, "objects": objects, "lengths": lengths}))
 
 
 def remembered(file):
@@ -78,7 +81,7 @@ def with_objects(found, dead):
 def fit(found, gone, dead, osd):
     for name, group in found["objects"].items():
         acting = found["groups"][group]
-        if osd in acting and group in groups_without(found, dead):
+        if osd in acting and group in groups_without(found, dead) and found["lengths"][name] >= len(DATA) * BLOCK:
             shard = acting.index(osd)
             lost = lost_of(acting, gone) | {shard}
             if len(lost) == 4 and determined(lost) == lost:
@@ -150,6 +153,8 @@ def extents(file):
 
 def damage(disk, fragment):
     wanted = pathlib.Path(fragment).read_bytes()[:BLOCK]
+    if not any(wanted):
+        sys.exit("zeros are no fragment's alone")
     with open(disk, "r+b") as file:
         count = 0
         for start, stop in extents(file.fileno()):

@@ -40,12 +40,12 @@ make_pool() {
   for i in "${fresh[@]}"; do ceph osd crush reweight "osd.$i" 0 2>> "$RUN/setup.out"; done
   for i in min_pg_log_entries max_pg_log_entries pg_log_trim_min; do ceph config set osd "osd_$i" 1; done
   ceph osd erasure-code-profile set words plugin=azure_lrc crush-failure-domain=osd
-  ceph osd pool create coded 32 32 erasure words 2> /dev/null
+  ceph osd pool create coded 32 32 erasure words 2>> "$RUN/setup.out"
   ceph osd pool application enable coded rados 2> /dev/null
   wait_clean 240
   objects make "$RUN/files" 48 200000
   for i in 1 2 3; do objects write coded "$RUN/files"; done
-  ask remember coded "$RUN/acting"
+  ask remember coded "$RUN/acting" "$RUN/files"
 }
 
 lose() {

@@ -19,7 +19,7 @@ timed() {
 step "a cluster of $osds OSDs, on processors $CPUS"
 cluster_new "$osds"
 ceph osd erasure-code-profile set words plugin=azure_lrc crush-failure-domain=osd
-ceph osd pool create coded 8 8 erasure words 2> /dev/null
+ceph osd pool create coded 8 8 erasure words 2>> "$RUN/setup.out"
 ceph osd pool application enable coded rados 2> /dev/null
 wait_clean 240
 pool=$(ceph osd pool ls detail | sed -n "s/^pool \([0-9]*\) 'coded'.*/\1/p")

@@ -28,7 +28,7 @@ make_pool() {
   done
   # shellcheck disable=SC2086
   ceph osd erasure-code-profile set words plugin=azure_lrc ${words//,/ }
-  ceph osd pool create coded 16 16 erasure words 2> /dev/null
+  ceph osd pool create coded 16 16 erasure words 2>> "$RUN/setup.out"
   ceph osd pool application enable coded rados 2> /dev/null
   wait_clean 120
   step "a pool of $(ceph osd erasure-code-profile get words | tr '\n' ' ')"

@@ -54,7 +54,7 @@ else
   ceph osd erasure-code-profile set words plugin=azure_lrc layout=groups crush-locality=rack crush-failure-domain=host
   layout=groups
 fi
-ceph osd pool create coded 16 16 erasure words 2> /dev/null
+ceph osd pool create coded 16 16 erasure words 2>> "$RUN/setup.out"
 ceph osd pool application enable coded rados 2> /dev/null
 wait_clean 240
 objects make "$RUN/files" 16 300000

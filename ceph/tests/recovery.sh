@@ -13,7 +13,7 @@ trap cluster_stop EXIT
 fill() {
   # shellcheck disable=SC2086
   ceph osd erasure-code-profile set "$name" ${words//,/ } crush-failure-domain=osd stripe_unit=65536
-  ceph osd pool create "$name" 64 64 erasure "$name" 2> /dev/null
+  ceph osd pool create "$name" 64 64 erasure "$name" 2>> "$RUN/setup.out"
   ceph osd pool application enable "$name" rados 2> /dev/null
   wait_clean 120
   objects fill "$name" "$count" "$size"

@@ -49,7 +49,7 @@ write() {
 
 make_pool() {
   ceph osd erasure-code-profile set words plugin=azure_lrc crush-failure-domain=osd
-  ceph osd pool create coded 16 16 erasure words 2> /dev/null
+  ceph osd pool create coded 16 16 erasure words 2>> "$RUN/setup.out"
   ceph osd pool application enable coded rados 2> /dev/null
   wait_clean 240
   objects make "$RUN/files" 20 1000000
@@ -134,7 +134,7 @@ wait_clean 240
 compare 'all of the newer release, and required'
 scrub 0
 ceph osd erasure-code-profile set groups plugin=azure_lrc layout=groups crush-failure-domain=osd
-ceph osd pool create other 8 8 erasure groups 2> /dev/null
+ceph osd pool create other 8 8 erasure groups 2>> "$RUN/setup.out"
 ceph osd pool application enable other rados 2> /dev/null
 wait_clean 240
 objects write other "$RUN/files"
