@@ -3,7 +3,7 @@
  *
  * A stripe has a fragment of equal length at each place of its code. Lengths are in bytes, and have no limit but memory. The codes
  * have the form of Huang et al., "Erasure Coding in Windows Azure Storage" (USENIX ATC 2012), over the field of 256 elements with
- * the polynomial 11D. Their coefficients are this project's own (docs/FORMATS.md), so fragments that Azure or another code of that
+ * the polynomial 11D; their coefficients are this project's own (docs/FORMATS.md), so fragments that Azure or another code of that
  * form wrote can't be rebuilt. What holds of a stripe holds position by position, so fragments can be cut anywhere, and all pieces
  * of one position are a stripe again.
  *
