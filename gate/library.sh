@@ -4,8 +4,8 @@
 # a user runs them, the examples in C, Python, Go and Rust, and the library for ARM under qemu. All this is done with the build for
 # x86-64-v2, and the tests again with that for x86-64-v3 where the processor has AVX2. What isn't installed is named and left out. All
 # this is done in a copy of the repository, since the gate runs it beside `rt ci`, which holds the crates. Those below the library are
-# taken as `rt ci` proves them, by its sums of their files, and proved here only where it hasn't proved these. The library is proved here
-# once, since `rt ci` proves it and builds none, and for the other processors over what that kept.
+# taken from that run, which has proved them by then; where there is none, `rt ci` proves them here. The library is proved here once, since
+# `rt ci` proves it and builds none, and for the other processors over what that kept.
 set -euo pipefail
 cd "$(dirname "$0")/.."
 scratch=$(mktemp -d)

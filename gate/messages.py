@@ -10,8 +10,7 @@ import sys
 
 ROOT = pathlib.Path(__file__).resolve().parent.parent
 PAGE = ROOT / "man/rebuild-store.1"
-CRATES = ("rebuild_store", "store_arguments", "store_files", "store_folder", "store_names", "store_opening", "store_records",
-          "store_repair", "store_reports")
+CRATES = ["rebuild_store", *sorted(it.name for it in (ROOT / "crates").glob("store_*") if not it.name.endswith("_tests"))]
 # What says how far a command is has no message.
 LEFT_OUT = {"progress.rt", "tasks.rt"}
 # Texts that are filled into others, or that others take the place of before anything is said.

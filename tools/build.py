@@ -4,8 +4,8 @@
     build.py NAME.. LEVEL [JOBS]    for a level of the processor, as x86-64-v3, with JOBS processors (all that there are); the library
                                     also for another kind of processor, as aarch64-unknown-linux-gnu
     build.py lrc_c LEVEL [JOBS] by-ci
-                                    builds the library over crates as `rt ci` proves them, as the gate does: what that has proved of the
-                                    same files on this machine is taken, and what it is proving is waited for
+                                    builds the library over crates as `rt ci` proves them, as the gate does: with PROVED_IN=FOLDER, over
+                                    those that a run of it has proved in that folder, of the same files
     build.py settle                 puts back what a build that was killed has left
 
 What is built is in the crate's out/LEVEL, with the record of its build; what was built last for a level of this processor is in its out/
@@ -42,6 +42,8 @@ PARTS = ("src", "specs", "proofs")
 # The word by which the crates below the library are taken as `rt ci` proves them. It also stands in place of their stamps, by which
 # `rt lib` knows its own work.
 BY_CI = "by-ci"
+# The variable that names the folder in which a run of `rt ci` has proved the crates below the library, of the same files.
+PROVED_IN = "PROVED_IN"
 # What is in a crate's out/ beside the record of the build: the prover's work, the library, and what is built.
 WORK = ("incremental", "rlib")
 # The memory of a proof with one job, and of each further job, about: the most that was seen is 1.4 GB, and 10 with four (farm_core), of
@@ -327,28 +329,35 @@ def settle(crates):
             it.rmdir()
 
 
+def proved_by_ci(crates, jobs, room):
+    """Has `rt ci` prove these crates, and gives the folder in which it leaves them: one that has these crates alone and none of their wrong
+    bodies, so that it tries none; or the one in which the gate's own run, which goes on beside, has proved them."""
+    if os.environ.get(PROVED_IN):
+        return pathlib.Path(os.environ[PROVED_IN])
+    (room / "crates.txt").write_text("".join(f"{it.line}\n" for it in crates))
+    shutil.copy(ROOT / "HANDLES", room)
+    how = {"stdin": subprocess.DEVNULL, "stdout": subprocess.PIPE, "stderr": subprocess.STDOUT, "text": True, "errors": "replace"}
+    ran = subprocess.run(["rt", "ci"], cwd=room, env={**os.environ, "RT_JOBS": str(jobs)}, **how)
+    if ran.returncode:
+        stop("\n".join(["rt ci has not proved them; what it said last:", *ran.stdout.splitlines()[-SHOWN:]]))
+    return room
+
+
 def take_from_ci(crates, level, jobs, kit):
-    """Has `rt ci` give the libraries of these crates, and puts them where a build looks for them, with records. It is run in a folder that
-    has these crates alone and none of their wrong bodies, so that it tries none."""
+    """Puts the libraries of these crates that `rt ci` makes where a build looks for them, with records."""
     locks = [lock_of(it.folder) for it in crates]
     if None in locks:
         stop("another run works in these crates: wait for its end")
     with tempfile.TemporaryDirectory() as room:
         room = pathlib.Path(room)
-        (room / "crates.txt").write_text("".join(f"{it.line}\n" for it in crates))
-        shutil.copy(ROOT / "HANDLES", room)
         for it in crates:
             copy_sources(it, room)
         print(f"Taken as rt ci proves them: {', '.join(it.name for it in crates)}", flush=True)
-        how = {"stdin": subprocess.DEVNULL, "stdout": subprocess.PIPE, "stderr": subprocess.STDOUT, "text": True, "errors": "replace"}
-        ran = subprocess.run(["rt", "ci"], cwd=room, env={**os.environ, "RT_JOBS": str(jobs)}, **how)
-        if ran.returncode:
-            stop("\n".join(["rt ci has not proved them; what it said last:", *ran.stdout.splitlines()[-SHOWN:]]))
+        proved = proved_by_ci(crates, jobs, room)
         for it in crates:
             library = it.folder / "out/rlib"
             remove(library)
-            library.parent.mkdir(exist_ok=True)
-            shutil.move(room / "crates" / it.name / "out/rlib", library)
+            shutil.copytree(proved / "crates" / it.name / "out/rlib", library)
             (library / "stamp").write_text(BY_CI)
             it.write_record(it.inputs(room / "crates", level, kit), level)
     for lock in locks:

@@ -169,9 +169,9 @@ def proofs(crate, beside, command):
 
     with concurrent.futures.ThreadPoolExecutor() as pool:
 
-        def start_beside():
+        def start_beside(**proved):
             if beside and not scripts:
-                scripts.append(subprocess.Popen([beside]))
+                scripts.append(subprocess.Popen([beside], env={**os.environ, **proved}))
                 waits.append(pool.submit(end, [beside], scripts[0], time.monotonic()))
 
         try:
@@ -186,7 +186,8 @@ def proofs(crate, beside, command):
                 if found := KNOWN.match(line):
                     keep(known=found[1])
                 if crate and re.match(PROVED.format(crate), line):
-                    start_beside()
+                    # What is proved until then is in this folder as long as `rt ci` runs.
+                    start_beside(PROVED_IN=str(ROOT))
             statuses = [end(command, ran, start)]
             if statuses == [0]:
                 start_beside()

@@ -6,10 +6,11 @@ use std::alloc::AllocError;
 use std::fs;
 use std::io::{self, ErrorKind};
 use store_arguments::TestOptions;
-use store_files::allow_output;
+use store_faults::{FileFault, device, say, words_of, write};
 use store_folder::folder_of;
 use store_opening::{OpenStore, Opening};
-use store_reports::{FileFault, Results, Rows, alone_lines, device, rows_of, say, words_of, write};
+use store_progress::allow_output;
+use store_reports::{Results, Rows, alone_lines, rows_of};
 
 /// Says lines on standard error.
 pub(crate) fn say_all(rt: &HostRuntime, lines: Vec<String>) -> Result<(), AllocError> {

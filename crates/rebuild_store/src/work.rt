@@ -7,13 +7,13 @@ use std::sync::Arc;
 use std::sync::atomic::{AtomicUsize, Ordering};
 use std::thread;
 use std::thread::Threads;
-use store_files::{
-    CopyWork, CountedReads, CountingFolder, DescribedStripe, Progress, tend_descriptions,
-};
+use store_faults::Descriptions;
 use store_folder::{FolderStore, SeparateStore, Site, SystemFolder};
 use store_opening::OpenStore;
+use store_progress::{CountedReads, CountingFolder, Progress};
+use store_reading::{CopyWork, DescribedStripe, tend_descriptions};
 use store_repair::{Found, Outcome, Repair, Stripe, plan_stripe, repair_stripe, scrub_stripe};
-use store_reports::{Contents, Descriptions, Done, without_left, without_repeated};
+use store_reports::{Contents, Done, without_left, without_repeated};
 use tasks::{bytes_of, bytes_read};
 
 // The memory that is taken and given back before the work. The C library gives free memory back to the system after each stripe, unless

@@ -8,13 +8,14 @@ use store_repair::NewFragment;
 
 /// A new fragment that is digested as it is written.
 #[derive(Drop)]
-pub(crate) struct DigestedFile {
+pub struct DigestedFile {
     file: NewFile,
     digest: Sha256,
 }
 
 impl DigestedFile {
-    pub(crate) fn new(file: NewFile) -> DigestedFile {
+    /// With nothing written yet.
+    pub fn new(file: NewFile) -> DigestedFile {
         DigestedFile {
             file,
             digest: Sha256::new(),
@@ -22,7 +23,7 @@ impl DigestedFile {
     }
 
     /// The file, and the digest of what was written.
-    pub(crate) fn finish(self) -> (NewFile, Digest) {
+    pub fn finish(self) -> (NewFile, Digest) {
         let DigestedFile { file, digest } = self;
         (file, digest.finalize())
     }
@@ -39,18 +40,20 @@ impl NewFragment for DigestedFile {
 
 /// The digest of what would be written.
 #[derive(Drop)]
-pub(crate) struct DigestAlone {
+pub struct DigestAlone {
     digest: Sha256,
 }
 
 impl DigestAlone {
-    pub(crate) fn new() -> DigestAlone {
+    /// With nothing written yet.
+    pub fn new() -> DigestAlone {
         DigestAlone {
             digest: Sha256::new(),
         }
     }
 
-    pub(crate) fn finish(self) -> Digest {
+    /// The digest of what was written.
+    pub fn finish(self) -> Digest {
         let DigestAlone { digest } = self;
         digest.finalize()
     }
@@ -66,12 +69,7 @@ impl NewFragment for DigestAlone {
 }
 
 /// The digest of the regular file at a path, which has to have so many bytes.
-pub(crate) fn digest_at(
-    rt: &HostRuntime,
-    path: &str,
-    length: u64,
-    links: Links,
-) -> io::Result<Digest> {
+pub fn digest_at(rt: &HostRuntime, path: &str, length: u64, links: Links) -> io::Result<Digest> {
     let fragment = open_fragment(rt, path, length, links)?;
     digest_of(rt.alloc(), &fragment, length as usize)
 }

@@ -1,37 +1,22 @@
-//! Files in a store: encoding a file into the fragments of a stripe, reading it again while fragments are lost, and the copies of its
-//! description.
+//! The files of a store, as they are looked for and as they are made: what describes one, the names of its stripe, and the names that it
+//! has while it replaces another.
 //!
 //! ```rust
-//! encode_file(&threads, &rt, &mut target, &SourceFile { path: "notes.txt", name: None, progress: &progress })?;
-//! read_file(&rt, &StoredFile { folder, pattern, name: "notes.txt", links, progress: None }, None)?;
-//! let descriptions = tend_descriptions(&rt, &site, &stripe, CopyWork::Name)?;
+//! let file = StoredFile { folder, pattern, name: "notes.txt", links, progress: None };
+//! let described = first_described(&rt, &file)?;
 //! ```
 #![tactic(auto)]
 
-mod copies;
-mod counting;
+mod descriptions;
 mod digesting;
-mod encoding;
-mod limits;
-mod own_folders;
-mod progress;
-mod reading;
-mod reads;
-mod removing;
 mod staging;
-mod taking;
+mod stored_file;
+mod target;
 
-pub use copies::{CopyWork, DescribedStripe, tend_descriptions};
-pub use encoding::spool::Spool;
-pub use encoding::sums::{stored_sums, write_new_sums};
-pub use encoding::target::Target;
-pub use encoding::{SourceFile, encode_file};
-pub use limits::{allow_file, allow_output, most_file_bytes, refuse_over_limit};
-pub use progress::{Operation, Progress, Task};
-pub use reading::descriptions::first_described;
-pub use reading::destination::passes_to;
-pub use reading::file::StoredFile;
-pub use reading::{read_file, verify_file};
-pub use reads::{CountedOpen, CountedReads, CountingFolder};
-pub use removing::remove_stored;
-pub use taking::{take_away, take_files};
+pub use descriptions::{descriptions_of, first_described};
+pub use digesting::{DigestAlone, DigestedFile, digest_at};
+pub use staging::{
+    has_some, is_absent, is_begun, is_staged, is_there, no_stored, refuse_linked, staged_name,
+};
+pub use stored_file::{Sought, StoredFile};
+pub use target::Target;

@@ -1,30 +1,30 @@
 //! Stripes that are to replace others: their names, and whether one is there.
-use crate::encoding::target::Target;
-use crate::reading::file::StoredFile;
+use crate::stored_file::StoredFile;
+use crate::target::Target;
 use lrc_code::{Code, Place};
 use std::alloc::{AllocError, Global};
 use std::fs;
 use std::io::ErrorKind;
+use store_faults::{FileFault, device, fragment_name};
 use store_folder::{path_in, refuse_linked_folders};
-use store_reports::{FileFault, device, fragment_name};
 
 // How the name of a stripe ends that is to replace another one.
 const STAGED: &str = ".rebuild-store-new";
 
 /// The name of the stripe that is to replace the one of a name.
-pub(crate) fn staged_name(alloc: Global, name: &str) -> Result<String, AllocError> {
+pub fn staged_name(alloc: Global, name: &str) -> Result<String, AllocError> {
     let mut staged = String::from_str(alloc, name)?;
     staged.push_str(STAGED)?;
     Ok(staged)
 }
 
 /// Whether a name is that of a stripe which is to replace another one.
-pub(crate) fn is_staged(name: &str) -> bool {
+pub fn is_staged(name: &str) -> bool {
     name.ends_with(STAGED)
 }
 
 /// Whether a stripe of a name that is to replace another one has been begun: its first fragments are made first and go last.
-pub(crate) fn is_begun(
+pub fn is_begun(
     rt: &HostRuntime,
     file: &StoredFile<'_, '_>,
     code: Code,
@@ -33,7 +33,7 @@ pub(crate) fn is_begun(
 }
 
 /// Whether there is anything under the name of a fragment of a stripe at one of some places.
-pub(crate) fn has_some(
+pub fn has_some(
     rt: &HostRuntime,
     file: &StoredFile<'_, '_>,
     code: Code,
@@ -51,14 +51,14 @@ pub(crate) fn has_some(
 }
 
 /// That a store has no file of a name.
-pub(crate) fn no_stored(alloc: Global, name: &str, folder: &str) -> Result<FileFault, AllocError> {
+pub fn no_stored(alloc: Global, name: &str, folder: &str) -> Result<FileFault, AllocError> {
     Ok(FileFault::Refused {
         what: format!(in alloc; "{name}: is no file of the store {folder}")?,
     })
 }
 
 /// Refuses names of the store on whose way a folder is a link, unless links are followed.
-pub(crate) fn refuse_linked(
+pub fn refuse_linked(
     rt: &HostRuntime,
     target: &Target<'_>,
     names: &[String],
@@ -77,7 +77,7 @@ pub(crate) fn refuse_linked(
 }
 
 /// Whether there is anything at a path. Nothing has a name that is longer than its folder takes.
-pub(crate) fn is_there(rt: &HostRuntime, path: &str) -> Result<bool, FileFault> {
+pub fn is_there(rt: &HostRuntime, path: &str) -> Result<bool, FileFault> {
     match fs::symlink_metadata(rt, path) {
         Ok(_) => Ok(true),
         Err(error) if is_absent(error.kind()) => Ok(false),
@@ -86,7 +86,7 @@ pub(crate) fn is_there(rt: &HostRuntime, path: &str) -> Result<bool, FileFault> 
 }
 
 /// Whether the kind of an error says that nothing has a name.
-pub(crate) fn is_absent(kind: ErrorKind) -> bool {
+pub fn is_absent(kind: ErrorKind) -> bool {
     matches!(
         kind,
         ErrorKind::NotFound | ErrorKind::NotADirectory | ErrorKind::InvalidFilename

@@ -6,10 +6,8 @@ use sha2::{Digest as _, Sha256};
 use sha256_lanes::HasherOfEight;
 use std::alloc::{AllocError, Global};
 use std::io;
+use store_records::Digest;
 use store_repair::Fragment;
-
-/// A SHA-256 digest.
-pub type Digest = [u8; 32];
 
 // How many bytes of a file are read at once: whole blocks of SHA-256.
 const BLOCK: usize = 262_144;

@@ -10,7 +10,7 @@ ghost use Rattle.store_folder.specs.Stays.{settled_over};
 ghost use Rattle.store_folder.specs.Temporary.{is_temporary};
 ghost use Rattle.store_repair.specs.Store.{never};
 
-use crate::digesting::{Digest, digest_of, digests_of, refusal_of};
+use crate::digesting::{digest_of, digests_of, refusal_of};
 use crate::links::{Links, followed_in, refuse_linked_in, status_at};
 use crate::placing::{Tried, take_after, try_path};
 use crate::site::Site;
@@ -72,15 +72,6 @@ impl<'a, F: Folder> FolderStore<'a, F> {
     fn path_of(&self, folder: &str, stripe: &str, place: Place) -> io::Result<String> {
         let name = self.site.name_of(self.rt.alloc(), stripe, place)?;
         Ok(path_in(self.rt.alloc(), folder, name.as_str())?)
-    }
-
-    // The digests that a stripe's fragments have to have, by their places' indexes.
-    fn sums_of(&self, alloc: Global, stripe: &str) -> Result<Vec<Option<Digest>>, AllocError> {
-        let mut sums = Vec::with_capacity(alloc, Place::ALL.len())?;
-        for place in &Place::ALL {
-            sums.push(self.site.sum_of(alloc, stripe, *place)?)?;
-        }
-        Ok(sums)
     }
 
     // Those of a file of the stripe, whose owner and rights its rebuilt fragments get.
@@ -349,7 +340,7 @@ impl<F: Folder> Store for FolderStore<'_, F> {
         fragments: &[Option<FileFragment<F::Open>>],
     ) -> Result<Vec<Refused>, AllocError> {
         let mut refused = Vec::new(alloc);
-        let sums = self.sums_of(alloc, stripe)?;
+        let sums = self.site.sums_of(alloc, stripe)?;
         let mut held = Vec::with_capacity(alloc, fragments.len())?;
         for (fragment, sum) in fragments.iter().zip(sums.iter()) {
             held.push(match sum {

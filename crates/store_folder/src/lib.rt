@@ -24,7 +24,7 @@ mod unfinished_file;
 mod watching;
 
 pub use described::read_description;
-pub use digesting::{Digest, digest_of, digests_of};
+pub use digesting::{digest_of, digests_of};
 pub use disks::Unlisted;
 pub use expecting::expect_listed;
 pub use folder_store::FolderStore;
@@ -41,10 +41,10 @@ pub use store_names::{
     first_description_name, is_ambiguous, is_folder_of, is_left_by, is_of_runs, lock_name, path_in,
     tag_of_part,
 };
-pub use store_records::{Described, MOST_BYTES, Sums, digits_of};
+pub use store_records::{Described, Digest, MOST_BYTES, Sums, SumsFault, digits_of};
 pub use store_repair::{Found, Placed, StripeFiles};
 pub use stripe_names::{Alone, Others, StoreStripes, StripeNames};
-pub use sums::{SUMS_NAME, SumsFault, read_sums};
+pub use sums::{SUMS_NAME, read_sums};
 pub use surviving::{FileFragment, open_fragment};
 pub use unfinished::{Leftover, remove_leftover};
 pub use unfinished_file::UnfinishedFile;

@@ -3,13 +3,12 @@ ghost use Rattle.std.specs.Prelude.{IfOk, string_bytes};
 ghost use Rattle.store_names.specs.Names.{IsNameOf};
 ghost use Rattle.store_folder.specs.Digests.{IsSumOf};
 
-use crate::digesting::Digest;
 use crate::links::Links;
 use lrc_code::{Code, Place};
 use std::alloc::{AllocError, Global};
 use std::io::{self, ErrorKind};
 use store_names::Pattern;
-use store_records::Sums;
+use store_records::{Digest, Sums};
 
 /// Where a store is, and how its fragments are named.
 #[derive(Clone, Copy)]
@@ -53,5 +52,18 @@ impl Site<'_> {
             Some(name) => Ok(sums.digest_of(name.as_str()).copied()),
             None => Ok(None),
         }
+    }
+
+    /// The digests that a stripe's fragments have to have, by their places' indexes.
+    pub(crate) fn sums_of(
+        &self,
+        alloc: Global,
+        stripe: &str,
+    ) -> Result<Vec<Option<Digest>>, AllocError> {
+        let mut sums = Vec::with_capacity(alloc, Place::ALL.len())?;
+        for place in &Place::ALL {
+            sums.push(self.sum_of(alloc, stripe, *place)?)?;
+        }
+        Ok(sums)
     }
 }

@@ -5,12 +5,12 @@ ghost use Rattle.sha2.specs.Sha256.{sha256};
 ghost use Rattle.store_folder.specs.Digests.{HasDigest, IsDigested};
 ghost use Rattle.store_folder.specs.Kept.{KeepsEach};
 
-use crate::digesting::Digest;
 use crate::placing::PRIVATE;
 use crate::unfinished::{Unfinished, create_unfinished};
 use folders::{Folder, NewFile, folder_of};
 use sha2::{Digest as _, Sha256};
 use std::io::{self, ErrorKind};
+use store_records::Digest;
 use store_repair::NewFragment;
 
 /// A fragment that has no name yet.

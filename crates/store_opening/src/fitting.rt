@@ -4,11 +4,11 @@ ghost use Rattle.std.specs.Prelude.{◌≡◌, length, vec_len, IfOk};
 use crate::stores::OpenStore;
 use lrc_code::Code;
 use std::alloc::{AllocError, Global};
+use store_faults::StoreFault;
 use store_folder::{FileFragment, FolderStore, SystemFolder, SystemOpen};
 use store_repair::{
     Damage, MendFault, Opened, Stripe, Survivors, find_damaged, have_checks, open_survivors,
 };
-use store_reports::StoreFault;
 
 /// As many bytes of each fragment are looked at.
 const LOOKED_AT: usize = 65_536;

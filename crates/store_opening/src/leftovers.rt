@@ -1,8 +1,8 @@
 //! What runs that were killed have left: it is removed by the next run that writes to the same.
 use std::io;
+use store_faults::{say, words_of};
 use store_folder::{Leftover, Listing, is_left_by, left_in, remove_leftover};
 use store_names::last_of;
-use store_reports::{say, words_of};
 
 /// Removes what a killed run with this tag has left in a folder that was listed, and in those that its links lead to. Each file that is
 /// removed, or can't be, is named. Says whether all could be.

@@ -2,8 +2,8 @@
 use std::alloc::Global;
 use std::fs::{self, File, TryLockError};
 use std::io::{self, ErrorKind};
+use store_faults::{StoreFault, device_fault};
 use store_folder::{Links, Part, is_named, lock_name, open_as, open_regular, path_in};
-use store_reports::{StoreFault, device_fault};
 
 // How often the file of a part's lock is opened anew where another run has removed it meanwhile.
 const MOST_OPENINGS: usize = 100;

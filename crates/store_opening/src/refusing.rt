@@ -4,8 +4,8 @@ use crate::opening::{Access, Opening};
 use lrc_code::Code;
 use std::fs;
 use std::os::unix::fs::MetadataExt;
+use store_faults::StoreFault;
 use store_folder::{Listing, Others};
-use store_reports::StoreFault;
 
 /// Refuses to write where others may write, or where a run works that divides the store into other parts, if anything is to be written.
 pub(crate) fn refuse_writing(

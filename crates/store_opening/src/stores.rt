@@ -8,12 +8,12 @@ use crate::unmounted::{leave_alone, left_alone};
 use lrc_code::Code;
 use std::alloc::AllocError;
 use std::mem;
+use store_faults::StoreFault;
 use store_folder::{
     DESCRIPTION, Listing, Site, StoreStripes, StripeNames, Sums, Wanted, Watched, followed,
     is_ambiguous,
 };
 use store_repair::Stripe;
-use store_reports::StoreFault;
 
 /// A store that is open.
 #[derive(Drop)]

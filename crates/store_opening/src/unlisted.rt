@@ -2,8 +2,8 @@
 use lrc_code::Code;
 use std::alloc::AllocError;
 use std::io::ErrorKind;
+use store_faults::{StoreFault, device_fault, say, words_of};
 use store_folder::{Listing, Pattern, Unlisted, Wanted, is_folder_of, list};
-use store_reports::{StoreFault, device_fault, say, words_of};
 
 /// Lists a folder, and says which links weren't followed.
 pub(crate) fn listed(

@@ -3,8 +3,10 @@
 
 mod descriptions;
 mod digits;
+mod faults;
 mod sums;
 
 pub use descriptions::{Described, MOST_BYTES};
-pub use digits::digits_of;
+pub use digits::{Digest, digits_of};
+pub use faults::SumsFault;
 pub use sums::{LineFault, Sums};

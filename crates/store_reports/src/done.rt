@@ -1,5 +1,5 @@
 //! What became of a stripe.
-use crate::copies::Descriptions;
+use store_faults::Descriptions;
 use store_repair::Outcome;
 
 /// What became of the stripe of an index, and of its descriptions, if it has any.

@@ -1,13 +1,12 @@
 //! The lines that say what isn't as it should be.
 use crate::done::Done;
-use crate::names::fragment_name;
 use crate::requests::MOST_BYTES;
 use crate::results::Results;
-use crate::system_words::without_number;
 use crate::totals::{unchecked_places, why_unchecked};
 use lrc_code::{Code, Place, is_stripe_name};
 use std::alloc::{AllocError, Global};
 use std::io::ErrorKind;
+use store_faults::{fragment_name, without_number};
 use store_folder::{Alone, Pattern, Site};
 use store_repair::{Finding, Found, Reason, Stripe};
 

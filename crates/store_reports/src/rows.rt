@@ -1,5 +1,4 @@
 //! The rows of a report.
-use crate::copies::Descriptions;
 use crate::findings::{ALONE, reason_text};
 use crate::results::Results;
 use crate::totals::{rebuilt_places, unchecked_places};
@@ -7,6 +6,7 @@ use csv::WriterBuilder;
 use serde_json::Value;
 use std::alloc::{AllocError, Global};
 use std::io::{self, ErrorKind};
+use store_faults::Descriptions;
 use store_folder::Alone;
 use store_repair::Outcome;
 

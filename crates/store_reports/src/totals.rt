@@ -1,9 +1,8 @@
 //! Counts over all stripes, and what no check covers.
-use crate::copies::Descriptions;
 use crate::done::Done;
-use crate::names::fragment_name;
 use lrc_code::{Code, Place};
 use std::alloc::{AllocError, Global};
+use store_faults::{Descriptions, fragment_name};
 use store_folder::Site;
 use store_repair::{Finding, Outcome, Reason, Stripe};
 

@@ -2,8 +2,8 @@
 use lrc_code::Code;
 use std::alloc::{AllocError, Global};
 use std::io;
+use store_faults::{Copies, CopyState, FoundCopy};
 use store_folder::Described;
-use store_reports::{Copies, CopyState, FoundCopy};
 
 // What copies say, as digits for different descriptions whose digests have that byte, `-` where nothing is; the byte of the digest that the
 // store's sums list; which description is believed; and whether a line says that none is.

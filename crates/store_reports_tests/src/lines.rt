@@ -1,10 +1,9 @@
 //! Lines: names with control characters, and requests for what is lost.
 use lrc_code::{Code, Place};
 use std::io;
+use store_faults::{CopyFinding, CopyReason, DEVICE, device, escaped, words_of};
 use store_repair::{Found, Stripe, StripeFiles};
-use store_reports::{
-    CopyFinding, CopyReason, DEVICE, Rows, device, escaped, header_of, request_lines, words_of,
-};
+use store_reports::{Rows, header_of, request_lines};
 
 // Texts, and how `ls -b` of the GNU coreutils writes their control characters.
 const ESCAPES: [(&str, &str); 7] = [

@@ -3,12 +3,12 @@ use lrc_code::{Code, Place, PlaceSet};
 use std::alloc::{AllocError, Global};
 use std::io;
 use std::process::Abort;
+use store_faults::{CopyFinding, CopyReason, Descriptions};
 use store_folder::{Alone, Links, Pattern, Site};
 use store_repair::{Finding, Found, Outcome, Reads, Reason, Repair, Stripe, StripeFiles};
 use store_reports::{
-    Contents, CopyFinding, CopyReason, Descriptions, Done, Results, Rows, alone_lines,
-    finding_lines, planned, repaired, rows_of, scrubbed, status_of, status_of_plan,
-    unchecked_lines, without_left, without_repeated,
+    Contents, Done, Results, Rows, alone_lines, finding_lines, planned, repaired, rows_of,
+    scrubbed, status_of, status_of_plan, unchecked_lines, without_left, without_repeated,
 };
 
 const SITE: Site<'static> = Site {

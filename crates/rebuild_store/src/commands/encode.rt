@@ -4,14 +4,15 @@ use std::fs;
 use std::io::ErrorKind;
 use std::thread::Threads;
 use store_arguments::EncodeOptions;
-use store_files::{
-    Operation, Progress, SourceFile, Spool, Target, Task, encode_file, stored_sums, write_new_sums,
-};
+use store_encoding::{SourceFile, Spool, encode_file, stored_sums, write_new_sums};
+use store_faults::{DEVICE, DONE, FileFault, StoreFault, device, say, write};
+use store_files::Target;
 use store_folder::{Listing, Others, Wanted, list};
 use store_opening::{
     lock_folder, other_than, refuse_unmounted, refuse_untrusted, remove_leftovers, say_links,
 };
-use store_reports::{DEVICE, DONE, FileFault, StoreFault, device, encoded, say, write};
+use store_progress::{Operation, Progress, Task};
+use store_reports::encoded;
 
 /// Encodes files, says what was done and what wasn't, and gives the exit status.
 pub(crate) fn encode<R: Threads + Sync>(

@@ -4,14 +4,12 @@ use crate::output::say_alone;
 use lrc_code::PlaceSet;
 use std::alloc::{AllocError, Global};
 use store_arguments::ListOptions;
-use store_files::{CopyWork, DescribedStripe, tend_descriptions};
+use store_faults::{DEVICE, DONE, FileFault, device, say, write};
 use store_folder::Site;
 use store_opening::{OpenStore, open_store};
+use store_reading::{CopyWork, DescribedStripe, tend_descriptions};
 use store_repair::{Stripe, fragment_length, lost_places};
-use store_reports::{
-    DEVICE, DONE, FileFault, FileState, ListedFile, Rows, device, file_line, files_listed, say,
-    write,
-};
+use store_reports::{FileState, ListedFile, Rows, file_line, files_listed};
 
 /// Says which files are in a store, and gives the exit status.
 pub(crate) fn list(rt: &HostRuntime, options: &ListOptions<'_>) -> Result<u8, FileFault> {

@@ -3,14 +3,12 @@ use crate::commands::opening_of;
 use crate::output::{say_all, say_alone};
 use std::io::{self, BufWriter, Write};
 use store_arguments::LostOptions;
-use store_files::{CopyWork, DescribedStripe, tend_descriptions};
+use store_faults::{DEVICE, DONE, FileFault, LEFT, device, say};
 use store_folder::{FolderStore, Site, SystemFolder};
 use store_opening::{OpenStore, Opening, open_store};
+use store_reading::{CopyWork, DescribedStripe, tend_descriptions};
 use store_repair::{Reason, Stripe, StripeLength, stripe_length};
-use store_reports::{
-    DEVICE, DONE, FileFault, LEFT, Rows, device, header_of, listed, request_lines, say,
-    unknown_lines, unlisted_lines,
-};
+use store_reports::{Rows, header_of, listed, request_lines, unknown_lines, unlisted_lines};
 
 // What was found of all stripes.
 #[derive(Clone, Copy)]

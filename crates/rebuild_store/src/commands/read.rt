@@ -1,7 +1,9 @@
 //! The command `read`.
 use store_arguments::ReadOptions;
-use store_files::{Operation, Progress, StoredFile, Task, first_described, passes_to, read_file};
-use store_reports::{DONE, FileFault};
+use store_faults::{DONE, FileFault};
+use store_files::{StoredFile, first_described};
+use store_progress::{Operation, Progress, Task};
+use store_reading::{passes_to, read_file};
 
 /// Writes a file to a file or to standard output, says what was left out, and gives the exit status.
 pub(crate) fn read(rt: &HostRuntime, options: &ReadOptions<'_>) -> Result<u8, FileFault> {

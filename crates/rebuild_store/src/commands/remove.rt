@@ -2,9 +2,11 @@
 use crate::commands::reading_of;
 use lrc_code::Code;
 use store_arguments::RemoveOptions;
-use store_files::{Target, remove_stored, stored_sums};
+use store_encoding::{remove_stored, stored_sums};
+use store_faults::{DEVICE, DONE, FileFault, device, say, write};
+use store_files::Target;
 use store_opening::{Access, Opening, open_store, remove_leftovers};
-use store_reports::{DEVICE, DONE, FileFault, device, removed, say, write};
+use store_reports::removed;
 
 /// Takes files out of a store, says which of them weren't, and gives the exit status.
 pub(crate) fn remove(rt: &HostRuntime, options: &RemoveOptions<'_>) -> Result<u8, FileFault> {

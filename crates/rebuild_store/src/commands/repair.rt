@@ -9,15 +9,15 @@ use std::io;
 use std::sync::Arc;
 use std::thread::Threads;
 use store_arguments::RepairOptions;
-use store_files::{Progress, most_file_bytes, refuse_over_limit};
+use store_faults::{DEVICE, FileFault, LEFT, device, say};
 use store_folder::{FolderStore, Part, Site, tag_of_part};
 use store_opening::{
     Access, OpenStore, Opening, Unmounted, open_store, refuse_other_stores, remove_leftovers,
 };
+use store_progress::{Progress, most_file_bytes, refuse_over_limit};
 use store_repair::{Reads, Repair, Stripe};
 use store_reports::{
-    DEVICE, FileFault, LEFT, Results, device, finding_lines, planned, repaired, say, status_of,
-    status_of_plan, unchecked_lines,
+    Results, finding_lines, planned, repaired, status_of, status_of_plan, unchecked_lines,
 };
 
 /// Repairs the stripes of a store, says what was done and what is left, and gives the exit status.

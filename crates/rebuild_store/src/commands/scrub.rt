@@ -7,9 +7,10 @@ use std::io;
 use std::sync::Arc;
 use std::thread::Threads;
 use store_arguments::{ScrubOptions, TestOptions};
-use store_files::Progress;
+use store_faults::{FileFault, device, write};
 use store_opening::{OpenStore, Opening, open_store};
-use store_reports::{FileFault, Results, device, finding_lines, scrubbed, status_of, write};
+use store_progress::Progress;
+use store_reports::{Results, finding_lines, scrubbed, status_of};
 
 /// Tests the stripes of a store, says what isn't as it should be, and gives the exit status.
 pub(crate) fn scrub<R: Threads + Sync>(

@@ -1,9 +1,12 @@
 //! The command `verify`.
 use crate::commands::reading_of;
 use store_arguments::VerifyOptions;
-use store_files::{Operation, Progress, StoredFile, Task, first_described, verify_file};
+use store_faults::{DONE, FileFault, device, write};
+use store_files::{StoredFile, first_described};
 use store_opening::open_store;
-use store_reports::{DONE, FileFault, device, verified, write};
+use store_progress::{Operation, Progress, Task};
+use store_reading::verify_file;
+use store_reports::verified;
 
 /// Holds files to their digests, says which of them don't have these, and gives the exit status.
 pub(crate) fn verify(rt: &HostRuntime, options: &VerifyOptions<'_>) -> Result<u8, FileFault> {

@@ -1,8 +1,8 @@
 //! The file of a report.
 use std::fs::{self, File, Metadata};
 use std::io::{self, ErrorKind, Write};
-use store_files::allow_file;
 use store_folder::{NewFile, Placed, folder_of, place_again, place_new};
+use store_progress::allow_file;
 use store_repair::NewFragment;
 
 /// Writes a report to what is at a path. A regular file has the whole report or is as it was, and keeps its owner and its rights; where

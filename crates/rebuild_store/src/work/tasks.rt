@@ -1,8 +1,8 @@
 //! How much there is to do of stripes, as the line on a terminal counts it: in bytes that are read.
 use lrc_code::Code;
 use std::alloc::{AllocError, Global};
-use store_files::{Operation, Task};
 use store_opening::OpenStore;
+use store_progress::{Operation, Task};
 use store_repair::{Reads, Stripe};
 
 /// The repair of these stripes.

@@ -1,0 +1,15 @@
+use Rattle.std.proofs.Common.{true, false}
+use Rattle.folders.specs.Calls.{remove, sync_folder}
+use Rattle.folders.proofs.Answers.{keeps_answered}
+use Rattle.folders.proofs.Runs.{keeps_quiet, keeps_after}
+use Rattle.store_encoding.proofs.taking.take_away.Goals as goal
+
+pub returns-in_err-remove-clause-whenever : goal.returns-in_err-remove-clause-whenever
+returns-in_err-remove-clause-whenever g c = λ temporary is. keeps_quiet _ _ (remove c.args.path.now) false _ _
+    c.in_err-remove.ensures.err (λ w. is)
+
+pub returns-clause-whenever : goal.returns-clause-whenever
+returns-clause-whenever g c = λ temporary is. keeps_after _ _ _ _ _
+    (keeps_quiet _ _ (remove c.args.path.now) true _ _ c.in_ok-remove.ensures.ok (λ w. is))
+    (keeps_answered _ _ c.sync_folder.result (sync_folder c.folder_of.result.now) _ _ c.sync_folder.ensures.ok
+    c.sync_folder.ensures.err (λ w. tt))

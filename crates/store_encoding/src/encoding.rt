@@ -1,0 +1,199 @@
+//! Encoding a file into a store: the fragments of its stripe, and its description.
+pub(crate) mod descriptions;
+pub(crate) mod fragments;
+pub(crate) mod placing;
+mod replacing;
+pub(crate) mod source;
+pub(crate) mod spool;
+pub(crate) mod subfolders;
+pub(crate) mod sums;
+
+use descriptions::place_descriptions;
+use fragments::{Encoded, make_encoded, source_digest};
+use lrc_code::{Code, Place};
+use placing::{discard_all, is_there_already, place_fragments};
+use replacing::{finish_replacing, replace};
+use source::{is_changed, no_name, regular, stripe_name};
+use std::fs::Metadata;
+use std::thread::Threads;
+use store_faults::{FileFault, fragment_name, source_fault};
+use store_files::{Target, is_staged, is_there};
+use store_folder::{
+    DESCRIPTION, Described, Digest, KEPT, Links, is_ambiguous, open_fragment, path_in,
+    read_description,
+};
+use store_progress::{CountedSource, Progress, refuse_over_limit};
+use store_repair::fragment_length;
+use subfolders::make_folders;
+
+/// A file that is encoded.
+#[derive(Clone, Copy)]
+pub struct SourceFile<'a> {
+    pub path: &'a str,
+    /// The name that it gets in the store, if that isn't its own.
+    pub name: Option<&'a str>,
+    pub progress: &'a Progress,
+}
+
+/// Encodes a file. What is there already stays: the same bytes are kept, others refuse the file before anything gets a name, unless the
+/// target's files are replaced. The file's digest is made in a thread of its own where one can be had.
+pub fn encode_file<R: Threads + Sync>(
+    threads: &R,
+    rt: &HostRuntime,
+    target: &mut Target<'_>,
+    source: &SourceFile<'_>,
+) -> Result<(), FileFault> {
+    let alloc = rt.alloc();
+    let path = source.path;
+    let name = stripe_name(rt, source.name.unwrap_or(path))?;
+    let before = regular(rt, path)?;
+    open_fragment(rt, path, before.len(), Links::Followed).map_err(|error| source_fault(
+        alloc, path, error,
+    ))?;
+    refuse_names(rt, target, path, name)?;
+    if target.makes_folders {
+        make_folders(rt, target, name)?;
+    }
+    finish_replacing(rt, target, name)?;
+    let mut given = Given {
+        path,
+        before: &before,
+        digest: None,
+        progress: source.progress,
+    };
+    // Only a file that has a description needs the digest before its fragments are made.
+    if is_described(rt, target, name)? {
+        given.digest = Some(source_digest(rt, &given)?);
+    }
+    match refuse_others(rt, target, name, &given) {
+        Ok(()) => encode_as(threads, rt, target, name, &given),
+        Err(FileFault::Refused { what }) => {
+            if !target.replaces {
+                return Err(FileFault::Refused { what });
+            }
+            replace(threads, rt, target, name, &given)
+        }
+        Err(fault) => Err(fault),
+    }
+}
+
+/// A file that is encoded, and what is known of it.
+#[derive(Clone, Copy)]
+pub(crate) struct Given<'a> {
+    pub(crate) path: &'a str,
+    /// What was said of it before it was read.
+    pub(crate) before: &'a Metadata,
+    pub(crate) digest: Option<Digest>,
+    pub(crate) progress: &'a Progress,
+}
+
+/// Encodes a file as the stripe of a name.
+pub(crate) fn encode_as<R: Threads + Sync>(
+    threads: &R,
+    rt: &HostRuntime,
+    target: &mut Target<'_>,
+    name: &str,
+    given: &Given<'_>,
+) -> Result<(), FileFault> {
+    let alloc = rt.alloc();
+    let length = given.before.len();
+    let names = target.names(alloc, name)?;
+    let fragment_bytes = fragment_length(target.code, length as usize);
+    refuse_over_limit(rt, name, fragment_bytes as u64)?;
+    let Encoded { digest, made } = make_encoded(threads, rt, target, name, given)?;
+    let after = match regular(rt, given.path) {
+        Ok(after) => after,
+        Err(fault) => {
+            discard_all(rt, target.folder, made)?;
+            return Err(fault);
+        }
+    };
+    if is_changed(given.before, &after) {
+        discard_all(rt, target.folder, made)?;
+        let path = given.path;
+        let what = format!(in alloc; "{path}: changed while it was read")?;
+        return Err(FileFault::Refused { what });
+    }
+    place_fragments(rt, target, names.as_slice(), fragment_bytes, made)?;
+    let described = Described {
+        length,
+        digest,
+        code: target.code,
+    };
+    place_descriptions(rt, target, name, &described)
+}
+
+// Refuses a file the names of whose fragments would be those of something else.
+fn refuse_names(
+    rt: &HostRuntime,
+    target: &Target<'_>,
+    path: &str,
+    name: &str,
+) -> Result<(), FileFault> {
+    let alloc = rt.alloc();
+    let names = target.names(alloc, name)?;
+    let is_ambiguous = is_ambiguous(alloc, &target.pattern, target.code)?;
+    let is_taken = |fragment: &String| {
+        fragment.ends_with(KEPT) || (is_ambiguous && fragment.ends_with(DESCRIPTION))
+    };
+    if names.iter().any(is_taken) || is_staged(name) || !target.has_names(alloc, name)? {
+        return Err(no_name(rt, path)?);
+    }
+    Ok(())
+}
+
+// Whether there is a description of a stripe.
+fn is_described(rt: &HostRuntime, target: &Target<'_>, name: &str) -> Result<bool, FileFault> {
+    let alloc = rt.alloc();
+    for description in target.descriptions(alloc, name)? {
+        let path = target.path(alloc, description.as_str())?;
+        if is_there(rt, path.as_str())? {
+            return Ok(true);
+        }
+    }
+    Ok(false)
+}
+
+// What is to be said of a file whose digest is known.
+fn described_as(code: Code, given: &Given<'_>) -> Option<Described> {
+    let digest = given.digest?;
+    let length = given.before.len();
+    Some(Described {
+        length,
+        digest,
+        code,
+    })
+}
+
+// Refuses a file beside whose stripe's names there is another description, or a fragment at a place that its code hasn't.
+fn refuse_others(
+    rt: &HostRuntime,
+    target: &Target<'_>,
+    name: &str,
+    given: &Given<'_>,
+) -> Result<(), FileFault> {
+    let alloc = rt.alloc();
+    let described = described_as(target.code, given);
+    for description in target.descriptions(alloc, name)? {
+        let path = target.path(alloc, description.as_str())?;
+        if is_there(rt, path.as_str())? {
+            match read_description(rt, path.as_str(), target.links) {
+                Ok(Some(there)) if described == Some(there) => {}
+                _ => return Err(is_there_already(rt, description.as_str())?),
+            }
+        }
+    }
+    if target.pattern.has_shards() {
+        return Ok(());
+    }
+    for place in &Place::ALL {
+        if !target.code.has(*place) {
+            let fragment = fragment_name(alloc, &target.pattern, Code::Wide, name, *place)?;
+            let path = path_in(alloc, target.folder, fragment.as_str())?;
+            if is_there(rt, path.as_str())? {
+                return Err(is_there_already(rt, fragment.as_str())?);
+            }
+        }
+    }
+    Ok(())
+}

@@ -1,0 +1,228 @@
+//! The fragments of a file, under temporary names, and the digests of both.
+ghost use Rattle.std.specs.Prelude.{◌≡◌, IfOk, length, vec_len};
+ghost use Rattle.lrc_code.specs.Codes.{tables_of};
+
+use crate::encoding::Given;
+use crate::encoding::placing::{Made, discard_all};
+use lrc_code::Place;
+use std::io::{self, ErrorKind};
+use std::thread::{Threads, join};
+use store_faults::{FileFault, device, source_fault};
+use store_files::Target;
+use store_folder::{
+    Digest, Links, NewFile, digest_of, digests_of, folder_of, open_fragment, refuse_linked_folders,
+};
+use store_progress::CountedSource;
+use store_repair::{Fragment, encode, fragment_length};
+use store_reports::encode_fault;
+
+/// What is made of a file before anything gets a name: its digest, and its fragments.
+#[derive(Drop)]
+pub(crate) struct Encoded {
+    pub(crate) digest: Digest,
+    pub(crate) made: Vec<Made>,
+}
+
+/// Makes the fragments of a file under temporary names, and beside that, where a thread can be had, the file's digest, unless it is known.
+pub(crate) fn make_encoded<R: Threads + Sync>(
+    threads: &R,
+    rt: &HostRuntime,
+    target: &Target<'_>,
+    name: &str,
+    given: &Given<'_>,
+) -> Result<Encoded, FileFault> {
+    let (digest, made) = join(
+        threads,
+        || source_digest(rt, given),
+        || make_fragments(rt, target, name, given),
+    );
+    let made = made?;
+    match digest {
+        Ok(digest) => Ok(Encoded { digest, made }),
+        Err(fault) => {
+            discard_all(rt, target.folder, made)?;
+            Err(fault)
+        }
+    }
+}
+
+/// The digest of a file that is encoded, which is read if it isn't known.
+pub(crate) fn source_digest(rt: &HostRuntime, given: &Given<'_>) -> Result<Digest, FileFault> {
+    if let Some(digest) = given.digest {
+        return Ok(digest);
+    }
+    read_digest(rt, given).map_err(|error| source_fault(rt.alloc(), given.path, error))
+}
+
+// The digest of a file that is encoded, which has to have as many bytes as before.
+fn read_digest(rt: &HostRuntime, given: &Given<'_>) -> io::Result<Digest> {
+    let length = given.before.len();
+    let file = CountedSource {
+        file: open_fragment(rt, given.path, length, Links::Followed)?,
+        rt,
+        progress: given.progress,
+    };
+    digest_of(rt.alloc(), &file, length as usize)
+}
+
+// Makes the fragments of a file, under temporary names.
+fn make_fragments(
+    rt: &HostRuntime,
+    target: &Target<'_>,
+    name: &str,
+    given: &Given<'_>,
+) -> Result<Vec<Made>, FileFault> {
+    let alloc = rt.alloc();
+    let path = given.path;
+    let length = given.before.len();
+    let file = open_fragment(rt, path, length, Links::Followed).map_err(|error| source_fault(
+        alloc, path, error,
+    ))?;
+    let source = CountedSource {
+        file,
+        rt,
+        progress: given.progress,
+    };
+    // Taken before there are files, so that none is left where memory is refused.
+    let mut made = Vec::with_capacity(alloc, target.code.places().len())?;
+    let mut files = new_files(rt, target, name)?;
+    let digests = match fill(rt, target, name, given, &source, files.as_mut_slice()) {
+        Ok(digests) => digests,
+        Err(fault) => {
+            discard_files(rt, target, files)?;
+            return Err(fault);
+        }
+    };
+    for (file, digest) in files.into_iter().zip(digests) {
+        made.push(Made { file, digest })?;
+    }
+    Ok(made)
+}
+
+// Writes the fragments of a file into new files, and gives their digests.
+fn fill<F: Fragment>(
+    rt: &HostRuntime,
+    target: &Target<'_>,
+    name: &str,
+    given: &Given<'_>,
+    source: &F,
+    files: &mut [NewFile],
+) -> Result<Vec<Digest>, FileFault>
+    requires { length files.old ≡ length (tables_of target.now.code).places }
+{
+    let alloc = rt.alloc();
+    let length = given.before.len() as usize;
+    if let Err(fault) = encode(alloc, target.code, source, length, files) {
+        let fragments = target.path(alloc, name)?;
+        return Err(encode_fault(alloc, given.path, fragments.as_str(), fault));
+    }
+    digests_at(rt, target, files, fragment_length(target.code, length))
+}
+
+// A new file for each fragment of a stripe, in the folder that the fragment is to be in. Where one is refused, the others are removed
+// again.
+fn new_files(rt: &HostRuntime, target: &Target<'_>, stripe: &str) -> Result<Vec<NewFile>, FileFault>
+    ensures { IfOk result (λ v. vec_len v ≡ length (tables_of target.now.code).places) }
+{
+    let alloc = rt.alloc();
+    let places = target.code.places();
+    let mut files = Vec::with_capacity(alloc, places.len())?;
+    'files: while files.len() < places.len() {
+        match new_file_at(rt, target, stripe, places[files.len()]) {
+            Ok(file) => files.push(file)?,
+            Err(fault) => {
+                discard_files(rt, target, files)?;
+                return Err(fault);
+            }
+        }
+    }
+    Ok(files)
+}
+
+// A new file for the fragment of a stripe at a place.
+fn new_file_at(
+    rt: &HostRuntime,
+    target: &Target<'_>,
+    stripe: &str,
+    place: Place,
+) -> Result<NewFile, FileFault> {
+    let alloc = rt.alloc();
+    let name = target.name_of(alloc, stripe, place)?;
+    let path = target.path(alloc, name.as_str())?;
+    let folder = folder_of(path.as_str());
+    match new_file(rt, target, name.as_str(), folder) {
+        Ok(file) => Ok(file),
+        Err(error) => Err(device(alloc, folder, unmade(error))),
+    }
+}
+
+// Removes new files, all that can be removed.
+fn discard_files(
+    rt: &HostRuntime,
+    target: &Target<'_>,
+    files: Vec<NewFile>,
+) -> Result<(), FileFault> {
+    let mut done: io::Result<()> = Ok(());
+    for file in files {
+        done = file.discard(rt).and(done);
+    }
+    done.map_err(|error| device(rt.alloc(), target.folder, error))
+}
+
+// The digests of new files of so many bytes, which are read again.
+fn digests_at(
+    rt: &HostRuntime,
+    target: &Target<'_>,
+    files: &[NewFile],
+    many: usize,
+) -> Result<Vec<Digest>, FileFault> {
+    let alloc = rt.alloc();
+    let mut opened = Vec::with_capacity(alloc, files.len())?;
+    for file in files {
+        let fragment = open_fragment(rt, file.path(), many as u64, Links::NotFollowed);
+        opened.push(fragment.map_err(|error| device(alloc, target.folder, error))?)?;
+    }
+    let mut fragments = Vec::with_capacity(alloc, opened.len())?;
+    for fragment in &opened {
+        fragments.push(Some(fragment))?;
+    }
+    let mut digests = Vec::with_capacity(alloc, files.len())?;
+    for digest in digests_of(alloc, fragments.as_slice(), many)?
+        .into_iter()
+        .flatten()
+    {
+        digests.push(digest.map_err(|error| device(alloc, target.folder, error))?)?;
+    }
+    Ok(digests)
+}
+
+// Why a file can't be made in a folder, with what to do if that isn't there.
+fn unmade(error: io::Error) -> io::Error {
+    if error.kind() != ErrorKind::NotFound {
+        return error;
+    }
+    io::Error::new(
+        ErrorKind::NotFound,
+        "isn't there: make this folder, or give --make-folders",
+    )
+}
+
+/// A new file for the fragment of a name in the store, in the folder that it is to be in.
+pub(crate) fn new_file(
+    rt: &HostRuntime,
+    target: &Target<'_>,
+    name: &str,
+    folder: &str,
+) -> io::Result<NewFile> {
+    refuse_linked_folders(rt, target.folder, name, target.links)?;
+    NewFile::create_as_user(rt, rt.alloc(), folder)
+}
+
+// What the system refused of a file that is encoded from one path, or of its fragments, at the other.
+fn encode_fault(alloc: Global, source: &str, fragments: &str, fault: MendFault) -> FileFault {
+    match fault {
+        MendFault::OutOfMemory | MendFault::Several { .. } => FileFault::OutOfMemory,
+        MendFault::Unread { error, .. } => source_fault(alloc, source, error),
+        MendFault::Unwritten { error, .. } => device(alloc, fragments, error),
+    }
+}

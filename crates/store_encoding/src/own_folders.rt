@@ -1,0 +1,49 @@
+//! Folders of a store that are a stripe's own, since their names have the stripe's.
+use std::alloc::AllocError;
+use std::fs;
+use store_files::Target;
+use store_folder::refuse_linked_folders;
+use store_names::{folder_in, stripe_folders};
+
+/// Removes the folders that a stripe's fragments were in, as far as those of another stripe aren't there or below, and nothing is in them.
+pub(crate) fn remove_own_folders(
+    rt: &HostRuntime,
+    target: &Target<'_>,
+    stripe: &str,
+    other: &str,
+) -> Result<(), AllocError> {
+    let alloc = rt.alloc();
+    let others = stripe_folders(alloc, &target.pattern, target.code, other)?;
+    for folder in stripe_folders(alloc, &target.pattern, target.code, stripe)? {
+        let mut inside = folder.as_str();
+        for _level in 0..target.pattern.depth() {
+            if inside.is_empty() || is_above(inside, others.as_slice()) {
+                break;
+            }
+            remove_empty(rt, target, inside)?;
+            inside = folder_in(inside);
+        }
+    }
+    Ok(())
+}
+
+// Whether a folder is one of some folders, or one of these is below it.
+fn is_above(folder: &str, others: &[String]) -> bool {
+    let is_at_or_below = |other: &String| {
+        match other.as_str().strip_prefix(folder) {
+            Some(rest) => rest.is_empty() || rest.starts_with('/'),
+            None => false,
+        }
+    };
+    others.iter().any(is_at_or_below)
+}
+
+// Removes a folder of the store if nothing is in it.
+fn remove_empty(rt: &HostRuntime, target: &Target<'_>, inside: &str) -> Result<(), AllocError> {
+    if refuse_linked_folders(rt, target.folder, inside, target.links).is_err() {
+        return Ok(());
+    }
+    let path = target.path(rt.alloc(), inside)?;
+    let _ = fs::remove_dir(rt, path.as_str());
+    Ok(())
+}

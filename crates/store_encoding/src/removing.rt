@@ -1,0 +1,86 @@
+//! Taking files out of a store. The digests go first, so that nothing is expected of the file any more, then its descriptions, then its
+//! fragments: what a run that was killed has left is a file that can still be read, or fragments that the same command removes.
+use crate::encoding::sums::write_new_sums;
+use crate::own_folders::remove_own_folders;
+use crate::taking::take_files;
+use std::alloc::{AllocError, Global};
+use store_faults::{FileFault, device};
+use store_files::{Target, is_there, no_stored, refuse_linked, staged_name};
+use store_folder::SystemFolder;
+use store_repair::NameFault;
+
+/// Takes the file of a name out of a store, with what a run has left that was to replace it, and with the folders that it had alone. What
+/// isn't a regular file is left, and named.
+pub fn remove_stored(
+    rt: &HostRuntime,
+    target: &mut Target<'_>,
+    name: &str,
+) -> Result<(), FileFault> {
+    let alloc = rt.alloc();
+    if !target.has_names(alloc, name)? {
+        return Err(no_stored(alloc, name, target.folder)?);
+    }
+    let staged = staged_name(alloc, name)?;
+    let mut descriptions = target.descriptions(alloc, name)?;
+    for description in target.descriptions(alloc, staged.as_str())? {
+        descriptions.push(description)?;
+    }
+    let mut fragments = target.names(alloc, name)?;
+    for fragment in target.names(alloc, staged.as_str())? {
+        fragments.push(fragment)?;
+    }
+    refuse_linked(rt, target, descriptions.as_slice())?;
+    refuse_linked(rt, target, fragments.as_slice())?;
+    if !has_any(rt, target, &descriptions)? && !has_any(rt, target, &fragments)? {
+        return Err(no_stored(alloc, name, target.folder)?);
+    }
+    for other in descriptions.iter().chain(fragments.iter()) {
+        if target.sums.remove(other.as_str()) {
+            target.is_changed = true;
+        }
+    }
+    write_new_sums(rt, target)?;
+    remove_names(rt, target, descriptions.as_slice())?;
+    remove_names(rt, target, fragments.as_slice())?;
+    remove_own_folders(rt, target, staged.as_str(), name)?;
+    Ok(remove_own_folders(rt, target, name, staged.as_str())?)
+}
+
+// Whether there is anything under one of some names.
+fn has_any(rt: &HostRuntime, target: &Target<'_>, names: &[String]) -> Result<bool, FileFault> {
+    for name in names {
+        let path = target.path(rt.alloc(), name.as_str())?;
+        if is_there(rt, path.as_str())? {
+            return Ok(true);
+        }
+    }
+    Ok(false)
+}
+
+/// Removes the regular files of some names, the last first, whose digests go too, and writes that to the disk. Another thing under one of
+/// them stays.
+pub(crate) fn remove_names(
+    rt: &HostRuntime,
+    target: &mut Target<'_>,
+    names: &[String],
+) -> Result<(), FileFault> {
+    let alloc = rt.alloc();
+    let mut paths = Vec::with_capacity(alloc, names.len())?;
+    for name in names {
+        paths.push(target.path(alloc, name.as_str())?)?;
+        target.is_changed = target.sums.remove(name.as_str()) || target.is_changed;
+    }
+    match take_files(&mut SystemFolder::new(rt), paths) {
+        Ok(None) => Ok(()),
+        Ok(Some(index)) => Err(no_file(alloc, names, index)?),
+        Err(NameFault { name, error }) => Err(device(alloc, name.as_str(), error)),
+    }
+}
+
+// That the name at an index has no regular file.
+fn no_file(alloc: Global, names: &[String], index: usize) -> Result<FileFault, AllocError> {
+    let name = names.get(index).map_or("", |name| name.as_str());
+    Ok(FileFault::Refused {
+        what: format!(in alloc; "{name}: is no regular file, and isn't removed")?,
+    })
+}

@@ -1,0 +1,190 @@
+//! The copies of the description of a stripe's file: which of them is believed, and why one isn't as it should be.
+use crate::system_words::without_number;
+use lrc_code::Code;
+use std::alloc::{AllocError, Global};
+use std::io;
+use store_records::{Described, Digest, MOST_BYTES};
+use thiserror::Error;
+
+/// What is under the name of a copy.
+#[derive(Debug, Drop)]
+pub enum CopyState {
+    Absent,
+    /// What it says, and its digest.
+    There(Described, Digest),
+    /// A file of so many bytes that is no description.
+    Odd { length: u64 },
+    /// No regular file.
+    NoFile,
+    Unread(io::Error),
+}
+
+/// A copy of a description.
+#[derive(Drop)]
+pub struct FoundCopy {
+    pub name: String,
+    pub state: CopyState,
+    /// Whether it has to be there. The one in the store's own folder that a store has which was made before doesn't.
+    pub is_wanted: bool,
+}
+
+/// The copies of a stripe's description.
+#[derive(Drop)]
+pub struct Copies {
+    pub all: Vec<FoundCopy>,
+    /// The digest that they have to have, where the store's sums say one.
+    pub listed: Option<Digest>,
+}
+
+/// Why a copy, or a stripe, isn't as it should be.
+#[derive(Debug, Drop, Error)]
+pub enum CopyReason {
+    #[error("is lost")]
+    Lost,
+    #[error("isn't a line with a length, a digest and a code")]
+    Odd,
+    #[error("is no regular file")]
+    NoFile,
+    #[error("differs from the other descriptions of its stripe")]
+    Differs,
+    #[error("differs from the checksums")]
+    DiffersFromSums,
+    #[error("can't be read: {0}")]
+    Unread(io::Error),
+    #[error("can't be put in its place: {0}")]
+    Unwritten(io::Error),
+    #[error("has come meanwhile, or one that was replaced is kept beside it: it stays as it is")]
+    CameMeanwhile,
+    /// Of a stripe.
+    #[error("its descriptions differ, and nothing says which is right")]
+    Undecided,
+    /// Of a stripe.
+    #[error("contradiction: its description says that it is of the code {0}")]
+    OtherCode(&'static str),
+}
+
+impl CopyReason {
+    /// Whether the system refused to read or write something.
+    pub fn is_of_device(&self) -> bool {
+        matches!(self, CopyReason::Unread(_) | CopyReason::Unwritten(_))
+    }
+}
+
+/// What isn't as it should be, of a copy of this name or of a stripe.
+#[derive(Drop)]
+pub struct CopyFinding {
+    pub name: String,
+    pub reason: CopyReason,
+}
+
+impl CopyFinding {
+    /// What is said of it.
+    pub fn text(&self, alloc: Global) -> Result<String, AllocError> {
+        let name = self.name.as_str();
+        let reason = &self.reason;
+        let text = format!(in alloc; "{name}: {reason}")?;
+        String::from_str(alloc, without_number(text.as_str()))
+    }
+}
+
+/// What became of the copies of a stripe's description.
+#[derive(Drop)]
+pub struct Descriptions {
+    /// The names of those that were made, or would be.
+    pub made: Vec<String>,
+    pub findings: Vec<CopyFinding>,
+    /// How many of the findings are of copies that would be replaced if that were asked for.
+    pub replaceable: u64,
+    /// What is believed of the file.
+    pub described: Option<Described>,
+}
+
+impl Copies {
+    /// What is believed of the file: what a copy says that has the digest of the sums, or, where these say none, what more than half of the
+    /// copies say.
+    pub fn believed(&self) -> Option<Described> {
+        let mut count = 0usize;
+        for copy in &self.all {
+            if let CopyState::There(..) = copy.state {
+                count = count.saturating_add(1);
+            }
+        }
+        for copy in &self.all {
+            let CopyState::There(described, digest) = copy.state else {
+                continue;
+            };
+            let is_believed = match &self.listed {
+                Some(listed) => digest == *listed,
+                None => self.agreeing(&described) > count / 2,
+            };
+            if is_believed {
+                return Some(described);
+            }
+        }
+        None
+    }
+
+    // How many copies say the same.
+    fn agreeing(&self, described: &Described) -> usize {
+        let says = |copy: &FoundCopy| {
+            match &copy.state {
+                CopyState::There(other, _) => *other == *described,
+                _ => false,
+            }
+        };
+        self.all.iter().filter(|copy| says(copy)).count()
+    }
+
+    /// What isn't as it should be of the stripe.
+    pub fn stripe_findings(
+        &self,
+        alloc: Global,
+        code: Code,
+        stripe: &str,
+    ) -> Result<Vec<CopyFinding>, AllocError> {
+        let mut findings = Vec::new(alloc);
+        let has_some = self
+            .all
+            .iter()
+            .any(|copy| matches!(copy.state, CopyState::There(..)));
+        let reason = match self.believed() {
+            Some(described) if described.code != code => {
+                Some(CopyReason::OtherCode(described.code.text()))
+            }
+            None if has_some && self.listed.is_none() => Some(CopyReason::Undecided),
+            _ => None,
+        };
+        if let Some(reason) = reason {
+            let name = String::from_str(alloc, stripe)?;
+            findings.push(CopyFinding { name, reason })?;
+        }
+        Ok(findings)
+    }
+}
+
+impl CopyState {
+    /// Whether what is there may be replaced: a file that could be read, and that isn't longer than a description.
+    pub fn may_be_replaced(&self) -> bool {
+        match self {
+            CopyState::There(..) => true,
+            CopyState::Odd { length } => *length <= MOST_BYTES,
+            CopyState::Absent | CopyState::NoFile | CopyState::Unread(_) => false,
+        }
+    }
+
+    /// Why a copy isn't as it should be, by what is believed of the file.
+    pub fn reason(self, believed: Option<&Described>, has_sums: bool) -> Option<CopyReason> {
+        match self {
+            CopyState::Absent => Some(CopyReason::Lost),
+            CopyState::Odd { .. } => Some(CopyReason::Odd),
+            CopyState::NoFile => Some(CopyReason::NoFile),
+            CopyState::Unread(error) => Some(CopyReason::Unread(error)),
+            CopyState::There(described, _) => match believed {
+                Some(other) if *other == described => None,
+                _ if has_sums => Some(CopyReason::DiffersFromSums),
+                Some(_) => Some(CopyReason::Differs),
+                None => None,
+            },
+        }
+    }
+}

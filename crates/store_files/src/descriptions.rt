@@ -1,0 +1,111 @@
+//! What the copies of a file's description say.
+use crate::staging::{has_some, no_stored};
+use crate::stored_file::StoredFile;
+use lrc_code::{Code, Place};
+use std::alloc::Global;
+use std::fs;
+use std::io::ErrorKind;
+use store_faults::{FileFault, device};
+use store_folder::{
+    Described, description_names, first_description_name, path_in, read_description,
+};
+
+/// What the copies of a file's description say, each once, first what most say.
+pub fn descriptions_of(
+    rt: &HostRuntime,
+    file: &StoredFile<'_, '_>,
+) -> Result<Vec<Described>, FileFault> {
+    let alloc = rt.alloc();
+    let name = file.name;
+    if !file.has_name(alloc)? {
+        return Err(no_stored(alloc, name, file.folder)?);
+    }
+    let mut names = description_names(alloc, &file.pattern, Code::Wide, name)?;
+    let first = first_description_name(alloc, name)?;
+    if !names.iter().any(|other| other.as_str() == first.as_str()) {
+        names.push(first)?;
+    }
+    let mut said = Vec::new(alloc);
+    let mut refused = None;
+    for copy in &names {
+        match description_at(rt, file, copy.as_str()) {
+            Ok(Some(described)) => said.push(described)?,
+            Ok(None) => {}
+            Err(FileFault::OutOfMemory) => return Err(FileFault::OutOfMemory),
+            Err(fault) => {
+                file.say(rt, format!(in rt.alloc(); "rebuild-store: {fault}"));
+                refused = Some(fault);
+            }
+        }
+    }
+    match refused {
+        Some(fault) if said.is_empty() => Err(fault),
+        None if said.is_empty() => Err(undescribed(rt, file)?),
+        _ => in_order(alloc, said.as_slice()),
+    }
+}
+
+// That nothing describes a file: it isn't in the store, or its descriptions are lost.
+fn undescribed(rt: &HostRuntime, file: &StoredFile<'_, '_>) -> Result<FileFault, FileFault> {
+    let alloc = rt.alloc();
+    let StoredFile { folder, name, .. } = *file;
+    fs::metadata(rt, folder).map_err(|error| device(alloc, folder, error))?;
+    if !has_some(rt, file, Code::Wide, &Place::ALL)? {
+        return Ok(no_stored(alloc, name, folder)?);
+    }
+    let what = format!(in alloc;
+        "{name}: no description is there, as {name}.file, so nothing says how long it is"
+    )?;
+    Ok(FileFault::Refused { what })
+}
+
+/// What the first copy of a file's description says that can be read.
+pub fn first_described(
+    rt: &HostRuntime,
+    file: &StoredFile<'_, '_>,
+) -> Result<Option<Described>, FileFault> {
+    let alloc = rt.alloc();
+    for copy in description_names(alloc, &file.pattern, Code::Wide, file.name)? {
+        let path = path_in(alloc, file.folder, copy.as_str())?;
+        match read_description(rt, path.as_str(), file.links) {
+            Ok(Some(described)) => return Ok(Some(described)),
+            Err(error) if error.kind() == ErrorKind::OutOfMemory => {
+                return Err(FileFault::OutOfMemory);
+            }
+            _ => {}
+        }
+    }
+    Ok(None)
+}
+
+// What descriptions say, each once, first what most say.
+fn in_order(alloc: Global, said: &[Described]) -> Result<Vec<Described>, FileFault> {
+    let mut order = Vec::new(alloc);
+    for votes in (1..=said.len()).rev() {
+        for described in said {
+            let count = said.iter().filter(|other| **other == *described).count();
+            if count == votes && !order.iter().any(|other| *other == *described) {
+                order.push(*described)?;
+            }
+        }
+    }
+    Ok(order)
+}
+
+// The description in a copy; none where there is none.
+fn description_at(
+    rt: &HostRuntime,
+    file: &StoredFile<'_, '_>,
+    copy: &str,
+) -> Result<Option<Described>, FileFault> {
+    let alloc = rt.alloc();
+    let path = path_in(alloc, file.folder, copy)?;
+    match read_description(rt, path.as_str(), file.links) {
+        Ok(Some(described)) => Ok(Some(described)),
+        Ok(None) => Err(FileFault::Refused {
+            what: format!(in alloc; "{path}: isn't a line with a length, a digest and a code")?,
+        }),
+        Err(error) if error.kind() == ErrorKind::NotFound => Ok(None),
+        Err(error) => Err(device(alloc, path.as_str(), error)),
+    }
+}

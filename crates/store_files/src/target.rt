@@ -1,0 +1,60 @@
+//! The store that files are encoded into.
+use lrc_code::{Code, Place};
+use std::alloc::{AllocError, Global};
+use store_faults::fragment_name;
+use store_folder::{Links, Pattern, Sums, description_names, first_description_name, path_in};
+
+/// A store that files are encoded into, and the digests of what is in it.
+#[derive(Drop)]
+pub struct Target<'a> {
+    pub folder: &'a str,
+    pub pattern: Pattern<'a>,
+    pub code: Code,
+    pub sums: Sums,
+    /// Whether the digests are others than those in the store's file of them.
+    pub is_changed: bool,
+    pub links: Links,
+    /// Whether the folders that names have are made.
+    pub makes_folders: bool,
+    /// Whether files that have other bytes are replaced.
+    pub replaces: bool,
+}
+
+impl Target<'_> {
+    /// The names in the store of a stripe's fragments, in the order of the code's places.
+    pub fn names(&self, alloc: Global, stripe: &str) -> Result<Vec<String>, AllocError> {
+        let mut names = Vec::new(alloc);
+        for place in self.code.places() {
+            names.push(self.name_of(alloc, stripe, *place)?)?;
+        }
+        Ok(names)
+    }
+
+    /// Whether a stripe may have this name: its fragments then have names that lead nowhere out of the store.
+    pub fn has_names(&self, alloc: Global, stripe: &str) -> Result<bool, AllocError> {
+        for place in self.code.places() {
+            let name = self.pattern.name_of(alloc, self.code, stripe, *place)?;
+            if name.is_none() {
+                return Ok(false);
+            }
+        }
+        Ok(true)
+    }
+
+    /// The name in the store of a stripe's fragment at a place.
+    pub fn name_of(&self, alloc: Global, stripe: &str, place: Place) -> Result<String, AllocError> {
+        fragment_name(alloc, &self.pattern, self.code, stripe, place)
+    }
+
+    /// The names in the store of the copies of a stripe's description, also of the one in a store that was made before.
+    pub fn descriptions(&self, alloc: Global, stripe: &str) -> Result<Vec<String>, AllocError> {
+        let mut names = description_names(alloc, &self.pattern, self.code, stripe)?;
+        names.push(first_description_name(alloc, stripe)?)?;
+        Ok(names)
+    }
+
+    /// The path of a name in the store.
+    pub fn path(&self, alloc: Global, name: &str) -> Result<String, AllocError> {
+        path_in(alloc, self.folder, name)
+    }
+}

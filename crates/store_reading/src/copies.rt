@@ -1,0 +1,221 @@
+//! The copies of the description of a stripe's file: which are as they should be, and making those that are lost from one that is believed.
+mod looking;
+mod remaking;
+
+use looking::Seen;
+use remaking::described_as;
+use std::alloc::AllocError;
+use std::fs::{self, Metadata};
+use std::io::{self, ErrorKind};
+use store_faults::{Copies, CopyFinding, CopyReason, Descriptions, FoundCopy};
+use store_folder::{
+    Described, KEPT, NewFile, Placed, Site, folder_of, path_in, place_again, place_new,
+    refuse_linked_folders, sync_folder,
+};
+use store_repair::NewFragment;
+
+/// What is done with copies that aren't as they should be.
+#[derive(Clone, Copy, Debug, PartialEq, Eq)]
+pub enum CopyWork {
+    /// They are named.
+    Name,
+    /// It is said which would be made, or replaced if that is asked for.
+    Plan { replaces: bool },
+    /// Those that are lost are made, and others are replaced if that is asked for.
+    Make { replaces: bool },
+}
+
+/// The stripe whose description is looked at.
+#[derive(Clone, Copy)]
+pub struct DescribedStripe<'a> {
+    pub name: &'a str,
+    /// How many bytes each fragment has.
+    pub length: usize,
+    /// The folders of the store into which nothing is to be written, since no disk is mounted there.
+    pub unmounted: &'a [String],
+}
+
+/// Looks at the copies of a stripe's description, and makes what is lost of them if that is asked for. Where no copy is believed, the
+/// description is the one that the digests determine with the file that the fragments give, if there is one.
+pub fn tend_descriptions(
+    rt: &HostRuntime,
+    site: &Site<'_>,
+    stripe: &DescribedStripe<'_>,
+    work: CopyWork,
+) -> Result<Descriptions, AllocError> {
+    let alloc = rt.alloc();
+    let Seen { copies, like } = Seen::look(rt, site, stripe)?;
+    let mut done = Descriptions {
+        made: Vec::new(alloc),
+        findings: copies.stripe_findings(alloc, site.code, stripe.name)?,
+        replaceable: 0,
+        described: None,
+    };
+    let believed = match (copies.believed(), &copies.listed) {
+        (None, Some(listed)) if work != CopyWork::Name => described_as(rt, site, stripe, listed)?,
+        (believed, _) => believed,
+    };
+    done.described = believed;
+    let tended = Tended {
+        site,
+        work,
+        believed,
+        like,
+    };
+    let Copies { all, listed } = copies;
+    for copy in all {
+        tended.tend(rt, copy, listed.is_some(), &mut done)?;
+    }
+    Ok(done)
+}
+
+// What is done with the copies of a stripe's description.
+#[derive(Drop)]
+struct Tended<'a> {
+    site: &'a Site<'a>,
+    work: CopyWork,
+    believed: Option<Described>,
+    // What is said of a copy that is there.
+    like: Option<Metadata>,
+}
+
+impl Tended<'_> {
+    // Notes what becomes of a copy that isn't as it should be.
+    fn tend(
+        &self,
+        rt: &HostRuntime,
+        copy: FoundCopy,
+        has_sums: bool,
+        done: &mut Descriptions,
+    ) -> Result<(), AllocError> {
+        let FoundCopy {
+            name,
+            state,
+            is_wanted,
+        } = copy;
+        let may_replace = state.may_be_replaced();
+        let Some(reason) = state.reason(self.believed.as_ref(), has_sums) else {
+            return Ok(());
+        };
+        if !is_wanted && matches!(reason, CopyReason::Lost) {
+            return Ok(());
+        }
+        match self.left(rt, name.as_str(), reason, may_replace)? {
+            None => done.made.push(name)?,
+            Some(reason) => {
+                if self.would_replace(&reason, may_replace) {
+                    done.replaceable = done.replaceable.saturating_add(1);
+                }
+                done.findings.push(CopyFinding { name, reason })?;
+            }
+        }
+        Ok(())
+    }
+
+    // Whether a copy is left that would be replaced if that were asked for.
+    fn would_replace(&self, reason: &CopyReason, may_replace: bool) -> bool {
+        let is_replaced = match self.work {
+            CopyWork::Name => false,
+            CopyWork::Plan { replaces } | CopyWork::Make { replaces } => replaces,
+        };
+        may_replace && !is_replaced && self.believed.is_some() && !reason.is_of_device()
+    }
+
+    // Makes the copy of a name that isn't as it should be, if it is to be made, and says why it still isn't so.
+    fn left(
+        &self,
+        rt: &HostRuntime,
+        name: &str,
+        reason: CopyReason,
+        may_replace: bool,
+    ) -> Result<Option<CopyReason>, AllocError> {
+        let is_lost = matches!(reason, CopyReason::Lost);
+        let Some(described) = &self.believed else {
+            return Ok(Some(reason));
+        };
+        match self.work {
+            CopyWork::Make { replaces } if is_lost || (replaces && may_replace) => made(
+                rt,
+                self.site,
+                name,
+                described,
+                !is_lost,
+                self.like.as_ref(),
+            ),
+            CopyWork::Plan { replaces } if is_lost || (replaces && may_replace) => Ok(None),
+            _ => Ok(Some(reason)),
+        }
+    }
+}
+
+// Makes a copy, and says why it couldn't be made.
+fn made(
+    rt: &HostRuntime,
+    site: &Site<'_>,
+    name: &str,
+    described: &Described,
+    replaces: bool,
+    like: Option<&Metadata>,
+) -> Result<Option<CopyReason>, AllocError> {
+    match make(rt, site, name, described, replaces, like) {
+        Ok(Placed::Placed) => Ok(None),
+        Ok(Placed::IsThere) => Ok(Some(CopyReason::CameMeanwhile)),
+        Err(error) if error.kind() == ErrorKind::OutOfMemory => Err(AllocError),
+        Err(error) => Ok(Some(CopyReason::Unwritten(error))),
+    }
+}
+
+// Makes a copy, with the owner and the rights of another one.
+fn make(
+    rt: &HostRuntime,
+    site: &Site<'_>,
+    name: &str,
+    described: &Described,
+    replaces: bool,
+    like: Option<&Metadata>,
+) -> io::Result<Placed> {
+    let alloc = rt.alloc();
+    refuse_linked_folders(rt, site.target, name, site.links)?;
+    let path = path_in(alloc, site.target, name)?;
+    let path = path.as_str();
+    let text = described.text(alloc)?;
+    let mut file = NewFile::create_private(rt, alloc, folder_of(path))?;
+    if let Err(error) = fill(&mut file, text.as_bytes(), like) {
+        file.discard(rt)?;
+        return Err(error);
+    }
+    let placed = if replaces && site.target == site.folder {
+        replace(rt, file, path)?
+    } else {
+        place_new(rt, file, path)?
+    };
+    sync_folder(rt, folder_of(path))?;
+    Ok(placed)
+}
+
+fn fill(file: &mut NewFile, text: &[u8], like: Option<&Metadata>) -> io::Result<()> {
+    file.append(text)?;
+    if let Some(like) = like {
+        file.take_after(like)?;
+    }
+    Ok(())
+}
+
+// Gives a file the name of another one, which is kept.
+fn replace(rt: &HostRuntime, file: NewFile, path: &str) -> io::Result<Placed> {
+    let mut kept = String::from_str(rt.alloc(), path)?;
+    kept.push_str(KEPT)?;
+    match fs::hard_link(rt, path, kept.as_str()) {
+        Ok(()) => {
+            place_again(rt, file, path)?;
+            Ok(Placed::Placed)
+        }
+        Err(error) => {
+            file.discard(rt)?;
+            if error.kind() == ErrorKind::AlreadyExists {
+                return Ok(Placed::IsThere);
+            }
+            Err(error)
+        }
+    }
+}

@@ -1,0 +1,98 @@
+//! What is there of the copies of a stripe's description.
+use crate::copies::DescribedStripe;
+use sha2::{Digest as _, Sha256};
+use std::alloc::AllocError;
+use std::fs::{self, Metadata};
+use std::io::{self, ErrorKind};
+use store_faults::{Copies, CopyState, FoundCopy, NO_MEDIUM};
+use store_folder::{
+    Site, description_names, first_description_name, look_at, path_in, read_description,
+};
+use store_names::folder_in;
+
+/// The copies of a stripe's description that are there, or should be.
+#[derive(Drop)]
+pub(crate) struct Seen {
+    pub(crate) copies: Copies,
+    /// What is said of one that is there.
+    pub(crate) like: Option<Metadata>,
+}
+
+impl Seen {
+    /// Looks at the copies of a stripe's description.
+    pub(crate) fn look(
+        rt: &HostRuntime,
+        site: &Site<'_>,
+        stripe: &DescribedStripe<'_>,
+    ) -> Result<Seen, AllocError> {
+        let alloc = rt.alloc();
+        let mut seen = Seen {
+            copies: Copies {
+                all: Vec::new(alloc),
+                listed: None,
+            },
+            like: None,
+        };
+        for name in description_names(alloc, &site.pattern, site.code, stripe.name)? {
+            seen.add(rt, site, name, true)?;
+        }
+        for copy in seen.copies.all.iter_mut() {
+            let inside = folder_in(copy.name.as_str());
+            let is_in = |folder: &String| { folder.as_str() == inside };
+            if matches!(copy.state, CopyState::Absent) && stripe.unmounted.iter().any(is_in) {
+                copy.state = CopyState::Unread(io::Error::from_raw_os_error(NO_MEDIUM));
+            }
+        }
+        let first = first_description_name(alloc, stripe.name)?;
+        let is_first = |copy: &FoundCopy| { copy.name.as_str() == first.as_str() };
+        if !seen.copies.all.iter().any(is_first) {
+            seen.add(rt, site, first, false)?;
+        }
+        Ok(seen)
+    }
+
+    fn add(
+        &mut self,
+        rt: &HostRuntime,
+        site: &Site<'_>,
+        name: String,
+        is_wanted: bool,
+    ) -> Result<(), AllocError> {
+        let path = path_in(rt.alloc(), site.folder, name.as_str())?;
+        let state = state_at(rt, site, path.as_str())?;
+        if let (CopyState::There(..), None) = (&state, &self.like) {
+            self.like = fs::metadata(rt, path.as_str()).ok();
+        }
+        if let (Some(sums), None) = (site.sums, self.copies.listed) {
+            self.copies.listed = sums.digest_of(name.as_str()).copied();
+        }
+        self.copies.all.push(FoundCopy {
+            name,
+            state,
+            is_wanted,
+        })?;
+        Ok(())
+    }
+}
+
+// What is at the path of a copy.
+fn state_at(rt: &HostRuntime, site: &Site<'_>, path: &str) -> Result<CopyState, AllocError> {
+    let error = match read_description(rt, path, site.links) {
+        Ok(Some(described)) => {
+            let text = described.text(rt.alloc())?;
+            let digest = Sha256::digest(text.as_bytes());
+            return Ok(CopyState::There(described, digest));
+        }
+        Ok(None) => {
+            let length = look_at(rt, path, site.links).map_or(u64::MAX, |there| there.len());
+            return Ok(CopyState::Odd { length });
+        }
+        Err(error) => error,
+    };
+    match error.kind() {
+        ErrorKind::OutOfMemory => Err(AllocError),
+        ErrorKind::NotFound | ErrorKind::NotADirectory => Ok(CopyState::Absent),
+        ErrorKind::InvalidInput => Ok(CopyState::NoFile),
+        _ => Ok(CopyState::Unread(error)),
+    }
+}

@@ -1,0 +1,92 @@
+//! Reading a file from a store. Nothing of it is to be seen before the fragments that are read are known to give the described file.
+mod choosing;
+pub(crate) mod destination;
+pub(crate) mod fragments;
+pub(crate) mod output;
+
+ghost use Rattle.std.specs.Prelude.{◌≡◌, vec_len};
+
+use choosing::set_that_fits;
+use destination::write_at;
+use fragments::{Fragments, Missing, open_fragments};
+use lrc_code::Code;
+use output::write_out;
+use store_faults::FileFault;
+use store_files::{Sought, StoredFile, descriptions_of, first_described, is_begun, staged_name};
+
+// What is done with a file that is read.
+#[derive(Clone, Copy)]
+enum ReadTo<'a> {
+    Nothing,
+    StandardOutput,
+    Path(&'a str),
+}
+
+/// Writes a file of a store to a file, or to standard output if none is named, and says what was left out. If a run that was to replace the
+/// file was killed, what replaces it is written as soon as all of that is there.
+pub fn read_file(
+    rt: &HostRuntime,
+    file: &StoredFile<'_, '_>,
+    output: Option<&str>,
+) -> Result<(), FileFault> {
+    let output = match output {
+        Some(path) => ReadTo::Path(path),
+        None => ReadTo::StandardOutput,
+    };
+    let staged = staged_name(rt.alloc(), file.name)?;
+    let staged = StoredFile {
+        name: staged.as_str(),
+        ..*file
+    };
+    if is_begun(rt, &staged, Code::Wide)? && first_described(rt, &staged)?.is_some() {
+        return read_fitting(rt, &staged, output);
+    }
+    read_fitting(rt, file, output)
+}
+
+/// Holds a file of a store to its digest, and says what was left out.
+pub fn verify_file(rt: &HostRuntime, file: &StoredFile<'_, '_>) -> Result<(), FileFault> {
+    read_fitting(rt, file, ReadTo::Nothing)
+}
+
+// Finds fragments that give a file, and writes it to an output, if there is to be one.
+fn read_fitting(
+    rt: &HostRuntime,
+    file: &StoredFile<'_, '_>,
+    output: ReadTo<'_>,
+) -> Result<(), FileFault> {
+    for described in descriptions_of(rt, file)? {
+        let sought = Sought::new(file, described);
+        let fragments = open_fragments(rt, &sought, Missing::Said)?;
+        let is_read = match output {
+            ReadTo::Nothing => set_that_fits(rt, &sought, &fragments)?.is_some(),
+            ReadTo::StandardOutput => print_fitting(rt, &sought, &fragments)?,
+            ReadTo::Path(path) => write_at(rt, &sought, &fragments, path)?,
+        };
+        if is_read {
+            return Ok(());
+        }
+    }
+    let name = file.name;
+    let what = format!(in rt.alloc();
+        "{name}: the fragments that are there don't give the file that {name}.file describes"
+    )?;
+    Err(FileFault::Refused { what })
+}
+
+// Writes the file to standard output if the fragments give it, which is known before its first byte is written. Says whether they do.
+fn print_fitting(
+    rt: &HostRuntime,
+    sought: &Sought<'_, '_>,
+    fragments: &Fragments,
+) -> Result<bool, FileFault>
+    requires { vec_len fragments.now.opened ≡ 16 }
+{
+    match set_that_fits(rt, sought, fragments)? {
+        Some(set) => {
+            write_out(rt, sought, fragments, set)?;
+            Ok(true)
+        }
+        None => Ok(false),
+    }
+}
