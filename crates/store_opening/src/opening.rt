@@ -26,6 +26,32 @@ pub struct Opening<'a> {
     pub unmounted: Unmounted,
 }
 
+impl<'a> Opening<'a> {
+    /// A store in a folder that is to be read, whose names have a pattern, as it was given and as it was read.
+    pub fn to_read(
+        folder: &'a str,
+        code: Option<Code>,
+        names: &'a str,
+        pattern: Pattern<'a>,
+        links: Links,
+    ) -> Opening<'a> {
+        Opening {
+            folder,
+            code,
+            names,
+            pattern,
+            links,
+            stripes: None,
+            part: None,
+            sums: None,
+            report: None,
+            to: None,
+            access: Access::Reads,
+            unmounted: Unmounted::Named,
+        }
+    }
+}
+
 /// What is done with folders of disks at which none is mounted.
 #[derive(Clone, Copy, Debug, PartialEq, Eq)]
 pub enum Unmounted {

@@ -21,7 +21,7 @@ use store_reports::{
 };
 
 /// Repairs the stripes of a store, says what was done and what is left, and gives the exit status.
-pub(crate) fn repair<R: Threads + Sync>(
+pub fn repair<R: Threads + Sync>(
     rt: &R,
     system: &HostRuntime,
     options: &RepairOptions<'_>,

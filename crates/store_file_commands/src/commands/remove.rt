@@ -1,5 +1,4 @@
 //! The command `remove`.
-use crate::commands::reading_of;
 use lrc_code::Code;
 use store_arguments::RemoveOptions;
 use store_encoding::{remove_stored, stored_sums};
@@ -9,13 +8,19 @@ use store_opening::{Access, Opening, open_store, remove_leftovers};
 use store_reports::removed;
 
 /// Takes files out of a store, says which of them weren't, and gives the exit status.
-pub(crate) fn remove(rt: &HostRuntime, options: &RemoveOptions<'_>) -> Result<u8, FileFault> {
+pub fn remove(rt: &HostRuntime, options: &RemoveOptions<'_>) -> Result<u8, FileFault> {
     let alloc = rt.alloc();
     let opening = Opening {
         access: Access::Writes {
             trusts_writers: options.trusts_writers,
         },
-        ..reading_of(options.folder, options.code, &options.naming, options.links)
+        ..Opening::to_read(
+            options.folder,
+            options.code,
+            options.naming.text,
+            options.naming.pattern,
+            options.links,
+        )
     };
     let store = open_store(rt, &opening)?;
     let is_clean = remove_leftovers(rt, &store.listing, "").map_err(|error| device(

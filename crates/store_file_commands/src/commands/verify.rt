@@ -1,15 +1,14 @@
 //! The command `verify`.
-use crate::commands::reading_of;
 use store_arguments::VerifyOptions;
 use store_faults::{DONE, FileFault, device, write};
 use store_files::{StoredFile, first_described};
-use store_opening::open_store;
+use store_opening::{Opening, open_store};
 use store_progress::{Operation, Progress, Task};
 use store_reading::verify_file;
 use store_reports::verified;
 
 /// Holds files to their digests, says which of them don't have these, and gives the exit status.
-pub(crate) fn verify(rt: &HostRuntime, options: &VerifyOptions<'_>) -> Result<u8, FileFault> {
+pub fn verify(rt: &HostRuntime, options: &VerifyOptions<'_>) -> Result<u8, FileFault> {
     let alloc = rt.alloc();
     let mut status = DONE;
     let mut count = 0u64;
@@ -96,7 +95,13 @@ fn names_of(rt: &HostRuntime, options: &VerifyOptions<'_>) -> Result<Vec<String>
         names.push(String::from_str(alloc, *name)?)?;
     }
     if names.is_empty() {
-        let opening = reading_of(options.folder, None, &options.naming, options.links);
+        let opening = Opening::to_read(
+            options.folder,
+            None,
+            options.naming.text,
+            options.naming.pattern,
+            options.links,
+        );
         let store = open_store(rt, &opening)?;
         for name in store.found.described.iter() {
             names.push(String::from_str(alloc, name.as_str())?)?;

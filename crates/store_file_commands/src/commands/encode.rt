@@ -15,7 +15,7 @@ use store_progress::{Operation, Progress, Task};
 use store_reports::encoded;
 
 /// Encodes files, says what was done and what wasn't, and gives the exit status.
-pub(crate) fn encode<R: Threads + Sync>(
+pub fn encode<R: Threads + Sync>(
     threads: &R,
     rt: &HostRuntime,
     options: &EncodeOptions<'_>,

@@ -13,7 +13,7 @@ use store_progress::Progress;
 use store_reports::{Results, finding_lines, scrubbed, status_of};
 
 /// Tests the stripes of a store, says what isn't as it should be, and gives the exit status.
-pub(crate) fn scrub<R: Threads + Sync>(
+pub fn scrub<R: Threads + Sync>(
     rt: &R,
     system: &HostRuntime,
     options: &ScrubOptions<'_>,

@@ -23,7 +23,7 @@ struct Counts {
 }
 
 /// Writes the request list of what is lost to standard output, and counts to standard error; gives the exit status.
-pub(crate) fn lost(rt: &HostRuntime, options: &LostOptions<'_>) -> Result<u8, FileFault> {
+pub fn lost(rt: &HostRuntime, options: &LostOptions<'_>) -> Result<u8, FileFault> {
     let opening = opening_of(&options.store);
     let store = open_store(rt, &opening)?;
     let form = if options.json { Rows::Json } else { Rows::Csv };

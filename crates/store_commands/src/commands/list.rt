@@ -12,7 +12,7 @@ use store_repair::{Stripe, fragment_length, lost_places};
 use store_reports::{FileState, ListedFile, Rows, file_line, files_listed};
 
 /// Says which files are in a store, and gives the exit status.
-pub(crate) fn list(rt: &HostRuntime, options: &ListOptions<'_>) -> Result<u8, FileFault> {
+pub fn list(rt: &HostRuntime, options: &ListOptions<'_>) -> Result<u8, FileFault> {
     let alloc = rt.alloc();
     let opening = opening_of(&options.store);
     let store = open_store(rt, &opening)?;

@@ -6,7 +6,7 @@ use store_progress::{Operation, Progress, Task};
 use store_reading::{passes_to, read_file};
 
 /// Writes a file to a file or to standard output, says what was left out, and gives the exit status.
-pub(crate) fn read(rt: &HostRuntime, options: &ReadOptions<'_>) -> Result<u8, FileFault> {
+pub fn read(rt: &HostRuntime, options: &ReadOptions<'_>) -> Result<u8, FileFault> {
     let file = StoredFile {
         folder: options.folder,
         pattern: options.naming.pattern,
