@@ -5,6 +5,7 @@ ghost use Rattle.lrc_code.specs.Codes.{tables_of};
 use crate::encoding::Given;
 use crate::encoding::placing::{Made, discard_all};
 use lrc_code::Place;
+use std::alloc::Global;
 use std::io::{self, ErrorKind};
 use std::thread::{Threads, join};
 use store_faults::{FileFault, device, source_fault};
@@ -13,8 +14,7 @@ use store_folder::{
     Digest, Links, NewFile, digest_of, digests_of, folder_of, open_fragment, refuse_linked_folders,
 };
 use store_progress::CountedSource;
-use store_repair::{Fragment, encode, fragment_length};
-use store_reports::encode_fault;
+use store_repair::{Fragment, MendFault, encode, fragment_length};
 
 /// What is made of a file before anything gets a name: its digest, and its fragments.
 #[derive(Drop)]
