@@ -23,6 +23,7 @@ TESTS = {
     "lrc_c": [],
     "farm_lanes": ["farm_lanes_tests"],
     "farm_orders": ["farm_core_tests"],
+    "farm_threads": ["farm_core_tests"],
     "farm_core": ["farm_core_tests"],
     "sha256_lanes": ["farm_lists_tests"],
     "farm_lists": ["farm_lists_tests", "farm_files_tests"],

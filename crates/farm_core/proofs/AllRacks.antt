@@ -19,13 +19,13 @@ use Rattle.list_members.proofs.Lists.{at_below, at_snoc_or, at_either, at_map, s
 use Rattle.farm_lanes.proofs.Numbers.{times-cons, same_test, other_test}
 use Rattle.farm_lanes.proofs.Sums.{total_none}
 use Rattle.farm_orders.specs.declared.orders.Order.{Order}
-use Rattle.farm_core.specs.declared.jobs.Job.{Job}
-use Rattle.farm_core.specs.declared.jobs.Job.TheVariants.{Solve, Stop}
-use Rattle.farm_core.specs.Jobs.{IsOfFeed, AsksNothing, HasPutStops, job_weight, IsSoJob, IsSoItem}
-use Rattle.farm_core.specs.RunFeeds.{slot_rack, slot_feed}
-use Rattle.farm_core.specs.Feed.{Draws, drawn_numbers, AreDrawn, IsDrawnBy, draws_of, HasDrawn}
-use Rattle.farm_core.specs.Settled.{IsDrawnAt, HavePut}
-use Rattle.farm_core.proofs.Settled.{Every, jobs_to, weigh_jobs, job_items}
+use Rattle.farm_threads.specs.declared.jobs.Job.{Job}
+use Rattle.farm_threads.specs.declared.jobs.Job.TheVariants.{Solve, Stop}
+use Rattle.farm_threads.specs.Jobs.{IsOfFeed, AsksNothing, HasPutStops, job_weight, IsSoJob, IsSoItem}
+use Rattle.farm_threads.specs.RunFeeds.{slot_rack, slot_feed}
+use Rattle.farm_threads.specs.Feed.{Draws, drawn_numbers, AreDrawn, IsDrawnBy, draws_of, HasDrawn}
+use Rattle.farm_threads.specs.Settled.{IsDrawnAt, HavePut}
+use Rattle.farm_threads.proofs.Settled.{Every, jobs_to, weigh_jobs, job_items}
 use Rattle.farm_core.proofs.Joints.{same_sums}
 
 here_one : (a rack b k : ℕ) → a ≡ rack → cond (nat_eq a rack && nat_eq b k) 1 0 ≡ cond (nat_eq b k) 1 0 + 0

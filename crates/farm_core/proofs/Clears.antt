@@ -13,14 +13,14 @@ use Rattle.farm_lanes.specs.LaneEnds.{PutView, TakeView, take_end, with_taken, A
 use Rattle.farm_lanes.specs.LaneRecord.{values}
 use Rattle.farm_lanes.specs.LaneSettled.{IsSettled}
 use Rattle.farm_orders.specs.declared.orders.Order.{Order}
-use Rattle.farm_core.specs.declared.jobs.Job.{Job}
-use Rattle.farm_core.specs.Replies.{Replied}
-use Rattle.farm_core.specs.declared.replies.CollectFault.{CollectFault}
-use Rattle.farm_core.specs.Boards.{Held, HasHeld}
-use Rattle.farm_core.specs.Jobs.{AreReplies, HasAnswered}
-use Rattle.farm_core.specs.Settled.{HasCleared, HasMore, took_on, TookLeft, TookReplies, HasOneEach, HasJoined, IsDrawnAt}
-use Rattle.farm_core.proofs.Works.{taken_more, replies_append}
-use Rattle.farm_core.proofs.Settled.{Ran, one_each, each_is_so}
+use Rattle.farm_threads.specs.declared.jobs.Job.{Job}
+use Rattle.farm_threads.specs.Replies.{Replied}
+use Rattle.farm_threads.specs.declared.replies.CollectFault.{CollectFault}
+use Rattle.farm_threads.specs.Boards.{Held, HasHeld}
+use Rattle.farm_threads.specs.Jobs.{AreReplies, HasAnswered}
+use Rattle.farm_threads.specs.Settled.{HasCleared, HasMore, took_on, TookLeft, TookReplies, HasOneEach, HasJoined, IsDrawnAt}
+use Rattle.farm_threads.proofs.Works.{taken_more, replies_append}
+use Rattle.farm_threads.proofs.Settled.{Ran, one_each, each_is_so}
 
 pub nothing_more : (c : Held) (fault : Option CollectFault) → HasMore c fault [] c fault
 nothing_more c fault racks xs h = subst (λ l. HasHeld racks c fault l) (sym (append-nil xs)) h

@@ -9,25 +9,25 @@ use Rattle.list_members.proofs.Lists.{at_snoc_or, at_below}
 use Rattle.farm_lanes.specs.LaneEnds.{PutView, TakeView}
 use Rattle.farm_lanes.specs.declared.gate.record.SeatRecord.{SeatRecord}
 use Rattle.std.specs.Prelude.{Option, Some, None}
-use Rattle.farm_core.specs.declared.jobs.Job.{Job}
-use Rattle.farm_core.specs.declared.threads.worker.Worked.{Worked}
-use Rattle.farm_core.specs.Replies.{Replied}
-use Rattle.farm_core.specs.declared.threads.worker.WorkOf.{WorkOf}
-use Rattle.farm_core.specs.Jobs.{HasWorked}
-use Rattle.farm_core.specs.declared.threads.feeder.FeedOf.{FeedOf}
-use Rattle.farm_core.specs.Threads.{WorkersJoined, FeedersJoined, AreOfGate, AreRackFeeders, feeders_of}
+use Rattle.farm_threads.specs.declared.jobs.Job.{Job}
+use Rattle.farm_threads.specs.declared.worker.Worked.{Worked}
+use Rattle.farm_threads.specs.Replies.{Replied}
+use Rattle.farm_threads.specs.declared.worker.WorkOf.{WorkOf}
+use Rattle.farm_threads.specs.Jobs.{HasWorked}
+use Rattle.farm_threads.specs.declared.feeder.FeedOf.{FeedOf}
+use Rattle.farm_threads.specs.Threads.{WorkersJoined, FeedersJoined, AreOfGate, AreRackFeeders, feeders_of}
 use Rattle.farm_lanes.specs.GateView.{GateName, GateId}
 use Rattle.list_members.proofs.Lists.{at_map, at_front, at_back, sum_map}
 use Rattle.list_members.specs.Lists.{Each}
 use Rattle.std.specs.List.{sum_by}
 use Rattle.std.proofs.lemmas.List.Sums.{sum_by-cons}
 use Rattle.farm_orders.specs.declared.orders.Order.{Order}
-use Rattle.farm_core.specs.declared.threads.given.Feeder.{Feeder}
-use Rattle.farm_core.specs.declared.threads.feeder.Fed.{Fed}
-use Rattle.farm_core.specs.declared.threads.rack_feeders.RackFeeders.{RackFeeders}
-use Rattle.farm_core.specs.Feed.{HasFed, IsRightLeft, LeftBy, IsOfGate, AreFed, HasDrawn}
-use Rattle.farm_core.specs.RunFeeds.{slot_of}
-use Rattle.farm_core.specs.Settled.{HavePut}
+use Rattle.farm_threads.specs.declared.given.Feeder.{Feeder}
+use Rattle.farm_threads.specs.declared.feeder.Fed.{Fed}
+use Rattle.farm_threads.specs.declared.rack_feeders.RackFeeders.{RackFeeders}
+use Rattle.farm_threads.specs.Feed.{HasFed, IsRightLeft, LeftBy, IsOfGate, AreFed, HasDrawn}
+use Rattle.farm_threads.specs.RunFeeds.{slot_of}
+use Rattle.farm_threads.specs.Settled.{HavePut}
 use Rattle.farm_core.specs.Ready.{AreAllFeeders, HavePutRacks}
 use Rattle.farm_orders.proofs.Members.{map_length, there}
 use Rattle.farm_core.proofs.AllRacks.{puts_none, puts_more}
@@ -40,36 +40,6 @@ two_sums f g (x ∷ xs) [] long same = absurd (omega arith)
 two_sums f g (x ∷ xs) (y ∷ ys) long same = let a = sum_by-cons f x xs in let b = sum_by-cons g y ys in let c = same 0 x y refl refl in
     let d = two_sums f g xs ys (omega arith) (λ k. same (suc k)) in omega arith
 
-module _ {A : Type 0} where
-  pub snoc_old : (xs : List A) (a b : A) (k : ℕ) → k < length xs → get_elem? (xs ++ a ∷ []) k ≡ some b → get_elem? xs k ≡ some b
-  snoc_old xs a b k low at = ⊎_elim (λ old. old) (λ (new : (k ≡ length xs) × (a ≡ b)). absurd (let e = new.0 in omega arith))
-      (at_snoc_or xs a b k at)
-
-  pub snoc_new : (xs : List A) (a b : A) (k : ℕ) → k ≡ length xs → get_elem? (xs ++ a ∷ []) k ≡ some b → a ≡ b
-  snoc_new xs a b k is at = ⊎_elim (λ old. absurd (let l = at_below xs k b old in omega arith)) (λ (new : (k ≡ length xs) × (a ≡ b)). new.1)
-      (at_snoc_or xs a b k at)
-
-abbrev Handle : Type 0
-Handle = PromisedHandle Worked WorkOf
-
-pub joined_next : (hs : List Handle) (js : List (TakeView Job)) (rs : List (PutView Replied)) (h : Handle) (j : TakeView Job)
-    (r : PutView Replied) → WorkersJoined hs js rs → HasWorked h.promise.0.value.jobs h.promise.0.value.replies j r
-    → WorkersJoined (hs ++ h ∷ []) (js ++ j ∷ []) (rs ++ r ∷ [])
-joined_next hs js rs h j r was one = record {
-  jobs_count = length_push js j ∙ (ap (λ n. n + 1) was.jobs_count ∙ sym (length_push hs h));
-  replies_count = length_push rs r ∙ (ap (λ n. n + 1) was.replies_count ∙ sym (length_push hs h));
-  each = λ k h' j' r' at_h at_j at_r. ⊎_elim
-      (λ old. let low = at_below hs k h' old in was.each k h' j' r' old (snoc_old js j j' k (let e = was.jobs_count in omega arith) at_j)
-      (snoc_old rs r r' k (let e = was.replies_count in omega arith) at_r))
-      (λ (new : (k ≡ length hs) × (h ≡ h')). let e = new.0 in
-      let P : Handle × TakeView Job × PutView Replied → Type 0 =
-      λ p. HasWorked p.0.promise.0.value.jobs p.0.promise.0.value.replies p.1 p.2 in
-      let same_j = snoc_new js j j' k (let f = was.jobs_count in omega arith) at_j in
-      let same_r = snoc_new rs r r' k (let f = was.replies_count in omega arith) at_r in
-      subst P (λ i. (new.1 i, same_j i, same_r i)) one)
-      (at_snoc_or hs h h' k at_h);
-}
-
 -- the replies of each answer what it took
 pub answered_all : (R : TakeView Job → PutView Replied → Type 0) (js : List (TakeView Job)) (rs : List (PutView Replied))
     → length js ≡ length rs → ((k : ℕ) (j : TakeView Job) (r : PutView Replied) → get_elem? js k ≡ some j → get_elem? rs k ≡ some r → R j r)
@@ -81,19 +51,6 @@ answered_all R (j ∷ js) (r ∷ rs) same each = (each 0 j r refl refl, answered
 
 abbrev FeederHandle : Type 0
 FeederHandle = PromisedHandle (Option Fed) FeedOf
-
--- one feeder more is joined
-pub fed_next : (hs : List FeederHandle) (fs : List Fed) (h : FeederHandle) (f : Fed) → FeedersJoined hs fs → LeftBy h.promise.0.value f
-    → FeedersJoined (hs ++ h ∷ []) (fs ++ f ∷ [])
-fed_next hs fs h f was one = record {
-  count = length_push fs f ∙ (ap (λ n. n + 1) was.count ∙ sym (length_push hs h));
-  each = λ k h' f' at_h at_f. ⊎_elim
-      (λ old. let low = at_below hs k h' old in was.each k h' f' old (snoc_old fs f f' k (let c = was.count in omega arith) at_f))
-      (λ (new : (k ≡ length hs) × (h ≡ h')). let c = new.0 in
-      let P : FeederHandle × Fed → Type 0 = λ p. LeftBy p.0.promise.0.value p.1 in
-      subst P (λ i. (new.1 i, snoc_new fs f f' k (let e = was.count in omega arith) at_f i)) one)
-      (at_snoc_or hs h h' k at_h);
-}
 
 right_own : (id : GateId) (was : SeatRecord) (list : List Order) (all : Type 0) (o : Option GateId) (close : Option ℕ) (left : SeatRecord)
     (r : GateId) → o ≡ Some r → IsRightLeft id was list all o close left → r ≡ id

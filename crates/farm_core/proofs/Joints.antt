@@ -25,14 +25,14 @@ use Rattle.farm_lanes.proofs.Numbers.{times-append}
 use Rattle.farm_lanes.proofs.Sums.{total_none, total_snoc}
 use Rattle.farm_lanes.proofs.Values.{values-append}
 use Rattle.farm_orders.specs.declared.orders.Order.{Order}
-use Rattle.farm_core.specs.declared.jobs.Job.{Job}
-use Rattle.farm_core.specs.declared.jobs.Job.TheVariants.{Solve, Stop}
-use Rattle.farm_core.specs.declared.threads.feeder.Fed.{Fed}
+use Rattle.farm_threads.specs.declared.jobs.Job.{Job}
+use Rattle.farm_threads.specs.declared.jobs.Job.TheVariants.{Solve, Stop}
+use Rattle.farm_threads.specs.declared.feeder.Fed.{Fed}
 use Rattle.farm_orders.specs.Orders.{before_close, HasClose}
-use Rattle.farm_core.specs.Jobs.{IsOfSlot, IsOfFeed, numbers_of, requests_of}
-use Rattle.farm_core.specs.Feed.{HasFed, IsRightLeft, AreRising, Draws, drawn_numbers, drawn_requests, DrewAll, right_back, draws_of}
-use Rattle.farm_core.specs.Feed.{IsOfGate, IsJoint, AreFed, HasDrawn}
-use Rattle.farm_core.specs.RunFeeds.{slot_of}
+use Rattle.farm_threads.specs.Jobs.{IsOfSlot, IsOfFeed, numbers_of, requests_of}
+use Rattle.farm_threads.specs.Feed.{HasFed, IsRightLeft, AreRising, Draws, drawn_numbers, drawn_requests, DrewAll, right_back, draws_of}
+use Rattle.farm_threads.specs.Feed.{IsOfGate, IsJoint, AreFed, HasDrawn}
+use Rattle.farm_threads.specs.RunFeeds.{slot_of}
 use Rattle.farm_orders.proofs.Members.{map_length, there}
 use Rattle.farm_core.proofs.SlotJobs.{jobs_of_feed}
 

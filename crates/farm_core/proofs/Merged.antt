@@ -17,17 +17,17 @@ use Rattle.farm_lanes.specs.Counting.{times, once_below, AreBelow}
 use Rattle.list_members.specs.Lists.{Each}
 use Rattle.farm_orders.specs.declared.orders.Order.{Order}
 use Rattle.farm_orders.specs.Orders.{before_close}
-use Rattle.farm_core.specs.Replies.{Replied, Entry}
-use Rattle.farm_core.specs.RunFeeds.{slot_feed}
-use Rattle.farm_core.specs.Feed.{Draws, drawn_numbers, AreDrawn, IsDrawnBy}
-use Rattle.farm_core.specs.Expected.{AreAnswers, AreExpected}
-use Rattle.farm_core.specs.Merge.{IsLawfulMerge, IsFedAnswer, AreAllMergedAnswers}
-use Rattle.farm_core.specs.Boards.{Held, held_at, HasRoom, HasRooms, most_served, AreOneEach, filled, merge_of, AreMergedRows, IsOutcomeOf}
-use Rattle.farm_core.specs.Boards.{HoldsAll}
-use Rattle.farm_core.specs.Jobs.{IsSoReply}
-use Rattle.farm_core.specs.Settled.{AreAllDrawn, IsDrawnAt}
+use Rattle.farm_threads.specs.Replies.{Replied, Entry}
+use Rattle.farm_threads.specs.RunFeeds.{slot_feed}
+use Rattle.farm_threads.specs.Feed.{Draws, drawn_numbers, AreDrawn, IsDrawnBy}
+use Rattle.farm_threads.specs.Expected.{AreAnswers, AreExpected}
+use Rattle.farm_threads.specs.Merge.{IsLawfulMerge, IsFedAnswer, AreAllMergedAnswers}
+use Rattle.farm_threads.specs.Boards.{Held, held_at, HasRoom, HasRooms, most_served, AreOneEach, filled, merge_of, AreMergedRows}
+use Rattle.farm_threads.specs.Boards.{HoldsAll, IsOutcomeOf}
+use Rattle.farm_threads.specs.Jobs.{IsSoReply}
+use Rattle.farm_threads.specs.Settled.{AreAllDrawn, IsDrawnAt}
 use Rattle.farm_orders.proofs.Members.{map_length, place_is, there}
-use Rattle.farm_core.proofs.Progress.{no_some}
+use Rattle.farm_threads.proofs.Progress.{no_some}
 use Rattle.farm_core.proofs.Merges.{drawn_is_lawful, merge_of_one}
 
 once_pos : (k n : ℕ) → k < n → 0 < once_below k n

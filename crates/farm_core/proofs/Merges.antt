@@ -15,9 +15,9 @@ use Rattle.farm_lanes.proofs.Sums.{total_two, total_part}
 use Rattle.farm_lanes.specs.Counting.{times}
 use Rattle.farm_orders.specs.declared.orders.Order.{Order}
 use Rattle.farm_orders.specs.Orders.{before_close, HasClose}
-use Rattle.farm_core.specs.Feed.{AreRising, Draws, drawn_numbers, drawn_requests, DrewAll, AreDrawn, IsDrawnBy}
-use Rattle.farm_core.specs.Expected.{AreAnswers}
-use Rattle.farm_core.specs.Merge.{of_feed, IsWhole, IsLawfulMerge, IsFedAnswer, MergeOfOneIsIt, AnswersOfOneAreIts}
+use Rattle.farm_threads.specs.Feed.{AreRising, Draws, drawn_numbers, drawn_requests, DrewAll, AreDrawn, IsDrawnBy}
+use Rattle.farm_threads.specs.Expected.{AreAnswers}
+use Rattle.farm_threads.specs.Merge.{of_feed, IsWhole, IsLawfulMerge, IsFedAnswer, MergeOfOneIsIt, AnswersOfOneAreIts}
 
 lt_true : (x s : ℕ) → x < s → nat_lt x s ≡ true
 lt_true x s low = grind (arith, nat_tests)

@@ -11,7 +11,7 @@ use Rattle.list_members.proofs.Lists.{at_below}
 use Rattle.farm_orders.specs.declared.orders.Order.{Order}
 use Rattle.farm_orders.specs.declared.orders.Order.TheVariants.{Rebuild, Close}
 use Rattle.farm_orders.specs.Orders.{before_close, HasClose}
-use Rattle.farm_core.specs.Merge.{AreOpen, CloseEndsAll, HaveClose, IsWhole, PiecesJoin, joined, of_feed}
+use Rattle.farm_threads.specs.Merge.{AreOpen, CloseEndsAll, HaveClose, IsWhole, PiecesJoin, joined, of_feed}
 
 -- ---- one feed
 

@@ -6,13 +6,13 @@ use mathlib.Core.Option.{some}
 use lib.ListN.{get_elem?}
 use Rattle.std.specs.declared.thread.PromisedHandle.{PromisedHandle}
 use Rattle.farm_lanes.specs.LaneEnds.{PutView}
-use Rattle.farm_core.specs.declared.jobs.Job.{Job}
-use Rattle.farm_core.specs.declared.threads.given.Feeder.{Feeder}
-use Rattle.farm_core.specs.declared.threads.feeder.Fed.{Fed}
-use Rattle.farm_core.specs.declared.threads.feeder.FeedOf.{FeedOf}
-use Rattle.farm_core.specs.declared.threads.rack_feeders.RackFeeders.{RackFeeders}
-use Rattle.farm_core.specs.Feed.{LeftBy}
-use Rattle.farm_core.specs.Threads.{FeedersJoined, feeders_of}
+use Rattle.farm_threads.specs.declared.jobs.Job.{Job}
+use Rattle.farm_threads.specs.declared.given.Feeder.{Feeder}
+use Rattle.farm_threads.specs.declared.feeder.Fed.{Fed}
+use Rattle.farm_threads.specs.declared.feeder.FeedOf.{FeedOf}
+use Rattle.farm_threads.specs.declared.rack_feeders.RackFeeders.{RackFeeders}
+use Rattle.farm_threads.specs.Feed.{LeftBy}
+use Rattle.farm_threads.specs.Threads.{FeedersJoined, feeders_of}
 use Rattle.farm_core.specs.Ready.{Given, started_of, all_given, ends_given, as_new, AreEndsOf}
 
 abbrev FeederHandle : Type 0

@@ -7,12 +7,12 @@ use Rattle.farm_lanes.proofs.Opens.{popped_put, popped_take}
 use Rattle.farm_lanes.specs.LaneEnds.{LaneName, PutView, TakeView, new_take, AreNewPutEnds, AreNewEnds}
 use Rattle.list_members.specs.Lists.{Each}
 use Rattle.farm_orders.specs.declared.orders.Order.{Order}
-use Rattle.farm_core.specs.declared.jobs.Job.{Job}
-use Rattle.farm_core.specs.declared.threads.given.WorkerEnds.{WorkerEnds}
-use Rattle.farm_core.specs.declared.threads.rack_feeders.RackRoom.{RackRoom}
+use Rattle.farm_threads.specs.declared.jobs.Job.{Job}
+use Rattle.farm_threads.specs.declared.given.WorkerEnds.{WorkerEnds}
+use Rattle.farm_threads.specs.declared.rack_feeders.RackRoom.{RackRoom}
 use Rattle.farm_core.specs.declared.taken.Room.{Room}
-use Rattle.farm_core.specs.Boards.{HoldsNothing}
-use Rattle.farm_core.specs.Replies.{Replied}
+use Rattle.farm_threads.specs.Boards.{HoldsNothing}
+use Rattle.farm_threads.specs.Replies.{Replied}
 use Rattle.farm_core.specs.Ready.{AreAllGiven, ends_given, rooms_of, IsReady}
 use Rattle.farm_orders.proofs.Members.{map_length}
 use Rattle.farm_core.proofs.Starts.{mapped_length}

@@ -7,7 +7,7 @@ use Rattle.list_members.proofs.Lists.{at_back, at_front, at_snoc_or}
 use Rattle.farm_lanes.proofs.Opens.{popped_put}
 use Rattle.farm_lanes.specs.LaneEnds.{LaneName, PutView, TakeView, IsUnusedPut, AreNewPutEnds, AreNewEnds}
 use Rattle.list_members.specs.Lists.{Each, EachAt}
-use Rattle.farm_core.specs.declared.jobs.Job.{Job}
+use Rattle.farm_threads.specs.declared.jobs.Job.{Job}
 
 module _ {A : Type 0} where
   -- the last of a list, those before it, and one in the middle

@@ -2,10 +2,10 @@
 use Rattle.std.proofs.Common.{◌≡◌, ℕ, ◌<◌, List, ap, ◌∙◌, get_or}
 use Rattle.std.specs.List.{All}
 use Rattle.std.proofs.lemmas.Nat.{div-mul-add, mod-mul-add}
-use Rattle.farm_core.specs.declared.jobs.Job.{Job}
-use Rattle.farm_core.specs.declared.jobs.Job.TheVariants.{Solve, Stop}
-use Rattle.farm_core.specs.Jobs.{IsOfSlot, IsOfFeed}
-use Rattle.farm_core.specs.RunFeeds.{slot_of, slot_rack, slot_feed}
+use Rattle.farm_threads.specs.declared.jobs.Job.{Job}
+use Rattle.farm_threads.specs.declared.jobs.Job.TheVariants.{Solve, Stop}
+use Rattle.farm_threads.specs.Jobs.{IsOfSlot, IsOfFeed}
+use Rattle.farm_threads.specs.RunFeeds.{slot_of, slot_rack, slot_feed}
 
 rack_is : (rack feed : ℕ) → feed < 4 → slot_rack (slot_of rack feed) ≡ rack
 unfolding slot_of slot_rack

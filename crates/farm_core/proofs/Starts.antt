@@ -8,17 +8,17 @@ use Rattle.list_members.proofs.Lists.{at_map, at_snoc_or}
 use Rattle.farm_lanes.specs.LaneEnds.{PutView, TakeView, new_put}
 use Rattle.farm_lanes.specs.LaneRecord.{values}
 use Rattle.farm_orders.specs.declared.orders.Order.{Order}
-use Rattle.farm_core.specs.declared.jobs.Job.{Job}
-use Rattle.farm_core.specs.declared.threads.worker.Worked.{Worked}
-use Rattle.farm_core.specs.declared.threads.rack_feeders.RackFeeders.{RackFeeders}
+use Rattle.farm_threads.specs.declared.jobs.Job.{Job}
+use Rattle.farm_threads.specs.declared.worker.Worked.{Worked}
+use Rattle.farm_threads.specs.declared.rack_feeders.RackFeeders.{RackFeeders}
 use Rattle.farm_core.specs.declared.taken.Room.{Room}
-use Rattle.farm_core.specs.declared.threads.worker.WorkOf.{WorkOf}
-use Rattle.farm_core.specs.declared.replies.CollectFault.{CollectFault}
-use Rattle.farm_core.specs.Replies.{Replied}
-use Rattle.farm_core.specs.Boards.{Held, HasHeld}
-use Rattle.farm_core.specs.Jobs.{HasPutStops}
-use Rattle.farm_core.specs.Settled.{HasCleared, HasJoined, HavePut}
-use Rattle.farm_core.specs.Threads.{ends_of, feeders_of, WorkersJoined}
+use Rattle.farm_threads.specs.declared.worker.WorkOf.{WorkOf}
+use Rattle.farm_threads.specs.declared.replies.CollectFault.{CollectFault}
+use Rattle.farm_threads.specs.Replies.{Replied}
+use Rattle.farm_threads.specs.Boards.{Held, HasHeld}
+use Rattle.farm_threads.specs.Jobs.{HasPutStops}
+use Rattle.farm_threads.specs.Settled.{HasCleared, HasJoined, HavePut}
+use Rattle.farm_threads.specs.Threads.{ends_of, feeders_of, WorkersJoined}
 use Rattle.farm_core.specs.Ready.{Given, AreAllFeeders, AreAllGiven, AreEndsOf, HavePutRacks, all_given, as_new, ends_given, rooms_of}
 use Rattle.farm_core.specs.Ready.{started_of, IsReady}
 use Rattle.farm_orders.proofs.Members.{map_length}

@@ -4,8 +4,8 @@ use mathlib.Core.Option.{some-ne-none}
 use Rattle.farm_lanes.specs.declared.lane.item.Item.{Item}
 use Rattle.farm_lanes.specs.LaneEnds.{PutView, with_put, IsUnusedPut}
 use Rattle.list_members.proofs.Lists.{each_snoc}
-use Rattle.farm_core.specs.declared.jobs.Job.{Job}
-use Rattle.farm_core.specs.Jobs.{AsksNothing, HasPutStops}
+use Rattle.farm_threads.specs.declared.jobs.Job.{Job}
+use Rattle.farm_threads.specs.Jobs.{AsksNothing, HasPutStops}
 
 pub stops_begin : (stops : PutView Job) → IsUnusedPut stops → HasPutStops stops stops
 stops_begin stops unused = record { put = []; stops_is = unused; nothing = λ k x at. absurd (some-ne-none x (sym at)) }

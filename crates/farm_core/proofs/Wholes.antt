@@ -9,13 +9,13 @@ use Rattle.farm_lanes.proofs.Values.{values-append}
 use Rattle.farm_lanes.specs.declared.lane.item.Item.TheVariants.{End}
 use Rattle.farm_lanes.specs.LaneRecord.{values}
 use Rattle.farm_lanes.specs.LaneEnds.{LaneName, PutView, TakeView, new_put, new_take}
-use Rattle.farm_core.specs.declared.threads.given.WorkerEnds.{WorkerEnds}
-use Rattle.farm_core.specs.declared.jobs.Job.{Job}
-use Rattle.farm_core.specs.declared.threads.worker.Worked.{Worked}
-use Rattle.farm_core.specs.Replies.{Replied}
-use Rattle.farm_core.specs.declared.threads.worker.WorkOf.{WorkOf}
-use Rattle.farm_core.specs.Jobs.{AreReplies, HasWorked, HasAnswered}
-use Rattle.farm_core.specs.Threads.{WorkersJoined, AreWorkerEnds, ends_of}
+use Rattle.farm_threads.specs.declared.given.WorkerEnds.{WorkerEnds}
+use Rattle.farm_threads.specs.declared.jobs.Job.{Job}
+use Rattle.farm_threads.specs.declared.worker.Worked.{Worked}
+use Rattle.farm_threads.specs.Replies.{Replied}
+use Rattle.farm_threads.specs.declared.worker.WorkOf.{WorkOf}
+use Rattle.farm_threads.specs.Jobs.{AreReplies, HasWorked, HasAnswered}
+use Rattle.farm_threads.specs.Threads.{WorkersJoined, AreWorkerEnds, ends_of}
 use Rattle.farm_orders.proofs.Members.{there}
 use Rattle.farm_core.proofs.Joins.{answered_all}
 

@@ -1,14 +1,7 @@
 pub use Rattle.farm_orders.specs.Limits
 pub use Rattle.farm_orders.specs.Orders
 pub use Rattle.farm_orders.specs.FedLists
-pub mod Expected
-pub mod RunFeeds
-pub mod Merge
-pub mod Replies
-pub mod Faults
-pub mod Boards
-pub mod Jobs
-pub mod Feed
-pub mod Settled
-pub mod Threads
+pub use Rattle.farm_threads.specs.Expected
+pub use Rattle.farm_threads.specs.Merge
+pub use Rattle.farm_threads.specs.Replies
 pub mod Ready

@@ -7,16 +7,16 @@ use Rattle.farm_orders.specs.declared.orders.Order.{Order}
 use Rattle.farm_core.specs.declared.taken.gates.RackSeats.{RackSeats}
 use Rattle.std.specs.List.{flat_map}
 use Rattle.farm_lanes.specs.LaneEnds.{PutView, new_put, LaneName, AreNewPutEnds, new_take}
-use Rattle.farm_core.specs.declared.jobs.Job.{Job}
-use Rattle.farm_core.specs.declared.threads.given.Feeder.{Feeder}
-use Rattle.farm_core.specs.declared.threads.rack_feeders.RackFeeders.{RackFeeders}
-use Rattle.farm_core.specs.declared.threads.rack_feeders.RackRoom.{RackRoom}
-use Rattle.farm_core.specs.Threads.{AreRackFeeders, feeders_of, AreWorkerEnds, ends_of}
-use Rattle.farm_core.specs.Settled.{HavePut}
+use Rattle.farm_threads.specs.declared.jobs.Job.{Job}
+use Rattle.farm_threads.specs.declared.given.Feeder.{Feeder}
+use Rattle.farm_threads.specs.declared.rack_feeders.RackFeeders.{RackFeeders}
+use Rattle.farm_threads.specs.declared.rack_feeders.RackRoom.{RackRoom}
+use Rattle.farm_threads.specs.Threads.{AreRackFeeders, feeders_of, AreWorkerEnds, ends_of}
+use Rattle.farm_threads.specs.Settled.{HavePut}
 use Rattle.farm_core.specs.declared.taken.Room.{Room}
 use Rattle.farm_core.specs.declared.threads.all.Started.{Started}
-use Rattle.farm_core.specs.Replies.{Replied}
-use Rattle.farm_core.specs.Boards.{HoldsNothing}
+use Rattle.farm_threads.specs.Replies.{Replied}
+use Rattle.farm_threads.specs.Boards.{HoldsNothing}
 use Rattle.farm_orders.specs.Limits.{all_feeds_limit, rack_limit, worker_limit}
 
 -- a new gate with so many seats and rights, and these are they, with room for as many feeders

@@ -1,23 +1,19 @@
 //! The farm: feeders, workers and a collector over two lanes.
 ghost use Rattle.std.specs.Prelude.{◌≡◌, IfOk, map};
-ghost use Rattle.farm_core.specs.Expected.{AreExpected};
-ghost use Rattle.farm_core.specs.Merge.{AreAllMergedAnswers};
-ghost use Rattle.farm_core.specs.Boards.{AreMergedRows};
+ghost use Rattle.farm_threads.specs.Expected.{AreExpected};
+ghost use Rattle.farm_threads.specs.Merge.{AreAllMergedAnswers};
+ghost use Rattle.farm_threads.specs.Boards.{AreMergedRows};
 ghost use Rattle.farm_orders.specs.FedLists.{one_each};
 ghost use Rattle.farm_core.specs.Ready.{IsReady};
 
-use crate::lists::Lists;
-use crate::pause::Pause;
-use crate::replies::board::Board;
 use crate::settling::settle_all;
-use crate::slots::SlotPause;
 use crate::taken::gates::gates_for;
 use crate::taken::space::Space;
 use crate::taken::{Room, room_for};
 use crate::threads::all::{Started, Starts, end_all, join_all, start_all};
 use crate::threads::collecting::{Cleared, start_collector};
-use crate::threads::{Refusals, Shared};
 use farm_orders::{FarmError, Feeds, Racks, Settings};
+use farm_threads::{Board, Lists, Pause, Refusals, Shared, SlotPause};
 use lrc_code::Outcome;
 use std::alloc::Global;
 use std::sync::Wait;

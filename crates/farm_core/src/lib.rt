@@ -16,13 +16,8 @@
 #![tactic(auto)]
 
 mod farm;
-mod jobs;
-mod lists;
 pub mod merge_laws;
-mod pause;
-mod replies;
 mod settling;
-mod slots;
 mod taken;
 mod threads;
 
@@ -31,9 +26,7 @@ pub use farm_orders::{
     FarmError, Feeds, FeedsFault, Order, RackList, Racks, Settings, SettingsFault, TooManyOrders,
     TooManyRacks, limits,
 };
-pub use jobs::Job;
-pub use pause::{NoPause, Pause};
-pub use replies::collector::Collector;
-pub use replies::{CollectFault, FinishFault, Reply, ReplyResult};
-pub use threads::feeder::{Fed, feed};
-pub use threads::worker::{Worked, work};
+pub use farm_threads::{
+    CollectFault, Collector, Fed, FinishFault, Job, NoPause, Pause, Reply, ReplyResult, Worked,
+    feed, work,
+};

@@ -1,5 +1,5 @@
 //! Laws of merges of feeds: each function's contract is one, over the definitions alone.
-ghost use Rattle.farm_core.specs.Merge.{MergeOfOneIsIt, AnswersOfOneAreIts, CloseEndsAll, PiecesJoin};
+ghost use Rattle.farm_threads.specs.Merge.{MergeOfOneIsIt, AnswersOfOneAreIts, CloseEndsAll, PiecesJoin};
 
 /// A merge of one feed is what is before its close.
 pub fn merge_of_one_is_it()

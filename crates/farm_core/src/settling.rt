@@ -1,15 +1,11 @@
 //! What follows the joins: what is left in the lanes is taken, the lanes are settled, and the board is given.
 ghost use Rattle.std.specs.Prelude.{◌≡◌, ◌≤◌, ◌<◌, [], length, vec_capacity};
 ghost use Rattle.std.specs.List.{sum_by};
-ghost use Rattle.farm_core.specs.Boards.{AreMergedRows};
-ghost use Rattle.farm_core.specs.Settled.{TookLeft, TookReplies, HasOneEach, HasJoined};
+ghost use Rattle.farm_threads.specs.Boards.{AreMergedRows};
+ghost use Rattle.farm_threads.specs.Settled.{TookLeft, TookReplies, HasOneEach, HasJoined};
 
-use crate::jobs::Job;
-use crate::pause::Pause;
-use crate::replies::Reply;
-use crate::replies::board::{Board, HandedIn, hand_in};
-use crate::threads::worker::reply_to;
 use farm_lanes::{EndedPut, Item, TakeEnd, settle};
+use farm_threads::{Board, HandedIn, Job, Pause, Reply, hand_in, reply_to};
 use std::alloc::Global;
 use std::sync::Wait;
 

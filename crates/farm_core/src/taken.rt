@@ -3,28 +3,24 @@ ghost use Rattle.std.specs.Prelude.{◌≡◌, ◌+◌, ◌≤◌, ◌<◌, [], 
 ghost use Rattle.std.specs.Vec.Iter.{into_iter_items, into_iter_len};
 ghost use Rattle.list_members.specs.Lists.{Each};
 ghost use Rattle.farm_lanes.specs.LaneEnds.{IsUnusedPut};
-ghost use Rattle.farm_core.specs.declared.jobs.Job.{Job};
+ghost use Rattle.farm_threads.specs.declared.jobs.Job.{Job};
 ghost use Rattle.farm_orders.specs.FedLists.{all_feeds_of};
-ghost use Rattle.farm_core.specs.RunFeeds.{lists_of};
+ghost use Rattle.farm_threads.specs.RunFeeds.{lists_of};
 ghost use Rattle.farm_core.specs.Ready.{IsNewGate, AreGates, AreAllGiven, ends_given, rooms_of, IsReady};
 ghost use Rattle.farm_orders.specs.Limits.{all_feeds_limit, feed_limit, rack_limit};
-ghost use Rattle.farm_core.specs.Threads.{AreRackFeeders};
+ghost use Rattle.farm_threads.specs.Threads.{AreRackFeeders};
 
 pub(crate) mod gates;
 pub(crate) mod lanes;
 pub(crate) mod space;
 
-use crate::jobs::Job;
-use crate::lists::Lists;
-use crate::replies::board::Board;
 use crate::taken::gates::RackSeats;
 use crate::taken::lanes::{reply_lane, request_lane, worker_ends};
 use crate::taken::space::{Space, space_for};
 use crate::threads::collecting::Desk;
-use crate::threads::given::{Feeder, WorkerEnds};
-use crate::threads::rack_feeders::{FeederSpace, RackRoom};
 use farm_lanes::{Gate, PutEnd};
 use farm_orders::{RackList, Settings};
+use farm_threads::{Board, Feeder, FeederSpace, Job, Lists, RackRoom, WorkerEnds};
 use std::alloc::{AllocError, Global};
 use std::vec::IntoIter;
 

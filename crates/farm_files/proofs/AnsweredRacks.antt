@@ -7,7 +7,7 @@ use Rattle.lrc_code.specs.declared.outcomes.Outcome.{Outcome}
 use Rattle.farm_core.specs.Merge.{AreMergedAnswers}
 use Rattle.farm_orders.specs.Orders.{before_close}
 use Rattle.farm_orders.specs.declared.orders.Order.{Order}
-use Rattle.farm_core.proofs.Works.{zip_append}
+use Rattle.farm_threads.proofs.Works.{zip_append}
 use Rattle.farm_files.specs.AnsweredRacks.{AreAnswered, all_requests}
 use Rattle.farm_shelves.specs.Files.{Shown}
 use Rattle.farm_reading.specs.Pairs.{zip_with}

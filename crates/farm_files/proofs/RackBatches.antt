@@ -14,7 +14,7 @@ use Rattle.farm_orders.specs.Orders.{HasClose, before_close}
 use Rattle.farm_orders.specs.declared.orders.Order.{Order}
 use Rattle.farm_orders.specs.declared.orders.Order.TheVariants.{Rebuild, Close}
 use Rattle.farm_core.proofs.Pieces.{are_open, close_ends_all, have_comes, have_stays, pieces_join}
-use Rattle.farm_core.proofs.Works.{zip_append}
+use Rattle.farm_threads.proofs.Works.{zip_append}
 use Rattle.farm_files.specs.AnsweredRacks.{AreAnswered, IsAnsweredOnce, rack_requests}
 use Rattle.farm_shelves.specs.Files.{Files, Shown}
 use Rattle.farm_lists.specs.Requests.{RequestRead, listed_before_close, read_of}

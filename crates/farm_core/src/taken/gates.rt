@@ -1,12 +1,11 @@
 //! The gates of racks, and room for their feeders.
 ghost use Rattle.std.specs.Prelude.{IfOk};
 ghost use Rattle.farm_lanes.specs.GateView.{IsRightCount, IsSeatCount};
-ghost use Rattle.farm_core.specs.RunFeeds.{lists_of};
+ghost use Rattle.farm_threads.specs.RunFeeds.{lists_of};
 ghost use Rattle.farm_core.specs.Ready.{IsNewGate, AreGates};
 
-use crate::lists::Lists;
-use crate::threads::rack_feeders::{FeederSpace, feeder_space_for};
 use farm_lanes::{Gate, GateError, Right, Seat};
+use farm_threads::{FeederSpace, Lists, feeder_space_for};
 use std::alloc::{AllocError, Global};
 
 // A new gate, with one seat and one right for each of so many feeds. Within the limits of gates only memory can be refused.

@@ -3,13 +3,11 @@ ghost use Rattle.std.specs.Prelude.{◌≡◌, ◌+◌, ◌≤◌, [], ◌∷◌
 ghost use Rattle.list_members.specs.Lists.{Each};
 ghost use Rattle.farm_lanes.specs.LaneEnds.{LaneName, AreNewEnds, IsCapacity, IsPutterCount, IsTakerCount, IsUnusedPut, IsUnusedTake};
 ghost use Rattle.farm_lanes.specs.LaneEnds.{new_take};
-ghost use Rattle.farm_core.specs.declared.jobs.Job.{Job};
+ghost use Rattle.farm_threads.specs.declared.jobs.Job.{Job};
 ghost use Rattle.farm_orders.specs.Limits.{all_feeds_limit};
 
-use crate::jobs::Job;
-use crate::replies::Reply;
-use crate::threads::given::WorkerEnds;
 use farm_lanes::{Lane, LaneError, PutEnd, TakeEnd};
+use farm_threads::{Job, Reply, WorkerEnds};
 use std::alloc::{AllocError, Global};
 
 // The ends of a new lane. Within the limits of lanes only memory can be refused.

@@ -2,12 +2,9 @@
 ghost use Rattle.std.specs.Prelude.{◌≡◌, ◌+◌, ◌*◌, ◌≤◌, ◌<◌, [], IfOk, vec_capacity};
 ghost use Rattle.farm_orders.specs.Limits.{feed_limit, rack_limit};
 
-use crate::jobs::Job;
-use crate::replies::Reply;
-use crate::threads::rack_feeders::RackFeeders;
-use crate::threads::worker::WorkerHandle;
 use farm_lanes::{EndedPut, TakeEnd};
 use farm_orders::limits::MOST_FEEDS;
+use farm_threads::{Job, RackFeeders, Reply, WorkerHandle};
 use std::alloc::{AllocError, Global};
 
 /// Empty lists with room for the ends that so many racks and workers give back.

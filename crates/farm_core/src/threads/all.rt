@@ -2,25 +2,21 @@
 ghost use Rattle.std.specs.Prelude.{◌≡◌, ◌<◌, ◌≤◌, [], true, IfSome, length, vec_len, vec_capacity, ◌+◌, ◌*◌, false, IfNone};
 ghost use Rattle.farm_lanes.specs.LaneEnds.{IsUnusedPut};
 ghost use Rattle.farm_core.specs.declared.taken.Room.{Room};
-ghost use Rattle.farm_core.specs.Settled.{HasJoined};
+ghost use Rattle.farm_threads.specs.Settled.{HasJoined};
 ghost use Rattle.farm_orders.specs.Limits.{feed_limit, worker_limit};
 ghost use Rattle.farm_core.specs.Ready.{rooms_of, started_of, IsReady, AreStarted, HavePutRacks, AreEndsOf, all_given};
-ghost use Rattle.farm_core.specs.Threads.{ends_of};
-ghost use Rattle.farm_core.specs.Jobs.{HasPutStops};
+ghost use Rattle.farm_threads.specs.Threads.{ends_of};
+ghost use Rattle.farm_threads.specs.Jobs.{HasPutStops};
 
-use crate::jobs::Job;
-use crate::pause::Pause;
-use crate::replies::Reply;
 use crate::settling::Joined;
 use crate::taken::space::EndSpace;
-use crate::threads::Shared;
 use crate::threads::closing::close_rack;
 use crate::threads::collecting::{Cleared, CollectorHandle};
-use crate::threads::feeder::{FeederHandle, end_feeders, join_feeders, start_feeders};
-use crate::threads::given::WorkerEnds;
-use crate::threads::rack_feeders::{RackFeeders, RackRoom};
-use crate::threads::worker::{WorkerHandle, end_worker, join_workers, start_workers, take_mark};
 use farm_lanes::{EndedPut, PutEnd, TakeEnd};
+use farm_threads::{
+    FeederHandle, Job, Pause, RackFeeders, RackRoom, Reply, Shared, WorkerEnds, WorkerHandle,
+    end_feeders, end_worker, join_feeders, join_workers, start_feeders, start_workers, take_mark,
+};
 use std::sync::Wait;
 use std::thread::{Scope, Threads};
 

@@ -3,12 +3,11 @@ ghost use Rattle.std.specs.Prelude.{◌≡◌, ◌+◌, ◌<◌, ◌≤◌, ◌+
 ghost use Rattle.farm_lanes.specs.GateRecord.{IsSound};
 ghost use Rattle.list_members.specs.Lists.{Each};
 ghost use Rattle.farm_orders.specs.declared.orders.Order.{Order};
-ghost use Rattle.farm_core.specs.declared.threads.feeder.Fed.{Fed as TheFed};
-ghost use Rattle.farm_core.specs.Feed.{right_back, IsJoint, IsOfGate, AreFed, HasDrawn};
+ghost use Rattle.farm_threads.specs.declared.feeder.Fed.{Fed as TheFed};
+ghost use Rattle.farm_threads.specs.Feed.{right_back, IsJoint, IsOfGate, AreFed, HasDrawn};
 
-use crate::jobs::Job;
-use crate::threads::feeder::Fed;
 use farm_lanes::{EndedPut, Gate, Right, Seat};
+use farm_threads::{Fed, Job};
 
 // Splits nothing off a seat and joins it again, which changes nothing: the gate's contract then says that the seat's record is sound.
 fn learn_sound(gate: &Gate, seat: Seat) -> Seat

@@ -1,14 +1,11 @@
 //! The collector's thread: it puts the replies on the board until every worker's end has come.
 ghost use Rattle.std.specs.Prelude.{◌≡◌, true, IfOk};
 ghost use Rattle.farm_lanes.specs.LaneEnds.{IsUnusedTake};
-ghost use Rattle.farm_core.specs.Boards.{HoldsNothing};
-ghost use Rattle.farm_core.specs.Settled.{HasCleared};
+ghost use Rattle.farm_threads.specs.Boards.{HoldsNothing};
+ghost use Rattle.farm_threads.specs.Settled.{HasCleared};
 
-use crate::pause::Pause;
-use crate::replies::Reply;
-use crate::replies::board::{Board, HandedIn, hand_in};
-use crate::threads::{Shared, start_thread};
 use farm_lanes::{Item, TakeEnd};
+use farm_threads::{Board, HandedIn, Pause, Reply, Shared, hand_in, start_thread};
 use std::snapshot::Snapshot;
 use std::sync::Wait;
 use std::sync::atomic::Ordering;
@@ -62,7 +59,7 @@ fn clear<'a, R: Wait>(rt: &R, desk: Desk<'a>) -> Cleared<'a>
 pub(crate) struct ClearOf<'a>(pub Snapshot<Desk<'a>>);
 
 impl<'a> Promise<Cleared<'a>> for ClearOf<'a> {
-    ghost use Rattle.farm_core.specs.Settled.{HasCleared};
+    ghost use Rattle.farm_threads.specs.Settled.{HasCleared};
 
     ghost kept_by = { λ p c. HasCleared p.0.value.board.racks p.0.value.replies c.all.board c.all.fault c.replies };
 }

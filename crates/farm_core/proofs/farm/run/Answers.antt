@@ -2,9 +2,9 @@ use Rattle.std.proofs.Common.{◌∙◌, List, map, subst, Vec, Global, Option}
 use Rattle.std.specs.List.{AllZip}
 use Rattle.lrc_code.specs.declared.outcomes.Outcome.{Outcome}
 use Rattle.farm_orders.specs.declared.orders.Order.{Order}
-use Rattle.farm_core.specs.Replies.{Entry}
-use Rattle.farm_core.specs.RunFeeds.{slot_feed}
-use Rattle.farm_core.specs.Boards.{filled, IsOutcomeOf, AreMergedRows}
+use Rattle.farm_threads.specs.Replies.{Entry}
+use Rattle.farm_threads.specs.RunFeeds.{slot_feed}
+use Rattle.farm_threads.specs.Boards.{filled, IsOutcomeOf, AreMergedRows}
 use Rattle.farm_core.proofs.Merged.{expected_answers, zip_map}
 use Rattle.farm_core.proofs.farm.run.Goals as goal
 

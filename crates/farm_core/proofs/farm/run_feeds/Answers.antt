@@ -2,8 +2,8 @@ use Rattle.std.proofs.Common.{◌∙◌, ℕ, List, map, subst, Vec, Global, Opt
 use Rattle.std.specs.List.{AllZip}
 use Rattle.lrc_code.specs.declared.outcomes.Outcome.{Outcome}
 use Rattle.farm_orders.specs.declared.orders.Order.{Order}
-use Rattle.farm_core.specs.Replies.{Entry}
-use Rattle.farm_core.specs.Boards.{filled, IsOutcomeOf, AreMergedRows}
+use Rattle.farm_threads.specs.Replies.{Entry}
+use Rattle.farm_threads.specs.Boards.{filled, IsOutcomeOf, AreMergedRows}
 use Rattle.farm_core.proofs.Merged.{merged_answers, zip_map}
 use Rattle.farm_core.proofs.farm.run_feeds.Goals as goal
 

@@ -2,8 +2,8 @@ use Rattle.std.proofs.Common.{arith, ◌∙◌, [], ◌∷◌, ◌++◌, List, l
 use Rattle.std.specs.List.{sum_by}
 use Rattle.farm_lanes.specs.LaneEnds.{PutView, TakeView, AreAllEnds, puts_of, takes_of}
 use Rattle.farm_lanes.specs.LaneSettled.{IsSettled}
-use Rattle.farm_core.specs.declared.jobs.Job.{Job}
-use Rattle.farm_core.specs.Replies.{Replied}
+use Rattle.farm_threads.specs.declared.jobs.Job.{Job}
+use Rattle.farm_threads.specs.Replies.{Replied}
 use Rattle.farm_core.proofs.Clears.{job_ends_whole, desk_whole, finishes}
 use Rattle.farm_core.proofs.settling.settle_all.Goals as goal
 

@@ -1,10 +1,10 @@
 use Rattle.std.proofs.Common.{◌+◌, ◌∙◌, [], ◌∷◌, ap, sym, subst, Option}
 use Rattle.farm_lanes.specs.declared.lane.item.Item.TheVariants.{Value, End}
 use Rattle.farm_lanes.specs.LaneEnds.{with_taken}
-use Rattle.farm_core.specs.declared.jobs.Job.TheVariants.{Solve, Stop}
-use Rattle.farm_core.specs.declared.replies.CollectFault.{CollectFault}
-use Rattle.farm_core.specs.Boards.{Held}
-use Rattle.farm_core.specs.Settled.{TookLeft}
+use Rattle.farm_threads.specs.declared.jobs.Job.TheVariants.{Solve, Stop}
+use Rattle.farm_threads.specs.declared.replies.CollectFault.{CollectFault}
+use Rattle.farm_threads.specs.Boards.{Held}
+use Rattle.farm_threads.specs.Settled.{TookLeft}
 use Rattle.farm_core.proofs.Clears.{left_begins, left_next, nothing_more}
 use Rattle.farm_core.proofs.settling.take_left.Goals as goal
 use Rattle.farm_core.proofs.settling.take_left.Goals.{in-Value-default-default-Solve, in-Value-default-default-Stop, in-End}

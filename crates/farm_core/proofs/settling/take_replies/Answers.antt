@@ -1,9 +1,9 @@
 use Rattle.std.proofs.Common.{◌+◌, ◌∙◌, ap, sym, subst, Option}
 use Rattle.farm_lanes.specs.declared.lane.item.Item.TheVariants.{Value, End}
 use Rattle.farm_lanes.specs.LaneEnds.{with_taken}
-use Rattle.farm_core.specs.declared.replies.CollectFault.{CollectFault}
-use Rattle.farm_core.specs.Boards.{Held}
-use Rattle.farm_core.specs.Settled.{TookReplies}
+use Rattle.farm_threads.specs.declared.replies.CollectFault.{CollectFault}
+use Rattle.farm_threads.specs.Boards.{Held}
+use Rattle.farm_threads.specs.Settled.{TookReplies}
 use Rattle.farm_core.proofs.Clears.{replies_next, nothing_more}
 use Rattle.farm_core.proofs.settling.take_replies.Goals as goal
 use Rattle.farm_core.proofs.settling.take_replies.Goals.{in-Value, in-End}

@@ -1,6 +1,6 @@
 use Rattle.std.proofs.Common.{rules, arith, ◌≡◌, ◌+◌, length, drop}
 use Rattle.farm_orders.specs.FedLists.{all_feeds_of}
-use Rattle.farm_core.specs.RunFeeds.{lists_of}
+use Rattle.farm_threads.specs.RunFeeds.{lists_of}
 use Rattle.farm_core.proofs.RackRooms.{feeds_rest, feeds_past}
 use Rattle.farm_core.proofs.taken.all_feeds.Goals as goal
 

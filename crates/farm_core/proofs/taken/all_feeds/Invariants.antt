@@ -1,6 +1,6 @@
 use Rattle.std.proofs.Common.{◌≡◌, ◌≤◌, ◌+◌, ◌*◌, drop}
 use Rattle.farm_orders.specs.FedLists.{all_feeds_of}
-use Rattle.farm_core.specs.RunFeeds.{lists_of}
+use Rattle.farm_threads.specs.RunFeeds.{lists_of}
 use Rattle.farm_core.proofs.taken.all_feeds.Given as goal
 
 -- the feeds so far, and those of the racks that are left

@@ -9,8 +9,8 @@ use Rattle.farm_lanes.specs.declared.gate.record.GateSize.{GateSize}
 use Rattle.farm_lanes.specs.GateView.{SeatView, opened, GateId}
 use Rattle.farm_lanes.specs.LaneEnds.{PutView, IsUnusedPut}
 use Rattle.list_members.specs.Lists.{Each, EachAt}
-use Rattle.farm_core.specs.declared.threads.given.Feeder.{Feeder}
-use Rattle.farm_core.specs.declared.jobs.Job.{Job}
+use Rattle.farm_threads.specs.declared.given.Feeder.{Feeder}
+use Rattle.farm_threads.specs.declared.jobs.Job.{Job}
 use Rattle.farm_core.proofs.Rooms.{each_last, each_rest, each_middle, each_at_snoc, mapped_snoc}
 use Rattle.farm_core.proofs.RackRooms.{each_replicate, got, share_enough, sum_same}
 use Rattle.farm_core.proofs.taken.rack_room.Goals as goal

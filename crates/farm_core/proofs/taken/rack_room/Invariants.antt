@@ -4,7 +4,7 @@ use mathlib.Core.Option.{some}
 use lib.ListN.{get_elem?}
 use Rattle.farm_lanes.specs.GateView.{opened}
 use Rattle.list_members.specs.Lists.{Each, EachAt}
-use Rattle.farm_core.specs.declared.threads.given.Feeder.{Feeder}
+use Rattle.farm_threads.specs.declared.given.Feeder.{Feeder}
 use Rattle.farm_core.proofs.taken.rack_room.Given as goal
 
 -- the feeders so far, and what is left of the ends, the seats and the rights

@@ -7,17 +7,17 @@ use lib.ListN.{get_elem?}
 use Rattle.list_members.proofs.Lists.{at_back, at_snoc_or}
 use Rattle.farm_lanes.specs.GateView.{GateName}
 use Rattle.farm_lanes.specs.LaneEnds.{PutView, IsUnusedPut}
-use Rattle.farm_core.specs.declared.threads.given.Feeder.{Feeder}
-use Rattle.farm_core.specs.declared.jobs.Job.{Job}
+use Rattle.farm_threads.specs.declared.given.Feeder.{Feeder}
+use Rattle.farm_threads.specs.declared.jobs.Job.{Job}
 use Rattle.farm_orders.specs.declared.orders.Order.{Order}
-use Rattle.farm_core.specs.declared.threads.rack_feeders.RackRoom.{RackRoom}
+use Rattle.farm_threads.specs.declared.rack_feeders.RackRoom.{RackRoom}
 use Rattle.farm_core.specs.declared.taken.gates.RackSeats.{RackSeats}
 use Rattle.farm_orders.specs.FedLists.{all_feeds_of}
-use Rattle.farm_core.specs.RunFeeds.{lists_of}
+use Rattle.farm_threads.specs.RunFeeds.{lists_of}
 use Rattle.farm_core.specs.Ready.{Given, ends_given, rooms_of}
-use Rattle.farm_core.specs.Threads.{AreRackFeeders}
+use Rattle.farm_threads.specs.Threads.{AreRackFeeders}
 use Rattle.farm_orders.proofs.Members.{map_length}
-use Rattle.farm_core.proofs.Middles.{whole_front}
+use Rattle.farm_threads.proofs.Middles.{whole_front}
 use Rattle.farm_core.proofs.Rooms.{mapped_snoc}
 use Rattle.farm_core.proofs.RackEnds.{ends_snoc}
 use Rattle.farm_core.proofs.RackRooms.{got, each_back, feeds_at, feeds_rest, feeds_past}

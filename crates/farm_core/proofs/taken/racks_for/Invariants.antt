@@ -4,9 +4,9 @@ use mathlib.Core.Option.{some}
 use lib.ListN.{get_elem?}
 use Rattle.farm_orders.specs.declared.orders.Order.{Order}
 use Rattle.farm_orders.specs.FedLists.{all_feeds_of}
-use Rattle.farm_core.specs.RunFeeds.{lists_of}
+use Rattle.farm_threads.specs.RunFeeds.{lists_of}
 use Rattle.farm_core.specs.Ready.{Given, ends_given, rooms_of}
-use Rattle.farm_core.specs.Threads.{AreRackFeeders}
+use Rattle.farm_threads.specs.Threads.{AreRackFeeders}
 use Rattle.farm_core.proofs.taken.racks_for.Given as goal
 
 -- the racks so far, and the ends that are left

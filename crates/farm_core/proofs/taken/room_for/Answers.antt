@@ -2,9 +2,9 @@ use Rattle.std.proofs.Common.{[], ◌∷◌, ◌++◌, ◌∙◌, refl, sym, sub
 use Rattle.std.proofs.lemmas.List.{length_push}
 use Rattle.farm_lanes.specs.LaneEnds.{IsUnusedPut, IsUnusedTake, PutView}
 use Rattle.std.specs.Prelude.{List}
-use Rattle.farm_core.specs.RunFeeds.{lists_of}
-use Rattle.farm_core.specs.Replies.{Replied}
-use Rattle.farm_core.specs.declared.threads.given.WorkerEnds.{WorkerEnds}
+use Rattle.farm_threads.specs.RunFeeds.{lists_of}
+use Rattle.farm_threads.specs.Replies.{Replied}
+use Rattle.farm_threads.specs.declared.given.WorkerEnds.{WorkerEnds}
 use Rattle.farm_orders.proofs.Members.{map_length}
 use Rattle.farm_core.proofs.Rooms.{front_unused}
 use Rattle.farm_core.proofs.Readies.{is_ready}

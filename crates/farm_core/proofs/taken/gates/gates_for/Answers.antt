@@ -6,9 +6,9 @@ use Rattle.farm_lanes.specs.GateView.{GateName}
 use Rattle.farm_orders.specs.declared.orders.Order.{Order}
 use Rattle.farm_core.specs.declared.taken.gates.RackSeats.{RackSeats}
 use Rattle.farm_core.specs.Ready.{IsNewGate}
-use Rattle.farm_core.specs.RunFeeds.{lists_of}
+use Rattle.farm_threads.specs.RunFeeds.{lists_of}
 use Rattle.farm_orders.proofs.Members.{place_is}
-use Rattle.farm_core.proofs.Joins.{snoc_old, snoc_new}
+use Rattle.farm_threads.proofs.Joined.{snoc_old, snoc_new}
 use Rattle.farm_core.proofs.taken.gates.gates_for.Goals as goal
 
 pub loop-rack-preserved : goal.loop-rack-preserved

@@ -5,7 +5,7 @@ use Rattle.farm_lanes.specs.GateView.{GateName}
 use Rattle.farm_orders.specs.declared.orders.Order.{Order}
 use Rattle.farm_core.specs.declared.taken.gates.RackSeats.{RackSeats}
 use Rattle.farm_core.specs.Ready.{IsNewGate}
-use Rattle.farm_core.specs.RunFeeds.{lists_of}
+use Rattle.farm_threads.specs.RunFeeds.{lists_of}
 use Rattle.farm_core.proofs.taken.gates.gates_for.Given as goal
 
 -- the gates so far are those of their racks

@@ -1,6 +1,6 @@
 use Rattle.std.proofs.Common.{List, subst}
 use Rattle.farm_lanes.specs.LaneEnds.{TakeView, AreNewEnds}
-use Rattle.farm_core.specs.Replies.{Replied}
+use Rattle.farm_threads.specs.Replies.{Replied}
 use Rattle.farm_core.proofs.Rooms.{only_last}
 use Rattle.farm_core.proofs.taken.lanes.reply_lane.Goals as goal
 

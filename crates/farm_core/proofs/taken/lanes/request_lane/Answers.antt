@@ -1,6 +1,6 @@
 use Rattle.std.proofs.Common.{◌+◌, List, subst}
 use Rattle.farm_lanes.specs.LaneEnds.{PutView, AreNewEnds}
-use Rattle.farm_core.specs.declared.jobs.Job.{Job}
+use Rattle.farm_threads.specs.declared.jobs.Job.{Job}
 use Rattle.farm_core.proofs.taken.lanes.request_lane.Goals as goal
 
 pub returns : goal.returns

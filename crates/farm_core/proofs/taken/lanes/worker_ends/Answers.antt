@@ -2,9 +2,9 @@ use Rattle.std.proofs.Common.{rules, ◌≡◌, ◌∙◌, List, ◌++◌, refl,
 use Rattle.list_members.proofs.Lists.{each_snoc}
 use Rattle.farm_lanes.specs.LaneEnds.{PutView, TakeView, IsUnusedPut, IsUnusedTake, new_take}
 use Rattle.list_members.specs.Lists.{Each}
-use Rattle.farm_core.specs.Replies.{Replied}
-use Rattle.farm_core.specs.declared.jobs.Job.{Job}
-use Rattle.farm_core.specs.declared.threads.given.WorkerEnds.{WorkerEnds}
+use Rattle.farm_threads.specs.Replies.{Replied}
+use Rattle.farm_threads.specs.declared.jobs.Job.{Job}
+use Rattle.farm_threads.specs.declared.given.WorkerEnds.{WorkerEnds}
 use Rattle.farm_core.proofs.Rooms.{each_last, each_rest, each_middle, mapped_snoc}
 use Rattle.farm_core.proofs.taken.lanes.worker_ends.Goals as goal
 

@@ -2,8 +2,8 @@ use Rattle.std.proofs.Common.{◌≡◌, ◌+◌, ◌≤◌, ◌++◌, map, vec_
 use Rattle.std.specs.Vec.Iter.{into_iter_items, into_iter_len}
 use Rattle.list_members.specs.Lists.{Each}
 use Rattle.farm_lanes.specs.LaneEnds.{LaneName, IsUnusedTake, new_take}
-use Rattle.farm_core.specs.declared.jobs.Job.{Job}
-use Rattle.farm_core.specs.declared.threads.given.WorkerEnds.{WorkerEnds}
+use Rattle.farm_threads.specs.declared.jobs.Job.{Job}
+use Rattle.farm_threads.specs.declared.given.WorkerEnds.{WorkerEnds}
 use Rattle.farm_core.proofs.taken.lanes.worker_ends.Given as goal
 
 abbrev pub invariant-loop-replies : goal.invariant-loop-replies

@@ -1,10 +1,10 @@
 use Rattle.std.proofs.Common.{arith, List, sym, subst}
 use Rattle.farm_lanes.specs.LaneEnds.{PutView}
 use Rattle.farm_lanes.specs.LaneRecord.{values}
-use Rattle.farm_core.specs.declared.jobs.Job.{Job}
+use Rattle.farm_threads.specs.declared.jobs.Job.{Job}
 use Rattle.farm_core.specs.declared.threads.collecting.Desk.{Desk}
-use Rattle.farm_core.specs.Jobs.{HasPutStops}
-use Rattle.farm_core.specs.Settled.{HasCleared, HasJoined}
+use Rattle.farm_threads.specs.Jobs.{HasPutStops}
+use Rattle.farm_threads.specs.Settled.{HasCleared, HasJoined}
 use Rattle.farm_core.proofs.Clears.{collected_racks}
 use Rattle.farm_core.proofs.Starts.{Handle, mapped_length, has_joined}
 use Rattle.farm_core.proofs.threads.all.join_all.Goals as goal

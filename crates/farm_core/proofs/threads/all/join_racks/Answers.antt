@@ -1,7 +1,7 @@
 use Rattle.std.proofs.Common.{rules, ◌∙◌, ◌++◌, ◌∷◌, List, [], map, vec_items, refl, sym, ap, subst, append_assoc}
 use Rattle.farm_lanes.specs.LaneEnds.{PutView}
-use Rattle.farm_core.specs.declared.jobs.Job.{Job}
-use Rattle.farm_core.specs.declared.threads.rack_feeders.RackFeeders.{RackFeeders}
+use Rattle.farm_threads.specs.declared.jobs.Job.{Job}
+use Rattle.farm_threads.specs.declared.rack_feeders.RackFeeders.{RackFeeders}
 use Rattle.farm_core.specs.Ready.{HavePutRacks, as_new}
 use Rattle.farm_core.proofs.Joins.{all_own, racks_none, racks_next}
 use Rattle.farm_core.proofs.RackEnds.{ends_next}

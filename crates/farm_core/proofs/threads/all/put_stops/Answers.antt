@@ -2,8 +2,8 @@ use Rattle.std.proofs.Common.{arith, ◌+◌, ◌∙◌, length, ap}
 use Rattle.std.proofs.lemmas.List.{length_push}
 use Rattle.farm_lanes.specs.declared.lane.item.Item.TheVariants.{Value, End}
 use Rattle.farm_lanes.specs.LaneEnds.{PutView}
-use Rattle.farm_core.specs.declared.jobs.Job.{Job}
-use Rattle.farm_core.specs.declared.jobs.Job.TheVariants.{Stop}
+use Rattle.farm_threads.specs.declared.jobs.Job.{Job}
+use Rattle.farm_threads.specs.declared.jobs.Job.TheVariants.{Stop}
 use Rattle.farm_core.proofs.Stops.{stops_begin, stops_more}
 use Rattle.farm_core.proofs.threads.all.put_stops.Goals as goal
 

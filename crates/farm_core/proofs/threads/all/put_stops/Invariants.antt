@@ -1,5 +1,5 @@
 use Rattle.std.proofs.Common.{◌≡◌, length}
-use Rattle.farm_core.specs.Jobs.{HasPutStops}
+use Rattle.farm_threads.specs.Jobs.{HasPutStops}
 use Rattle.farm_core.proofs.threads.all.put_stops.Given as goal
 
 -- nothing was put so far that asks for a reply

@@ -4,10 +4,10 @@ use Rattle.std.specs.Prelude.{Option}
 use mathlib.Core.Option.{some}
 use lib.ListN.{get_elem?}
 use Rattle.list_members.proofs.Lists.{at_map}
-use Rattle.farm_core.specs.declared.threads.given.Feeder.{Feeder}
-use Rattle.farm_core.specs.declared.threads.feeder.Fed.{Fed}
-use Rattle.farm_core.specs.declared.threads.feeder.FeedOf.{FeedOf}
-use Rattle.farm_core.specs.Threads.{feeders_of}
+use Rattle.farm_threads.specs.declared.given.Feeder.{Feeder}
+use Rattle.farm_threads.specs.declared.feeder.Fed.{Fed}
+use Rattle.farm_threads.specs.declared.feeder.FeedOf.{FeedOf}
+use Rattle.farm_threads.specs.Threads.{feeders_of}
 use Rattle.farm_orders.proofs.Members.{map_length}
 use Rattle.farm_core.proofs.threads.all.start_racks.Goals as goal
 

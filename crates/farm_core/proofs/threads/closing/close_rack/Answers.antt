@@ -5,11 +5,11 @@ use Rattle.farm_lanes.specs.GateView.{SeatView, GateId}
 use Rattle.farm_lanes.specs.LaneEnds.{PutView}
 use Rattle.list_members.specs.Lists.{Each}
 use Rattle.farm_lanes.specs.SeatChanges.{joined}
-use Rattle.farm_core.specs.declared.threads.feeder.Fed.{Fed}
-use Rattle.farm_core.specs.declared.jobs.Job.{Job}
-use Rattle.farm_core.specs.Feed.{right_back, IsJoint, IsOfGate}
+use Rattle.farm_threads.specs.declared.feeder.Fed.{Fed}
+use Rattle.farm_threads.specs.declared.jobs.Job.{Job}
+use Rattle.farm_threads.specs.Feed.{right_back, IsJoint, IsOfGate}
 use Rattle.farm_core.proofs.Joints.{rights_of, rights_snoc, rights_own, all_back, map_snoc, joint_more, joint_turn, rack_drawn}
-use Rattle.farm_core.proofs.Middles.{each_middle, whole_front}
+use Rattle.farm_threads.proofs.Middles.{each_middle, whole_front}
 use Rattle.farm_core.proofs.threads.closing.close_rack.Goals as goal
 
 abbrev seats : Fed → SeatRecord

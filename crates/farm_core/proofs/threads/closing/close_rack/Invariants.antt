@@ -2,8 +2,8 @@ use Rattle.std.proofs.Common.{◌≡◌, ◌+◌, ◌≤◌, ◌++◌, List, len
 use Rattle.std.specs.Vec.Iter.{into_iter_items, into_iter_len}
 use Rattle.farm_lanes.specs.declared.gate.record.SeatRecord.{SeatRecord}
 use Rattle.farm_lanes.specs.GateRecord.{IsSound}
-use Rattle.farm_core.specs.declared.threads.feeder.Fed.{Fed}
-use Rattle.farm_core.specs.Feed.{IsJoint}
+use Rattle.farm_threads.specs.declared.feeder.Fed.{Fed}
+use Rattle.farm_threads.specs.Feed.{IsJoint}
 use Rattle.farm_core.proofs.Joints.{rights_of}
 use Rattle.farm_core.proofs.threads.closing.close_rack.Given as goal
 

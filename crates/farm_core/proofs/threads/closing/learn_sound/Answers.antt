@@ -1,7 +1,7 @@
 use Rattle.std.proofs.Common.{◌∷◌, [], sym, subst}
 use Rattle.farm_lanes.specs.GateView.{SeatView}
 use Rattle.farm_lanes.specs.SeatChanges.{joined}
-use Rattle.farm_core.specs.Feed.{IsJoint}
+use Rattle.farm_threads.specs.Feed.{IsJoint}
 use Rattle.farm_core.proofs.Joints.{joint_look}
 use Rattle.farm_core.proofs.threads.closing.learn_sound.Goals as goal
 

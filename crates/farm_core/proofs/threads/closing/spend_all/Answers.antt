@@ -2,7 +2,7 @@ use Rattle.std.proofs.Common.{rules, ◌≡◌, ◌∙◌, ◌++◌, length, Lis
 use Rattle.std.proofs.lemmas.List.{length_push}
 use Rattle.farm_lanes.specs.GateView.{GateId}
 use Rattle.farm_core.proofs.Joints.{IsSpending, spend_begins, spend_next, spend_ends}
-use Rattle.farm_core.proofs.Middles.{each_middle}
+use Rattle.farm_threads.proofs.Middles.{each_middle}
 use Rattle.farm_core.proofs.threads.closing.spend_all.Goals as goal
 
 pub loop-right-init : goal.loop-right-init

@@ -1,4 +1,4 @@
-use Rattle.farm_core.specs.Settled.{HasCleared}
+use Rattle.farm_threads.specs.Settled.{HasCleared}
 use Rattle.farm_core.proofs.threads.collecting.clear.Given as goal
 
 -- the collector has what was taken so far

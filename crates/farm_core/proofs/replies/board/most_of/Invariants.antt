@@ -1,7 +1,0 @@
-use Rattle.std.proofs.Common.{◌≡◌, ◌≤◌, ◌*◌, take}
-use Rattle.farm_core.specs.Boards.{most_served}
-use Rattle.farm_core.proofs.replies.board.most_of.Given as goal
-
-abbrev pub invariant-loop-list : goal.invariant-loop-list
-invariant-loop-list l =
-    (l.most ≡ most_served (take l.list-index l.feeds)) × (l.most ≤ l.list-index * 4096)

@@ -1,6 +1,0 @@
-use Rattle.std.proofs.Common.{rules}
-use Rattle.farm_core.proofs.Rows.{entries-replicate}
-use Rattle.farm_core.proofs.replies.row.Row.new.Goals as goal
-
-pub returns : goal.returns
-returns c = search (rules, entries-replicate)

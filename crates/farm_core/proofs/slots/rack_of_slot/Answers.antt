@@ -1,7 +1,0 @@
-use Rattle.std.proofs.Common.{refl}
-use Rattle.farm_core.specs.RunFeeds.{slot_rack}
-use Rattle.farm_core.proofs.slots.rack_of_slot.Goals as goal
-
-pub returns : goal.returns
-unfolding slot_rack
-returns c = refl

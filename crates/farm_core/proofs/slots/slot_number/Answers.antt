@@ -1,7 +1,0 @@
-use Rattle.std.proofs.Common.{refl}
-use Rattle.farm_core.specs.RunFeeds.{slot_of}
-use Rattle.farm_core.proofs.slots.slot_number.Goals as goal
-
-pub returns : goal.returns
-unfolding slot_of
-returns c = refl

@@ -1,0 +1,11 @@
+pub mod Middles
+pub mod Rows
+pub mod Tables
+pub mod BoardRows
+pub mod Progress
+pub mod Entering
+pub mod Settled
+pub mod Holding
+pub mod Works
+pub mod FeedSteps
+pub mod Joined

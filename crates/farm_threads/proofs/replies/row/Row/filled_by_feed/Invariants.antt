@@ -1,0 +1,14 @@
+use Rattle.std.proofs.Common.{◌≡◌, ◌+◌, ◌≤◌, ◌++◌, List, length, map, Some, vec_items, vec_len, vec_capacity}
+use Rattle.std.specs.List.{AllZip}
+use Rattle.std.specs.Vec.Iter.{into_iter_items, into_iter_len}
+use Rattle.farm_threads.specs.Boards.{IsOutcomeOf}
+use Rattle.farm_threads.specs.Replies.{Entry, entries}
+use Rattle.farm_threads.proofs.replies.row.Row.filled_by_feed.Given as goal
+
+abbrev pub invariant-loop-cell : goal.invariant-loop-cell
+invariant-loop-cell l =
+    (into_iter_items l.initial.cell-iterator ≡ l.yielded ++ into_iter_items l.cell-iterator)
+    × ((es : List Entry) × (entries l.yielded ≡ map Some es) × AllZip IsOutcomeOf es (vec_items l.all))
+    × (vec_len l.all + into_iter_len l.cell-iterator ≡ into_iter_len l.initial.cell-iterator)
+    × (into_iter_len l.initial.cell-iterator ≤ vec_capacity l.all)
+    × (length l.yielded + into_iter_len l.cell-iterator ≡ into_iter_len l.initial.cell-iterator)

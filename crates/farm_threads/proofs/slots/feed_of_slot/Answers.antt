@@ -1,0 +1,7 @@
+use Rattle.std.proofs.Common.{refl}
+use Rattle.farm_threads.specs.RunFeeds.{slot_feed}
+use Rattle.farm_threads.proofs.slots.feed_of_slot.Goals as goal
+
+pub returns : goal.returns
+unfolding slot_feed
+returns c = refl

@@ -1,0 +1,7 @@
+use Rattle.std.proofs.Common.{refl}
+use Rattle.farm_threads.specs.RunFeeds.{slot_rack}
+use Rattle.farm_threads.proofs.slots.rack_of_slot.Goals as goal
+
+pub returns : goal.returns
+unfolding slot_rack
+returns c = refl

@@ -1,0 +1,10 @@
+pub mod Expected
+pub mod RunFeeds
+pub mod Merge
+pub mod Replies
+pub mod Faults
+pub mod Boards
+pub mod Jobs
+pub mod Feed
+pub mod Settled
+pub mod Threads
