@@ -1,6 +1,8 @@
 pub mod Answers
 pub mod ExchangeRuns
 pub mod Exchanges
+pub mod GivenAfter
+pub mod Givings
 pub mod Links
 pub mod LastNames
 pub mod Runs

@@ -1,6 +1,6 @@
 -- What a run of calls keeps of what is at the paths of files, whenever it ends.
 use Rattle.std.specs.Prelude.{◌≡◌, ◌⊎◌, ℕ, List, [], ◌∷◌, ◌++◌, Bool, true, Some, None}
-use Rattle.folders.specs.Calls.{Call, Answered, make, sync, link, link_again, rename, remove, sync_folder, same_file}
+use Rattle.folders.specs.Calls.{Call, Answered, make, sync, link, link_again, rename, rename_again, remove, sync_folder, same_file}
 use Rattle.folders.specs.Files.{Files, under}
 use Rattle.folders.specs.Worlds.{World, IsLawful, is_closed}
 
@@ -18,6 +18,12 @@ AreClosed temporary w calls files =
 pub record IsSound (temporary : List ℕ → Type 0) (w : World) (calls : List Answered) : Type 0 where
   pub seen : AreClosed temporary w calls (w.seen calls)
   pub left : AreClosed temporary w calls (w.left calls)
+
+-- a file that nothing could be appended to has its bytes
+abbrev pub Stays : World → List Answered → List Answered → Type 0
+Stays w before calls =
+    (f : ℕ) → is_closed f before ≡ true
+    → (is_closed f calls ≡ true) × (((w.seen calls).bytes f ≡ (w.seen before).bytes f) × ((w.left calls).bytes f ≡ (w.left before).bytes f))
 
 -- At a path there is what was there. Or nothing was seen there, and all the bytes of a file that it was given are.
 abbrev pub IsKept : (List ℕ → List ℕ → Type 0) → Files → Files → Files → List ℕ → Type 0
@@ -37,6 +43,7 @@ TakesNone temporary (sync file bytes) = Unit {0}
 TakesNone temporary (link file to) = Unit {0}
 TakesNone temporary (link_again from to) = ⊥
 TakesNone temporary (rename file from to) = ⊥
+TakesNone temporary (rename_again from to) = ⊥
 TakesNone temporary (remove path) = temporary path
 TakesNone temporary (sync_folder path) = Unit {0}
 TakesNone temporary (same_file path other) = Unit {0}
