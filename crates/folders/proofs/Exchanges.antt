@@ -4,7 +4,7 @@ use Rattle.std.proofs.Common.{IfSome, IsSome, refl, sym, ◌∙◌, ap, subst}
 use Rattle.folders.specs.Calls.{Call, Answered, make, sync, link, link_again, rename, rename_again, remove, sync_folder, same_file}
 use Rattle.folders.specs.Files.{Files, under, IsIn}
 use Rattle.folders.specs.Worlds.{World, IsLawful, IsStep, MayChange, is_closed}
-use Rattle.folders.specs.Kept.{IsSound, AreClosed, Stays}
+use Rattle.folders.specs.Kept.{IsSound, AreClosed}
 use Rattle.folders.specs.Placed.{HasPath}
 use Rattle.folders.specs.Disk.{HasWhole}
 use Rattle.folders.specs.Exchanged.{seen_at, IsExchanged, AreExchanged, LeadToOne, WasAsked}
@@ -39,6 +39,12 @@ makes_none path second (same_file q other) prepares p is = absurd (cc)
 abbrev pub Second : List ℕ → List ℕ → Files → Files → Files → Type 0
 Second path second shown old new =
     (new.named second ≡ old.named second) ⊎ ((shown.named second ≡ None) × (new.named second ≡ shown.named path))
+
+-- a file that could not be appended to has its bytes
+abbrev pub Stays : World → List Answered → List Answered → Type 0
+Stays w before calls =
+    (f : ℕ) → is_closed f before ≡ true
+    → (is_closed f calls ≡ true) × (((w.seen calls).bytes f ≡ (w.seen before).bytes f) × ((w.left calls).bytes f ≡ (w.left before).bytes f))
 
 -- what is so until the path is given away
 pub record IsReady (temporary : List ℕ → Type 0) (path second : List ℕ) (w : World) (before calls : List Answered) : Type 0 where

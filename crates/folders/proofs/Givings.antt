@@ -4,8 +4,10 @@ use Rattle.std.proofs.Common.{refl, sym, ◌∙◌, ap, subst}
 use Rattle.folders.specs.Calls.{Call, Answered, make, sync, link, link_again, rename, rename_again, remove, sync_folder, same_file}
 use Rattle.folders.specs.Files.{Files, IsIn}
 use Rattle.folders.specs.Worlds.{World, IsLawful, IsStep, MayChange, is_closed}
-use Rattle.folders.specs.Kept.{AtEach, IsSound, AreClosed, Stays}
-use Rattle.folders.specs.Given.{AreGiven, Gives, HasOneOf, IsPair, LeadThere, RenameOwn}
+use Rattle.folders.specs.Kept.{AtEach, IsSound, AreClosed}
+use Rattle.folders.specs.Given.{Nothing, AreGiven, Gives, HasOneOf, IsPair, LeadThere, RenameOwn}
+use Rattle.folders.specs.Exchanged.{seen_at}
+use Rattle.folders.proofs.Exchanges.{Stays}
 use Rattle.folders.proofs.Links.{same_or_other}
 use Rattle.folders.proofs.Runs.{at_last, each_weaker}
 use Rattle.folders.proofs.Steps.{same_map, same_under, stays_closed}
@@ -141,20 +143,24 @@ module _ (temporary : List ℕ → Type 0) (gives : List ℕ → List ℕ → Ty
 
     has : (old new : Files) → AreClosed temporary w before old → ((f : ℕ) → is_closed f before ≡ true → new.bytes f ≡ old.bytes f)
         → (path : List ℕ) → w.ours path ≡ true → (temporary path → ⊥) → LeadsAs gives (w.seen before) old new path
-        → HasOneOf gives (w.seen before) old new path
+        → HasOneOf gives Nothing (w.seen before) old new path
     has old new in_old bytes path ours lasting (inl had) =
         inl (same_under old new path had (λ f at. bytes f (in_old path f ours lasting at)))
-    has old new in_old bytes path ours lasting (inr got) = inr (
+    has old new in_old bytes path ours lasting (inr got) = inr (inl (
       got.0,
       got.1,
       ap (λ (o : Option ℕ). option_map new.bytes o) got.2 ∙ same_map new.bytes old.bytes ((w.seen before).named got.0)
           (λ f at. bytes f (sound.seen got.0 f (own got.0 path got.1) (last got.0 path got.1) at)),
-    )
+    ))
 
-    stays_there : (path : List ℕ) → ((from : List ℕ) → gives from path → ⊥)
-        → LeadsAs gives (w.seen before) (w.seen before) (w.seen calls) path → (w.seen calls).named path ≡ (w.seen before).named path
-    stays_there path none (inl had) = had
-    stays_there path none (inr got) = absurd (none got.0 got.1)
+    stays_there : (path : List ℕ) → w.ours path ≡ true → (temporary path → ⊥) → ((from : List ℕ) → gives from path → ⊥)
+        → LeadsAs gives (w.seen before) (w.seen before) (w.seen calls) path
+        → seen_at (w.seen calls) (w.left calls) path ≡ seen_at (w.seen before) (w.left before) path
+    stays_there path ours lasting none (inl had) =
+        ap (λ (o : Option ℕ). option_map (w.left calls).bytes o) had
+        ∙ same_map (w.left calls).bytes (w.left before).bytes ((w.seen before).named path)
+        (λ f at. (led.bytes f (sound.seen path f ours lasting at)).1.1)
+    stays_there path ours lasting none (inr got) = absurd (none got.0 got.1)
 
     pub led_sound : IsSound temporary w calls
     led_sound = record {
@@ -162,14 +168,13 @@ module _ (temporary : List ℕ → Type 0) (gives : List ℕ → List ℕ → Ty
       left = closed (w.left before) (w.left calls) sound.left led.left;
     }
 
-    pub led_given : AreGiven temporary gives w before calls
+    pub led_given : AreGiven temporary gives Nothing w before calls
     led_given = record {
       seen = λ path ours lasting. has (w.seen before) (w.seen calls) sound.seen (λ f at. (led.bytes f at).1.0) path ours lasting
           (led.seen path ours lasting);
       left = λ path ours lasting. has (w.left before) (w.left calls) sound.left (λ f at. (led.bytes f at).1.1) path ours lasting
           (led.left path ours lasting);
-      leads = λ path ours lasting none. stays_there path none (led.seen path ours lasting);
-      bytes = led.bytes;
+      still = λ path ours lasting none no_bytes. stays_there path ours lasting none (led.seen path ours lasting);
     }
 
 -- ---- runs
@@ -223,12 +228,12 @@ module _ (temporary : List ℕ → Type 0) (gives : List ℕ → List ℕ → Ty
 
   -- so it gives the files
   pub leads_gives : ((from to : List ℕ) → gives from to → temporary from → ⊥) → (old new : List Answered)
-      → Leads temporary gives old new → Gives temporary gives old new
+      → Leads temporary gives old new → Gives temporary gives Nothing old new
   leads_gives last old new run = record {
     more = run.more;
     are = run.are;
     whenever = λ w sound own_renamed own. each_weaker (λ calls. IsLawful w calls → AreLed temporary gives w old calls)
-        (λ calls. IsLawful w calls → IsSound temporary w calls × AreGiven temporary gives w old calls)
+        (λ calls. IsLawful w calls → IsSound temporary w calls × AreGiven temporary gives Nothing w old calls)
         (λ calls led lawful. let is = led lawful in (
           led_sound temporary gives w old own last sound calls is,
           led_given temporary gives w old own last sound calls is,
@@ -250,11 +255,11 @@ module _ (temporary : List ℕ → Bool) (path by other : List ℕ) (off : tempo
   abbrev Pair : List ℕ → List ℕ → Type 0
   Pair = IsPair path other
 
-  all_leads : (new : List Answered) → Leads IsTemporary Pair old new → Gives IsTemporary Pair old new
+  all_leads : (new : List Answered) → Leads IsTemporary Pair old new → Gives IsTemporary Pair Nothing old new
   all_leads new run = leads_gives IsTemporary Pair (lasts temporary path other off) old new run
 
   -- the link couldn't be made
-  pub gives_no_link : (new : List Answered) → new ≡ (link_again path by, false) ∷ old → Gives IsTemporary Pair old new
+  pub gives_no_link : (new : List Answered) → new ≡ (link_again path by, false) ∷ old → Gives IsTemporary Pair Nothing old new
   gives_no_link new is = all_leads new (leads_more IsTemporary Pair (link_again path by) false old old new on is
       (leads_none IsTemporary Pair old))
 
@@ -265,13 +270,13 @@ module _ (temporary : List ℕ → Bool) (path by other : List ℕ) (off : tempo
 
   -- it was made, and taken away again
   pub gives_taken : (mid renamed new : List Answered) (ok : Bool) (last : Bool) → mid ≡ (link_again path by, true) ∷ old
-      → renamed ≡ (rename_again by other, ok) ∷ mid → new ≡ (remove by, last) ∷ renamed → Gives IsTemporary Pair old new
+      → renamed ≡ (rename_again by other, ok) ∷ mid → new ≡ (remove by, last) ∷ renamed → Gives IsTemporary Pair Nothing old new
   gives_taken mid renamed new ok last links renames takes = all_leads new (taken mid renamed new ok last links renames takes)
 
   -- and the names in a folder were to be written to the disk
   pub gives_named : (folder : List ℕ) (mid renamed gone new : List Answered) (ok last named : Bool)
       → mid ≡ (link_again path by, true) ∷ old → renamed ≡ (rename_again by other, ok) ∷ mid → gone ≡ (remove by, last) ∷ renamed
-      → new ≡ (sync_folder folder, named) ∷ gone → Gives IsTemporary Pair old new
+      → new ≡ (sync_folder folder, named) ∷ gone → Gives IsTemporary Pair Nothing old new
   gives_named folder mid renamed gone new ok last named links renames takes names = all_leads new
       (leads_more IsTemporary Pair (sync_folder folder) named old gone new tt names (taken mid renamed gone ok last links renames takes))
 

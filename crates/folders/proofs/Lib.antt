@@ -4,6 +4,7 @@ pub mod Exchanges
 pub mod GivenAfter
 pub mod Givings
 pub mod Links
+pub mod KeptGiven
 pub mod LastNames
 pub mod Runs
 pub mod Staying

@@ -16,7 +16,7 @@ none_or_some file o some none = let both : None ≡ Some file = sym none ∙ som
 
 module _ (temporary : List ℕ → Type 0) (w : World) (path : List ℕ) (ours : w.ours path ≡ true) (lasting : temporary path → ⊥) where
   -- one call, of what is seen or of what a crash leaves: something is seen at the path before it
-  leads_still : (shown old new : Files) (made file : ℕ) (call : Call) → TakesNone temporary call → shown.named path ≡ Some file
+  pub leads_still : (shown old new : Files) (made file : ℕ) (call : Call) → TakesNone temporary call → shown.named path ≡ Some file
       → MayChange w.ours shown made call old new → new.named path ≡ old.named path
   leads_still shown old new made file (make p) takes there may =
       may.0 path ours (λ same. lasting (subst temporary (sym same) takes))

@@ -19,12 +19,6 @@ pub record IsSound (temporary : List ℕ → Type 0) (w : World) (calls : List A
   pub seen : AreClosed temporary w calls (w.seen calls)
   pub left : AreClosed temporary w calls (w.left calls)
 
--- a file that nothing could be appended to has its bytes
-abbrev pub Stays : World → List Answered → List Answered → Type 0
-Stays w before calls =
-    (f : ℕ) → is_closed f before ≡ true
-    → (is_closed f calls ≡ true) × (((w.seen calls).bytes f ≡ (w.seen before).bytes f) × ((w.left calls).bytes f ≡ (w.left before).bytes f))
-
 -- At a path there is what was there. Or nothing was seen there, and all the bytes of a file that it was given are.
 abbrev pub IsKept : (List ℕ → List ℕ → Type 0) → Files → Files → Files → List ℕ → Type 0
 IsKept given shown old new path =
