@@ -59,8 +59,10 @@ module _ (temporary : List ℕ → Type 0) (gives puts : List ℕ → List ℕ �
     λ lawful. let now = each.0 lawful in (
       now.0,
       record {
-        seen = λ path ours lasting. inl (kept_same (w.seen old) (w.seen old) (w.seen (call ∷ more ++ old)) path ((now.1 path ours lasting).0));
-        left = λ path ours lasting. inl (kept_same (w.seen old) (w.left old) (w.left (call ∷ more ++ old)) path ((now.1 path ours lasting).1));
+        seen = λ path ours lasting. inl (kept_same (w.seen old) (w.seen old) (w.seen (call ∷ more ++ old)) path
+            ((now.1 path ours lasting).0));
+        left = λ path ours lasting. inl (kept_same (w.seen old) (w.left old) (w.left (call ∷ more ++ old)) path
+            ((now.1 path ours lasting).1));
         still = λ path ours lasting none no_bytes. still_over temporary w path ours lasting (call ∷ more) old takes each lawful;
       },
     ),

@@ -14,8 +14,8 @@ HasOneOf gives puts shown old new path =
     ⊎ ((from : List ℕ) × gives from path × (under new path ≡ seen_at shown old from))
     ⊎ ((bytes : List ℕ) × puts path bytes × (under new path ≡ Some bytes))
 
--- So it is of what is seen and of what a crash leaves, at each path of ours that isn't temporary. The file that is seen at a path that was to
--- get none has what a crash left of it before.
+-- So it is of what is seen and of what a crash leaves, at each path of ours that isn't temporary. The file that is seen at a path that was
+-- to get none has what a crash left of it before.
 pub record AreGiven (temporary : List ℕ → Type 0) (gives puts : List ℕ → List ℕ → Type 0) (w : World) (before calls : List Answered)
     : Type 0 where
   pub seen : (path : List ℕ) → w.ours path ≡ true → (temporary path → ⊥)

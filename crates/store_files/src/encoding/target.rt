@@ -1,4 +1,6 @@
 //! The store that files are encoded into.
+ghost use Rattle.std.specs.Prelude.{◌≡◌, ◌∷◌, ◌++◌, IfOk, string_bytes};
+
 use lrc_code::{Code, Place};
 use std::alloc::{AllocError, Global};
 use store_folder::{Links, Pattern, Sums, description_names, first_description_name, path_in};
@@ -63,7 +65,9 @@ impl Target<'_> {
     }
 
     /// The path of a name in the store.
-    pub(crate) fn path(&self, alloc: Global, name: &str) -> Result<String, AllocError> {
+    pub(crate) fn path(&self, alloc: Global, name: &str) -> Result<String, AllocError>
+        ensures { IfOk result (λ path. string_bytes path ≡ self.now.folder.now ++ 47 ∷ name.now) }
+    {
         path_in(alloc, self.folder, name)
     }
 }
