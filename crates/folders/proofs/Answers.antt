@@ -26,3 +26,8 @@ pub asked_same : {E : Type 0} (result : Result Bool E) (path other : List ℕ) (
     → (ok : Bool) × (new ≡ (same_file path other, ok) ∷ old)
 asked_same (Ok is) path other old new ok err = (is, ok)
 asked_same (Err e) path other old new ok err = (false, err)
+
+-- what follows from an answer Ok
+pub on_ok : {T E : Type 0} (result : Result T E) (P Q : Type 0) → (P → Q) → OnOk result P → OnOk result Q
+on_ok (Ok x) P Q leads is = leads is
+on_ok (Err e) P Q leads is = tt

@@ -157,7 +157,7 @@ exchanges_nothing temporary written path second calls = record {
 
 -- ---- an exchange, and then calls that change no path but temporary ones
 
-kept_same : (shown old new : Files) (path : List ℕ) → IsKept (λ p bytes. ⊥) shown old new path → under new path ≡ under old path
+pub kept_same : (shown old new : Files) (path : List ℕ) → IsKept (λ p bytes. ⊥) shown old new path → under new path ≡ under old path
 kept_same shown old new path (inl same) = same
 kept_same shown old new path (inr had) = absurd had.1.1
 

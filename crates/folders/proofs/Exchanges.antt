@@ -1,7 +1,7 @@
 -- A new file gets the path of another one, which a second path keeps.
 use Rattle.std.proofs.Common.{◌≡◌, ◌⊎◌, inl, inr, ℕ, suc, List, ◌∷◌, length, Bool, true, false, Option, Some, None, option_map}
 use Rattle.std.proofs.Common.{IfSome, IsSome, refl, sym, ◌∙◌, ap, subst}
-use Rattle.folders.specs.Calls.{Call, Answered, make, sync, link, link_again, rename, remove, sync_folder, same_file}
+use Rattle.folders.specs.Calls.{Call, Answered, make, sync, link, link_again, rename, rename_again, remove, sync_folder, same_file}
 use Rattle.folders.specs.Files.{Files, under, IsIn}
 use Rattle.folders.specs.Worlds.{World, IsLawful, IsStep, MayChange, is_closed}
 use Rattle.folders.specs.Kept.{IsSound, AreClosed}
@@ -19,6 +19,7 @@ Prepares path second (sync f bytes) = Unit {0}
 Prepares path second (link f to) = ⊥
 Prepares path second (link_again from to) = (from ≡ path) × (to ≡ second)
 Prepares path second (rename f from to) = ⊥
+Prepares path second (rename_again from to) = ⊥
 Prepares path second (remove p) = ⊥
 Prepares path second (sync_folder p) = Unit {0}
 Prepares path second (same_file p other) = Unit {0}
@@ -29,6 +30,7 @@ makes_none path second (sync f bytes) prepares p is = absurd (cc)
 makes_none path second (link f to) prepares p is = absurd prepares
 makes_none path second (link_again from to) prepares p is = absurd (cc)
 makes_none path second (rename f from to) prepares p is = absurd prepares
+makes_none path second (rename_again from to) prepares p is = absurd prepares
 makes_none path second (remove q) prepares p is = absurd prepares
 makes_none path second (sync_folder q) prepares p is = absurd (cc)
 makes_none path second (same_file q other) prepares p is = absurd (cc)
@@ -74,6 +76,7 @@ module _ (temporary : List ℕ → Type 0) (path second : List ℕ) (w : World) 
   named_next shown old new n (link f to) prepares may p ours other = absurd prepares
   named_next shown old new n (link_again from to) prepares may p ours other = may.0 p ours (λ is. other (is ∙ prepares.1))
   named_next shown old new n (rename f from to) prepares may p ours other = absurd prepares
+  named_next shown old new n (rename_again from to) prepares may p ours other = absurd prepares
   named_next shown old new n (remove q) prepares may p ours other = absurd prepares
   named_next shown old new n (sync_folder q) prepares may p ours other = may p ours (λ none. none)
   named_next shown old new n (same_file q to) prepares may p ours other = may p ours (λ none. none)
@@ -104,6 +107,7 @@ module _ (temporary : List ℕ → Type 0) (path second : List ℕ) (w : World) 
         )
       ]
   second_next first shown old mid new n (rename f from to) prepares may at in_shown was = absurd prepares
+  second_next first shown old mid new n (rename_again from to) prepares may at in_shown was = absurd prepares
   second_next first shown old mid new n (remove q) prepares may at in_shown was = absurd prepares
   second_next first shown old mid new n (sync_folder q) prepares may at in_shown was = moved first old mid new
       (may second our_second (λ none. none)) was
@@ -147,6 +151,7 @@ module _ (temporary : List ℕ → Type 0) (path second : List ℕ) (w : World) 
         | inr leads ↦ inr (ap new.named (sym prepares.1) ∙ leads.1 ∙ ap shown.named prepares.0)
       ]
   at_second_next shown mid new n (rename f from to) prepares may = absurd prepares
+  at_second_next shown mid new n (rename_again from to) prepares may = absurd prepares
   at_second_next shown mid new n (remove q) prepares may = absurd prepares
   at_second_next shown mid new n (sync_folder q) prepares may = inl (may second our_second (λ none. none))
   at_second_next shown mid new n (same_file q to) prepares may = inl (may second our_second (λ none. none))

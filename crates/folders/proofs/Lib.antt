@@ -1,7 +1,10 @@
 pub mod Answers
 pub mod ExchangeRuns
 pub mod Exchanges
+pub mod GivenAfter
+pub mod Givings
 pub mod Links
+pub mod KeptGiven
 pub mod LastNames
 pub mod Runs
 pub mod Staying

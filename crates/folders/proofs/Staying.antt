@@ -1,7 +1,7 @@
 -- What is at a path, and on the disk, stays over calls that take nothing away.
 use Rattle.std.proofs.Common.{◌≡◌, inl, inr, ℕ, suc, List, [], ◌∷◌, ◌++◌, length, Bool, true, refl, sym, ◌∙◌, ap, subst}
 use Rattle.std.proofs.Common.{Option, Some, None}
-use Rattle.folders.specs.Calls.{Call, Answered, make, sync, link, link_again, rename, remove, sync_folder, same_file}
+use Rattle.folders.specs.Calls.{Call, Answered, make, sync, link, link_again, rename, rename_again, remove, sync_folder, same_file}
 use Rattle.folders.specs.Files.{Files, IsIn}
 use Rattle.folders.specs.Worlds.{World, IsLawful, IsStep, MayChange, is_closed}
 use Rattle.folders.specs.Kept.{TakesNone, TakeNone}
@@ -16,7 +16,7 @@ none_or_some file o some none = let both : None ≡ Some file = sym none ∙ som
 
 module _ (temporary : List ℕ → Type 0) (w : World) (path : List ℕ) (ours : w.ours path ≡ true) (lasting : temporary path → ⊥) where
   -- one call, of what is seen or of what a crash leaves: something is seen at the path before it
-  leads_still : (shown old new : Files) (made file : ℕ) (call : Call) → TakesNone temporary call → shown.named path ≡ Some file
+  pub leads_still : (shown old new : Files) (made file : ℕ) (call : Call) → TakesNone temporary call → shown.named path ≡ Some file
       → MayChange w.ours shown made call old new → new.named path ≡ old.named path
   leads_still shown old new made file (make p) takes there may =
       may.0 path ours (λ same. lasting (subst temporary (sym same) takes))
@@ -30,6 +30,7 @@ module _ (temporary : List ℕ → Type 0) (w : World) (path : List ℕ) (ours :
   ]
   leads_still shown old new made file (link_again from to) takes there may = absurd takes
   leads_still shown old new made file (rename f from to) takes there may = absurd takes
+  leads_still shown old new made file (rename_again from to) takes there may = absurd takes
   leads_still shown old new made file (remove p) takes there may =
       may.0 path ours (λ same. lasting (subst temporary (sym same) takes))
   leads_still shown old new made file (sync_folder p) takes there may = may path ours (λ none. none)
@@ -92,6 +93,7 @@ refused_since path ((sync file written, ok) ∷ more) old was = refused_since pa
 refused_since path ((link file to, ok) ∷ more) old was = inr (refused_since path more old was)
 refused_since path ((link_again from to, ok) ∷ more) old was = refused_since path more old was
 refused_since path ((rename file from to, ok) ∷ more) old was = refused_since path more old was
+refused_since path ((rename_again from to, ok) ∷ more) old was = refused_since path more old was
 refused_since path ((remove to, ok) ∷ more) old was = refused_since path more old was
 refused_since path ((sync_folder to, ok) ∷ more) old was = refused_since path more old was
 refused_since path ((same_file to other, ok) ∷ more) old was = refused_since path more old was

@@ -2,7 +2,7 @@
 use Rattle.std.proofs.Common.{◌≡◌, ◌≢◌, inl, ℕ, suc, List, ◌∷◌, length, Bool, true, not, ◌==◌}
 use Rattle.std.proofs.Common.{Option, Some, None, option_map, refl, sym, ◌∙◌, ap, subst, arith}
 use Rattle.std.proofs.lemmas.Bool.{and_from, or_right}
-use Rattle.folders.specs.Calls.{Call, Answered, make, sync, link, link_again, rename, remove, sync_folder, same_file}
+use Rattle.folders.specs.Calls.{Call, Answered, make, sync, link, link_again, rename, rename_again, remove, sync_folder, same_file}
 use Rattle.folders.specs.Files.{Files, under}
 use Rattle.folders.specs.Worlds.{World, IsStep, MayChange, Makes, IsNew, KeepsClosed, is_closed}
 use Rattle.folders.specs.Kept.{IsSound, AreKept}
@@ -27,6 +27,7 @@ stays_closed (sync f bytes) ok calls file other closed = or_right _ _ closed
 stays_closed (link f to) ok calls file other closed = closed
 stays_closed (link_again from to) ok calls file other closed = closed
 stays_closed (rename f from to) ok calls file other closed = closed
+stays_closed (rename_again from to) ok calls file other closed = closed
 stays_closed (remove path) ok calls file other closed = closed
 stays_closed (sync_folder path) ok calls file other closed = closed
 stays_closed (same_file path to) ok calls file other closed = closed
@@ -38,6 +39,7 @@ new_seen w (sync f bytes) calls path makes same = cc
 new_seen w (link f to) calls path makes same = cc
 new_seen w (link_again from to) calls path makes same = cc
 new_seen w (rename f from to) calls path makes same = cc
+new_seen w (rename_again from to) calls path makes same = cc
 new_seen w (remove p) calls path makes same = cc
 new_seen w (sync_folder p) calls path makes same = cc
 new_seen w (same_file p other) calls path makes same = cc
@@ -49,6 +51,7 @@ new_left w (sync f bytes) calls path makes same = cc
 new_left w (link f to) calls path makes same = cc
 new_left w (link_again from to) calls path makes same = cc
 new_left w (rename f from to) calls path makes same = cc
+new_left w (rename_again from to) calls path makes same = cc
 new_left w (remove p) calls path makes same = cc
 new_left w (sync_folder p) calls path makes same = cc
 new_left w (same_file p other) calls path makes same = cc
@@ -86,6 +89,7 @@ module _ (temporary : List ℕ → Type 0) (w : World) where
   IsQuiet (link file to) = ⊥
   IsQuiet (link_again from to) = ⊥
   IsQuiet (rename file from to) = ⊥
+  IsQuiet (rename_again from to) = ⊥
   IsQuiet (remove path) = temporary path
   IsQuiet (sync_folder path) = Unit {0}
   IsQuiet (same_file path other) = Unit {0}
@@ -100,6 +104,7 @@ module _ (temporary : List ℕ → Type 0) (w : World) where
   quiet_named shown old new made (link f to) quiet may path ours not_temporary = absurd quiet
   quiet_named shown old new made (link_again from to) quiet may path ours not_temporary = absurd quiet
   quiet_named shown old new made (rename f from to) quiet may path ours not_temporary = absurd quiet
+  quiet_named shown old new made (rename_again from to) quiet may path ours not_temporary = absurd quiet
   quiet_named shown old new made (remove p) quiet may path ours not_temporary = may.0 path ours (other_path path p quiet not_temporary)
   quiet_named shown old new made (sync_folder p) quiet may path ours not_temporary = may path ours (λ none. none)
   quiet_named shown old new made (same_file p other) quiet may path ours not_temporary = may path ours (λ none. none)

@@ -14,6 +14,8 @@ pub data Call : Type 0 where
   link_again : List ℕ → List ℕ → Call
   -- the first path, at which the file was made, goes, and the second one leads to the file, whatever it led to
   rename : ℕ → List ℕ → List ℕ → Call
+  -- the same of the file that the first path leads to; if the second one leads to it too, nothing changes
+  rename_again : List ℕ → List ℕ → Call
   -- a path goes
   remove : List ℕ → Call
   -- the names in a folder to the disk
@@ -36,16 +38,18 @@ to_parts (sync file bytes) = (1, (file, (bytes, ([], []))))
 to_parts (link file to) = (2, (file, (None, (to, []))))
 to_parts (link_again from to) = (3, (0, (None, (from, to))))
 to_parts (rename file from to) = (4, (file, (None, (from, to))))
-to_parts (remove path) = (5, (0, (None, (path, []))))
-to_parts (sync_folder path) = (6, (0, (None, (path, []))))
-to_parts (same_file path other) = (7, (0, (None, (path, other))))
+to_parts (rename_again from to) = (5, (0, (None, (from, to))))
+to_parts (remove path) = (6, (0, (None, (path, []))))
+to_parts (sync_folder path) = (7, (0, (None, (path, []))))
+to_parts (same_file path other) = (8, (0, (None, (path, other))))
 
 abbrev from_parts : Parts → Call
 from_parts p =
     cond (p.0 == 0) (make p.1.1.1.0) (cond (p.0 == 1) (sync p.1.0 p.1.1.0) (cond (p.0 == 2) (link p.1.0 p.1.1.1.0) (cond (p.0 == 3)
     (link_again p.1.1.1.0 p.1.1.1.1)
-    (cond (p.0 == 4) (rename p.1.0 p.1.1.1.0 p.1.1.1.1) (cond (p.0 == 5) (remove p.1.1.1.0) (cond (p.0 == 6) (sync_folder p.1.1.1.0)
-    (same_file p.1.1.1.0 p.1.1.1.1)))))))
+    (cond (p.0 == 4) (rename p.1.0 p.1.1.1.0 p.1.1.1.1) (cond (p.0 == 5) (rename_again p.1.1.1.0 p.1.1.1.1) (cond (p.0 == 6)
+    (remove p.1.1.1.0)
+    (cond (p.0 == 7) (sync_folder p.1.1.1.0) (same_file p.1.1.1.0 p.1.1.1.1))))))))
 
 pub from_parts-to_parts : (call : Call) → from_parts (to_parts call) ≡ call
 from_parts-to_parts (make path) = refl
@@ -53,6 +57,7 @@ from_parts-to_parts (sync file bytes) = refl
 from_parts-to_parts (link file to) = refl
 from_parts-to_parts (link_again from to) = refl
 from_parts-to_parts (rename file from to) = refl
+from_parts-to_parts (rename_again from to) = refl
 from_parts-to_parts (remove path) = refl
 from_parts-to_parts (sync_folder path) = refl
 from_parts-to_parts (same_file path other) = refl

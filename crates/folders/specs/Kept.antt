@@ -1,6 +1,6 @@
 -- What a run of calls keeps of what is at the paths of files, whenever it ends.
 use Rattle.std.specs.Prelude.{◌≡◌, ◌⊎◌, ℕ, List, [], ◌∷◌, ◌++◌, Bool, true, Some, None}
-use Rattle.folders.specs.Calls.{Call, Answered, make, sync, link, link_again, rename, remove, sync_folder, same_file}
+use Rattle.folders.specs.Calls.{Call, Answered, make, sync, link, link_again, rename, rename_again, remove, sync_folder, same_file}
 use Rattle.folders.specs.Files.{Files, under}
 use Rattle.folders.specs.Worlds.{World, IsLawful, is_closed}
 
@@ -37,6 +37,7 @@ TakesNone temporary (sync file bytes) = Unit {0}
 TakesNone temporary (link file to) = Unit {0}
 TakesNone temporary (link_again from to) = ⊥
 TakesNone temporary (rename file from to) = ⊥
+TakesNone temporary (rename_again from to) = ⊥
 TakesNone temporary (remove path) = temporary path
 TakesNone temporary (sync_folder path) = Unit {0}
 TakesNone temporary (same_file path other) = Unit {0}

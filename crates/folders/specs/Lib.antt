@@ -2,6 +2,7 @@ pub mod Calls
 pub mod Disk
 pub mod Exchanged
 pub mod Files
+pub mod Given
 pub mod Kept
 pub mod Placed
 pub mod Recorded

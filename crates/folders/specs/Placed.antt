@@ -1,6 +1,6 @@
 -- What is said of a new file that gets a path.
 use Rattle.std.specs.Prelude.{◌≡◌, ◌⊎◌, ℕ, List, [], ◌∷◌, true, false, Option, Some, IfSome}
-use Rattle.folders.specs.Calls.{Answered, make, sync, link, link_again, rename, remove, sync_folder, same_file}
+use Rattle.folders.specs.Calls.{Answered, make, sync, link, link_again, rename, rename_again, remove, sync_folder, same_file}
 use Rattle.folders.specs.Disk.{HasWhole}
 
 -- a file was put on the disk, to which these bytes were appended and no append failed
@@ -11,6 +11,7 @@ WasSynced bytes ((make path, ok) ∷ calls) = WasSynced bytes calls
 WasSynced bytes ((link file to, ok) ∷ calls) = WasSynced bytes calls
 WasSynced bytes ((link_again from to, ok) ∷ calls) = WasSynced bytes calls
 WasSynced bytes ((rename file from to, ok) ∷ calls) = WasSynced bytes calls
+WasSynced bytes ((rename_again from to, ok) ∷ calls) = WasSynced bytes calls
 WasSynced bytes ((remove path, ok) ∷ calls) = WasSynced bytes calls
 WasSynced bytes ((sync_folder path, ok) ∷ calls) = WasSynced bytes calls
 WasSynced bytes ((same_file path other, ok) ∷ calls) = WasSynced bytes calls
@@ -33,6 +34,7 @@ WasRefused path ((make to, ok) ∷ calls) = WasRefused path calls
 WasRefused path ((sync file written, ok) ∷ calls) = WasRefused path calls
 WasRefused path ((link_again from to, ok) ∷ calls) = WasRefused path calls
 WasRefused path ((rename file from to, ok) ∷ calls) = WasRefused path calls
+WasRefused path ((rename_again from to, ok) ∷ calls) = WasRefused path calls
 WasRefused path ((remove to, ok) ∷ calls) = WasRefused path calls
 WasRefused path ((sync_folder to, ok) ∷ calls) = WasRefused path calls
 WasRefused path ((same_file to other, ok) ∷ calls) = WasRefused path calls

@@ -11,6 +11,7 @@ call_of (made.Sync file written) = calls.sync (length file.now.calls) written.no
 call_of (made.Link file to) = calls.link (length file.now.calls) to.now
 call_of (made.LinkAgain from to) = calls.link_again from.now to.now
 call_of (made.Rename file from to) = calls.rename (length file.now.calls) from.now to.now
+call_of (made.RenameAgain from to) = calls.rename_again from.now to.now
 call_of (made.Remove path) = calls.remove path.now
 call_of (made.SyncFolder path) = calls.sync_folder path.now
 call_of (made.SameFile path other) = calls.same_file path.now other.now

@@ -5,7 +5,7 @@
 -- lead to. Of other paths and files nothing is said. It says no more than POSIX does, but where a line names what else it rests on.
 use Rattle.std.specs.Prelude.{◌≡◌, ◌≢◌, ◌⊎◌, ℕ, suc, List, [], ◌∷◌, length, Bool, true, ◌==◌, ◌&&◌, ◌||◌, not}
 use Rattle.std.specs.Prelude.{Some, None, IfSome}
-use Rattle.folders.specs.Calls.{Call, Answered, make, sync, link, link_again, rename, remove, sync_folder, same_file}
+use Rattle.folders.specs.Calls.{Call, Answered, make, sync, link, link_again, rename, rename_again, remove, sync_folder, same_file}
 use Rattle.folders.specs.Files.{Files, IsIn}
 
 -- One way in which a run may go: what programs see after each front of its calls, the newest call first, and what one crash leaves if it
@@ -25,6 +25,7 @@ is_closed file ((sync other bytes, ok) ∷ calls) = (ok && (file == other)) || i
 is_closed file ((link other to, ok) ∷ calls) = is_closed file calls
 is_closed file ((link_again from to, ok) ∷ calls) = is_closed file calls
 is_closed file ((rename other from to, ok) ∷ calls) = is_closed file calls
+is_closed file ((rename_again from to, ok) ∷ calls) = is_closed file calls
 is_closed file ((remove path, ok) ∷ calls) = is_closed file calls
 is_closed file ((sync_folder path, ok) ∷ calls) = is_closed file calls
 is_closed file ((same_file path other, ok) ∷ calls) = is_closed file calls
@@ -53,6 +54,9 @@ MayChange ours shown file (link_again from to) old new =
 MayChange ours shown file (rename other from to) old new =
     SameBut ours (λ p. (p ≡ from) ⊎ (p ≡ to)) old new
     × (ours to ≡ true → (new.named to ≡ old.named to) ⊎ (new.named to ≡ Some other))
+MayChange ours shown file (rename_again from to) old new =
+    SameBut ours (λ p. (p ≡ from) ⊎ (p ≡ to)) old new
+    × (ours to ≡ true → ours from ≡ true → (new.named to ≡ old.named to) ⊎ (new.named to ≡ shown.named from))
 MayChange ours shown file (remove path) old new =
     SameBut ours (λ p. p ≡ path) old new × (ours path ≡ true → (new.named path ≡ old.named path) ⊎ (new.named path ≡ None))
 MayChange ours shown file (sync_folder path) old new = SameBut ours (λ p. ⊥) old new
@@ -67,6 +71,7 @@ HasDone ours shown file (link other to) seen left = ours to ≡ true → (shown.
 HasDone ours shown file (link_again from to) seen left =
     ours to ≡ true → ours from ≡ true → (shown.named to ≡ None) × (seen.named to ≡ shown.named from)
 HasDone ours shown file (rename other from to) seen left = ours to ≡ true → seen.named to ≡ Some other
+HasDone ours shown file (rename_again from to) seen left = ours to ≡ true → ours from ≡ true → seen.named to ≡ shown.named from
 HasDone ours shown file (remove path) seen left = ours path ≡ true → seen.named path ≡ None
 -- fsync of a folder: the names in it are on the disk, as Linux's file systems do it
 HasDone ours shown file (sync_folder path) seen left = (p : List ℕ) → ours p ≡ true → IsIn path p → left.named p ≡ seen.named p
@@ -84,6 +89,7 @@ Makes w (sync file bytes) calls = Unit {0}
 Makes w (link file to) calls = Unit {0}
 Makes w (link_again from to) calls = Unit {0}
 Makes w (rename file from to) calls = Unit {0}
+Makes w (rename_again from to) calls = Unit {0}
 Makes w (remove path) calls = Unit {0}
 Makes w (sync_folder path) calls = Unit {0}
 Makes w (same_file path other) calls = Unit {0}

@@ -1,6 +1,6 @@
 //! What a store asks of a file system: each method is one of its calls.
 ghost use Rattle.std.specs.Prelude.{◌≡◌, ◌∷◌, ◌++◌, [], ℕ, List, length, Option, Some, None, true, false, option_map, IfOk, OnOk, OnErr};
-ghost use Rattle.folders.specs.Calls.{Answered, make, sync, link, link_again, rename, remove, sync_folder, same_file};
+ghost use Rattle.folders.specs.Calls.{Answered, make, sync, link, link_again, rename, rename_again, remove, sync_folder, same_file};
 
 use crate::status::{Rights, Status};
 use std::io;
@@ -117,6 +117,11 @@ pub trait Folder {
             ≡ (rename (Self.Whole.number file.now) (Self.Whole.path file.now) to.now, true) ∷ calls self.old) }
         ensures err { OnErr result (calls self.new
             ≡ (rename (Self.Whole.number file.now) (Self.Whole.path file.now) to.now, false) ∷ calls self.old) };
+
+    /// Gives the file at a path another one, in place of what is there. If both paths lead to it already, nothing changes.
+    fn rename_again(&mut self, from: &str, to: &str) -> io::Result<()>
+        ensures ok { OnOk result (calls self.new ≡ (rename_again from.now to.now, true) ∷ calls self.old) }
+        ensures err { OnErr result (calls self.new ≡ (rename_again from.now to.now, false) ∷ calls self.old) };
 
     /// Takes a path away from its file.
     fn remove(&mut self, path: &str) -> io::Result<()>

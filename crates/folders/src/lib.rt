@@ -15,6 +15,7 @@
 
 mod exchanging;
 mod folder;
+mod giving;
 mod paths;
 mod placing;
 mod record;
@@ -24,6 +25,7 @@ mod temporary;
 
 pub use exchanging::{Exchanged, exchange};
 pub use folder::{Folder, NewFile, OpenFile, WholeFile};
+pub use giving::give_path;
 pub use paths::folder_of;
 pub use placing::{Placed, place};
 pub use record::{Call, Record, Written};

@@ -33,6 +33,7 @@ pub enum Call<'a> {
     Link(&'a Record, &'a str),
     LinkAgain(&'a str, &'a str),
     Rename(&'a Record, &'a str, &'a str),
+    RenameAgain(&'a str, &'a str),
     Remove(&'a str),
     SyncFolder(&'a str),
     SameFile(&'a str, &'a str),

@@ -234,6 +234,12 @@ impl Folder for SystemFolder<'_> {
         answer
     }
 
+    fn rename_again(&mut self, from: &str, to: &str) -> io::Result<()> {
+        let answer = fs::rename(self.rt, from, to);
+        self.note(&Call::RenameAgain(from, to), answer.is_ok());
+        answer
+    }
+
     fn remove(&mut self, path: &str) -> io::Result<()> {
         let answer = fs::remove_file(self.rt, path);
         self.note(&Call::Remove(path), answer.is_ok());

@@ -1,14 +1,14 @@
 -- A file system that has each change on the disk at once does what its calls answer.
-use Rattle.std.proofs.Common.{◌≡◌, ◌≢◌, ◌⊎◌, inl, inr, ◌≤◌, ℕ, suc, List, [], ◌∷◌, length, Bool, true, false, ◌==◌, cond, refl, arith}
-use Rattle.std.proofs.Common.{Option, Some, None, IfSome, sym, ◌∙◌, ap, subst}
-use Rattle.std.specs.Prelude.{bytes_eq, ◌&&◌, not}
+use Rattle.std.proofs.Common.{◌≡◌, inl, inr, ◌≤◌, ℕ, suc, List, [], ◌∷◌, length, Bool, true, false, ◌==◌, cond, refl, arith}
+use Rattle.std.proofs.Common.{Option, Some, None, sym, ◌∙◌, ap, subst}
+use Rattle.std.specs.Prelude.{bytes_eq, not}
 use Rattle.std.proofs.lemmas.Bool.{and_parts, cases_Bool}
 use Rattle.std.proofs.lemmas.Slice.Eq.{bytes_eq-Decides}
-use Rattle.folders.specs.Calls.{Call, Answered, make, sync, link, link_again, rename, remove, sync_folder, same_file}
+use Rattle.folders.specs.Calls.{Call, Answered, make, sync, link, link_again, rename, rename_again, remove, sync_folder, same_file}
 use Rattle.folders.specs.Files.{Files}
 use Rattle.folders.specs.Worlds.{IsLawful, IsStep, MayChange, Makes, KeepsClosed, HasDone, is_closed}
 use Rattle.folders.proofs.Steps.{equal}
-use Rattle.memory_folder.specs.Synchronous.{AreAnswered, CanBeDone, after, done, empty, synchronous, with_bytes, with_name}
+use Rattle.memory_folder.specs.Synchronous.{AreAnswered, CanBeDone, after, done, synchronous, with_name}
 
 hit : {A : Type 0} (path : List ℕ) (x y : A) → cond (bytes_eq path path) x y ≡ x
 hit path x y = rw ((bytes_eq-Decides path path).1 refl) refl
@@ -60,6 +60,10 @@ done_small (rename g from to) calls can before p f is = named_small to p (Some g
     (λ h same. some_is g h (suc (length calls)) (more g (length calls) can) same)
     (λ q h leads. named_small from q None (after calls) (suc (length calls)) (λ k none. none_small k (suc (length calls)) none)
     (λ r k there. more k (length calls) (before r k there)) h leads) f is
+done_small (rename_again from to) calls can before p f is = named_small to p ((after calls).named from) (with_name (after calls) from None)
+    (suc (length calls)) (λ h leads. more h (length calls) (before from h leads))
+    (λ q h leads. named_small from q None (after calls) (suc (length calls)) (λ k none. none_small k (suc (length calls)) none)
+    (λ r k there. more k (length calls) (before r k there)) h leads) f is
 done_small (remove path) calls can before p f is = named_small path p None (after calls) (suc (length calls))
     (λ h none. none_small h (suc (length calls)) none) (λ q h leads. more h (length calls) (before q h leads)) f is
 done_small (sync_folder path) calls can before p f is = more f (length calls) (before p f is)
@@ -84,6 +88,7 @@ makes (sync f bytes) calls are = tt
 makes (link f to) calls are = tt
 makes (link_again from to) calls are = tt
 makes (rename f from to) calls are = tt
+makes (rename_again from to) calls are = tt
 makes (remove path) calls are = tt
 makes (sync_folder path) calls are = tt
 makes (same_file path other) calls are = tt
@@ -94,6 +99,7 @@ same_may (sync f bytes) n files = λ p ours other. refl
 same_may (link f to) n files = (λ p ours other. refl, λ ours. inl refl)
 same_may (link_again from to) n files = (λ p ours other. refl, λ ours our_from. inl refl)
 same_may (rename f from to) n files = (λ p ours other. refl, λ ours. inl refl)
+same_may (rename_again from to) n files = (λ p ours other. refl, λ ours our_from. inl refl)
 same_may (remove path) n files = (λ p ours other. refl, λ ours. inl refl)
 same_may (sync_folder path) n files = λ p ours other. refl
 same_may (same_file path to) n files = λ p ours other. refl
@@ -118,6 +124,11 @@ done_may (rename f from to) calls can = (
   λ p ours other. miss to p (Some f) ((with_name (after calls) from None).named p) (λ is. other (inr is))
       ∙ miss from p None ((after calls).named p) (λ is. other (inl is)),
   λ ours. inr (hit to (Some f) ((with_name (after calls) from None).named to)),
+)
+done_may (rename_again from to) calls can = (
+  λ p ours other. miss to p ((after calls).named from) ((with_name (after calls) from None).named p) (λ is. other (inr is))
+      ∙ miss from p None ((after calls).named p) (λ is. other (inl is)),
+  λ ours our_from. inr (hit to ((after calls).named from) ((with_name (after calls) from None).named to)),
 )
 done_may (remove path) calls can = (
   λ p ours other. miss path p None ((after calls).named p) other,
@@ -146,6 +157,7 @@ done_closed (sync f (Some bytes)) calls can file before now = miss_file f file b
 done_closed (link f to) calls can file before now = refl
 done_closed (link_again from to) calls can file before now = refl
 done_closed (rename f from to) calls can file before now = refl
+done_closed (rename_again from to) calls can file before now = refl
 done_closed (remove path) calls can file before now = refl
 done_closed (sync_folder path) calls can file before now = refl
 done_closed (same_file path other) calls can file before now = refl
@@ -159,6 +171,8 @@ has_done (sync f (Some bytes)) calls can = (hit_file f bytes ((after calls).byte
 has_done (link f to) calls can = λ ours. (can.0, hit to (Some f) ((after calls).named to))
 has_done (link_again from to) calls can = λ ours our_from. (can, hit to ((after calls).named from) ((after calls).named to))
 has_done (rename f from to) calls can = λ ours. hit to (Some f) ((with_name (after calls) from None).named to)
+has_done (rename_again from to) calls can = λ ours our_from. hit to ((after calls).named from)
+    ((with_name (after calls) from None).named to)
 has_done (remove path) calls can = λ ours. hit path None ((after calls).named path)
 has_done (sync_folder path) calls can = λ p ours inside. refl
 has_done (same_file path other) calls can = λ ours our_other. can

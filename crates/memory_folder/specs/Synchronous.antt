@@ -1,8 +1,8 @@
 -- A file system that has each change on the disk at once, and answers Ok only if it did what it was asked to. `IsLawful` holds of it, so
 -- that premise can be met.
-use Rattle.std.specs.Prelude.{◌≡◌, ◌≤◌, ℕ, suc, List, [], ◌∷◌, length, Bool, true, false, ◌==◌, bytes_eq, if◌then◌else◌}
+use Rattle.std.specs.Prelude.{◌≡◌, ◌≤◌, ℕ, suc, List, [], ◌∷◌, length, true, false, ◌==◌, bytes_eq, if◌then◌else◌}
 use Rattle.std.specs.Prelude.{Option, Some, None}
-use Rattle.folders.specs.Calls.{Call, Answered, make, sync, link, link_again, rename, remove, sync_folder, same_file}
+use Rattle.folders.specs.Calls.{Call, Answered, make, sync, link, link_again, rename, rename_again, remove, sync_folder, same_file}
 use Rattle.folders.specs.Files.{Files}
 use Rattle.folders.specs.Worlds.{World, is_closed}
 
@@ -26,6 +26,7 @@ done (sync f (Some bytes)) file files = with_bytes files f bytes
 done (link f to) file files = with_name files to (Some f)
 done (link_again from to) file files = with_name files to (files.named from)
 done (rename f from to) file files = with_name (with_name files from None) to (Some f)
+done (rename_again from to) file files = with_name (with_name files from None) to (files.named from)
 done (remove path) file files = with_name files path None
 done (sync_folder path) file files = files
 done (same_file path other) file files = files
@@ -43,6 +44,7 @@ CanBeDone (sync f bytes) calls = is_closed f calls ≡ false
 CanBeDone (link f to) calls = ((after calls).named to ≡ None) × (f ≤ length calls)
 CanBeDone (link_again from to) calls = (after calls).named to ≡ None
 CanBeDone (rename f from to) calls = f ≤ length calls
+CanBeDone (rename_again from to) calls = Unit {0}
 CanBeDone (remove path) calls = Unit {0}
 CanBeDone (sync_folder path) calls = Unit {0}
 CanBeDone (same_file path other) calls = (after calls).named path ≡ (after calls).named other

@@ -88,6 +88,16 @@ impl Folder for MemoryFolder {
         answer
     }
 
+    fn rename_again(&mut self, from: &str, to: &str) -> io::Result<()> {
+        let answer = match (self.node_at(from), self.node_at(to)) {
+            (None, _) => Err(io::Error::from(ErrorKind::NotFound)),
+            (Some(node), Some(there)) if node == there => self.change_nothing(),
+            (Some(node), _) => self.change_path(node, from, to),
+        };
+        self.note(&Call::RenameAgain(from, to), answer.is_ok());
+        answer
+    }
+
     fn remove(&mut self, path: &str) -> io::Result<()> {
         let answer = match self.node_at(path) {
             Some(_) => self.change(path, None),

@@ -294,6 +294,14 @@ impl MemoryFolder {
         answer_of(fails)
     }
 
+    // A call that has nothing to do, and may fail.
+    pub(crate) fn change_nothing(&mut self) -> io::Result<()>
+        ensures { self.new.past.calls ≡ self.old.past.calls }
+    {
+        let fails = self.fails();
+        answer_of(fails)
+    }
+
     // Writes the names in a folder to the disk, if the call doesn't fail.
     pub(crate) fn write_names(&mut self, folder: &str) -> io::Result<()>
         ensures { self.new.past.calls ≡ self.old.past.calls }

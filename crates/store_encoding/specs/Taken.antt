@@ -2,6 +2,7 @@
 use Rattle.std.specs.Prelude.{◌≡◌, ℕ, List, Bool, true, All, None, string_bytes}
 use Rattle.std.proofs.Common.{String, Global}
 use Rattle.folders.specs.Calls.{Answered}
+use Rattle.folders.specs.Given.{Remove}
 use Rattle.folders.specs.Kept.{Keeps}
 use Rattle.folders.specs.Worlds.{World, IsLawful}
 
@@ -13,6 +14,11 @@ AreTaken taken paths = All (λ path. taken (string_bytes path) ≡ true) paths
 abbrev pub TakesOnly : List (String Global) → List Answered → List Answered → Type 0
 TakesOnly paths old new =
     (taken : List ℕ → Bool) → AreTaken taken paths → Keeps (λ path. taken path ≡ true) (λ path bytes. ⊥) old new
+
+-- The same of each path that none of the calls takes away.
+abbrev pub KeepsRest : List Answered → List Answered → Type 0
+KeepsRest old new =
+    (taken : List ℕ → Bool) → Remove (λ path. taken path ≡ true) new → Keeps (λ path. taken path ≡ true) (λ path bytes. ⊥) old new
 
 -- Nothing is at the path, and a crash leaves nothing there.
 abbrev pub IsGone : List ℕ → List Answered → Type 0

@@ -1,8 +1,12 @@
 //! Taking files out of a store. The digests go first, so that nothing is expected of the file any more, then its descriptions, then its
 //! fragments: what a run that was killed has left is a file that can still be read, or fragments that the same command removes.
+ghost use Rattle.std.specs.Prelude.{◌≡◌};
+ghost use Rattle.store_encoding.specs.Taken.{KeepsRest};
+
 use crate::encoding::sums::write_new_sums;
 use crate::own_folders::remove_own_folders;
 use crate::taking::take_files;
+use folders::Folder;
 use std::alloc::{AllocError, Global};
 use store_faults::{FileFault, device};
 use store_files::{Target, is_there, no_stored, refuse_linked, staged_name};
@@ -40,8 +44,9 @@ pub fn remove_stored(
         }
     }
     write_new_sums(rt, target)?;
-    remove_names(rt, target, descriptions.as_slice())?;
-    remove_names(rt, target, fragments.as_slice())?;
+    let files = &mut SystemFolder::new(rt);
+    remove_names(rt, files, target, descriptions.as_slice())?;
+    remove_names(rt, files, target, fragments.as_slice())?;
     remove_own_folders(rt, target, staged.as_str(), name)?;
     Ok(remove_own_folders(rt, target, name, staged.as_str())?)
 }
@@ -59,18 +64,22 @@ fn has_any(rt: &HostRuntime, target: &Target<'_>, names: &[String]) -> Result<bo
 
 /// Removes the regular files of some names, the last first, whose digests go too, and writes that to the disk. Another thing under one of
 /// them stays.
-pub(crate) fn remove_names(
+pub(crate) fn remove_names<F: Folder>(
     rt: &HostRuntime,
+    files: &mut F,
     target: &mut Target<'_>,
     names: &[String],
-) -> Result<(), FileFault> {
+) -> Result<(), FileFault>
+    ensures folder { target.new.folder ≡ target.old.folder }
+    ensures rest { KeepsRest (F.calls files.old) (F.calls files.new) }
+{
     let alloc = rt.alloc();
     let mut paths = Vec::with_capacity(alloc, names.len())?;
-    for name in names {
+    'names: for name in names {
         paths.push(target.path(alloc, name.as_str())?)?;
         target.is_changed = target.sums.remove(name.as_str()) || target.is_changed;
     }
-    match take_files(&mut SystemFolder::new(rt), paths) {
+    match take_files(files, paths) {
         Ok(None) => Ok(()),
         Ok(Some(index)) => Err(no_file(alloc, names, index)?),
         Err(NameFault { name, error }) => Err(device(alloc, name.as_str(), error)),

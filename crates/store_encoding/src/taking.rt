@@ -1,7 +1,7 @@
 //! Files that are taken away.
 ghost use Rattle.std.specs.Prelude.{◌≡◌, OnOk};
 ghost use Rattle.folders.specs.Kept.{KeepsBut};
-ghost use Rattle.store_encoding.specs.Taken.{IsGone, TakesOnly};
+ghost use Rattle.store_encoding.specs.Taken.{IsGone, KeepsRest, TakesOnly};
 
 use folders::{Folder, folder_of};
 use std::io;
@@ -11,7 +11,8 @@ use store_repair::NameFault;
 /// Takes the regular files at some paths away, the last first, each from the disk before the next. Something else at one of them stays, and
 /// the index of the first of these is given. Whenever that ends, each other path has what it had.
 pub fn take_files<F: Folder>(files: &mut F, paths: Vec<String>) -> Result<Option<usize>, NameFault>
-    ensures { TakesOnly paths.items (F.calls files.old) (F.calls files.new) }
+    ensures only { TakesOnly paths.items (F.calls files.old) (F.calls files.new) }
+    ensures rest { KeepsRest (F.calls files.old) (F.calls files.new) }
 {
     let mut paths = paths;
     let mut odd = None;
@@ -27,7 +28,8 @@ pub fn take_files<F: Folder>(files: &mut F, paths: Vec<String>) -> Result<Option
 
 // Takes the regular file at a path away, if one is there. False if something else is.
 fn take_file<F: Folder>(files: &mut F, path: &str) -> io::Result<bool>
-    ensures { KeepsBut path.now (F.calls files.old) (F.calls files.new) }
+    ensures rest { KeepsRest (F.calls files.old) (F.calls files.new) }
+    ensures whenever { KeepsBut path.now (F.calls files.old) (F.calls files.new) }
 {
     match files.status(path) {
         Ok(there) if there.is_file() => {
@@ -43,6 +45,7 @@ fn take_file<F: Folder>(files: &mut F, path: &str) -> io::Result<bool>
 /// Takes a path away from its file, also on the disk. No other path changes.
 pub fn take_away<F: Folder>(files: &mut F, path: &str) -> io::Result<()>
     ensures whenever { KeepsBut path.now (F.calls files.old) (F.calls files.new) }
+    ensures rest { KeepsRest (F.calls files.old) (F.calls files.new) }
     ensures gone { OnOk result (IsGone path.now (F.calls files.new)) }
 {
     files.remove(path)?;

@@ -1,4 +1,6 @@
 //! The store that files are encoded into.
+ghost use Rattle.std.specs.Prelude.{◌≡◌, ◌∷◌, ◌++◌, IfOk, string_bytes};
+
 use lrc_code::{Code, Place};
 use std::alloc::{AllocError, Global};
 use store_faults::fragment_name;
@@ -54,7 +56,9 @@ impl Target<'_> {
     }
 
     /// The path of a name in the store.
-    pub fn path(&self, alloc: Global, name: &str) -> Result<String, AllocError> {
+    pub fn path(&self, alloc: Global, name: &str) -> Result<String, AllocError>
+        ensures { IfOk result (λ path. string_bytes path ≡ self.now.folder.now ++ 47 ∷ name.now) }
+    {
         path_in(alloc, self.folder, name)
     }
 }

@@ -1,6 +1,6 @@
 -- Runs of a store's calls, one after another.
 use Rattle.std.proofs.Common.{◌≡◌, inl, inr, ◌⊎◌, ℕ, List, [], ◌∷◌, ◌++◌, Bool, subst, sym}
-use Rattle.folders.specs.Calls.{Call, Answered, make, sync, link, link_again, rename, remove, sync_folder, same_file}
+use Rattle.folders.specs.Calls.{Call, Answered, make, sync, link, link_again, rename, rename_again, remove, sync_folder, same_file}
 use Rattle.folders.specs.Kept.{Keeps}
 use Rattle.folders.specs.Placed.{WasSynced}
 use Rattle.folders.proofs.Runs.{keeps_after, keeps_weaker}
@@ -19,6 +19,7 @@ synced_since bytes ((sync file written, ok) ∷ more) old was = inr (synced_sinc
 synced_since bytes ((link file to, ok) ∷ more) old was = synced_since bytes more old was
 synced_since bytes ((link_again from to, ok) ∷ more) old was = synced_since bytes more old was
 synced_since bytes ((rename file from to, ok) ∷ more) old was = synced_since bytes more old was
+synced_since bytes ((rename_again from to, ok) ∷ more) old was = synced_since bytes more old was
 synced_since bytes ((remove path, ok) ∷ more) old was = synced_since bytes more old was
 synced_since bytes ((sync_folder path, ok) ∷ more) old was = synced_since bytes more old was
 synced_since bytes ((same_file path other, ok) ∷ more) old was = synced_since bytes more old was

@@ -94,8 +94,8 @@ fn try_name<F: Folder>(
     })
 }
 
-// A path for a new file, of which is seen that no fragment can have it.
-fn new_path(rt: &HostRuntime, folder: &str, tag: &str) -> io::Result<String>
+/// A path for a new file, of which is seen that no fragment can have it.
+pub(crate) fn new_path(rt: &HostRuntime, folder: &str, tag: &str) -> io::Result<String>
     ensures { IfOk result (λ path. is_temporary (string_bytes path) ≡ true) }
 {
     let alloc = rt.alloc();

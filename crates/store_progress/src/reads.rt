@@ -140,6 +140,10 @@ impl<F: Folder> Folder for CountingFolder<F> {
         self.files.rename(file, to)
     }
 
+    fn rename_again(&mut self, from: &str, to: &str) -> io::Result<()> {
+        self.files.rename_again(from, to)
+    }
+
     fn remove(&mut self, path: &str) -> io::Result<()> {
         self.files.remove(path)
     }

@@ -1,19 +1,42 @@
 //! Replacing a file of a store by one that has other bytes. The new one is encoded first, as a stripe of a name of its own. Once its
 //! description is there, all of it is on the disk, and reading gives the new file. Then each of its files gets its name beside that, in
 //! place of the old one, and at last the names of its own go. So at any moment the store has all of the old file or all of the new one.
+ghost use Rattle.std.specs.Prelude.{◌≡◌, ◌∷◌, ◌++◌, ℕ, List, Bool, true, false};
+ghost use Rattle.folders.specs.Given.{Gives, IsPair, Nothing, Remove};
+ghost use Rattle.store_encoding.specs.Replaced.{AreToGet, CanGet, GivesNames, GivesTo};
+ghost use Rattle.store_encoding.specs.Taken.{KeepsRest};
+ghost use Rattle.store_folder.specs.Temporary.{AreTaken};
+
 use crate::encoding::subfolders::make_folders;
 use crate::encoding::sums::write_new_sums;
 use crate::encoding::{Given, encode_as};
 use crate::own_folders::remove_own_folders;
 use crate::removing::remove_names;
-use std::random::RandomSource;
+use folders::Folder;
+use std::alloc::{AllocError, Global};
+use std::slice;
 use std::thread::Threads;
-use std::{fs, io, slice};
 use store_faults::{FileFault, device};
 use store_files::{
     StoredFile, Target, first_described, is_begun, is_there, refuse_linked, staged_name,
 };
-use store_folder::{Links, description_names, folder_of, open_regular, path_in, sync_folder};
+use store_folder::{SystemFolder, description_names, give_name};
+
+// The names in the store of a stripe's files.
+#[derive(Drop)]
+struct StripeFiles {
+    fragments: Vec<String>,
+    descriptions: Vec<String>,
+}
+
+impl StripeFiles {
+    fn of(alloc: Global, target: &Target<'_>, stripe: &str) -> Result<StripeFiles, AllocError> {
+        Ok(StripeFiles {
+            descriptions: description_names(alloc, &target.pattern, target.code, stripe)?,
+            fragments: target.names(alloc, stripe)?,
+        })
+    }
+}
 
 /// Replaces the file of a name.
 pub(crate) fn replace<R: Threads + Sync>(
@@ -53,23 +76,20 @@ pub(crate) fn finish_replacing(
     if !is_begun(rt, &file, target.code)? {
         return Ok(());
     }
-    let descriptions = description_names(alloc, &target.pattern, target.code, staged)?;
-    let fragments = target.names(alloc, staged)?;
-    refuse_linked(rt, target, descriptions.as_slice())?;
-    refuse_linked(rt, target, fragments.as_slice())?;
+    let begun = StripeFiles::of(alloc, target, staged)?;
+    refuse_linked(rt, target, begun.descriptions.as_slice())?;
+    refuse_linked(rt, target, begun.fragments.as_slice())?;
+    let files = &mut SystemFolder::new(rt);
     if first_described(rt, &file)?.is_some() {
-        let replaced = target.names(alloc, name)?;
-        give_names(rt, target, fragments.as_slice(), replaced.as_slice())?;
-        remove_old(rt, target, fragments.as_slice(), replaced.as_slice())?;
-        let replaced = description_names(alloc, &target.pattern, target.code, name)?;
-        give_names(rt, target, descriptions.as_slice(), replaced.as_slice())?;
+        let replaced = StripeFiles::of(alloc, target, name)?;
+        give_all(rt, files, target, &begun, &replaced)?;
         // Before its files go, so that no digest is left of what isn't there, wherever the run is killed.
-        forget_digests(target, descriptions.as_slice());
-        forget_digests(target, fragments.as_slice());
+        forget_digests(target, begun.descriptions.as_slice());
+        forget_digests(target, begun.fragments.as_slice());
         write_new_sums(rt, target)?;
     }
-    remove_names(rt, target, descriptions.as_slice())?;
-    remove_names(rt, target, fragments.as_slice())?;
+    remove_names(rt, files, target, begun.descriptions.as_slice())?;
+    remove_names(rt, files, target, begun.fragments.as_slice())?;
     Ok(remove_own_folders(rt, target, staged, name)?)
 }
 
@@ -80,76 +100,123 @@ fn forget_digests(target: &mut Target<'_>, names: &[String]) {
     }
 }
 
-// Removes what has the names of an old file's fragments where the new one's at the same index was lost meanwhile.
-fn remove_old(
+// Gives the files of a stripe the names of another one's too, in place of what has these, its descriptions last. Whenever that ends, each
+// path that isn't temporary and that no call takes away has what it had, or is one of those names and has what the file of the stripe has.
+fn give_all<F: Folder>(
     rt: &HostRuntime,
+    files: &mut F,
+    target: &mut Target<'_>,
+    begun: &StripeFiles,
+    replaced: &StripeFiles,
+) -> Result<(), FileFault>
+    ensures whenever { (taken : List ℕ → Bool) (gives : List ℕ → List ℕ → Bool) → CanGet taken gives
+        → AreToGet gives target.old.folder.now begun.now.fragments.items replaced.now.fragments.items
+        → AreToGet gives target.old.folder.now begun.now.descriptions.items replaced.now.descriptions.items
+        → Remove (λ path. taken path ≡ true) (F.calls files.new) → GivesTo taken gives (F.calls files.old) (F.calls files.new) }
+{
+    let fragments = replaced.fragments.as_slice();
+    give_names(rt, files, target, begun.fragments.as_slice(), fragments)?;
+    remove_old(rt, files, target, begun.fragments.as_slice(), fragments)?;
+    give_names(
+        rt,
+        files,
+        target,
+        begun.descriptions.as_slice(),
+        replaced.descriptions.as_slice(),
+    )
+}
+
+// Removes what has the names of an old file's fragments where the new one's at the same index was lost meanwhile.
+fn remove_old<F: Folder>(
+    rt: &HostRuntime,
+    files: &mut F,
     target: &mut Target<'_>,
     names: &[String],
     others: &[String],
-) -> Result<(), FileFault> {
-    for (name, other) in names.iter().zip(others.iter()) {
-        let path = target.path(rt.alloc(), name.as_str())?;
-        if !is_there(rt, path.as_str())? {
-            remove_names(rt, target, slice::from_ref(other))?;
-        }
+) -> Result<(), FileFault>
+    ensures folder { target.new.folder ≡ target.old.folder }
+    ensures rest { KeepsRest (F.calls files.old) (F.calls files.new) }
+{
+    'names: for (name, other) in names.iter().zip(others.iter()) {
+        remove_lost(rt, files, target, name.as_str(), other)?;
     }
     Ok(())
+}
+
+// Removes what has another name if nothing has this one.
+fn remove_lost<F: Folder>(
+    rt: &HostRuntime,
+    files: &mut F,
+    target: &mut Target<'_>,
+    name: &str,
+    other: &String,
+) -> Result<(), FileFault>
+    ensures folder { target.new.folder ≡ target.old.folder }
+    ensures rest { KeepsRest (F.calls files.old) (F.calls files.new) }
+{
+    let path = target.path(rt.alloc(), name)?;
+    if is_there(rt, path.as_str())? {
+        return Ok(());
+    }
+    remove_names(rt, files, target, slice::from_ref(other))
 }
 
 // Gives the files of some names each the name at its index too, in place of what has it, and notes their digests.
-fn give_names(
+fn give_names<F: Folder>(
     rt: &HostRuntime,
+    files: &mut F,
     target: &mut Target<'_>,
     names: &[String],
     others: &[String],
-) -> Result<(), FileFault> {
-    let alloc = rt.alloc();
-    for (name, other) in names.iter().zip(others.iter()) {
-        let path = target.path(alloc, name.as_str())?;
-        let to = target.path(alloc, other.as_str())?;
-        if !is_there(rt, path.as_str())? {
-            continue;
-        }
-        give_name(rt, path.as_str(), to.as_str()).map_err(|error| device(
-            alloc,
-            to.as_str(),
-            error,
-        ))?;
-        if let Some(digest) = target.sums.digest_of(name.as_str()).copied() {
-            target.sums.set(alloc, other.as_str(), digest)?;
-            target.is_changed = true;
-        } else if target.sums.remove(other.as_str()) {
-            target.is_changed = true;
-        }
+) -> Result<(), FileFault>
+    ensures folder { target.new.folder ≡ target.old.folder }
+    ensures whenever { GivesNames target.old.folder.now names.now others.now (F.calls files.old) (F.calls files.new) }
+{
+    'names: for (name, other) in names.iter().zip(others.iter()) {
+        give_one(rt, files, target, name.as_str(), other.as_str())?;
     }
     Ok(())
 }
 
-// Gives the file at a path another name too, in place of what has that, and writes it to the disk. The link beside it has a name that runs
-// which were killed leave.
-fn give_name(rt: &HostRuntime, path: &str, to: &str) -> io::Result<()> {
-    // The lock says meanwhile that a run works on the file, so that no other takes the link for one that was left.
-    let held = open_regular(rt, path, Links::NotFollowed);
-    if let Ok(held) = &held {
-        let _ = held.file.try_lock();
+// Gives the file of a name another name too, if there is one, in place of what has that, and notes its digest.
+fn give_one<F: Folder>(
+    rt: &HostRuntime,
+    files: &mut F,
+    target: &mut Target<'_>,
+    name: &str,
+    other: &str,
+) -> Result<(), FileFault>
+    ensures folder { target.new.folder ≡ target.old.folder }
+    ensures whenever { (taken : List ℕ → Bool) → AreTaken taken → taken (target.old.folder.now ++ 47 ∷ name.now) ≡ false
+        → Gives (λ path. taken path ≡ true) (IsPair (target.old.folder.now ++ 47 ∷ name.now) (target.old.folder.now ++ 47 ∷ other.now))
+        Nothing (F.calls files.old) (F.calls files.new) }
+{
+    let alloc = rt.alloc();
+    let path = target.path(alloc, name)?;
+    let to = target.path(alloc, other)?;
+    if !is_there(rt, path.as_str())? {
+        return Ok(());
     }
-    let link = temporary_path(rt, folder_of(to))?;
-    fs::hard_link(rt, path, link.as_str())?;
-    if let Err(error) = fs::rename(rt, link.as_str(), to) {
-        fs::remove_file(rt, link.as_str())?;
-        return Err(error);
+    match give_name(rt, files, path.as_str(), to.as_str()) {
+        Ok(()) => Ok(note_digest(alloc, target, name, other)?),
+        Err(error) => Err(device(alloc, to.as_str(), error)),
     }
-    // Two names of one file are left as they are.
-    let _ = fs::remove_file(rt, link.as_str());
-    sync_folder(rt, folder_of(to))
 }
 
-// A path in a folder whose name is one that runs which were killed leave.
-fn temporary_path(rt: &HostRuntime, folder: &str) -> io::Result<String> {
-    let alloc = rt.alloc();
-    let mut bytes = [0u8; 8];
-    rt.fill_bytes(&mut bytes)?;
-    let digits = u64::from_ne_bytes(bytes);
-    let name = format!(in alloc; ".rebuild-store-{digits:016x}")?;
-    Ok(path_in(alloc, folder, name.as_str())?)
+// Notes that the file of a name has another name too: the digest of the one is that of the other.
+fn note_digest(
+    alloc: Global,
+    target: &mut Target<'_>,
+    name: &str,
+    other: &str,
+) -> Result<(), AllocError>
+    ensures { target.new.folder ≡ target.old.folder }
+{
+    if let Some(digest) = target.sums.digest_of(name).copied() {
+        target.sums.set(alloc, other, digest)?;
+        target.is_changed = true;
+    } else if target.sums.remove(other) {
+        target.is_changed = true;
+    }
+    Ok(())
 }

@@ -1,7 +1,8 @@
 use Rattle.std.proofs.Common.{true, false}
 use Rattle.folders.specs.Calls.{remove, sync_folder}
-use Rattle.folders.proofs.Answers.{keeps_answered}
+use Rattle.folders.proofs.Answers.{answered, keeps_answered}
 use Rattle.folders.proofs.Runs.{keeps_quiet, keeps_after}
+use Rattle.store_encoding.proofs.Taken.{rest_after, rest_removed, rest_synced}
 use Rattle.store_encoding.proofs.taking.take_away.Goals as goal
 
 pub returns-in_err-remove-clause-whenever : goal.returns-in_err-remove-clause-whenever
@@ -13,3 +14,13 @@ returns-clause-whenever g c = λ temporary is. keeps_after _ _ _ _ _
     (keeps_quiet _ _ (remove c.args.path.now) true _ _ c.in_ok-remove.ensures.ok (λ w. is))
     (keeps_answered _ _ c.sync_folder.result (sync_folder c.folder_of.result.now) _ _ c.sync_folder.ensures.ok
     c.sync_folder.ensures.err (λ w. tt))
+
+pub returns-in_err-remove-clause-rest : goal.returns-in_err-remove-clause-rest
+returns-in_err-remove-clause-rest g c = rest_removed c.args.path.now false _ _ c.in_err-remove.ensures.err
+
+pub returns-clause-rest : goal.returns-clause-rest
+returns-clause-rest g c =
+    let last = answered c.sync_folder.result (sync_folder c.folder_of.result.now) (g.F.Folder.calls c.remove.new.self)
+    (g.F.Folder.calls c.sync_folder.new.self) c.sync_folder.ensures.ok c.sync_folder.ensures.err in
+    rest_after _ _ _ (rest_removed c.args.path.now true _ _ c.in_ok-remove.ensures.ok)
+    (rest_synced c.folder_of.result.now last.0 _ _ last.1)
