@@ -1,7 +1,7 @@
 #!/usr/bin/env bash
-# Tests the manual pages: mandoc finds no fault in them where it is installed; the page of the program has each number of a fault, and
-# those of rebuild-store and rebuild-ceph each command and option of their help; and each example (a display after a comment "example") is
-# run and gives what the page shows. That the page of the formats is made from docs/FORMATS.md is tested by format-page.py.
+# Tests the manual pages: mandoc finds no fault in them where it is installed; the page of the program has each number that a fault's line
+# may have, and those of rebuild-store and rebuild-ceph each command and option of their help; and each example (a display after a comment
+# "example") is run and gives what the page shows. That the page of the formats is made from docs/FORMATS.md is tested by format-page.py.
 set -euo pipefail
 cd "$(dirname "$0")/.."
 program=$PWD/crates/rebuild/out/rebuild
@@ -39,9 +39,13 @@ def plain(line):
 pages = {name: open('man/' + name, encoding='ascii').read() for name in
          ('rebuild.1', 'rebuild-lists.1', 'rebuild-store.1', 'rebuild.5', 'rebuild-store.5')}
 
-numbers = re.findall(r'^\.It E(\d+)$', pages['rebuild.1'], re.M)
-if sorted(map(int, numbers)) != list(range(1, 30)):
-    fail('rebuild.1 does not have each number of a fault once')
+# The document has all numbers, and the page those that a line may have.
+faults = open('docs/FORMATS.md', encoding='ascii').read().partition('\nThe numbers mean:\n')[2]
+numbers = [list(map(int, re.findall(r'^- `E(\d+)`:', part, re.M))) for part in faults.split('\nThe other numbers ')]
+if sorted(sum(numbers, [])) != list(range(1, 30)):
+    fail('docs/FORMATS.md does not have each number of a fault once')
+if list(map(int, re.findall(r'^\.It E(\d+)$', pages['rebuild.1'], re.M))) != numbers[0]:
+    fail('rebuild.1 does not have each number once that a line may have')
 
 def store_help(*words):
     return subprocess.run([sys.argv[2], *words, '--help'], check=True, capture_output=True, text=True).stdout

@@ -17,6 +17,8 @@ SOURCE = ROOT / "docs/FORMATS.md"
 FORMATS, PROGRAM = ROOT / "man/rebuild.5", ROOT / "man/rebuild.1"
 FROM, TO = '.\\" From docs/FORMATS.md, by tools/format-page.py:\n', '.\\" Up to here.\n'
 FAULTS = "Faults"
+# What the program's page leaves out: the numbers that no line has.
+INNER = "\nThe other numbers "
 WIDTH = 80
 TAGGED = re.compile(r"- (`.*?[`)]): (.*)", re.S)
 HEAD = """\
@@ -122,7 +124,10 @@ def program():
     _, _, after = rest.partition(TO)
     if TO not in rest:
         sys.exit(f"format-page: man/rebuild.1 has no two comments {FROM.strip()} and {TO.strip()}")
-    return before + FROM + page(sections()[FAULTS]) + TO + after
+    shown, inner, _ = sections()[FAULTS].partition(INNER)
+    if not inner:
+        sys.exit(f"format-page: {SOURCE.name} has no paragraph that begins with {INNER.strip()!r}")
+    return before + FROM + page(shown) + TO + after
 
 
 def main():
