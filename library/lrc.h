@@ -23,7 +23,7 @@
  * Threads. There is no state: any function may be called from any thread, on buffers that no other thread writes, and from a
  * signal handler.
  *
- * Statuses. Each function tests its numbers and lengths, and answers LRC_BAD_ARGUMENT, with nothing written, where they are
+ * Statuses. Each function tests its numbers and lengths, and answers LRC_BAD_ARGUMENT, with nothing written, if they are
  * not what it asks. No function aborts, and each returns.
  *
  * Sets of places are bits: bit p of a mask is that of place p. Bits 16 and higher are ignored by every call.
@@ -33,7 +33,7 @@
  * Length 0. The calls that rebuild refuse it; the others answer LRC_OK, and write no byte of a fragment.
  *
  * The caller must ensure:
- *   - a pointer points to as many bytes as the length beside it says, and is not null, also where that length is 0 or where it
+ *   - a pointer points to as many bytes as the length beside it says, and is not null, also if that length is 0 or if it
  *     is not read: of the sixteen entries of a table `at` none is null;
  *   - a buffer that is written overlaps no other argument.
  * Of the functions in "the library's functions" the answers are proved, but for what is said there to be tested. Those after it
@@ -94,7 +94,7 @@ typedef struct lrc_bytes {
 } lrc_bytes;
 
 /* Coefficients by place, for a lost target and a set of survivors. At each position the target's byte is the sum of value[p]
- * times the byte at p, over all places p; the survivors are those of a stripe exactly where, at every position and for each
+ * times the byte at p, over all places p; the survivors are those of a stripe exactly if, at every position and for each
  * r, the sum of checks[r][p] times the byte at p is 0. Places that do not survive have 0 in all rows. All-zero rows are unused:
  * there are as many checks as other rows. */
 typedef struct lrc_plan {
@@ -104,29 +104,29 @@ typedef struct lrc_plan {
 
 /* ---- the library's functions */
 
-/* The version of the linked library; LRC_VERSION_NUMBER where it is that of this header. */
+/* The version of the linked library; LRC_VERSION_NUMBER if it is that of this header. */
 uint32_t lrc_version(void);
 
-/* dst[i] ^= src[i]. LRC_BAD_ARGUMENT where the lengths differ. */
+/* dst[i] ^= src[i]. LRC_BAD_ARGUMENT if the lengths differ. */
 uint32_t lrc_add(uint8_t *dst, size_t dst_length, const uint8_t *src, size_t src_length);
 
-/* dst[i] ^= scalar * src[i] in the field. LRC_BAD_ARGUMENT where the lengths differ. */
+/* dst[i] ^= scalar * src[i] in the field. LRC_BAD_ARGUMENT if the lengths differ. */
 uint32_t lrc_scale_add(uint8_t *dst, size_t dst_length, uint8_t scalar, const uint8_t *src, size_t src_length);
 
-/* out[i] = the sum of coefficients[k] * sources[k].at[i], each source read once. LRC_BAD_ARGUMENT where there are more than 16
- * sources or not as many as coefficients, or where one whose coefficient is not 0 has another length than `out`; one with
+/* out[i] = the sum of coefficients[k] * sources[k].at[i], each source read once. LRC_BAD_ARGUMENT if there are more than 16
+ * sources or not as many as coefficients, or if one whose coefficient is not 0 has another length than `out`; one with
  * coefficient 0 is not read. */
 uint32_t lrc_combine(const uint8_t *coefficients, size_t count, const lrc_bytes *sources, size_t source_count, uint8_t *out,
                      size_t length);
 
-/* Writes the four parities of the data fragments, which are in the order x0, x1, .., y0, y1, .. LRC_BAD_ARGUMENT where the number
+/* Writes the four parities of the data fragments, which are in the order x0, x1, .., y0, y1, .. LRC_BAD_ARGUMENT if the number
  * is no code's, `count` is not 6 or 12 as the code says, or the lengths differ. */
 uint32_t lrc_encode_into(uint8_t code, const lrc_bytes *data, size_t count, uint8_t *px, size_t px_length, uint8_t *py,
                          size_t py_length, uint8_t *p0, size_t p0_length, uint8_t *p1, size_t p1_length);
 
 /* Brings parities up to date after one data fragment of their stripe changed: adds to each the place's coefficient in it times the
  * difference, which is the sum (exclusive or) of the fragment's bytes before and after. A parity whose length is 0 is left
- * alone. LRC_BAD_ARGUMENT where the number is no code's, the place is none of its data places, or a parity's length is neither 0
+ * alone. LRC_BAD_ARGUMENT if the number is no code's, the place is none of its data places, or a parity's length is neither 0
  * nor that of the difference. */
 uint32_t lrc_update_into(uint8_t code, uint8_t place, const uint8_t *difference, size_t length, uint8_t *px, size_t px_length,
                          uint8_t *py, size_t py_length, uint8_t *p0, size_t p0_length, uint8_t *p1, size_t p1_length);
@@ -134,7 +134,7 @@ uint32_t lrc_update_into(uint8_t code, uint8_t place, const uint8_t *difference,
 /* What to read for wanted places: writes the bits of available places that determine all wanted ones. A wanted place that is
  * available is among them; of the others none can be left out, and they are as few as do. For one lost place whose group's others
  * are available these are the group's others. That they are as few, and the group's, is tested and not proved. LRC_OK, or
- * LRC_SEVERAL where the available places do not determine a wanted one; then nothing is written. LRC_BAD_ARGUMENT where the number
+ * LRC_SEVERAL if the available places do not determine a wanted one; then nothing is written. LRC_BAD_ARGUMENT if the number
  * is no code's, or a wanted place is not in the code. Available places that are not in the code are ignored. */
 uint32_t lrc_reads_into(uint8_t code, uint32_t wanted, uint32_t available, uint32_t *reads);
 
@@ -143,28 +143,28 @@ uint32_t lrc_reads_into(uint8_t code, uint32_t wanted, uint32_t available, uint3
 uint32_t lrc_cheapest_reads_into(uint8_t code, uint32_t wanted, uint32_t available, const uint32_t costs[LRC_PLACES],
                                  uint32_t *reads);
 
-/* Writes the plan for a lost place: bit p of `survivors` says that place p survives. LRC_OK, or LRC_SEVERAL where the
- * survivors do not determine the target; then the checks alone are written, and `value` keeps its bytes. LRC_BAD_ARGUMENT where
+/* Writes the plan for a lost place: bit p of `survivors` says that place p survives. LRC_OK, or LRC_SEVERAL if the
+ * survivors do not determine the target; then the checks alone are written, and `value` keeps its bytes. LRC_BAD_ARGUMENT if
  * the number is no code's, the code has no such place, or it survives. Survivors that are not in the code are ignored. */
 uint32_t lrc_plan_into(uint8_t code, uint32_t survivors, uint8_t target, lrc_plan *plan);
 
 /* Writes what a row of a plan gives: the sum of row[p] times the bytes at[p]. With a plan's value these are the target's bytes
- * in each stripe that has the survivors' bytes; with a check they are all 0 where there is such a stripe, which follows from what
+ * in each stripe that has the survivors' bytes; with a check they are all 0 if there is such a stripe, which follows from what
  * lrc_plan says of checks and is tested. Pieces of any length may be passed. Bytes whose coefficient is 0 are not read, and may have
- * any length; all sixteen pointers are not null. LRC_BAD_ARGUMENT where others have another length than `out`. Nothing is tested of
+ * any length; all sixteen pointers are not null. LRC_BAD_ARGUMENT if others have another length than `out`. Nothing is tested of
  * the bytes, so with a plan's value this rebuilds without checks. */
 uint32_t lrc_apply(const uint8_t row[LRC_PLACES], const lrc_bytes at[LRC_PLACES], uint8_t *out, size_t length);
 
 /* Writes the fragment at a lost place: LRC_OK, and each stripe that has the survivors' bytes has those in `out` there, and there
  * is one; LRC_CONTRADICTION, and there is none; or LRC_SEVERAL. All checks are tested in any case. With the last two the contents
- * of `out` are unspecified. at[p] is read where bit p of `survivors` is set. LRC_BAD_ARGUMENT where it then has another length than
+ * of `out` are unspecified. at[p] is read if bit p of `survivors` is set. LRC_BAD_ARGUMENT if it then has another length than
  * `out`, that length is 0, a bit is set of a place not in the code, or lrc_plan_into answers it. */
 uint32_t lrc_rebuild_into(uint8_t code, uint32_t survivors, const lrc_bytes at[LRC_PLACES], uint8_t target, uint8_t *out,
                           size_t length);
 
 /* The same for up to four targets, with the survivors' checks tested once: targets[0] is written to `a`, and so on. Each has its
  * status as lrc_rebuild_into would give it; LRC_NO_PLACE means no target, whose status is 0, and whose room may have any length and
- * is then unspecified. The answer is the greatest status. LRC_BAD_ARGUMENT, with no status written, where the number is no code's, a
+ * is then unspecified. The answer is the greatest status. LRC_BAD_ARGUMENT, with no status written, if the number is no code's, a
  * bit of `survivors` is set of a place not in the code, a survivor's length or a target's room's is not `length`, `length` is 0, or
  * a target is neither LRC_NO_PLACE nor a lost place of the code. */
 uint32_t lrc_rebuild_many_into(uint8_t code, uint32_t survivors, const lrc_bytes at[LRC_PLACES], size_t length,
@@ -172,9 +172,9 @@ uint32_t lrc_rebuild_many_into(uint8_t code, uint32_t survivors, const lrc_bytes
                                size_t c_length, uint8_t *d, size_t d_length, uint32_t statuses[4]);
 
 /* Whether the survivors are those of a stripe, or with all places of the code, whether they are a stripe: LRC_OK or
- * LRC_CONTRADICTION. LRC_BAD_ARGUMENT where the number is no code's, a bit is set of a place not in the code, or the
- * bytes of one have another length. Where the survivors have no check, as any six of the (6,2,2) code that determine the others,
- * all bytes are those of a stripe: LRC_OK then says nothing of them. */
+ * LRC_CONTRADICTION. LRC_BAD_ARGUMENT if the number is no code's, a bit is set of a place not in the code, or the
+ * bytes of one have another length. If the survivors have no check, as any six of the (6,2,2) code that determine the others,
+ * all bytes are those of a stripe: LRC_OK then says nothing about them. */
 uint32_t lrc_verify_at(uint8_t code, uint32_t survivors, const lrc_bytes at[LRC_PLACES], size_t length);
 
 /* ---- names and numbers */
@@ -204,7 +204,7 @@ static inline const char *lrc_place_name(enum lrc_place place)
     return (unsigned)place < LRC_PLACES ? names[place] : "";
 }
 
-/* The place of a name; LRC_PLACES where there is none. */
+/* The place of a name; LRC_PLACES if there is none. */
 static inline enum lrc_place lrc_place_named(const char *name)
 {
     unsigned p = 0;
@@ -223,7 +223,7 @@ static inline size_t lrc_data_count(enum lrc_code code)
     return code == LRC_6_2_2 ? 6 : code == LRC_12_2_2 ? 12 : 0;
 }
 
-/* The place of the i-th data fragment, in the order x0, x1, .., y0, y1, ..; LRC_PLACES where there are not as many, or no code. */
+/* The place of the i-th data fragment, in the order x0, x1, .., y0, y1, ..; LRC_PLACES if there are not as many, or no code. */
 static inline enum lrc_place lrc_data_place(enum lrc_code code, size_t i)
 {
     static const uint8_t places[2][12] = {
@@ -238,7 +238,7 @@ static inline size_t lrc_fragment_count(enum lrc_code code)
     return lrc_data_count(code) != 0 ? lrc_data_count(code) + 4 : 0;
 }
 
-/* The place of a fragment's number in a layout; LRC_PLACES where there is no such number, code or layout. */
+/* The place of a fragment's number in a layout; LRC_PLACES if there is no such number, code or layout. */
 static inline enum lrc_place lrc_shard_place(enum lrc_code code, enum lrc_layout layout, size_t shard)
 {
     size_t data = lrc_data_count(code), half = data / 2;
@@ -253,7 +253,7 @@ static inline enum lrc_place lrc_shard_place(enum lrc_code code, enum lrc_layout
     return lrc_data_place(code, shard < half ? shard : shard - 1);
 }
 
-/* The number of the fragment at a place in a layout; LRC_PLACES where there is no such place, code or layout. */
+/* The number of the fragment at a place in a layout; LRC_PLACES if there is no such place, code or layout. */
 static inline size_t lrc_place_shard(enum lrc_code code, enum lrc_layout layout, enum lrc_place place)
 {
     for (size_t shard = 0; shard < LRC_PLACES; shard++)
@@ -263,7 +263,7 @@ static inline size_t lrc_place_shard(enum lrc_code code, enum lrc_layout layout,
 }
 
 /* The length of fragments for so many bytes: the least multiple of `alignment` at which the data fragments hold them all, which is
- * never too great for a size_t. 0 where there are no bytes, `alignment` is 0, or there is no such code. */
+ * never too great for a size_t. 0 if there are no bytes, `alignment` is 0, or there is no such code. */
 static inline size_t lrc_fragment_length(enum lrc_code code, size_t bytes, size_t alignment)
 {
     size_t count = lrc_data_count(code), length, over;
@@ -318,7 +318,7 @@ static inline uint32_t lrc_survivors(const uint8_t *const fragments[LRC_PLACES],
     return survivors;
 }
 
-/* Writes the four parities of a stripe; the fragments at the code's data places are read. LRC_OK, or LRC_BAD_ARGUMENT where the
+/* Writes the four parities of a stripe; the fragments at the code's data places are read. LRC_OK, or LRC_BAD_ARGUMENT if the
  * code is none, or a pointer to one of its fragments is null. */
 static inline uint32_t lrc_encode(enum lrc_code code, uint8_t *const fragments[LRC_PLACES], size_t length)
 {
@@ -339,7 +339,7 @@ static inline uint32_t lrc_encode(enum lrc_code code, uint8_t *const fragments[L
 }
 
 /* lrc_update_into with pointers to px, py, p0 and p1, in this order, as &stripe[LRC_PX] has them; a parity whose pointer is null is
- * left alone. LRC_BAD_ARGUMENT also where `difference` is null. */
+ * left alone. LRC_BAD_ARGUMENT also if `difference` is null. */
 static inline uint32_t lrc_update(enum lrc_code code, enum lrc_place place, const uint8_t *difference, uint8_t *const parities[4],
                                   size_t length)
 {
@@ -355,7 +355,7 @@ static inline uint32_t lrc_update(enum lrc_code code, enum lrc_place place, cons
                            rooms[2], lengths[2], rooms[3], lengths[3]);
 }
 
-/* lrc_rebuild_into: the fragment at `target`, which is lost, goes to `out`. LRC_BAD_ARGUMENT also where `out` is null. */
+/* lrc_rebuild_into: the fragment at `target`, which is lost, goes to `out`. LRC_BAD_ARGUMENT also if `out` is null. */
 static inline uint32_t lrc_rebuild(enum lrc_code code, const uint8_t *const fragments[LRC_PLACES], enum lrc_place target,
                                    uint8_t *out, size_t length)
 {
@@ -367,7 +367,7 @@ static inline uint32_t lrc_rebuild(enum lrc_code code, const uint8_t *const frag
 }
 
 /* lrc_rebuild_many_into for one target or more, four in a pass: targets[i] goes to outs[i], and its status to statuses[i]. The
- * answer is the greatest status. LRC_BAD_ARGUMENT, with no status written, where there is no target, or lrc_rebuild answers it of
+ * answer is the greatest status. LRC_BAD_ARGUMENT, with no status written, if there is no target, or lrc_rebuild answers it of
  * one of them. */
 static inline uint32_t lrc_rebuild_many(enum lrc_code code, const uint8_t *const fragments[LRC_PLACES],
                                         const enum lrc_place *targets, uint8_t *const *outs, uint32_t *statuses, size_t count,
