@@ -1,7 +1,7 @@
 #!/usr/bin/env python3
 """Draws docs/speeds.svg, a bar for each ratio of two tables of docs/BENCHMARKS.md: those of the farm and of stores.
 
-    speeds.py          tests that the plot is what the table gives
+    speeds.py          tests that the plot is what the tables give, and so are the speeds and the memory that README says
     speeds.py write    draws it"""
 
 import html
@@ -11,16 +11,24 @@ import sys
 
 ROOT = pathlib.Path(__file__).resolve().parent.parent
 PAGE, PLOT = ROOT / "docs/BENCHMARKS.md", ROOT / "docs/speeds.svg"
-# Whose times the farm's bars are of.
+# Whose times the farm's bars are of, and the bytes that are rebuilt.
 SHAPE = "8 x 200, 64 KiB"
+SHAPE_BYTES = 8 * 200 * 64 * 2**10
+# What README says of rows of the table of stores: bytes of one unit, the bytes of the row, and the words.
+STORES = {
+    "repair of 12 lost fragments of 64 MiB, 4 workers": (1e6, 12 * 64 * 2**20, "repair stores at {:.0f} MB/s"),
+    "scrub of 1 GiB, 4 workers": (1e9, 2**30, "scrub {:.1f} GB/s"),
+    "encode of 120 MB": (1e6, 120e6, "encode {:.0f} MB/s"),
+}
+LISTING = "lost over 1,000,000 files"
 WIDTH, LEFT, STEP, TOP = 980, 640, 24, 66
 # The ratio at the right end of the axis.
 END = 3.0
 
 
-def farm_rows(lines):
-    """The farm's rows with one worker and with four: its table's lines have the shape, if it isn't that of the line before, the workers and
-    our time, and then each peer's time and ratio."""
+def farm_cells(lines):
+    """The farm's rows of SHAPE: its table's lines have the shape, if it isn't that of the line before, the workers and our time, and then
+    each peer's time and ratio."""
     first = next(number for number, line in enumerate(lines) if line.startswith("    racks x requests"))
     shape = ""
     for line in lines[first + 1 :]:
@@ -28,26 +36,46 @@ def farm_rows(lines):
             return
         cells = re.split(r"\s{2,}", line.strip())
         shape, cells = (cells[0], cells[1:]) if len(cells) > 8 else (shape, cells)
-        if shape == SHAPE and cells[0] in ("1", "4"):
-            for peer, ratio in zip(("the careful", "the batching", "the careless"), cells[3::2]):
-                yield f"lists, 64 KiB, workers: {cells[0]}", f"{peer} C program", float(ratio)
+        if shape == SHAPE:
+            yield cells
 
 
-def store_rows(lines):
-    """The rows of the table of stores that have a peer: what is done, our time, the peer, its time, the ratio and our memory."""
+def store_cells(lines):
+    """The rows of the table of stores: what is done, our time, the peer, its time, the ratio and our memory."""
     first = next(number for number, line in enumerate(lines) if line.startswith("| | ours |"))
     for line in lines[first + 2 :]:
         if not line.startswith("|"):
             return
-        what, _, beside, _, ratio, _ = (cell.strip().replace("`", "") for cell in line.strip("|").split("|"))
-        if ratio:
-            yield what, beside, float(ratio)
+        yield [cell.strip().replace("`", "") for cell in line.strip("|").split("|")]
 
 
 def rows():
     """What is timed, beside what, and the ratio."""
     lines = PAGE.read_text(encoding="utf-8").splitlines()
-    return [*farm_rows(lines), *store_rows(lines)]
+    farm = [
+        (f"lists, 64 KiB, workers: {cells[0]}", f"{peer} C program", float(ratio))
+        for cells in farm_cells(lines)
+        if cells[0] in ("1", "4")
+        for peer, ratio in zip(("the careful", "the batching", "the careless"), cells[3::2])
+    ]
+    return farm + [(what, beside, float(ratio)) for what, _, beside, _, ratio, _ in store_cells(lines) if ratio]
+
+
+def number(text):
+    return int(text.replace(",", ""))
+
+
+def sentences():
+    """What README says of the same tables."""
+    lines = PAGE.read_text(encoding="utf-8").splitlines()
+    rates = {cells[0]: SHAPE_BYTES / number(cells[1]) * 1e3 for cells in farm_cells(lines)}
+    yield f"rebuild {rates['4'] / 1e6:.0f} MB/s of lists' fragments"
+    yield f"about {('one', 'two', 'three')[round(2**30 / rates['4']) - 1]} seconds for each GiB with 4 workers"
+    stores = {cells[0]: (number(cells[1]), number(cells[-1])) for cells in store_cells(lines)}
+    for what, (unit, size, words) in STORES.items():
+        yield words.format(size / stores[what][0] * 1e3 / unit)
+    most = [memory for what, (_, memory) in stores.items() if what != LISTING]
+    yield f"takes {min(most)} to {max(most)} MB, and {stores[LISTING][1]} to list a million files"
 
 
 def text(x, y, words, more=""):
@@ -84,7 +112,11 @@ def main():
         PLOT.write_text(plot(), encoding="utf-8")
     elif not PLOT.exists() or PLOT.read_text(encoding="utf-8") != plot():
         sys.exit("speeds: docs/speeds.svg isn't what docs/BENCHMARKS.md gives: tools/speeds.py write makes it")
-    print(f"speeds: {len(rows())} bars of docs/speeds.svg are the ratios of docs/BENCHMARKS.md")
+    readme = " ".join((ROOT / "README.md").read_text(encoding="utf-8").split())
+    for sentence in sentences():
+        if sentence not in readme:
+            sys.exit(f"speeds: docs/BENCHMARKS.md gives, and README.md doesn't say: {sentence}")
+    print(f"speeds: {len(rows())} bars of docs/speeds.svg and {len([*sentences()])} figures of README.md are those of docs/BENCHMARKS.md")
 
 
 main()
