@@ -87,6 +87,7 @@ def limits():
     name = constant("crates/lrc_code/src/requests.rt", "MOST_NAME_CHARACTERS")
     lines = constant("crates/line_mode/src/input.rt", "INPUT_LIMIT")
     batch = constant("crates/farm_files/src/batches.rt", "MOST_BATCH_BYTES")
+    plans = constant("crates/lrc_plan/src/plans/remembered.rt", "MOST_PLANS")
     compare("orders of a rack", constant(farm, "MOST_ORDERS"), records)
     return {
         "README.md": [
@@ -98,6 +99,7 @@ def limits():
             f"Fragments then have at most {length:,} bytes, and stripes' names 1 to {name} characters",
             f"two batches of {batch // 2**20} MiB",
         ],
+        "docs/DECISIONS.md": [f"batches of {batch // 2**20} MiB of survivors", f"of which it remembers up to {plans:,}."],
         "docs/FORMATS.md": [
             f"A stripe's name has 1 to {name} characters",
             f"A fragment has 1 to {length:,} bytes",
@@ -113,6 +115,7 @@ def limits():
             f"`E26`: a list has more than {records:,} records.",
             f"`E28`: a rack has no feed, or more than {feeds}.",
         ],
+        "docs/SCALE.md": [f"two batches of requests, the one being answered and the next: {batch // 2**20} MiB each"],
         "man/rebuild.1": [
             f"1 to {racks} racks",
             f"threads that rebuild fragments, 1 to {workers}.",
