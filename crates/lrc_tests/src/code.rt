@@ -36,16 +36,22 @@ fn is_named(index: usize, name: &str) -> bool {
 
 const NO_NAMES: &[&str] = &["", "x", "x6", "X0", "x0 ", "px0", "z9"];
 
+// Whether there is no place with these names, with bytes that are no text, or with the index after the last.
+fn has_no_others() -> bool {
+    for name in NO_NAMES {
+        if Place::parse(name).is_some() {
+            return false;
+        }
+    }
+    Place::from_index(16).is_none() && Place::named(b"\xffp").is_none()
+}
+
 #[test]
 fn places_are_found_by_name_and_index(rt: HostRuntime) {
     for index in 0..16usize {
         assert!(&rt; is_named(index, NAMES[index]), "place {index}");
     }
-    assert_eq!(&rt; Place::from_index(16), None);
-    for name in NO_NAMES {
-        assert_eq!(&rt; Place::parse(name), None, "{name}");
-    }
-    assert_eq!(&rt; Place::named(b"\xffp"), None);
+    assert!(&rt; has_no_others());
 }
 
 const NUMBERS: &[(&str, u32)] = &[
@@ -58,13 +64,18 @@ const NUMBERS: &[(&str, u32)] = &[
 
 const NO_NUMBERS: &[&str] = &["", "00000003", "+3", "-3", "3 ", "3a", "٣"];
 
+// Whether a text is this number, or none.
+fn is_number(text: &str, number: Option<u32>) -> bool {
+    parse_number(text.as_bytes()) == number
+}
+
 #[test]
 fn numbers_have_one_to_seven_digits(rt: HostRuntime) {
     for (text, number) in NUMBERS {
-        assert_eq!(&rt; parse_number(text.as_bytes()), Some(*number), "{text}");
+        assert!(&rt; is_number(text, Some(*number)), "{text}");
     }
     for text in NO_NUMBERS {
-        assert_eq!(&rt; parse_number(text.as_bytes()), None, "{text}");
+        assert!(&rt; is_number(text, None), "{text}");
     }
 }
 
@@ -86,18 +97,22 @@ fn asked(
     Ok(Request::new(stripe.to_string(alloc)?, target, length, survivors))
 }
 
-// The number by which a request with these survivors is refused.
-fn refusal_of(
-    alloc: Global,
-    stripe: &str,
-    target: Place,
-    length: u32,
-    given: &[(Place, &[u8])],
-) -> Result<Option<u8>, AllocError> {
-    Ok(match asked(alloc, stripe, target, length, given)? {
-        Ok(_) => None,
-        Err(fault) => Some(fault.code()),
-    })
+// A request by its stripe, target, length and survivors, and the number of its refusal.
+type Asked = (
+    &'static str,
+    Place,
+    u32,
+    &'static [(Place, &'static [u8])],
+    Option<u8>,
+);
+
+// Whether it is refused by this number.
+fn is_refused(alloc: Global, (stripe, target, length, given, expected): &Asked) -> bool {
+    match asked(alloc, stripe, *target, *length, given) {
+        Ok(Ok(_)) => expected.is_none(),
+        Ok(Err(fault)) => *expected == Some(fault.code()),
+        Err(_) => false,
+    }
 }
 
 const SEVEN: &[u8] = &[7];
@@ -114,8 +129,7 @@ const Y5: (Place, &[u8]) = (Place::Y5, SEVEN);
 
 const PX: (Place, &[u8]) = (Place::Px, SEVEN);
 
-// Requests by stripe, target, length and survivors, and the numbers of their refusals.
-const REFUSALS: &[(&str, Place, u32, &[(Place, &[u8])], Option<u8>)] = &[
+const REFUSALS: &[Asked] = &[
     ("a", Place::X0, 1, &[], None),
     ("a", Place::X0, 65_536, &[], None),
     ("a", Place::X0, 1, &[X1, X2, PX], None),
@@ -151,12 +165,10 @@ const REFUSALS: &[(&str, Place, u32, &[(Place, &[u8])], Option<u8>)] = &[
 ];
 
 #[test]
-fn refusals_come_in_their_order(rt: HostRuntime) -> Result<(), AllocError> {
-    for (stripe, target, length, survivors, expected) in REFUSALS {
-        let refusal = refusal_of(rt.alloc(), stripe, *target, *length, survivors)?;
-        assert_eq!(&rt; refusal, *expected, "{stripe} {length}");
+fn refusals_come_in_their_order(rt: HostRuntime) {
+    for request in REFUSALS {
+        assert!(&rt; is_refused(rt.alloc(), request), "{request:?}");
     }
-    Ok(())
 }
 
 // The number of the first refusal where a survivor has the wrong length, and places are repeated and among or not.
@@ -176,17 +188,22 @@ fn refusal_of_lengths(repeated: bool, among: bool) -> Option<u8> {
     }
 }
 
-// The refusals before E5 ask for no bytes.
-#[test]
-fn earlier_refusals_ask_for_no_bytes(rt: HostRuntime) {
+// Whether a request is refused for nothing where no survivor has the wrong length.
+fn is_granted() -> bool {
     let places = AskedPlaces {
         are_of_the_code: true,
         has_repeated: false,
         has_target: false,
     };
-    assert_eq!(&rt; first_refusal("a", 1, places, None), None);
-    assert_eq!(&rt; refusal_of_lengths(false, false), Some(5));
-    assert_eq!(&rt; refusal_of_lengths(true, true), Some(3));
+    first_refusal("a", 1, places, None).is_none()
+}
+
+// The refusals before E5 ask for no bytes.
+#[test]
+fn earlier_refusals_ask_for_no_bytes(rt: HostRuntime) {
+    assert!(&rt; is_granted());
+    assert!(&rt; refusal_of_lengths(false, false) == Some(5));
+    assert!(&rt; refusal_of_lengths(true, true) == Some(3));
 }
 
 // Whether the readers give what the request of the test was made with.
@@ -210,22 +227,25 @@ fn has_two_sources(request: &Request) -> bool {
         && sources[15].is_empty()
 }
 
-#[test]
-fn a_request_gives_what_it_was_made_of(rt: HostRuntime) -> Result<(), AllocError> {
-    match asked(rt.alloc(), "a-1", Place::P0, 1, &[Y2, X1])? {
-        Ok(request) => {
-            assert!(&rt; is_read(&request) && has_two_sources(&request));
-            let survivors = request.into_survivors();
-            match survivors.as_slice() {
-                [first, second] => {
-                    assert_eq!(&rt; (first.place, second.place), (Place::Y2, Place::X1))
-                }
-                _ => panic!(&rt; "it has {} survivors", survivors.len()),
-            }
-        }
-        Err(_) => panic!(&rt; "it is refused"),
+// Whether it gives its two survivors back, in their order.
+fn gives_back(request: Request) -> bool {
+    match request.into_survivors().as_slice() {
+        [first, second] => first.place == Place::Y2 && second.place == Place::X1,
+        _ => false,
     }
-    Ok(())
+}
+
+// Whether a request is made, and gives all of that.
+fn is_given(alloc: Global) -> bool {
+    match asked(alloc, "a-1", Place::P0, 1, &[Y2, X1]) {
+        Ok(Ok(request)) => is_read(&request) && has_two_sources(&request) && gives_back(request),
+        _ => false,
+    }
+}
+
+#[test]
+fn a_request_gives_what_it_was_made_of(rt: HostRuntime) {
+    assert!(&rt; is_given(rt.alloc()));
 }
 
 // Whether these fragments have these bytes.
@@ -265,34 +285,36 @@ fn is_encoded(alloc: Global) -> Result<bool, AllocError> {
 
 // The parities of 61 62 63 and five data of zeros.
 #[test]
-fn a_stripe_has_the_known_parities(rt: HostRuntime) -> Result<(), AllocError> {
-    assert!(&rt;
-        is_encoded(rt.alloc())?,
-        "other fragments than the known ones"
-    );
-    Ok(())
+fn a_stripe_has_the_known_parities(rt: HostRuntime) {
+    assert!(&rt; is_encoded(rt.alloc()) == Ok(true));
+}
+
+// Whether the (6,2,2) code has its places, where a set with a place of it and another one is left out.
+fn has_narrow_places(set: PlaceSet) -> bool {
+    let code = Code::Narrow;
+    code.places().len() == 10
+        && code.data_count() == 6
+        && !code.has(Place::X3)
+        && code.has(Place::P1)
+        && code.named(b"x3").is_none()
+        && code.others(set).len() == 9
+}
+
+// And the (12,2,2) code, which has both.
+fn has_wide_places(set: PlaceSet) -> bool {
+    let code = Code::Wide;
+    code.places().len() == 16
+        && code.data_count() == 12
+        && code.has(Place::Y5)
+        && code.named(b"x3") == Some(Place::X3)
+        && code.others(set).len() == 14
 }
 
 #[test]
 fn each_code_has_its_own_places(rt: HostRuntime) {
-    assert_eq!(&rt;
-        (Code::Narrow.places().len(), Code::Wide.places().len()),
-        (10, 16)
-    );
-    assert_eq!(&rt;
-        (Code::Narrow.data_count(), Code::Wide.data_count()),
-        (6, 12)
-    );
-    assert!(&rt; !Code::Narrow.has(Place::X3), "x3 is in the (6,2,2) code");
-    assert!(&rt; Code::Narrow.has(Place::P1), "p1 isn't in the (6,2,2) code");
-    assert!(&rt; Code::Wide.has(Place::Y5), "y5 isn't in the (12,2,2) code");
-    assert_eq!(&rt; Code::Narrow.named(b"x3"), None);
-    assert_eq!(&rt; Code::Wide.named(b"x3"), Some(Place::X3));
     let set = PlaceSet::empty().with(Place::X0).with(Place::X3);
-    assert_eq!(&rt;
-        (Code::Narrow.others(set).len(), Code::Wide.others(set).len()),
-        (9, 14)
-    );
+    assert!(&rt; has_narrow_places(set), "the (6,2,2) code");
+    assert!(&rt; has_wide_places(set), "the (12,2,2) code");
 }
 
 // The coefficients of px, py, p0 and p1 of (6,2,2).
@@ -375,28 +397,36 @@ fn is_encoded_wide(alloc: Global) -> Result<bool, AllocError> {
 
 // The stripe with x0 = x5 = 01, y0 = 02 and no other data.
 #[test]
-fn a_wide_stripe_has_the_known_parities(rt: HostRuntime) -> Result<(), AllocError> {
-    assert!(&rt;
-        is_encoded_wide(rt.alloc())?,
-        "other fragments than the known ones"
-    );
-    Ok(())
+fn a_wide_stripe_has_the_known_parities(rt: HostRuntime) {
+    assert!(&rt; is_encoded_wide(rt.alloc()) == Ok(true));
 }
 
-// With x5 lost alone in the (12,2,2) code one row has a pivot. A lost place outside the code plays no part.
-#[test]
-fn a_place_outside_the_code_is_no_pivot(rt: HostRuntime) {
+// How many rows of the (12,2,2) code have x5 as their pivot, where it is lost alone.
+fn pivots_of_x5() -> u32 {
     let wide = reduce_in(Code::Wide, PlaceSet::empty().with(Place::X5));
-    let narrow = reduce_in(Code::Narrow, PlaceSet::empty().with(Place::X5));
     let mut pivots = 0u32;
     for row in 0..4usize {
         if wide.pivot(row) == Some(Place::X5) {
             pivots = pivots.wrapping_add(1);
         }
-        assert_eq!(&rt;
-            (narrow.pivot(row), narrow.coefficient(row, Place::X5).byte()),
-            (None, 0)
-        );
     }
-    assert_eq!(&rt; pivots, 1);
+    pivots
+}
+
+// Whether no row of the (6,2,2) code has a pivot then, nor a coefficient of x5.
+fn has_no_pivot() -> bool {
+    let narrow = reduce_in(Code::Narrow, PlaceSet::empty().with(Place::X5));
+    for row in 0..4usize {
+        if narrow.pivot(row).is_some() || narrow.coefficient(row, Place::X5).byte() != 0 {
+            return false;
+        }
+    }
+    true
+}
+
+// With x5 lost alone in the (12,2,2) code one row has a pivot. A lost place outside the code plays no part.
+#[test]
+fn a_place_outside_the_code_is_no_pivot(rt: HostRuntime) {
+    assert!(&rt; pivots_of_x5() == 1);
+    assert!(&rt; has_no_pivot());
 }

@@ -6,7 +6,6 @@ use lrc_field::{
     no_pairs, no_terms, pairs_in, scale_add_into, sums_are_zero, sums_are_zero_between, terms_in,
 };
 use std::alloc::{AllocError, Global};
-use std::process::Abort;
 
 // The product by shifts: for each bit of b the shifted a, reduced at each shift.
 fn product_by_shifts(a: u8, b: u8) -> u8 {
@@ -82,35 +81,56 @@ fn elements(bytes: [u8; 5]) -> [Gf; 5] {
     [Gf::new(a), Gf::new(b), Gf::new(c), Gf::new(d), Gf::new(e)]
 }
 
+// Whether these are the terms of those.
+fn are_terms(terms: &[Term]) -> bool {
+    terms.len() == 2
+        && sum_at(0, terms) == Some(0xe3 ^ 0x5e)
+        && sum_at(1, terms) == Some(0x18 ^ 0x5e)
+}
+
 #[test]
 fn terms_leave_out_zeros_and_empty_sources(rt: HostRuntime) {
     let mut room = no_terms();
-    let terms = terms_in(&mut room, &elements(FIRSTS), SOURCES);
-    assert_eq!(&rt; terms.len(), 2);
-    assert_eq!(&rt; sum_at(0, terms), Some(0xe3 ^ 0x5e));
-    assert_eq!(&rt; sum_at(1, terms), Some(0x18 ^ 0x5e));
+    assert!(&rt; are_terms(terms_in(&mut room, &elements(FIRSTS), SOURCES)));
+}
+
+fn is_empty_of_terms(room: &[Term]) -> bool {
+    for term in room {
+        if term.scalar.byte() != 0 || !term.bytes.is_empty() {
+            return false;
+        }
+    }
+    true
+}
+
+fn is_empty_of_pairs(room: &[Pair]) -> bool {
+    for pair in room {
+        if pair.first.byte() != 0 || pair.second.byte() != 0 || !pair.bytes.is_empty() {
+            return false;
+        }
+    }
+    true
 }
 
 // Rooms have nothing in them at first, so that what is read of one by mistake adds nothing.
 #[test]
 fn rooms_have_nothing_at_first(rt: HostRuntime) {
-    assert!(&rt;
-        no_terms()
-            .iter()
-            .all(|t| t.scalar.byte() == 0 && t.bytes.is_empty())
-    );
-    assert!(&rt;
-        no_pairs().iter().all(|p| p.first.byte() == 0 && p.second.byte() == 0 && p.bytes.is_empty())
-    );
+    assert!(&rt; is_empty_of_terms(&no_terms()));
+    assert!(&rt; is_empty_of_pairs(&no_pairs()));
+}
+
+// Whether these are the pairs of both.
+fn are_pairs(pairs: &[Pair]) -> bool {
+    pairs.len() == 3
+        && pair_sums_at(0, pairs) == Some((0xe3 ^ 0x5e, 0x3a ^ 0x61))
+        && pair_sums_at(1, pairs) == Some((0x18 ^ 0x5e, 0x10 ^ 0x61))
 }
 
 #[test]
 fn pairs_leave_out_zeros_and_empty_sources(rt: HostRuntime) {
     let mut room = no_pairs();
     let pairs = pairs_in(&mut room, &elements(FIRSTS), &elements(SECONDS), SOURCES);
-    assert_eq!(&rt; pairs.len(), 3);
-    assert_eq!(&rt; pair_sums_at(0, pairs), Some((0xe3 ^ 0x5e, 0x3a ^ 0x61)));
-    assert_eq!(&rt; pair_sums_at(1, pairs), Some((0x18 ^ 0x5e, 0x10 ^ 0x61)));
+    assert!(&rt; are_pairs(pairs));
 }
 
 const LENGTHS: &[usize] = &[0, 1, 31, 32, 33, 64, TESTED_AT_ONCE + 1, 4_100, 65_536];
@@ -144,15 +164,15 @@ fn has_inverse(a: u8, expected: u8) -> bool {
     }
 }
 
+// Whether two bytes have this product, also by shifts.
+fn have_product(a: u8, b: u8, expected: u8) -> bool {
+    Gf::new(a).mul(Gf::new(b)).byte() == expected && product_by_shifts(a, b) == expected
+}
+
 #[test]
 fn products_and_inverses_are_the_known_ones(rt: HostRuntime) {
     for (a, b, product) in PRODUCTS {
-        let found = Gf::new(*a).mul(Gf::new(*b)).byte();
-        assert_eq!(&rt;
-            (found, product_by_shifts(*a, *b)),
-            (*product, *product),
-            "{a} * {b}"
-        );
+        assert!(&rt; have_product(*a, *b, *product), "{a} * {b}");
     }
     for (a, inverse) in INVERSES {
         assert!(&rt; has_inverse(*a, *inverse), "the inverse of {a}");
@@ -217,11 +237,13 @@ fn slices_are_summed(alloc: Global, len: usize) -> Result<bool, AllocError> {
 }
 
 #[test]
-fn sums_of_slices_are_those_by_shifts(rt: HostRuntime) -> Result<(), AllocError> {
+fn sums_of_slices_are_those_by_shifts(rt: HostRuntime) {
     for len in LENGTHS {
-        assert!(&rt; slices_are_summed(rt.alloc(), *len)?, "{len} bytes");
+        assert!(&rt;
+            slices_are_summed(rt.alloc(), *len) == Ok(true),
+            "{len} bytes"
+        );
     }
-    Ok(())
 }
 
 // Whether the sums of three terms are those by shifts, and zero only where there are none.
@@ -255,11 +277,13 @@ fn terms_are_combined(alloc: Global, len: usize) -> Result<bool, AllocError> {
 }
 
 #[test]
-fn sums_of_terms_are_those_by_shifts(rt: HostRuntime) -> Result<(), AllocError> {
+fn sums_of_terms_are_those_by_shifts(rt: HostRuntime) {
     for len in LENGTHS {
-        assert!(&rt; terms_are_combined(rt.alloc(), *len)?, "{len} bytes");
+        assert!(&rt;
+            terms_are_combined(rt.alloc(), *len) == Ok(true),
+            "{len} bytes"
+        );
     }
-    Ok(())
 }
 
 // Lengths of windows: around the blocks of 32 bytes, the two of 128 of a sum of three, and those of 192 of other sums.
@@ -306,8 +330,8 @@ fn is_combined_into(
     Ok(dst.len() == len && are_sums(&dst, from, terms))
 }
 
-// Asserts that they are so in all windows, with these scalars of the second and the third term.
-fn assert_windows_combined(rt: &impl Abort, alloc: Global, b: u8, c: u8) -> Result<(), AllocError> {
+// Whether they are so in all windows, with these scalars of the second and the third term.
+fn are_windows_combined(alloc: Global, b: u8, c: u8) -> Result<bool, AllocError> {
     let first = some_bytes(alloc, SOURCE, 5)?;
     let second = some_bytes(alloc, SOURCE, 11)?;
     let third = some_bytes(alloc, SOURCE, 17)?;
@@ -316,24 +340,28 @@ fn assert_windows_combined(rt: &impl Abort, alloc: Global, b: u8, c: u8) -> Resu
         term_of(b, &second),
         term_of(c, &third),
     ];
-    assert_terms_combined(rt, alloc, &terms)
+    are_terms_combined(alloc, &terms)
 }
 
-// Asserts that the sums of these terms are so in all windows.
-fn assert_terms_combined(rt: &impl Abort, alloc: Global, terms: &[Term]) -> Result<(), AllocError> {
-    for from in [0usize, 1, 33, 100] {
+// From which indexes on windows are.
+const FROM: &[usize] = &[0, 1, 33, 100];
+
+// Whether the sums of these terms are so in all windows.
+fn are_terms_combined(alloc: Global, terms: &[Term]) -> Result<bool, AllocError> {
+    for from in FROM {
         for len in WINDOWS {
-            let is = is_combined_into(alloc, from, *len, terms)?;
-            assert!(rt; is, "{len} bytes from {from}");
+            if !is_combined_into(alloc, *from, *len, terms)? {
+                return Ok(false);
+            }
         }
     }
-    Ok(())
+    Ok(true)
 }
 
 #[test]
-fn sums_of_terms_in_windows_are_those_by_shifts(rt: HostRuntime) -> Result<(), AllocError> {
-    assert_windows_combined(&rt, rt.alloc(), 0x01, 0x01)?;
-    assert_windows_combined(&rt, rt.alloc(), 0x53, 0x00)
+fn sums_of_terms_in_windows_are_those_by_shifts(rt: HostRuntime) {
+    assert!(&rt; are_windows_combined(rt.alloc(), 0x01, 0x01) == Ok(true));
+    assert!(&rt; are_windows_combined(rt.alloc(), 0x53, 0x00) == Ok(true));
 }
 
 // Lengths of windows of pairs: around the blocks of 96 bytes, of which one is the least.
@@ -370,28 +398,33 @@ fn are_pair_sums(first: &[u8], second: &[u8], from: usize, pairs: &[Pair]) -> bo
     first.len() == second.len()
 }
 
-#[test]
-fn sums_of_pairs_in_windows_are_those_by_shifts(rt: HostRuntime) -> Result<(), AllocError> {
-    let first = some_bytes(rt.alloc(), SOURCE, 5)?;
-    let second = some_bytes(rt.alloc(), SOURCE, 11)?;
-    let third = some_bytes(rt.alloc(), SOURCE, 17)?;
+// Whether they are so in all windows of three sources.
+fn are_pairs_combined(alloc: Global) -> Result<bool, AllocError> {
+    let first = some_bytes(alloc, SOURCE, 5)?;
+    let second = some_bytes(alloc, SOURCE, 11)?;
+    let third = some_bytes(alloc, SOURCE, 17)?;
     let sources = [first.as_slice(), second.as_slice(), third.as_slice()];
     let firsts = [Gf::new(0x01), Gf::new(0x53), Gf::new(0x00)];
     let seconds = [Gf::new(0x01), Gf::new(0x8e), Gf::new(0x04)];
     let mut room = no_pairs();
-    let pairs = pairs_in(&mut room, &firsts, &seconds, &sources);
-    assert_pairs_combined(&rt, rt.alloc(), pairs)
+    are_windows_of_pairs(alloc, pairs_in(&mut room, &firsts, &seconds, &sources))
 }
 
-// Asserts that they are so in all windows.
-fn assert_pairs_combined(rt: &impl Abort, alloc: Global, pairs: &[Pair]) -> Result<(), AllocError> {
-    for from in [0usize, 1, 33, 100] {
+// Whether the sums of these pairs are so in all windows.
+fn are_windows_of_pairs(alloc: Global, pairs: &[Pair]) -> Result<bool, AllocError> {
+    for from in FROM {
         for len in PAIR_WINDOWS {
-            let are = are_combined_in_pairs(alloc, from, *len, pairs)?;
-            assert!(rt; are, "{len} bytes from {from}");
+            if !are_combined_in_pairs(alloc, *from, *len, pairs)? {
+                return Ok(false);
+            }
         }
     }
-    Ok(())
+    Ok(true)
+}
+
+#[test]
+fn sums_of_pairs_in_windows_are_those_by_shifts(rt: HostRuntime) {
+    assert!(&rt; are_pairs_combined(rt.alloc()) == Ok(true));
 }
 
 // Whether two terms that differ at one index have zero sums in just the windows without it.
@@ -433,24 +466,25 @@ fn windows_are_zero(alloc: Global, changed: usize) -> Result<bool, AllocError> {
     )
 }
 
+const CHANGED: &[usize] = &[
+    0,
+    31,
+    32,
+    SUMMED_AT_ONCE - 1,
+    SUMMED_AT_ONCE,
+    TESTED_AT_ONCE - 1,
+    TESTED_AT_ONCE,
+    2 * TESTED_AT_ONCE - 1,
+    2 * TESTED_AT_ONCE,
+    SOURCE - 1,
+];
+
 #[test]
-fn windows_without_a_difference_have_zero_sums(rt: HostRuntime) -> Result<(), AllocError> {
-    for changed in [
-        0,
-        31,
-        32,
-        SUMMED_AT_ONCE - 1,
-        SUMMED_AT_ONCE,
-        TESTED_AT_ONCE - 1,
-        TESTED_AT_ONCE,
-        2 * TESTED_AT_ONCE - 1,
-        2 * TESTED_AT_ONCE,
-        SOURCE - 1,
-    ] {
+fn windows_without_a_difference_have_zero_sums(rt: HostRuntime) {
+    for changed in CHANGED {
         assert!(&rt;
-            windows_are_zero(rt.alloc(), changed)?,
+            windows_are_zero(rt.alloc(), *changed) == Ok(true),
             "changed at {changed}"
         );
     }
-    Ok(())
 }

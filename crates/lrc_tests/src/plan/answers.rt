@@ -1,11 +1,10 @@
 //! `solve` and remembered plans against worked requests.
-use super::fixtures::{Answer, CASES, Case, request_of};
-use super::wide_cases::WIDE_CASES;
+use super::fixtures::{Answer, Case, cases, request_of};
+use super::wide_cases::wide_cases;
 use bumpalo::Bump;
 use lrc_code::{Fragment, Outcome, Request};
 use lrc_plan::{RememberedPlans, solve};
 use std::alloc::{AllocError, Allocator, Global};
-use std::process::Abort;
 
 // Whether `solve` gives the expected answer, with its plan in an allocator.
 fn is_answered<A: Allocator + Clone>(
@@ -40,14 +39,20 @@ fn is_worked(alloc: Global, case: &Case) -> Result<bool, AllocError> {
     )
 }
 
+// The name of the first of these that isn't; none where all are.
+fn first_wrong(alloc: Global, cases: &[Case]) -> Result<Option<&'static str>, AllocError> {
+    for case in cases {
+        if !is_worked(alloc, case)? {
+            return Ok(Some(case.name));
+        }
+    }
+    Ok(None)
+}
+
 #[test]
 fn worked_requests_are_answered(rt: HostRuntime) -> Result<(), AllocError> {
-    for case in &CASES {
-        assert!(&rt; is_worked(rt.alloc(), case)?, "{}", case.name);
-    }
-    for case in &WIDE_CASES {
-        assert!(&rt; is_worked(rt.alloc(), case)?, "{}", case.name);
-    }
+    assert_eq!(&rt; first_wrong(rt.alloc(), cases())?, None);
+    assert_eq!(&rt; first_wrong(rt.alloc(), wide_cases())?, None);
     Ok(())
 }
 
@@ -70,20 +75,34 @@ fn spread(alloc: Global, byte: u8, length: u32) -> Result<Vec<u8>, AllocError> {
     Ok(bytes)
 }
 
-// Whether survivors with a case's bytes at every third position have its answer there.
-fn is_answered_at_length(alloc: Global, case: &Case, length: u32) -> Result<bool, AllocError> {
+// The survivors of a case with its bytes at every third position.
+fn spread_survivors(alloc: Global, case: &Case, length: u32) -> Result<Vec<Fragment>, AllocError> {
     let mut survivors = Vec::new(alloc);
     for (place, bytes) in case.survivors {
+        let bytes = spread(alloc, *bytes.first().unwrap_or(&0), length)?;
         survivors.push(Fragment {
             place: *place,
-            bytes: spread(alloc, *bytes.first().unwrap_or(&0), length)?,
+            bytes,
         })?;
     }
+    Ok(survivors)
+}
+
+// The request for its fragment of them; none where it is refused.
+fn spread_request(alloc: Global, case: &Case, length: u32) -> Result<Option<Request>, AllocError> {
+    let survivors = spread_survivors(alloc, case, length)?;
     let stripe = "a".to_string(alloc)?;
-    let Ok(request) = Request::new_in(case.code, stripe, case.target, length, survivors) else {
-        return Ok(false);
-    };
-    match (solve(alloc, alloc, &request)?, case.answer) {
+    Ok(Request::new_in(case.code, stripe, case.target, length, survivors).ok())
+}
+
+// Whether an outcome is a byte at every third position, in a vector without room to spare.
+fn is_spread(
+    alloc: Global,
+    outcome: Outcome,
+    answer: Answer,
+    length: u32,
+) -> Result<bool, AllocError> {
+    match (outcome, answer) {
         (Outcome::Rebuilt(bytes), Answer::Rebuilt([byte])) => {
             let found = bytes.into_vec();
             Ok(found == spread(alloc, *byte, length)? && found.capacity() == found.len())
@@ -92,52 +111,74 @@ fn is_answered_at_length(alloc: Global, case: &Case, length: u32) -> Result<bool
     }
 }
 
-#[test]
-fn long_answers_have_no_room_left(rt: HostRuntime) -> Result<(), AllocError> {
-    for length in LENGTHS {
-        // The sum of three as they are, a sum of products, and the sum of six.
-        for case in [&CASES[0], &CASES[4], &WIDE_CASES[0], &WIDE_CASES[3]] {
-            assert!(&rt;
-                is_answered_at_length(rt.alloc(), case, *length)?,
-                "{} {length}",
-                case.name
-            );
-        }
+// Whether such survivors have a case's answer at every third position.
+fn is_answered_at_length(alloc: Global, case: &Case, length: u32) -> Result<bool, AllocError> {
+    match spread_request(alloc, case, length)? {
+        Some(request) => is_spread(alloc, solve(alloc, alloc, &request)?, case.answer, length),
+        None => Ok(false),
     }
-    Ok(())
 }
 
-// Asserts that each case is answered by plans that remember those of the cases before it.
-fn assert_remembered(
-    rt: &impl Abort,
+// Whether they do for the sum of three as they are, a sum of products, and the sum of six.
+fn are_answered_at_length(alloc: Global, length: u32) -> Result<bool, AllocError> {
+    let narrow = cases();
+    let wide = wide_cases();
+    for case in [&narrow[0], &narrow[4], &wide[0], &wide[3]] {
+        if !is_answered_at_length(alloc, case, length)? {
+            return Ok(false);
+        }
+    }
+    Ok(true)
+}
+
+#[test]
+fn long_answers_have_no_room_left(rt: HostRuntime) {
+    for length in LENGTHS {
+        assert!(&rt;
+            are_answered_at_length(rt.alloc(), *length) == Ok(true),
+            "{length} bytes"
+        );
+    }
+}
+
+// Whether a case is answered by plans that remember those of the cases before it.
+fn is_remembered(
+    alloc: Global,
+    plans: &mut RememberedPlans,
+    case: &Case,
+) -> Result<bool, AllocError> {
+    let Some(request) = request_of(alloc, case)? else {
+        return Ok(false);
+    };
+    // The second time the plan is one that is remembered.
+    Ok(
+        is_outcome(&plans.solve(alloc, &request)?, case.answer)
+            && is_outcome(&plans.solve(alloc, &request)?, case.answer),
+    )
+}
+
+// The name of the first of these cases that isn't; none where all are.
+fn first_forgotten(
     alloc: Global,
     plans: &mut RememberedPlans,
     cases: &[Case],
-) -> Result<(), AllocError> {
+) -> Result<Option<&'static str>, AllocError> {
     for case in cases {
-        let Some(request) = request_of(alloc, case)? else {
-            panic!(rt; "{}: the request is refused", case.name);
-        };
-        // The second time the plan is one that is remembered.
-        for _ in 0..2u8 {
-            let outcome = plans.solve(alloc, &request)?;
-            assert!(rt;
-                is_outcome(&outcome, case.answer),
-                "{}: {outcome:?}",
-                case.name
-            );
+        if !is_remembered(alloc, plans, case)? {
+            return Ok(Some(case.name));
         }
     }
-    Ok(())
+    Ok(None)
 }
 
 // The program answers by more plans than are remembered in gate/reference-lines.sh.
 #[test]
-fn worked_requests_are_answered_by_remembered_plans(rt: HostRuntime) -> Result<(), AllocError> {
+fn worked_requests_are_answered_by_remembered_plans(rt: HostRuntime) {
     let mut plans = RememberedPlans::new(rt.alloc());
     for _ in 0..2u8 {
-        assert_remembered(&rt, rt.alloc(), &mut plans, &CASES)?;
-        assert_remembered(&rt, rt.alloc(), &mut plans, &WIDE_CASES)?;
+        let narrow = first_forgotten(rt.alloc(), &mut plans, cases());
+        assert!(&rt; narrow == Ok(None), "{narrow:?}");
+        let wide = first_forgotten(rt.alloc(), &mut plans, wide_cases());
+        assert!(&rt; wide == Ok(None), "{wide:?}");
     }
-    Ok(())
 }

@@ -27,8 +27,13 @@ pub struct Case {
     pub answer: Answer,
 }
 
-/// Most are over the stripe with x 01 02 03, y 04 05 06, px 00, py 07, p0 04 and p1 6E, worked out by hand.
-pub static CASES: [Case; 17] = [
+/// The requests of (6,2,2). They come out of a function since the proof of what names a long table itself takes longer.
+pub fn cases() -> &'static [Case; 17] {
+    &CASES
+}
+
+// Most are over the stripe with x 01 02 03, y 04 05 06, px 00, py 07, p0 04 and p1 6E, worked out by hand.
+static CASES: [Case; 17] = [
     Case {
         name: "the three others of the group alone",
         code: Code::Narrow,

@@ -77,12 +77,11 @@ fn plans_and_grafts<A: Allocator + Clone>(alloc: &A) -> Result<bool, AllocError>
 }
 
 #[test]
-fn plans_are_local_and_grafts_replace_each_leaf(rt: HostRuntime) -> Result<(), AllocError> {
+fn plans_are_local_and_grafts_replace_each_leaf(rt: HostRuntime) {
     let alloc = rt.alloc();
-    assert!(&rt; plans_and_grafts(&alloc)?, "in the heap");
+    assert!(&rt; plans_and_grafts(&alloc) == Ok(true), "in the heap");
     let bump = Bump::new(alloc);
-    assert!(&rt; plans_and_grafts(&&bump)?, "in an arena");
-    Ok(())
+    assert!(&rt; plans_and_grafts(&&bump) == Ok(true), "in an arena");
 }
 
 // Whether the target's plan has a value that reads no more fragments than the code has data, and how many checks; none where the target
@@ -104,10 +103,8 @@ fn counts<A: Allocator + Clone>(
     Ok(Some((has_value, plan.checks.len())))
 }
 
-#[test]
-fn plans_have_the_known_numbers_of_checks(rt: HostRuntime) -> Result<(), AllocError> {
-    let alloc = rt.alloc();
-    let bump = Bump::new(alloc);
+// Whether plans made there have the known numbers of checks.
+fn have_checks<A: Allocator + Clone>(alloc: &A) -> Result<bool, AllocError> {
     let local = set_of(&[Place::X1, Place::X2, Place::Px]);
     let global = set_of(&[Place::Y0, Place::Py]).others();
     let whole_group = set_of(&[Place::Y0, Place::Y1, Place::Y2, Place::Py]);
@@ -119,10 +116,19 @@ fn plans_have_the_known_numbers_of_checks(rt: HostRuntime) -> Result<(), AllocEr
         (PlaceSet::empty(), Place::X0, (false, 0)),
     ];
     for (survivors, target, expected) in cases {
-        assert!(&rt; counts(alloc, Code::Narrow, survivors, target)? == Some(expected));
-        assert!(&rt; counts(&bump, Code::Narrow, survivors, target)? == Some(expected));
+        if counts(alloc.clone()?, Code::Narrow, survivors, target)? != Some(expected) {
+            return Ok(false);
+        }
     }
-    Ok(())
+    Ok(true)
+}
+
+#[test]
+fn plans_have_the_known_numbers_of_checks(rt: HostRuntime) {
+    let alloc = rt.alloc();
+    assert!(&rt; have_checks(&alloc) == Ok(true), "in the heap");
+    let bump = Bump::new(alloc);
+    assert!(&rt; have_checks(&&bump) == Ok(true), "in an arena");
 }
 
 // Whether each of these lost places has a value.
@@ -179,20 +185,19 @@ fn recovered<A: Allocator + Clone>(
 }
 
 #[test]
-fn each_three_and_most_four_lost_places_have_plans(rt: HostRuntime) -> Result<(), AllocError> {
+fn each_three_and_most_four_lost_places_have_plans(rt: HostRuntime) {
     let alloc = rt.alloc();
     let bump = Bump::new(alloc);
     for (code, lost, expected) in RECOVERED {
         assert!(&rt;
-            recovered(alloc, &alloc, *code, *lost)? == *expected,
+            recovered(alloc, &alloc, *code, *lost) == Ok(*expected),
             "in the heap"
         );
         assert!(&rt;
-            recovered(alloc, &&bump, *code, *lost)? == *expected,
+            recovered(alloc, &&bump, *code, *lost) == Ok(*expected),
             "in an arena"
         );
     }
-    Ok(())
 }
 
 // A code, how many are lost, and how many such sets there are and in how many all targets have values.
@@ -234,10 +239,15 @@ fn is_plan_of_six(alloc: Global, survivors: PlaceSet, checks: usize) -> Result<b
 
 // There is no check where only the six survive, and there are three where all others do.
 #[test]
-fn the_local_plan_of_the_wide_code_reads_six(rt: HostRuntime) -> Result<(), AllocError> {
+fn the_local_plan_of_the_wide_code_reads_six(rt: HostRuntime) {
     let alloc = rt.alloc();
-    assert!(&rt; is_plan_of_six(alloc, set_of(&SIX), 0)?, "of the six alone");
+    assert!(&rt;
+        is_plan_of_six(alloc, set_of(&SIX), 0) == Ok(true),
+        "of the six alone"
+    );
     let others = Code::Wide.others(PlaceSet::empty().with(Place::X0));
-    assert!(&rt; is_plan_of_six(alloc, others, 3)?, "of all others");
-    Ok(())
+    assert!(&rt;
+        is_plan_of_six(alloc, others, 3) == Ok(true),
+        "of all others"
+    );
 }

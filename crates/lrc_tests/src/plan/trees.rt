@@ -5,8 +5,8 @@ ghost use Rattle.lrc_plan.specs.Form.{Leaf, Sum};
 ghost use Rattle.lrc_plan.specs.Evaluation.{CanEvaluate};
 ghost use Rattle.lrc_plan.specs.Tree.{form_of};
 
-use super::fixtures::{Answer, CASES, Case, are_same, request_of, sample, sum_of_leaves};
-use super::wide_cases::WIDE_CASES;
+use super::fixtures::{Answer, Case, are_same, cases, request_of, sample, sum_of_leaves};
+use super::wide_cases::wide_cases;
 use bumpalo::Bump;
 use lrc_code::{Place, Request};
 use lrc_plan::{Tree, evaluate, evaluate_both, plan_in};
@@ -46,9 +46,8 @@ fn copy_outlives(alloc: Global) -> Result<bool, AllocError> {
 }
 
 #[test]
-fn copy_outlives_its_arena(rt: HostRuntime) -> Result<(), AllocError> {
-    assert!(&rt; copy_outlives(rt.alloc())?, "the copy differs");
-    Ok(())
+fn copy_outlives_its_arena(rt: HostRuntime) {
+    assert!(&rt; copy_outlives(rt.alloc()) == Ok(true));
 }
 
 // (x1 + x2) + px
@@ -132,14 +131,27 @@ fn given_by_value_tree<R: Threads + Sync>(
     let Some(request) = request_of(alloc, case)? else {
         return Ok(Given::Other);
     };
-    let Some(tree) = value_tree(alloc, &request)? else {
-        return Ok(Given::NoTree);
-    };
-    let bytes = evaluate(alloc, &tree, &request)?;
-    if !gives_at_any_forks(rt, alloc, &tree, &request, &bytes)? {
+    match value_tree(alloc, &request)? {
+        Some(tree) => given_by_tree(rt, alloc, &tree, &request, case.answer),
+        None => Ok(Given::NoTree),
+    }
+}
+
+// What a tree that can be evaluated gives.
+fn given_by_tree<R: Threads + Sync>(
+    rt: &R,
+    alloc: Global,
+    tree: &Tree<Global>,
+    request: &Request,
+    answer: Answer,
+) -> Result<Given, AllocError>
+    requires { CanEvaluate request.now (form_of tree.now) }
+{
+    let bytes = evaluate(alloc, tree, request)?;
+    if !gives_at_any_forks(rt, alloc, tree, request, &bytes)? {
         return Ok(Given::Other);
     }
-    match case.answer {
+    match answer {
         Answer::Rebuilt(expected) if bytes.as_slice() == expected => Ok(Given::Rebuilt),
         Answer::Rebuilt(_) => Ok(Given::Other),
         _ => Ok(Given::Same),
@@ -165,48 +177,45 @@ fn rebuilt_by_value_trees<R: Threads + Sync>(
 
 #[test]
 fn value_trees_give_the_same_bytes_at_any_forks(rt: HostRuntime) -> Result<(), AllocError> {
-    assert_eq!(&rt; rebuilt_by_value_trees(&rt, rt.alloc(), &CASES)?, Some(10));
-    assert_eq!(&rt;
-        rebuilt_by_value_trees(&rt, rt.alloc(), &WIDE_CASES)?,
-        Some(5)
-    );
+    assert!(&rt; rebuilt_by_value_trees(&rt, rt.alloc(), cases())? == Some(10));
+    assert!(&rt; rebuilt_by_value_trees(&rt, rt.alloc(), wide_cases())? == Some(5));
     Ok(())
 }
 
 // The value of twelve data, a sum within a sum eleven times. Forks above 4 count as 4, so four threads are started; a script counts them.
 #[test]
 fn the_most_forks_give_both_values(rt: HostRuntime) -> Result<(), AllocError> {
-    let alloc = rt.alloc();
-    let Some(request) = request_of(alloc, &WIDE_CASES[1])? else {
-        panic!(&rt; "the request is refused");
-    };
-    let Some(tree) = value_tree(alloc, &request)? else {
-        panic!(&rt; "there is no tree");
-    };
-    assert_eq!(&rt; tree.leaf_count(), 12);
-    assert!(&rt;
-        gives(&rt, alloc, &tree, &request, 255, b"\xa6")?,
-        "other bytes"
-    );
+    assert!(&rt; are_given_at_most_forks(&rt, rt.alloc())?);
     Ok(())
+}
+
+// Whether the value tree has twelve leaves and gives the known byte at the most forks.
+fn are_given_at_most_forks<R: Threads + Sync>(rt: &R, alloc: Global) -> Result<bool, AllocError> {
+    let Some(request) = request_of(alloc, &wide_cases()[1])? else {
+        return Ok(false);
+    };
+    match value_tree(alloc, &request)? {
+        Some(tree) if tree.leaf_count() == 12 => gives(rt, alloc, &tree, &request, 255, b"\xa6"),
+        _ => Ok(false),
+    }
 }
 
 // Of few allocations, so that a script can refuse each of them in turn: the answer is then out of memory or these
 // bytes.
 #[test]
 fn two_forks_give_both_values(rt: HostRuntime) -> Result<(), AllocError> {
-    let alloc = rt.alloc();
-    let Some(request) = request_of(alloc, &CASES[0])? else {
-        panic!(&rt; "the request is refused");
+    assert!(&rt; are_given_at_two_forks(&rt, rt.alloc())?);
+    Ok(())
+}
+
+// Whether the three others of a group survive, and their sum is the known byte at two forks.
+fn are_given_at_two_forks<R: Threads + Sync>(rt: &R, alloc: Global) -> Result<bool, AllocError> {
+    let Some(request) = request_of(alloc, &cases()[0])? else {
+        return Ok(false);
     };
     let survivors = request.survivors();
-    assert!(&rt; survivors.has(Place::X1), "x1 is lost");
-    assert!(&rt; survivors.has(Place::X2), "x2 is lost");
-    assert!(&rt; survivors.has(Place::Px), "px is lost");
-    let tree = three_leaves(alloc)?;
-    assert!(&rt;
-        gives(&rt, alloc, &tree, &request, 2, b"\x01")?,
-        "other bytes"
-    );
-    Ok(())
+    if !survivors.has(Place::X1) || !survivors.has(Place::X2) || !survivors.has(Place::Px) {
+        return Ok(false);
+    }
+    gives(rt, alloc, &three_leaves(alloc)?, &request, 2, b"\x01")
 }

@@ -2,8 +2,13 @@
 use super::fixtures::{Answer, Case};
 use lrc_code::{Code, Place};
 
-/// Most are over the stripe with x0 = x5 = 01, y0 = 02, px 00, py 02, p0 72, p1 A6 and no other data, worked out by hand.
-pub static WIDE_CASES: [Case; 9] = [
+/// The requests, out of a function as those of the other code.
+pub fn wide_cases() -> &'static [Case; 9] {
+    &WIDE_CASES
+}
+
+// Most are over the stripe with x0 = x5 = 01, y0 = 02, px 00, py 02, p0 72, p1 A6 and no other data, worked out by hand.
+static WIDE_CASES: [Case; 9] = [
     Case {
         name: "the six others of the group alone",
         code: Code::Wide,

@@ -44,18 +44,25 @@ fn has_no_bytes(outcome: &Outcome) -> bool {
     }
 }
 
+// Whether each index is that of a place.
+fn are_indexes() -> bool {
+    for index in 0..16usize {
+        match Place::from_index(index) {
+            Some(place) if index_of(place) == index => {}
+            _ => return false,
+        }
+    }
+    true
+}
+
+// Whether a set without a code is reduced as in the (6,2,2) code.
+fn is_reduced_narrow(set: PlaceSet) -> bool {
+    reduce(set).pivot(0) == reduce_in(Code::Narrow, set).pivot(0)
+}
+
 #[test]
 fn code_has_its_names(rt: HostRuntime) {
-    for index in 0..16usize {
-        let place = Place::from_index(index);
-        assert!(&rt;
-            place.is_some_and(|p| index_of(p) == index),
-            "place {index}"
-        );
-    }
-    assert_eq!(&rt; number_of(RequestFault::WrongCode), 29);
+    assert!(&rt; are_indexes() && number_of(RequestFault::WrongCode) == 29);
     assert!(&rt; has_no_bytes(&Outcome::Several));
-    let set = PlaceSet::empty().with(Place::X0);
-    let narrow = reduce_in(Code::Narrow, set);
-    assert_eq!(&rt; reduce(set).pivot(0), narrow.pivot(0));
+    assert!(&rt; is_reduced_narrow(PlaceSet::empty().with(Place::X0)));
 }

@@ -13,15 +13,17 @@ fn node<A: Allocator>(tree: &Tree<A>) -> (Option<Place>, Option<u8>) {
     }
 }
 
-#[test]
-fn trees_and_plans_have_their_names(rt: HostRuntime) {
-    assert_eq!(&rt;
-        node::<Global>(&Tree::Leaf(Place::X1)),
-        (Some(Place::X1), None)
-    );
+// Whether a plan of one leaf has just that.
+fn is_leaf(alloc: Global) -> bool {
     let Plan { value, checks } = Plan {
         value: Some(Tree::Leaf(Place::X1)),
-        checks: Vec::new(rt.alloc()),
+        checks: Vec::new(alloc),
     };
-    assert!(&rt; value.is_some() && checks.is_empty());
+    value.is_some() && checks.is_empty()
+}
+
+#[test]
+fn trees_and_plans_have_their_names(rt: HostRuntime) {
+    assert!(&rt; node::<Global>(&Tree::Leaf(Place::X1)) == (Some(Place::X1), None));
+    assert!(&rt; is_leaf(rt.alloc()));
 }
