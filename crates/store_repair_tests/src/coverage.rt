@@ -1,5 +1,6 @@
 //! Which rebuilt fragments are checked.
-use crate::samples::{NARROW, Sample, WIDE, fragment_of, is_there, plan, put_without, repair};
+use crate::asserting::{assert_holds, assert_same};
+use crate::samples::{Sample, fragment_of, is_there, narrow, plan, put_without, repair, wide};
 use lrc_code::{Code, Group, Place, PlaceSet};
 use std::alloc::{AllocError, Global};
 use std::process::Abort;
@@ -14,47 +15,50 @@ fn are_covered(one: Place, other: Place) -> bool {
     }
 }
 
+// Whether both of two lost fragments are covered just where they must be, and none of three of which some others are before them.
+fn is_pair_covered(code: Code, one: Place, other: Place, before: &[Place]) -> bool {
+    let both = PlaceSet::empty().with(one).with(other);
+    let expected = are_covered(one, other);
+    for third in before {
+        if is_covered(code, code.others(both.with(*third)), *third) {
+            return false;
+        }
+    }
+    is_covered(code, code.others(both), one) == expected
+        && is_covered(code, code.others(both), other) == expected
+}
+
+// Whether a lost fragment is covered, and each pair with one of those before it just where it must be.
+fn is_place_covered(code: Code, one: Place, before: &[Place]) -> bool {
+    for (second, other) in before.iter().enumerate() {
+        if !is_pair_covered(code, one, *other, &before[..second]) {
+            return false;
+        }
+    }
+    is_covered(code, code.others(PlaceSet::empty().with(one)), one)
+}
+
 // Asserts of each loss of up to three fragments of a code which of them are covered.
 fn assert_covered(rt: &impl Abort, code: Code) {
     let places = code.places();
     for (first, one) in places.iter().enumerate() {
-        let lost = PlaceSet::empty().with(*one);
-        assert!(rt; is_covered(code, code.others(lost), *one), "{one:?}");
-        for (second, other) in places[..first].iter().enumerate() {
-            let both = lost.with(*other);
-            let expected = are_covered(*one, *other);
-            assert_eq!(rt;
-                is_covered(code, code.others(both), *one),
-                expected,
-                "{both:?}"
-            );
-            assert_eq!(rt;
-                is_covered(code, code.others(both), *other),
-                expected,
-                "{both:?}"
-            );
-            for third in &places[..second] {
-                let three = both.with(*third);
-                assert!(rt; !is_covered(code, code.others(three), *third), "{three:?}");
-            }
-        }
+        assert!(rt; is_place_covered(code, *one, &places[..first]), "{one:?}");
     }
+}
+
+// Whether a place where nothing is lost is taken for covered.
+fn is_covered_in_whole(code: Code, place: Place) -> bool {
+    is_covered(code, code.others(PlaceSet::empty()), place)
 }
 
 #[test]
 fn one_lost_fragment_or_one_of_each_group_is_covered(rt: HostRuntime) {
-    for code in [Code::Narrow, Code::Wide] {
-        assert_covered(&rt, code);
-        // What survives and what the code doesn't have isn't covered.
-        assert!(&rt; !is_covered(code, code.others(PlaceSet::empty()), Place::X0));
-    }
-    assert!(&rt;
-        !is_covered(
-            Code::Narrow,
-            Code::Narrow.others(PlaceSet::empty()),
-            Place::X3
-        )
-    );
+    assert_covered(&rt, Code::Narrow);
+    assert_covered(&rt, Code::Wide);
+    // What survives and what the code doesn't have isn't covered.
+    assert!(&rt; !is_covered_in_whole(Code::Narrow, Place::X0));
+    assert!(&rt; !is_covered_in_whole(Code::Wide, Place::X0));
+    assert!(&rt; !is_covered_in_whole(Code::Narrow, Place::X3));
 }
 
 // Asserts that of a stripe that lost two fragments the first is checked or not, after a repair and in a plan.
@@ -75,11 +79,19 @@ fn assert_checked(
         elsewhere: false,
     };
     let planned = plan(alloc, &store, sample, &all)?;
-    assert!(rt; planned.rebuilt.len() == 2);
-    assert!(rt; planned.is_checked_at(sample.code, lost[0]) == is_checked);
+    assert_same(rt, &planned.rebuilt.len(), &2);
+    assert_same(
+        rt,
+        &planned.is_checked_at(sample.code, lost[0]),
+        &is_checked,
+    );
     let outcome = repair(alloc, &mut store, sample, false)?;
-    assert!(rt; outcome.is_checked);
-    assert!(rt; outcome.is_checked_at(sample.code, lost[0]) == is_checked);
+    assert_holds(rt, outcome.is_checked, "it is checked");
+    assert_same(
+        rt,
+        &outcome.is_checked_at(sample.code, lost[0]),
+        &is_checked,
+    );
     Ok(())
 }
 
@@ -87,17 +99,35 @@ fn assert_checked(
 // x2 add up to 00, and their squares do: what is rebuilt is wrong, nothing shows, and it isn't checked.
 #[test]
 fn damage_of_two_that_does_not_show_is_unchecked(rt: HostRuntime) -> Result<(), AllocError> {
-    for sample in [NARROW, WIDE] {
-        assert_checked(&rt, rt.alloc(), &sample, [Place::X0, Place::Y1], true)?;
-        assert_checked(&rt, rt.alloc(), &sample, [Place::X0, Place::X1], false)?;
-        let mut store = changed_alike(rt.alloc(), &sample)?;
-        let outcome = repair(rt.alloc(), &mut store, &sample, false)?;
-        assert_eq!(&rt; outcome.findings.len(), 0);
-        assert_eq!(&rt; outcome.rebuilt.len(), 2);
-        let x0 = fragment_of(&sample, Place::X0);
-        assert!(&rt; !is_there(&store, sample.name, Place::X0, x0));
-        assert!(&rt; !outcome.is_checked_at(sample.code, Place::X0));
+    for sample in [narrow(), wide()] {
+        assert_checked(&rt, rt.alloc(), sample, [Place::X0, Place::Y1], true)?;
+        assert_checked(&rt, rt.alloc(), sample, [Place::X0, Place::X1], false)?;
+        assert_wrong_and_unchecked(&rt, rt.alloc(), sample)?;
     }
+    Ok(())
+}
+
+// Asserts that a sample whose x2 and px are damaged alike is rebuilt wrongly and unchecked.
+fn assert_wrong_and_unchecked(
+    rt: &impl Abort,
+    alloc: Global,
+    sample: &Sample,
+) -> Result<(), AllocError> {
+    let mut store = changed_alike(alloc, sample)?;
+    let outcome = repair(alloc, &mut store, sample, false)?;
+    assert_holds(rt, outcome.findings.is_empty(), "nothing shows");
+    assert_same(rt, &outcome.rebuilt.len(), &2);
+    let x0 = fragment_of(sample, Place::X0);
+    assert_holds(
+        rt,
+        !is_there(&store, sample.name, Place::X0, x0),
+        "x0 is wrong",
+    );
+    assert_holds(
+        rt,
+        !outcome.is_checked_at(sample.code, Place::X0),
+        "x0 is unchecked",
+    );
     Ok(())
 }
 

@@ -1,5 +1,6 @@
 //! Repairs over a folder in memory: with each call failing, and with all that a crash at each call may leave.
-use crate::samples::{SHORT, fragment_of};
+use crate::asserting::{assert_holds, assert_same};
+use crate::samples::{fragment_of, short};
 use folders::{Folder, NewFile};
 use lrc_code::{Code, Place};
 use memory_folder::{Fault, MemoryFolder};
@@ -49,8 +50,8 @@ fn folder_without(
 ) -> Result<MemoryFolder, AllocError> {
     let mut files = MemoryFolder::new(alloc);
     files.put("store/b.x0", OTHER)?;
-    for (place, bytes) in SHORT.fragments {
-        if lost.iter().any(|gone| gone == place) {
+    for (place, bytes) in short().fragments {
+        if lost.contains(place) {
             continue;
         }
         let bytes = if damaged == Some(*place) {
@@ -66,7 +67,7 @@ fn folder_without(
 // What a folder has under the names of the sample's fragments.
 fn stripe_in(alloc: Global, files: &MemoryFolder) -> Result<Stripe<'static>, AllocError> {
     let mut found = StripeFiles::new();
-    for place in SHORT.code.places() {
+    for place in short().code.places() {
         if let Some(bytes) = files.bytes_at(path_of(alloc, *place)?.as_str()) {
             found.found[place.index()] = Found::File {
                 length: bytes.len() as u64,
@@ -74,7 +75,7 @@ fn stripe_in(alloc: Global, files: &MemoryFolder) -> Result<Stripe<'static>, All
         }
     }
     Ok(Stripe {
-        name: SHORT.name,
+        name: short().name,
         files: found,
     })
 }
@@ -97,7 +98,7 @@ fn repaired_at(
 ) -> Result<(Result<Outcome, AllocError>, MemoryFolder), AllocError> {
     let alloc = rt.alloc();
     let repair = Repair {
-        code: SHORT.code,
+        code: short().code,
         reads: Reads::All,
         replace_damaged,
         assume_one_damaged: false,
@@ -116,28 +117,56 @@ fn assert_whole_or_absent(
     files: &MemoryFolder,
     lost: &[Place],
 ) -> Result<(), AllocError> {
-    for place in SHORT.code.places() {
-        let whole = fragment_of(&SHORT, *place);
-        match files.bytes_at(path_of(alloc, *place)?.as_str()) {
-            Some(bytes) => assert!(rt; bytes == whole, "{place:?} has {bytes:?}"),
-            None => assert!(rt; lost.iter().any(|gone| gone == place), "{place:?} is gone"),
-        }
+    for place in short().code.places() {
+        let is = is_whole_or_absent(alloc, files, *place, lost)?;
+        assert_holds(rt, is, place.name());
     }
-    assert!(rt; files.bytes_at("store/b.x0") == Some(OTHER));
+    assert_holds(
+        rt,
+        files.bytes_at("store/b.x0") == Some(OTHER),
+        "b.x0 stays",
+    );
     Ok(())
+}
+
+// Whether the fragment at a place is whole, or absent where it was lost.
+fn is_whole_or_absent(
+    alloc: Global,
+    files: &MemoryFolder,
+    place: Place,
+    lost: &[Place],
+) -> Result<bool, AllocError> {
+    let path = path_of(alloc, place)?;
+    Ok(match files.bytes_at(path.as_str()) {
+        Some(bytes) => bytes == fragment_of(short(), place),
+        None => lost.contains(&place),
+    })
 }
 
 // Asserts that there is nothing but the sample's fragments, the other stripe's, and files under temporary names.
 fn assert_nothing_else(rt: &impl Abort, files: &MemoryFolder) -> Result<(), AllocError> {
     for path in files.paths()? {
-        let is_ours = path == "store/b.x0" || path.starts_with("store/.rebuild-store-");
-        let is_fragment = path.strip_prefix("store/a.").is_some_and(|rest| {
-            SHORT.code.places().iter().any(|place| place.name() == rest
-                || rest.strip_suffix(".damaged") == Some(place.name()))
-        });
-        assert!(rt; is_ours || is_fragment, "{path} is there");
+        assert_holds(rt, is_known(path), path);
     }
     Ok(())
+}
+
+// Whether a path is one of those.
+fn is_known(path: &str) -> bool {
+    match path.strip_prefix("store/a.") {
+        Some(rest) => is_of_fragment(rest),
+        None => path == "store/b.x0" || path.starts_with("store/.rebuild-store-"),
+    }
+}
+
+// Whether the end of a path is a place's, or that of a fragment under its second name.
+fn is_of_fragment(rest: &str) -> bool {
+    for place in short().code.places() {
+        if place.name() == rest || rest.strip_suffix(".damaged") == Some(place.name()) {
+            return true;
+        }
+    }
+    false
 }
 
 // How many calls a repair makes that change something.
@@ -155,18 +184,28 @@ fn calls_of(rt: &HostRuntime, lost: &[Place], damaged: Option<Place>) -> Result<
 // same repair then makes them whole.
 #[test]
 fn a_crash_leaves_each_name_absent_or_whole(rt: HostRuntime) -> Result<(), AllocError> {
-    let alloc = rt.alloc();
     let lost = [Place::X1, Place::Py];
     let calls = calls_of(&rt, &lost, None)?;
-    assert!(&rt; calls > 8, "{calls} calls");
+    assert_holds(&rt, calls > 8, "more than eight calls");
     for at in 0..calls {
         for (lasts, is_done) in WAYS_TO_FAIL {
-            let files = left_by(&rt, &lost, None, Fault { at, lasts, is_done })?;
-            assert_whole_or_absent(&rt, alloc, &files, &lost)?;
-            for way in 0..files.crashes().min(MOST_WAYS) {
-                assert_made_whole(&rt, &rt, files.after_crash(way)?, &lost)?;
-            }
+            assert_each_made_whole(&rt, &rt, &lost, Fault { at, lasts, is_done })?;
         }
+    }
+    Ok(())
+}
+
+// Asserts of a fault that each name is absent or whole then, and after each crash, from which the same repair makes them whole.
+fn assert_each_made_whole(
+    rt: &impl Abort,
+    runtime: &HostRuntime,
+    lost: &[Place],
+    fault: Fault,
+) -> Result<(), AllocError> {
+    let files = left_by(runtime, lost, None, fault)?;
+    assert_whole_or_absent(rt, runtime.alloc(), &files, lost)?;
+    for way in 0..files.crashes().min(MOST_WAYS) {
+        assert_made_whole(rt, runtime, files.after_crash(way)?, lost)?;
     }
     Ok(())
 }
@@ -202,7 +241,7 @@ fn assert_made_whole(
     assert_whole_or_absent(rt, runtime.alloc(), &left, lost)?;
     assert_nothing_else(rt, &left)?;
     let (again, whole) = repaired(runtime, left, false)?;
-    assert!(rt; again?.findings.is_empty());
+    assert_holds(rt, again?.findings.is_empty(), "nothing is found");
     assert_whole_or_absent(rt, runtime.alloc(), &whole, &[])
 }
 
@@ -211,13 +250,15 @@ fn assert_made_whole(
 fn done_is_on_the_disk(rt: HostRuntime) -> Result<(), AllocError> {
     let lost = [Place::X0, Place::Y2, Place::P1];
     let (outcome, files) = repaired(&rt, folder_without(rt.alloc(), &lost, None)?, false)?;
-    let outcome = outcome?;
-    assert!(&rt; outcome.findings.is_empty());
-    assert_eq!(&rt; outcome.rebuilt.len(), 3);
+    assert_holds(&rt, are_three_rebuilt(&outcome?), "three are rebuilt");
     for way in 0..files.crashes().min(MOST_WAYS) {
         assert_whole_or_absent(&rt, rt.alloc(), &files.after_crash(way)?, &[])?;
     }
     Ok(())
+}
+
+fn are_three_rebuilt(outcome: &Outcome) -> bool {
+    outcome.findings.is_empty() && outcome.rebuilt.len() == 3
 }
 
 // Asserts that a damaged fragment is under its name, or under its second name with the whole one under its name.
@@ -231,30 +272,46 @@ fn assert_kept(
     let second = second_path_of(alloc, damaged)?;
     let bytes = files.bytes_at(path.as_str());
     let kept = files.bytes_at(second.as_str());
-    let is_old = bytes == Some(OTHER);
-    let is_new = bytes == Some(fragment_of(&SHORT, damaged)) && kept == Some(OTHER);
-    assert!(rt;
-        is_old || is_new,
-        "{bytes:?} is there, and {kept:?} is kept"
+    assert_holds(
+        rt,
+        are_kept(bytes, kept, fragment_of(short(), damaged)),
+        path.as_str(),
     );
-    assert!(rt; kept.is_none() || kept == Some(OTHER), "{kept:?} is kept");
     Ok(())
+}
+
+// Whether the bytes under a name and under its second name are the damaged ones and none or the same, or the whole ones and those.
+fn are_kept(bytes: Option<&[u8]>, kept: Option<&[u8]>, whole: &[u8]) -> bool {
+    match kept {
+        Some(kept) => kept == OTHER && (bytes == Some(OTHER) || bytes == Some(whole)),
+        None => bytes == Some(OTHER),
+    }
 }
 
 // A damaged fragment is replaced, and the machine stops at each call: it is under the one name or the other.
 #[test]
 fn a_crash_leaves_what_is_replaced(rt: HostRuntime) -> Result<(), AllocError> {
-    let alloc = rt.alloc();
     let damaged = Place::X2;
     let calls = calls_of(&rt, &[], Some(damaged))?;
     for at in 0..calls {
         for (lasts, is_done) in WAYS_TO_FAIL {
-            let files = left_by(&rt, &[], Some(damaged), Fault { at, lasts, is_done })?;
-            assert_kept(&rt, alloc, &files, damaged)?;
-            for way in 0..files.crashes().min(MOST_WAYS) {
-                assert_kept_and_replaced(&rt, &rt, files.after_crash(way)?, damaged)?;
-            }
+            assert_each_kept(&rt, &rt, damaged, Fault { at, lasts, is_done })?;
         }
+    }
+    Ok(())
+}
+
+// Asserts of a fault that the fragment is there then, and after each crash, from which the same repair replaces it.
+fn assert_each_kept(
+    rt: &impl Abort,
+    runtime: &HostRuntime,
+    damaged: Place,
+    fault: Fault,
+) -> Result<(), AllocError> {
+    let files = left_by(runtime, &[], Some(damaged), fault)?;
+    assert_kept(rt, runtime.alloc(), &files, damaged)?;
+    for way in 0..files.crashes().min(MOST_WAYS) {
+        assert_kept_and_replaced(rt, runtime, files.after_crash(way)?, damaged)?;
     }
     Ok(())
 }
@@ -276,27 +333,43 @@ fn assert_kept_and_replaced(
 // Of two that are lost the sums say the digest of one, and another digest of the other, which gets no name.
 #[test]
 fn what_differs_from_its_digest_gets_no_name(rt: HostRuntime) -> Result<(), AllocError> {
-    let alloc = rt.alloc();
-    let mut sums = Sums::new(alloc);
-    sums.set(alloc, "a.x1", OF_02)?;
-    sums.set(alloc, "a.py", OF_02)?;
-    let files = folder_without(alloc, &[Place::X1, Place::Py], None)?;
+    let sums = sums_of_two(rt.alloc())?;
+    let files = folder_without(rt.alloc(), &[Place::X1, Place::Py], None)?;
     let site = Site {
         sums: Some(&sums),
         ..SITE
     };
     let (outcome, files) = repaired_at(&rt, files, site, false)?;
-    assert!(&rt; is_x1_alone_rebuilt(&outcome?));
-    assert_whole_or_absent(&rt, alloc, &files, &[Place::Py])?;
-    assert!(&rt; files.bytes_at("store/a.py").is_none());
+    assert_holds(&rt, is_x1_alone_rebuilt(&outcome?), "x1 alone is rebuilt");
+    assert_whole_or_absent(&rt, rt.alloc(), &files, &[Place::Py])?;
+    assert_holds(
+        &rt,
+        files.bytes_at("store/a.py").is_none(),
+        "py has no name",
+    );
     Ok(())
+}
+
+// Sums that say the digest of the byte 02 for x1 and py.
+fn sums_of_two(alloc: Global) -> Result<Sums, AllocError> {
+    let mut sums = Sums::new(alloc);
+    sums.set(alloc, "a.x1", OF_02)?;
+    sums.set(alloc, "a.py", OF_02)?;
+    Ok(sums)
 }
 
 // Whether x1 alone is rebuilt, and what py would be differs from its digest.
 fn is_x1_alone_rebuilt(outcome: &Outcome) -> bool {
-    outcome.rebuilt.as_slice() == [Place::X1].as_slice()
-        && outcome.findings.iter().any(|finding| finding.place == Some(Place::Py)
-            && matches!(finding.reason, Reason::RebuiltDiffers))
+    outcome.rebuilt.as_slice() == [Place::X1].as_slice() && has_other_py(outcome)
+}
+
+fn has_other_py(outcome: &Outcome) -> bool {
+    for finding in &outcome.findings {
+        if finding.place == Some(Place::Py) && matches!(finding.reason, Reason::RebuiltDiffers) {
+            return true;
+        }
+    }
+    false
 }
 
 // A crash leaves of a file that isn't on the disk nothing, a half, all or other bytes, and leaves its path or not.
@@ -310,18 +383,28 @@ fn a_crash_tears_what_is_not_on_the_disk(rt: HostRuntime) -> Result<(), io::Erro
     });
     let mut new = files.create_new("store/a", 0o600)?;
     new.append(b"abcd")?;
-    assert!(&rt; files.sync(new).is_err());
-    let left: [Option<&[u8]>; 5] = [
-        None,
-        Some(b""),
-        Some(b"ab"),
-        Some(b"abcd"),
-        Some(b"\x3b8\x39\x3e"),
-    ];
-    for wanted in left {
-        assert!(&rt; may_be_left(&files, wanted)?, "{wanted:?}");
-    }
+    assert_holds(&rt, files.sync(new).is_err(), "it isn't put on the disk");
+    assert_same(&rt, &first_not_left(&files)?, &None);
     Ok(())
+}
+
+// What of the file a crash may leave.
+const LEFT: &[Option<&[u8]>] = &[
+    None,
+    Some(b""),
+    Some(b"ab"),
+    Some(b"abcd"),
+    Some(b"\x3b8\x39\x3e"),
+];
+
+// The first of these that no crash leaves, if there is one.
+fn first_not_left(files: &MemoryFolder) -> Result<Option<Option<&'static [u8]>>, AllocError> {
+    for wanted in LEFT {
+        if !may_be_left(files, *wanted)? {
+            return Ok(Some(*wanted));
+        }
+    }
+    Ok(None)
 }
 
 // Whether some crash leaves these bytes of the file, or no file.

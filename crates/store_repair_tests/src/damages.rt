@@ -1,12 +1,13 @@
 //! What a repair and a scrub make of damage among the survivors of a stripe.
+use crate::asserting::{assert_holds, assert_same};
 use crate::ranks::suspects_of;
 use crate::samples::{
-    NARROW, Sample, WIDE, assert_there, fragment_of, put_without, repair, repair_as, scrub,
+    Sample, assert_there, fragment_of, narrow, put_without, repair, repair_as, scrub, wide,
 };
 use lrc_code::{Code, Place, PlaceSet};
 use std::alloc::{AllocError, Global};
 use std::process::Abort;
-use store_repair::{MemoryStore, Outcome, Reads, Reason, Repair};
+use store_repair::{Finding, MemoryStore, Outcome, Reads, Reason, Repair};
 
 // What is under the names of some fragments in place of a sample's.
 type Changes<'a> = &'a [(Place, &'a [u8])];
@@ -31,7 +32,7 @@ fn changed_store(
     let mut store = MemoryStore::new(alloc);
     put_without(&mut store, sample, lost)?;
     for (place, bytes) in changes {
-        if !lost.iter().any(|gone| gone == place) {
+        if !lost.contains(place) {
             store.put(sample.name, *place, bytes)?;
         }
     }
@@ -42,13 +43,20 @@ fn changed_store(
 fn assert_known(rt: &impl Abort, store: &MemoryStore, sample: &Sample, changes: Changes<'_>) {
     for (place, bytes) in sample.fragments {
         if let Some(found) = store.fragment(sample.name, *place) {
-            let is_known = found == *bytes
-                || changes
-                    .iter()
-                    .any(|(changed, bytes)| changed == place && found == *bytes);
+            let is_known = found == *bytes || is_change(changes, *place, found);
             assert!(rt; is_known, "{} has {found:?} at {place:?}", sample.name);
         }
     }
+}
+
+// Whether the bytes are those of a change at a place.
+fn is_change(changes: Changes<'_>, place: Place, found: &[u8]) -> bool {
+    for (changed, bytes) in changes {
+        if *changed == place && found == *bytes {
+            return true;
+        }
+    }
+    false
 }
 
 // Asserts that a repair of a store with these losses and changes makes no other fragment than the sample's and the changes.
@@ -100,34 +108,45 @@ fn to_be_lost(code: Code) -> &'static [Place] {
 // Two fragments that are exchanged, with one more lost at most, or two that are changed.
 #[test]
 fn two_damaged_fragments_make_nothing_wrong(rt: HostRuntime) -> Result<(), AllocError> {
-    for sample in [NARROW, WIDE] {
+    for sample in [narrow(), wide()] {
         let places = sample.code.places();
         for (index, one) in places.iter().enumerate() {
             for other in &places[..index] {
-                let exchanged = [
-                    (*one, fragment_of(&sample, *other)),
-                    (*other, fragment_of(&sample, *one)),
-                ];
-                assert_nothing_else_without_one(&rt, rt.alloc(), &sample, &exchanged, &exchanged)?;
-                let first = flipped(&sample, *one);
-                let second = flipped(&sample, *other);
-                let changed = [(*one, first.as_slice()), (*other, second.as_slice())];
-                assert_nothing_else(&rt, rt.alloc(), &sample, &[], &changed, &changed)?;
+                assert_pair_makes_nothing_else(&rt, rt.alloc(), sample, *one, *other)?;
             }
         }
     }
     Ok(())
 }
 
+// Asserts that two fragments make nothing else, both where they are exchanged and where they are changed.
+fn assert_pair_makes_nothing_else(
+    rt: &impl Abort,
+    alloc: Global,
+    sample: &Sample,
+    one: Place,
+    other: Place,
+) -> Result<(), AllocError> {
+    let exchanged = [
+        (one, fragment_of(sample, other)),
+        (other, fragment_of(sample, one)),
+    ];
+    assert_nothing_else_without_one(rt, alloc, sample, &exchanged, &exchanged)?;
+    let first = flipped(sample, one);
+    let second = flipped(sample, other);
+    let changed = [(one, first.as_slice()), (other, second.as_slice())];
+    assert_nothing_else(rt, alloc, sample, &[], &changed, &changed)
+}
+
 // What x0 and the parities become where x0 becomes 01 23 45 67 89, by an independent computation.
-const NEW_NARROW: [(Place, &[u8]); 4] = [
+static NEW_NARROW: [(Place, &[u8]); 4] = [
     (Place::X0, b"\x01\x23\x45\x67\x89"),
     (Place::Px, b"\x5b\xc9\x70\xc7\xd7"),
     (Place::P0, b"\xad\xbd\x30\x06\x2c"),
     (Place::P1, b"\xfe\x1b\xfa\x4c\xa1"),
 ];
 
-const NEW_WIDE: [(Place, &[u8]); 4] = [
+static NEW_WIDE: [(Place, &[u8]); 4] = [
     (Place::X0, b"\x01\x23\x45\x67\x89"),
     (Place::Px, b"\x65\x87\x48\xdc\x6c"),
     (Place::P0, b"\x67\x9f\x68\xac\x81"),
@@ -138,40 +157,52 @@ const NEW_WIDE: [(Place, &[u8]); 4] = [
 // generation or the other.
 #[test]
 fn torn_update_makes_nothing_of_neither_generation(rt: HostRuntime) -> Result<(), AllocError> {
-    for (sample, new) in [(NARROW, NEW_NARROW), (WIDE, NEW_WIDE)] {
+    for (sample, new) in [(narrow(), &NEW_NARROW), (wide(), &NEW_WIDE)] {
         for written in 0..16u8 {
-            let mut changes = Vec::new(rt.alloc());
-            for (bit, fragment) in new.iter().enumerate() {
-                if bit < 4 && written >> bit & 1 == 1 {
-                    changes.push(*fragment)?;
-                }
-            }
-            assert_nothing_else_without_one(&rt, rt.alloc(), &sample, changes.as_slice(), &new)?;
+            let changes = written_of(rt.alloc(), new, written)?;
+            assert_nothing_else_without_one(&rt, rt.alloc(), sample, changes.as_slice(), new)?;
         }
     }
     Ok(())
 }
 
-// Asserts what a scrub says of damage at a place: that it is there, or that it is among the suspects.
-fn assert_suspected(rt: &impl Abort, outcome: &Outcome, damaged: Place, expected: PlaceSet) {
-    let mut times = 0u8;
-    for finding in &outcome.findings {
-        match &finding.reason {
-            Reason::Damaged => {
-                assert_eq!(rt; finding.place, Some(damaged));
-                assert_eq!(rt; expected.len(), 1);
-                times = times.saturating_add(1);
-            }
-            Reason::Suspected(suspects) => {
-                assert_eq!(rt; suspects.places, expected, "damage at {damaged:?}");
-                assert!(rt; expected.len() > 1);
-                times = times.saturating_add(1);
-            }
-            Reason::Absent => {}
-            _ => panic!(rt; "damage at {damaged:?} gives {finding:?}"),
+// The fragments whose bits are set.
+fn written_of<'a>(
+    alloc: Global,
+    new: &[(Place, &'a [u8]); 4],
+    written: u8,
+) -> Result<Vec<(Place, &'a [u8])>, AllocError> {
+    let mut changes = Vec::new(alloc);
+    for (bit, fragment) in new.iter().enumerate() {
+        if bit < 4 && written >> bit & 1 == 1 {
+            changes.push(*fragment)?;
         }
     }
-    assert_eq!(rt; times, 1);
+    Ok(changes)
+}
+
+// Whether a finding is of no damage, of the damage at a place that is the only suspect, or of just these suspects.
+fn is_expected(finding: &Finding, damaged: Place, expected: PlaceSet) -> bool {
+    match &finding.reason {
+        Reason::Damaged => finding.place == Some(damaged) && expected.len() == 1,
+        Reason::Suspected(suspects) => suspects.places == expected && expected.len() > 1,
+        Reason::Absent => true,
+        _ => false,
+    }
+}
+
+// Whether a scrub says once that there is damage, and what is expected of it.
+fn is_suspected(outcome: &Outcome, damaged: Place, expected: PlaceSet) -> bool {
+    let mut times = 0u8;
+    for finding in &outcome.findings {
+        if !is_expected(finding, damaged, expected) {
+            return false;
+        }
+        if !matches!(finding.reason, Reason::Absent) {
+            times = times.saturating_add(1);
+        }
+    }
+    times == 1
 }
 
 // Asserts what a scrub says of a damaged fragment of a stripe of which these are lost, and, where fewer than two are, what a repair makes
@@ -186,18 +217,18 @@ fn assert_scrubbed_and_repaired(
     let bytes = flipped(sample, damaged);
     let changes = [(damaged, bytes.as_slice())];
     let mut store = changed_store(alloc, sample, lost, &changes)?;
-    let outcome = scrub(alloc, &store, sample)?;
     let expected = suspects_of(sample.code, lost, damaged);
-    assert_suspected(rt, &outcome, damaged, expected);
+    let is = is_suspected(&scrub(alloc, &store, sample)?, damaged, expected);
+    assert_holds(rt, is, damaged.name());
     if lost.len() == 2 {
         return Ok(());
     }
     let outcome = repair(alloc, &mut store, sample, true)?;
     if expected.len() == 1 {
-        assert!(rt; outcome.is_checked);
+        assert_holds(rt, outcome.is_checked, "it is checked");
         assert_replaced(rt, &store, sample, (damaged, bytes.as_slice()));
     } else {
-        assert_eq!(rt; outcome.rebuilt.len(), 0);
+        assert_same(rt, &outcome.rebuilt.len(), &0);
         assert_known(rt, &store, sample, &changes);
     }
     Ok(())
@@ -218,11 +249,11 @@ fn assert_replaced(
 // ranks of the equations' columns say.
 #[test]
 fn one_damaged_fragment_is_named_or_suspected(rt: HostRuntime) -> Result<(), AllocError> {
-    for sample in [NARROW, WIDE] {
+    for sample in [narrow(), wide()] {
         let places = sample.code.places();
         for damaged in places {
-            assert_scrubbed_and_repaired(&rt, rt.alloc(), &sample, &[], *damaged)?;
-            assert_with_losses(&rt, rt.alloc(), &sample, *damaged)?;
+            assert_scrubbed_and_repaired(&rt, rt.alloc(), sample, &[], *damaged)?;
+            assert_with_losses(&rt, rt.alloc(), sample, *damaged)?;
         }
     }
     Ok(())
@@ -262,8 +293,19 @@ fn by_guess(code: Code) -> Repair {
 
 // Whether a finding says that the fragment at a place was taken for the damaged one.
 fn is_guessed(outcome: &Outcome, place: Place) -> bool {
-    outcome.findings.iter().any(|finding| finding.place == Some(place)
-        && matches!(finding.reason, Reason::TakenForDamaged))
+    for finding in &outcome.findings {
+        if finding.place == Some(place) && matches!(finding.reason, Reason::TakenForDamaged) {
+            return true;
+        }
+    }
+    false
+}
+
+// Whether px alone was rebuilt, unchecked, by the guess that x2 is damaged.
+fn is_by_guess(outcome: &Outcome) -> bool {
+    is_guessed(outcome, Place::X2)
+        && !outcome.is_checked
+        && outcome.rebuilt.as_slice() == [Place::Px].as_slice()
 }
 
 // Asserts that of a stripe with these changes, and without px, x2 is taken for the damaged one: px is rebuilt from the guess, which is
@@ -278,27 +320,29 @@ fn assert_guessed(
     let mut store = changed_store(alloc, sample, &[Place::Px], changes)?;
     let guess = by_guess(sample.code);
     let outcome = repair_as(alloc, &mut store, sample, &guess)?;
-    assert!(rt; is_guessed(&outcome, Place::X2), "{:?}", outcome.findings);
-    assert!(rt; !outcome.is_checked);
-    assert_eq!(rt; outcome.rebuilt.as_slice(), [Place::Px].as_slice());
-    assert!(rt; store.kept(sample.name, Place::X2).is_none());
-    let px = store.fragment(sample.name, Place::Px);
-    assert_eq!(rt; px == Some(fragment_of(sample, Place::Px)), is_right);
+    assert_holds(rt, is_by_guess(&outcome), "px is rebuilt by a guess");
+    assert_holds(rt, store.kept(sample.name, Place::X2).is_none(), "x2 stays");
+    assert_same(rt, &is_px(&store, sample), &is_right);
     Ok(())
+}
+
+// Whether a sample's px is there.
+fn is_px(store: &MemoryStore, sample: &Sample) -> bool {
+    store.fragment(sample.name, Place::Px) == Some(fragment_of(sample, Place::Px))
 }
 
 // A guess that is right, and one that is wrong: without px, x0 and x1 that are exchanged look like a damaged x2.
 #[test]
 fn what_is_rebuilt_by_a_guess_is_unchecked(rt: HostRuntime) -> Result<(), AllocError> {
-    for sample in [NARROW, WIDE] {
-        let bytes = flipped(&sample, Place::X2);
+    for sample in [narrow(), wide()] {
+        let bytes = flipped(sample, Place::X2);
         let damaged = [(Place::X2, bytes.as_slice())];
-        assert_guessed(&rt, rt.alloc(), &sample, &damaged, true)?;
+        assert_guessed(&rt, rt.alloc(), sample, &damaged, true)?;
         let exchanged = [
-            (Place::X0, fragment_of(&sample, Place::X1)),
-            (Place::X1, fragment_of(&sample, Place::X0)),
+            (Place::X0, fragment_of(sample, Place::X1)),
+            (Place::X1, fragment_of(sample, Place::X0)),
         ];
-        assert_guessed(&rt, rt.alloc(), &sample, &exchanged, false)?;
+        assert_guessed(&rt, rt.alloc(), sample, &exchanged, false)?;
     }
     Ok(())
 }

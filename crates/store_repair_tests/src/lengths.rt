@@ -1,5 +1,6 @@
 //! What is made of a stripe whose files differ in length.
-use crate::samples::{NARROW, Sample, assert_there, plan, put_without, repair_as, scrub};
+use crate::asserting::assert_holds;
+use crate::samples::{Sample, assert_there, narrow, plan, put_without, repair_as, scrub};
 use lrc_code::{Code, Place};
 use std::alloc::{AllocError, Global};
 use std::process::Abort;
@@ -22,7 +23,7 @@ struct Case {
     says: Result<usize, &'static str>,
 }
 
-const CASES: [Case; 7] = [
+static CASES: [Case; 7] = [
     // One of another length: the nine others belong together.
     Case {
         cut: &[Place::X0],
@@ -104,34 +105,34 @@ fn cut_store(alloc: Global, sample: &Sample, case: &Case) -> Result<MemoryStore,
     let mut store = MemoryStore::new(alloc);
     put_without(&mut store, sample, case.lost)?;
     for (place, bytes) in sample.fragments {
-        if case.cut.iter().any(|cut| cut == place) {
+        if case.cut.contains(place) {
             store.put(sample.name, *place, bytes.get(..case.to).unwrap_or(b""))?;
         }
     }
     Ok(store)
 }
 
-// Asserts that an outcome says of the stripe's length what a case says.
-fn assert_says(
-    rt: &impl Abort,
-    alloc: Global,
-    outcome: &Outcome,
-    case: &Case,
-) -> Result<(), AllocError> {
-    let differ = outcome.findings.iter().find(|finding| matches!(
-        finding.reason,
-        Reason::LengthsDiffer(_)
-    ));
-    match (differ, case.says) {
-        (None, Ok(length)) => assert_eq!(rt; outcome.length, length),
-        (Some(finding), Err(groups)) => {
-            assert!(rt; is_said(alloc, &finding.reason, groups)?, "{groups}");
-            assert_eq!(rt; outcome.rebuilt.len(), 0);
-            assert_eq!(rt; outcome.findings.len(), 1);
+// Why the lengths differ, if a finding says so.
+fn difference(outcome: &Outcome) -> Option<&Reason> {
+    for finding in &outcome.findings {
+        if matches!(finding.reason, Reason::LengthsDiffer(_)) {
+            return Some(&finding.reason);
         }
-        _ => panic!(rt; "{:?} where {:?} is wanted", outcome, case.says),
     }
-    Ok(())
+    None
+}
+
+// Whether an outcome says of the stripe's length what a case says.
+fn says(alloc: Global, outcome: &Outcome, case: &Case) -> Result<bool, AllocError> {
+    match (difference(outcome), case.says) {
+        (None, Ok(length)) => Ok(outcome.length == length),
+        (Some(reason), Err(groups)) => Ok(
+            is_said(alloc, reason, groups)?
+                && outcome.rebuilt.is_empty()
+                && outcome.findings.len() == 1,
+        ),
+        _ => Ok(false),
+    }
 }
 
 // Whether a finding's line names these groups of fragments.
@@ -148,16 +149,22 @@ fn is_said(alloc: Global, reason: &Reason, groups: &str) -> Result<bool, AllocEr
 #[test]
 fn checks_decide_between_lengths(rt: HostRuntime) -> Result<(), AllocError> {
     for case in &CASES {
-        let mut store = cut_store(rt.alloc(), &NARROW, case)?;
-        let scrubbed = scrub(rt.alloc(), &store, &NARROW)?;
-        assert_says(&rt, rt.alloc(), &scrubbed, case)?;
-        let planned = plan(rt.alloc(), &store, &NARROW, &REPAIR)?;
-        assert_says(&rt, rt.alloc(), &planned, case)?;
-        let outcome = repair_as(rt.alloc(), &mut store, &NARROW, &REPAIR)?;
-        assert_says(&rt, rt.alloc(), &outcome, case)?;
-        assert_left(&rt, rt.alloc(), &store, &outcome, case)?;
+        assert_decided(&rt, rt.alloc(), case)?;
     }
     Ok(())
+}
+
+// Asserts that of a case.
+fn assert_decided(rt: &impl Abort, alloc: Global, case: &Case) -> Result<(), AllocError> {
+    let mut store = cut_store(alloc, narrow(), case)?;
+    let says_so = says(alloc, &scrub(alloc, &store, narrow())?, case)?;
+    assert_holds(rt, says_so, "what a scrub says of the length");
+    let says_so = says(alloc, &plan(alloc, &store, narrow(), &REPAIR)?, case)?;
+    assert_holds(rt, says_so, "what a plan says of the length");
+    let outcome = repair_as(alloc, &mut store, narrow(), &REPAIR)?;
+    let says_so = says(alloc, &outcome, case)?;
+    assert_holds(rt, says_so, "what a repair says of the length");
+    assert_left(rt, alloc, &store, &outcome, case)
 }
 
 // Asserts what a repair leaves of a case.
@@ -169,23 +176,32 @@ fn assert_left(
     case: &Case,
 ) -> Result<(), AllocError> {
     match case.says {
-        Ok(0) => {
-            assert_eq!(rt; outcome.rebuilt.as_slice(), case.lost);
-            assert!(rt; !outcome.is_checked);
+        Ok(0) => assert_holds(rt, is_all_empty(outcome, case), "what is empty is rebuilt"),
+        Ok(_) => assert_there(rt, store, narrow(), left_of(outcome, case)),
+        Err(_) => {
+            let untouched = is_untouched(store, &cut_store(alloc, narrow(), case)?);
+            assert_holds(rt, untouched, "nothing is written");
         }
-        Ok(_) => assert_there(rt, store, &NARROW, left_of(outcome, case)),
-        Err(_) => assert_untouched(rt, store, &cut_store(alloc, &NARROW, case)?),
     }
     Ok(())
 }
 
-// Asserts that a store has the fragments of another, and none that is kept under a second name.
-fn assert_untouched(rt: &impl Abort, store: &MemoryStore, untouched: &MemoryStore) {
+// Whether what a case has lost was rebuilt, unchecked.
+fn is_all_empty(outcome: &Outcome, case: &Case) -> bool {
+    outcome.rebuilt.as_slice() == case.lost && !outcome.is_checked
+}
+
+// Whether a store has the fragments of another, and none that is kept under a second name.
+fn is_untouched(store: &MemoryStore, untouched: &MemoryStore) -> bool {
     for place in Place::ALL {
-        let is = store.fragment(NARROW.name, place);
-        assert!(rt; is == untouched.fragment(NARROW.name, place));
-        assert!(rt; store.kept(NARROW.name, place).is_none());
+        let found = store.fragment(narrow().name, place);
+        if found != untouched.fragment(narrow().name, place)
+            || store.kept(narrow().name, place).is_some()
+        {
+            return false;
+        }
     }
+    true
 }
 
 // The places at which a repair couldn't mend what a case has cut.

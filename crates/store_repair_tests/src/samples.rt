@@ -16,7 +16,11 @@ pub(crate) struct Sample {
 }
 
 /// The stripe of the (6,2,2) code whose data are 01 to 06, by hand.
-pub(crate) const SHORT: Sample = Sample {
+pub(crate) fn short() -> &'static Sample {
+    &SHORT
+}
+
+static SHORT: Sample = Sample {
     name: "a",
     code: Code::Narrow,
     fragments: &[
@@ -34,7 +38,11 @@ pub(crate) const SHORT: Sample = Sample {
 };
 
 /// A stripe of the (6,2,2) code, with the parities that `tools/reference.py` gives.
-pub(crate) const NARROW: Sample = Sample {
+pub(crate) fn narrow() -> &'static Sample {
+    &NARROW
+}
+
+static NARROW: Sample = Sample {
     name: "narrow",
     code: Code::Narrow,
     fragments: &[
@@ -52,7 +60,11 @@ pub(crate) const NARROW: Sample = Sample {
 };
 
 /// A stripe of the (12,2,2) code, with the parities that `tools/reference.py` gives.
-pub(crate) const WIDE: Sample = Sample {
+pub(crate) fn wide() -> &'static Sample {
+    &WIDE
+}
+
+static WIDE: Sample = Sample {
     name: "wide",
     code: Code::Wide,
     fragments: &[
@@ -82,7 +94,7 @@ pub(crate) fn put_without(
     lost: &[Place],
 ) -> Result<(), AllocError> {
     for (place, bytes) in sample.fragments {
-        if !lost.iter().any(|gone| gone == place) {
+        if !lost.contains(place) {
             store.put(sample.name, *place, bytes)?;
         }
     }
@@ -180,21 +192,16 @@ pub(crate) fn fragment_of(sample: &Sample, place: Place) -> &'static [u8] {
 
 /// Whether a fragment is there with these bytes.
 pub(crate) fn is_there(store: &MemoryStore, stripe: &str, place: Place, bytes: &[u8]) -> bool {
-    store
-        .fragment(stripe, place)
-        .is_some_and(|there| there == bytes)
+    store.fragment(stripe, place) == Some(bytes)
 }
 
 /// Asserts that all fragments of a stripe but those at lost places are there with their bytes.
 pub(crate) fn assert_there(rt: &impl Abort, store: &MemoryStore, sample: &Sample, lost: &[Place]) {
     for (place, bytes) in sample.fragments {
-        if !lost.iter().any(|gone| gone == place) {
-            let Some(found) = store.fragment(sample.name, *place) else {
-                panic!(rt; "{} has no {place:?}", sample.name);
-            };
+        if !lost.contains(place) {
             assert!(rt;
-                found == *bytes,
-                "{} has {found:?} at {place:?}",
+                is_there(store, sample.name, *place, bytes),
+                "{} at {place:?}",
                 sample.name
             );
         }

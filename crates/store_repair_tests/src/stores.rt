@@ -1,4 +1,5 @@
 //! The calls of a store in memory.
+use crate::asserting::{assert_holds, assert_same};
 use lrc_code::Place;
 use std::alloc::AllocError;
 use std::io::{self, ErrorKind};
@@ -17,7 +18,7 @@ fn put_is_found(rt: HostRuntime) -> Result<(), AllocError> {
     assert_has(&rt, &store, "a", Place::P1, Some(b"three"));
     assert_has(&rt, &store, "b", Place::X0, None);
     assert_has(&rt, &store, "a", Place::X1, None);
-    assert!(&rt; store.kept("a", Place::X0).is_none());
+    assert_holds(&rt, store.kept("a", Place::X0).is_none(), "nothing is kept");
     Ok(())
 }
 
@@ -35,20 +36,44 @@ fn assert_has(
     );
 }
 
+// Why a fragment isn't opened, if it isn't.
+fn refusal(store: &MemoryStore, place: Place, length: usize) -> Option<ErrorKind> {
+    match store.open("a", place, length) {
+        Ok(_) => None,
+        Err(error) => Some(error.kind()),
+    }
+}
+
+// Why three bytes of a fragment from an index on aren't read, if they aren't; where they are, whether they are those.
+fn read<F: Fragment>(fragment: &F, from: usize, wanted: &[u8]) -> Result<bool, ErrorKind> {
+    let mut bytes = [0; 3];
+    match fragment.read_at(from, &mut bytes) {
+        Ok(()) => Ok(bytes.as_slice() == wanted),
+        Err(error) => Err(error.kind()),
+    }
+}
+
 #[test]
 fn opened_fragment_is_read(rt: HostRuntime) -> Result<(), io::Error> {
     let mut store = MemoryStore::new(rt.alloc());
     store.put("a", Place::X0, b"abcdef")?;
     let fragment = store.open("a", Place::X0, 6)?;
-    let mut bytes = [0; 3];
-    fragment.read_at(2, &mut bytes)?;
-    assert_eq!(&rt; bytes, *b"cde");
-    let past = fragment.read_at(4, &mut bytes);
-    assert!(&rt; past.is_err_and(|error| error.kind() == ErrorKind::UnexpectedEof));
-    let longer = store.open("a", Place::X0, 7);
-    assert!(&rt; longer.is_err_and(|error| error.kind() == ErrorKind::UnexpectedEof));
-    let absent = store.open("a", Place::X1, 6);
-    assert!(&rt; absent.is_err_and(|error| error.kind() == ErrorKind::NotFound));
+    assert_same(&rt, &read(&fragment, 2, b"cde"), &Ok(true));
+    assert_same(
+        &rt,
+        &read(&fragment, 4, b""),
+        &Err(ErrorKind::UnexpectedEof),
+    );
+    assert_same(
+        &rt,
+        &refusal(&store, Place::X0, 7),
+        &Some(ErrorKind::UnexpectedEof),
+    );
+    assert_same(
+        &rt,
+        &refusal(&store, Place::X1, 6),
+        &Some(ErrorKind::NotFound),
+    );
     Ok(())
 }
 
@@ -59,10 +84,10 @@ fn new_fragment_gets_its_name(rt: HostRuntime) -> Result<(), io::Error> {
     first.append(b"ab")?;
     first.append(b"c")?;
     assert_has(&rt, &store, "a", Place::X0, None);
-    assert_eq!(&rt; store.place(first, "a", Place::X0)?, Placed::Placed);
+    assert_same(&rt, &store.place(first, "a", Place::X0)?, &Placed::Placed);
     assert_has(&rt, &store, "a", Place::X0, Some(b"abc"));
     let second = store.create("a", Place::X0)?;
-    assert_eq!(&rt; store.place(second, "a", Place::X0)?, Placed::IsThere);
+    assert_same(&rt, &store.place(second, "a", Place::X0)?, &Placed::IsThere);
     assert_has(&rt, &store, "a", Place::X0, Some(b"abc"));
     Ok(())
 }
@@ -77,10 +102,14 @@ fn replaced(store: &mut MemoryStore) -> Result<Placed, io::Error> {
 fn replaced_fragment_is_kept_once(rt: HostRuntime) -> Result<(), io::Error> {
     let mut store = MemoryStore::new(rt.alloc());
     store.put("a", Place::X0, b"abc")?;
-    assert_eq!(&rt; replaced(&mut store)?, Placed::Placed);
+    assert_same(&rt, &replaced(&mut store)?, &Placed::Placed);
     assert_has(&rt, &store, "a", Place::X0, Some(b""));
-    assert!(&rt; store.kept("a", Place::X0) == Some(b"abc".as_slice()));
-    assert_eq!(&rt; replaced(&mut store)?, Placed::IsThere);
+    assert_holds(
+        &rt,
+        store.kept("a", Place::X0) == Some(b"abc"),
+        "it is kept",
+    );
+    assert_same(&rt, &replaced(&mut store)?, &Placed::IsThere);
     Ok(())
 }
 
@@ -89,7 +118,7 @@ fn discarded_fragment_has_no_name(rt: HostRuntime) -> Result<(), io::Error> {
     let mut store = MemoryStore::new(rt.alloc());
     let fragment = store.create("a", Place::X1)?;
     store.discard(fragment)?;
-    assert!(&rt; store.settle().is_ok());
+    assert_holds(&rt, store.settle().is_ok(), "it is settled");
     assert_has(&rt, &store, "a", Place::X1, None);
     Ok(())
 }
