@@ -1,9 +1,10 @@
 //! What arguments ask for, option by option, as the manual page says it.
 use crate::words::words_of;
 use lrc_code::{Code, Place};
-use std::io;
-use std::process::Abort;
-use store_arguments::{Command, RepairOptions, StoreOptions, TestOptions, read_arguments};
+use std::alloc::{AllocError, Global};
+use store_arguments::{
+    Command, EncodeOptions, RepairOptions, StoreOptions, TestOptions, read_arguments,
+};
 use store_folder::{Links, Part};
 use store_repair::Reads;
 
@@ -16,33 +17,54 @@ const REPAIRS: [&str; 2] = [
      --sums=sums --report=rows --json -n --replace-damaged --assume-one-damaged --to=new --reads=few --trust-writers --allow-unmounted",
 ];
 
-#[test]
-fn all_options_of_a_repair(rt: HostRuntime) -> io::Result<()> {
-    for line in REPAIRS {
-        let words = words_of(rt.alloc(), line)?;
-        let asked = read_arguments(rt.alloc(), words.as_slice());
-        let Ok(Command::Repair(options)) = asked else {
-            assert!(rt; false, "not a repair: {line}");
-            continue;
-        };
-        let store = options.store;
-        assert_eq!(rt; (store.folder, store.code), ("s", Some(Code::Wide)));
-        assert_eq!(rt;
-            (store.stripes, store.links),
-            (Some("names"), Links::Followed)
-        );
-        assert_eq!(rt; store.part, Some(Part { index: 3, of: 10 }));
-        // In the layout of groups px is number 6 of the wide code.
-        let pattern = store.naming.pattern;
-        let name = pattern.name_of(rt.alloc(), Code::Wide, "n", Place::Px)?;
-        assert_eq!(rt; name.as_ref().map(|name| name.as_str()), Some("d6/n"));
-        let test = options.test;
-        assert_eq!(rt; (test.sums, test.report), (Some("sums"), Some("rows")));
-        assert_eq!(rt; (test.json, test.workers), (true, 16));
-        assert_eq!(rt; (options.reads, options.to), (Reads::Few, Some("new")));
-        assert_eq!(rt; flags_of(&options), [true; 6]);
+// Whether the options of a store are those of these lines.
+fn is_store_as_asked(store: &StoreOptions<'_>) -> bool {
+    store.folder == "s"
+        && store.code == Some(Code::Wide)
+        && store.stripes == Some("names")
+        && store.links == Links::Followed
+        && store.part == Some(Part { index: 3, of: 10 })
+}
+
+// Whether those of the tests of fragments are.
+fn is_test_as_asked(test: &TestOptions<'_>) -> bool {
+    test.sums == Some("sums") && test.report == Some("rows") && test.json && test.workers == 16
+}
+
+// Whether the names are in the layout of groups, in which px is number 6 of the wide code.
+fn is_in_groups(alloc: Global, store: &StoreOptions<'_>) -> Result<bool, AllocError> {
+    let name = store
+        .naming
+        .pattern
+        .name_of(alloc, Code::Wide, "n", Place::Px)?;
+    Ok(matches!(&name, Some(name) if name.as_str() == "d6/n"))
+}
+
+// Whether all options of a repair are as in these lines.
+fn is_repair_as_asked(alloc: Global, options: &RepairOptions<'_>) -> Result<bool, AllocError> {
+    Ok(
+        is_store_as_asked(&options.store)
+            && is_test_as_asked(&options.test)
+            && options.reads == Reads::Few
+            && options.to == Some("new")
+            && flags_of(options) == [true; 6]
+            && is_in_groups(alloc, &options.store)?,
+    )
+}
+
+// Whether a line asks for that repair.
+fn asks_for_all(alloc: Global, line: &str) -> Result<bool, AllocError> {
+    match read_arguments(alloc, words_of(alloc, line)?.as_slice()) {
+        Ok(Command::Repair(options)) => is_repair_as_asked(alloc, &options),
+        _ => Ok(false),
     }
-    Ok(())
+}
+
+#[test]
+fn all_options_of_a_repair(rt: HostRuntime) {
+    for line in REPAIRS {
+        assert!(&rt; asks_for_all(rt.alloc(), line) == Ok(true), "{line}");
+    }
 }
 
 // The options of a repair without a value.
@@ -66,111 +88,123 @@ const OF_FILES: [&str; 5] = [
     "remove s a b --code 12-2-2 --trust-writers -q",
 ];
 
-#[test]
-fn options_of_files(rt: HostRuntime) -> io::Result<()> {
-    for line in OF_FILES {
-        let words = words_of(rt.alloc(), line)?;
-        match read_arguments(rt.alloc(), words.as_slice()) {
-            Ok(Command::Encode(options)) => {
-                assert_eq!(rt; (options.folder, options.name), ("s", Some("b")));
-                let flags = [
-                    options.makes_folders,
-                    options.replaces,
-                    options.allows_unmounted,
-                    options.quiet,
-                ];
-                assert_eq!(rt; flags, [true; 4]);
-            }
-            Ok(Command::Read(options)) => {
-                assert_eq!(rt; (options.name, options.output), ("a", Some("b")));
-                assert!(rt; options.quiet);
-            }
-            Ok(Command::List(options)) => {
-                assert_eq!(rt;
-                    (options.json, options.store.stripes),
-                    (true, Some("names"))
-                );
-            }
-            Ok(Command::Verify(options)) => {
-                assert_eq!(rt; options.names.as_slice(), ["a", "b"].as_slice());
-                assert_eq!(rt; (options.folder, options.quiet), ("s", true));
-            }
-            Ok(Command::Remove(options)) => {
-                assert_eq!(rt; options.names.as_slice(), ["a", "b"].as_slice());
-                assert_eq!(rt; options.code, Some(Code::Wide));
-                assert_eq!(rt; (options.trusts_writers, options.quiet), (true, true));
-            }
-            Ok(Command::Repair(_options)) => assert!(rt; false, "another command: {line}"),
-            Ok(Command::Lost(_options)) => assert!(rt; false, "another command: {line}"),
-            Ok(Command::Scrub(_options)) => assert!(rt; false, "another command: {line}"),
-            Ok(Command::Help(_text)) => assert!(rt; false, "another command: {line}"),
-            Err(_fault) => assert!(rt; false, "another command: {line}"),
+// Whether the command of each line is as it asks for.
+fn is_of_files(command: &Command<'_>) -> bool {
+    match command {
+        Command::Encode(options) => {
+            options.folder == "s"
+                && options.name == Some("b")
+                && flags_of_encode(options) == [true; 4]
         }
+        Command::Read(options) => {
+            options.name == "a" && options.output == Some("b") && options.quiet
+        }
+        Command::List(options) => options.json && options.store.stripes == Some("names"),
+        Command::Verify(options) => {
+            are_both(options.names.as_slice()) && options.folder == "s" && options.quiet
+        }
+        Command::Remove(options) => {
+            are_both(options.names.as_slice())
+                && options.code == Some(Code::Wide)
+                && options.trusts_writers
+                && options.quiet
+        }
+        _ => false,
     }
-    Ok(())
+}
+
+// The options of an encoding without a value.
+fn flags_of_encode(options: &EncodeOptions<'_>) -> [bool; 4] {
+    [
+        options.makes_folders,
+        options.replaces,
+        options.allows_unmounted,
+        options.quiet,
+    ]
+}
+
+// Whether these are the names a and b.
+fn are_both(names: &[&str]) -> bool {
+    names == ["a", "b"].as_slice()
+}
+
+// Whether what a line asks for is so.
+fn asks<F: Fn(&Command<'_>) -> bool>(
+    alloc: Global,
+    line: &str,
+    is_right: F,
+) -> Result<bool, AllocError>
+    requires { F.IsAlwaysCallable is_right }
+{
+    match read_arguments(alloc, words_of(alloc, line)?.as_slice()) {
+        Ok(command) => Ok(is_right(&command)),
+        Err(_) => Ok(false),
+    }
 }
 
 #[test]
-fn what_holds_without_options(rt: HostRuntime) -> io::Result<()> {
-    for line in ["repair s", "scrub s", "lost s", "encode s a b", "read s n"] {
-        let words = words_of(rt.alloc(), line)?;
-        match read_arguments(rt.alloc(), words.as_slice()) {
-            Ok(Command::Repair(options)) => {
-                assert_eq!(rt; flags_of(&options), [false; 6]);
-                assert_eq!(rt; (options.reads, options.to), (Reads::All, None));
-                assert_plain_store(&rt, &options.store);
-                assert_plain_test(&rt, &options.test);
-            }
-            Ok(Command::Scrub(options)) => {
-                assert_plain_store(&rt, &options.store);
-                assert_plain_test(&rt, &options.test);
-            }
-            Ok(Command::Lost(options)) => {
-                assert!(rt; !options.json);
-                assert_plain_store(&rt, &options.store);
-            }
-            Ok(Command::Encode(options)) => {
-                assert_eq!(rt; options.files.as_slice(), ["a", "b"].as_slice());
-                assert_eq!(rt; (options.folder, options.code), ("s", Code::Narrow));
-                assert_eq!(rt;
-                    (options.links, options.trusts_writers),
-                    (Links::NotFollowed, false)
-                );
-            }
-            Ok(Command::Read(options)) => {
-                assert_eq!(rt; (options.folder, options.name), ("s", "n"));
-                assert_eq!(rt;
-                    (options.links, options.naming.text),
-                    (Links::NotFollowed, PLAIN)
-                );
-            }
-            Ok(Command::List(_options)) => assert!(rt; false, "another command: {line}"),
-            Ok(Command::Verify(_options)) => assert!(rt; false, "another command: {line}"),
-            Ok(Command::Remove(_options)) => assert!(rt; false, "another command: {line}"),
-            Ok(Command::Help(_text)) => assert!(rt; false, "another command: {line}"),
-            Err(_fault) => assert!(rt; false, "another command: {line}"),
-        }
+fn options_of_files(rt: HostRuntime) {
+    for line in OF_FILES {
+        assert!(&rt; asks(rt.alloc(), line, is_of_files) == Ok(true), "{line}");
     }
-    Ok(())
+}
+
+// Whether the command of each line without options is as it must be.
+fn is_plain(command: &Command<'_>) -> bool {
+    match command {
+        Command::Repair(options) => is_plain_repair(options),
+        Command::Scrub(options) => is_plain_store(&options.store) && is_plain_test(&options.test),
+        Command::Lost(options) => !options.json && is_plain_store(&options.store),
+        Command::Encode(options) => is_plain_encode(options),
+        Command::Read(options) => {
+            options.folder == "s"
+                && options.name == "n"
+                && options.links == Links::NotFollowed
+                && options.naming.text == PLAIN
+        }
+        _ => false,
+    }
+}
+
+fn is_plain_repair(options: &RepairOptions<'_>) -> bool {
+    flags_of(options) == [false; 6]
+        && options.reads == Reads::All
+        && options.to.is_none()
+        && is_plain_store(&options.store)
+        && is_plain_test(&options.test)
+}
+
+fn is_plain_encode(options: &EncodeOptions<'_>) -> bool {
+    are_both(options.files.as_slice())
+        && options.folder == "s"
+        && options.code == Code::Narrow
+        && options.links == Links::NotFollowed
+        && !options.trusts_writers
+}
+
+#[test]
+fn what_holds_without_options(rt: HostRuntime) {
+    for line in ["repair s", "scrub s", "lost s", "encode s a b", "read s n"] {
+        assert!(&rt; asks(rt.alloc(), line, is_plain) == Ok(true), "{line}");
+    }
 }
 
 // The pattern of names that holds without an option.
 const PLAIN: &str = "{stripe}.{place}";
 
-// Asserts that a store is `s`, and nothing else was given of it.
-fn assert_plain_store(rt: &(impl Abort + AllocGlobal), store: &StoreOptions<'_>) {
-    assert_eq!(rt; (store.folder, store.code), ("s", None));
-    assert_eq!(rt;
-        (store.links, store.naming.text),
-        (Links::NotFollowed, PLAIN)
-    );
-    assert_eq!(rt; (store.stripes, store.part), (None, None));
+// Whether a store is `s`, and nothing else was given of it.
+fn is_plain_store(store: &StoreOptions<'_>) -> bool {
+    store.folder == "s"
+        && store.code.is_none()
+        && store.links == Links::NotFollowed
+        && store.naming.text == PLAIN
+        && store.stripes.is_none()
+        && store.part.is_none()
 }
 
-// Asserts that nothing was given of the tests of fragments.
-fn assert_plain_test(rt: &(impl Abort + AllocGlobal), test: &TestOptions<'_>) {
-    assert_eq!(rt; (test.sums, test.report), (None, None));
-    assert_eq!(rt; (test.json, test.workers), (false, 4));
+// Whether nothing was given of the tests of fragments.
+fn is_plain_test(test: &TestOptions<'_>) -> bool {
+    test.sums.is_none() && test.report.is_none() && !test.json && test.workers == 4
 }
 
 // A line, and words that the text it shows has.
@@ -184,15 +218,17 @@ const SHOWN: [(&str, &str); 3] = [
     ),
 ];
 
-#[test]
-fn help_and_version_are_shown(rt: HostRuntime) -> io::Result<()> {
-    for (line, text) in SHOWN {
-        let words = words_of(rt.alloc(), line)?;
-        let Ok(Command::Help(shown)) = read_arguments(rt.alloc(), words.as_slice()) else {
-            assert!(rt; false, "not shown: {line}");
-            continue;
-        };
-        assert!(rt; shown.starts_with(text), "at {line}: {shown}");
+// Whether a line has a text shown that begins so.
+fn shows(alloc: Global, line: &str, text: &str) -> Result<bool, AllocError> {
+    match read_arguments(alloc, words_of(alloc, line)?.as_slice()) {
+        Ok(Command::Help(shown)) => Ok(shown.starts_with(text)),
+        _ => Ok(false),
     }
-    Ok(())
+}
+
+#[test]
+fn help_and_version_are_shown(rt: HostRuntime) {
+    for (line, text) in SHOWN {
+        assert!(&rt; shows(rt.alloc(), line, text) == Ok(true), "{line}");
+    }
 }

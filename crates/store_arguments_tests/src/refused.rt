@@ -1,10 +1,11 @@
 //! Arguments that are refused, each with the whole text that is said.
 use crate::words::words_of;
-use std::io;
+use std::alloc::{AllocError, Global};
+use std::process::Abort;
 use store_arguments::read_arguments;
 
 // The texts of the parser are those of clap, of whose usage each command's line is one.
-const REFUSALS: [(&str, &str); 26] = [
+static REFUSALS: [(&str, &str); 26] = [
     ("encode s -", "error: - needs a name, --as NAME\n"),
     (
         "encode s a - --as b",
@@ -116,15 +117,24 @@ const REFUSALS: [(&str, &str); 26] = [
     ),
 ];
 
+// What is said of a line: nothing, if it isn't refused.
+fn said_of(alloc: Global, line: &str) -> Result<String, AllocError> {
+    match read_arguments(alloc, words_of(alloc, line)?.as_slice()) {
+        Ok(_) => Ok(String::new(alloc)),
+        Err(fault) => Ok(format!(in alloc; "{fault}")?),
+    }
+}
+
+// Asserts that this is said of a line.
+fn assert_said(rt: &impl Abort, said: &str, (line, text): &(&str, &str)) {
+    assert!(rt; said == *text, "{line}: {said}");
+}
+
 #[test]
-fn refusals_say_why(rt: HostRuntime) -> io::Result<()> {
-    for (line, text) in REFUSALS {
-        let words = words_of(rt.alloc(), line)?;
-        let said = match read_arguments(rt.alloc(), words.as_slice()) {
-            Ok(_) => String::new(rt.alloc()),
-            Err(fault) => format!(in rt.alloc(); "{fault}")?,
-        };
-        assert_eq!(rt; said.as_str(), text, "at {line}");
+fn refusals_say_why(rt: HostRuntime) -> Result<(), AllocError> {
+    for refusal in &REFUSALS {
+        let said = said_of(rt.alloc(), refusal.0)?;
+        assert_said(&rt, said.as_str(), refusal);
     }
     Ok(())
 }
