@@ -2,7 +2,7 @@
 # Compares the versions that are said. What the built programs say is the version of their sources, of the manual pages and of the newest
 # heading of the changelog; that of the C library's header, which has a number of its own, is what lrc_version answers and
 # what the changelog and the wrapper in Rust say. They are changed in crates/command_line/src/definition.rt and, for rebuild-store, in
-# crates/store_arguments/src/commands.rt, and in library/lrc.h.
+# crates/store_arguments/src/commands.rt, and in library/lrc.h. The version of glibc that README says is what the built programs need.
 set -euo pipefail
 cd "$(dirname "$0")/.."
 scratch=$(mktemp -d)
@@ -38,6 +38,16 @@ compare README.md "$(sed -n 's/.*bucketuntil_\([0-9.]*\)+git\*\.deb.*/\1/p' READ
 compare README.md "$(sed -n 's/.*rebuild-lists_\([0-9.]*\)+git\*\.deb.*/\1/p' README.md)"
 compare README.md "$(sed -n 's/.*bucketuntil-\([0-9.]*\)+git\*-x86_64-linux\.tar\.gz.*/\1/p' README.md)"
 echo "version: the programs, their manual pages and the changelog say $version"
+
+if command -v objdump > "$scratch/said"; then
+  glibc=$(objdump -T crates/rebuild/out/rebuild crates/rebuild_store/out/rebuild_store | grep -o 'GLIBC_[0-9.]*' | sort -uV | tail -n 1)
+  said=$(sed -n 's/.*glibc \([0-9.]*\) or later.*/GLIBC_\1/p' README.md)
+  if [ "$said" != "$glibc" ]; then
+    echo "version: README.md says \"$said\", and the programs need $glibc"
+    exit 1
+  fi
+  echo "version: the programs need $glibc, as README says"
+fi
 
 library=$(sed -n 's/^#define LRC_VERSION "\(.*\)"$/\1/p' library/lrc.h)
 number=$(awk -F . '{ print 10000 * $1 + 100 * $2 + $3 }' <<< "$library")
