@@ -1,7 +1,8 @@
 #!/usr/bin/env bash
-# Tests the manual pages: mandoc finds no fault in them where it is installed; the page of the program has each number that a fault's line
-# may have, and those of rebuild-store and rebuild-ceph each command and option of their help; and each example (a display after a comment
-# "example") is run and gives what the page shows. That the page of the formats is made from docs/FORMATS.md is tested by format-page.py.
+# Tests the manual pages: mandoc and man find no fault in them where they are installed; the page of the program has each number that a
+# fault's line may have, and those of rebuild-store and rebuild-ceph each command and option of their help; and each example (a display
+# after a comment "example") is run and gives what the page shows. That the page of the formats is made from docs/FORMATS.md is tested by
+# format-page.py.
 set -euo pipefail
 cd "$(dirname "$0")/.."
 program=$PWD/crates/rebuild/out/rebuild
@@ -15,6 +16,17 @@ if command -v mandoc > "$scratch/log"; then
   echo 'manual: mandoc finds no fault in the pages'
 else
   echo "manual: mandoc is not installed (Debian's mandoc): the form of the pages isn't tested"
+fi
+
+# A table that is too wide for a terminal is said there.
+if command -v man > "$scratch/log"; then
+  for page in man/*.[15]; do
+    LC_ALL=C MANWIDTH=78 man -l -P cat "$page" 2> "$scratch/said" > "$scratch/log" && [ ! -s "$scratch/said" ] ||
+      { cat "$scratch/said"; echo "manual: man finds a fault in $page"; exit 1; }
+  done
+  echo 'manual: man shows the pages on a terminal of 80 columns'
+else
+  echo "manual: man is not installed (Debian's man-db): how wide the pages are isn't tested"
 fi
 
 # Writes each example's commands to a file of the scratch folder, and beside it what a shell that shows each line as it
