@@ -1,8 +1,10 @@
 //! Which copy of a description is believed.
+use crate::asserting::{assert_holds, assert_text};
 use lrc_code::Code;
 use std::alloc::{AllocError, Global};
 use std::io;
-use store_faults::{Copies, CopyState, FoundCopy};
+use std::process::Abort;
+use store_faults::{Copies, CopyFinding, CopyState, FoundCopy};
 use store_folder::Described;
 
 // What copies say, as digits for different descriptions whose digests have that byte, `-` where nothing is; the byte of the digest that the
@@ -18,54 +20,78 @@ const COPIES: [(&str, Option<u8>, Option<u64>, bool); 8] = [
     ("1122", None, None, true),
 ];
 
-#[test]
-fn most_copies_or_the_sums_are_believed(rt: HostRuntime) -> io::Result<()> {
-    let alloc = rt.alloc();
-    for (said, listed, believed, is_undecided) in COPIES {
-        let copies = copies_of(alloc, said, listed)?;
-        let length = copies.believed().map(|described| described.length);
-        assert_eq!(rt; length, believed, "at {said}");
-        let findings = copies.stripe_findings(alloc, Code::Narrow, "note")?;
-        assert_eq!(rt; findings.len(), usize::from(is_undecided), "at {said}");
-        for finding in &findings {
-            let reason = &finding.reason;
-            let line = format!(in alloc; "{reason}")?;
-            assert_eq!(rt;
-                line.as_str(),
-                "its descriptions differ, and nothing says which is right"
-            );
-        }
+// Whether a description of this length is believed, or none.
+fn is_believed(copies: &Copies, length: Option<u64>) -> bool {
+    match copies.believed() {
+        Some(described) => length == Some(described.length),
+        None => length.is_none(),
     }
-    // The code of a description that is believed is the stripe's.
-    let copies = copies_of(alloc, "11", None)?;
-    for finding in &copies.stripe_findings(alloc, Code::Wide, "note")? {
+}
+
+// Asserts that all of so many findings of a stripe have this line.
+fn assert_findings(
+    rt: &impl Abort,
+    alloc: Global,
+    findings: &[CopyFinding],
+    line: &str,
+) -> Result<(), AllocError> {
+    for finding in findings {
         let reason = &finding.reason;
-        let line = format!(in alloc; "{reason}")?;
-        assert_eq!(rt;
-            line.as_str(),
-            "contradiction: its description says that it is of the code 6-2-2"
-        );
+        assert_text(rt, format!(in alloc; "{reason}")?.as_str(), line);
     }
     Ok(())
+}
+
+// Asserts of copies which is believed, and what is found.
+fn assert_believed(
+    rt: &impl Abort,
+    alloc: Global,
+    (said, listed, believed, is_undecided): (&str, Option<u8>, Option<u64>, bool),
+) -> Result<(), AllocError> {
+    let copies = copies_of(alloc, said, listed)?;
+    assert_holds(rt, is_believed(&copies, believed), said);
+    let findings = copies.stripe_findings(alloc, Code::Narrow, "note")?;
+    assert_holds(rt, findings.len() == usize::from(is_undecided), said);
+    assert_findings(rt, alloc, findings.as_slice(), DIFFER)
+}
+
+const DIFFER: &str = "its descriptions differ, and nothing says which is right";
+
+const OTHER_CODE: &str = "contradiction: its description says that it is of the code 6-2-2";
+
+#[test]
+fn most_copies_or_the_sums_are_believed(rt: HostRuntime) -> io::Result<()> {
+    for copies in COPIES {
+        assert_believed(&rt, rt.alloc(), copies)?;
+    }
+    // The code of a description that is believed is the stripe's.
+    let copies = copies_of(rt.alloc(), "11", None)?;
+    let findings = copies.stripe_findings(rt.alloc(), Code::Wide, "note")?;
+    assert_findings(&rt, rt.alloc(), findings.as_slice(), OTHER_CODE)?;
+    Ok(())
+}
+
+// What a copy says, by its letter.
+fn state_of(letter: char) -> CopyState {
+    match letter.to_digit(10) {
+        Some(digit) => {
+            let described = Described {
+                length: digit as u64,
+                digest: [0; 32],
+                code: Code::Narrow,
+            };
+            CopyState::There(described, [digit as u8; 32])
+        }
+        None => CopyState::Absent,
+    }
 }
 
 fn copies_of(alloc: Global, said: &str, listed: Option<u8>) -> Result<Copies, AllocError> {
     let mut all = Vec::new(alloc);
     for letter in said.chars() {
-        let state = match letter.to_digit(10) {
-            Some(digit) => {
-                let described = Described {
-                    length: digit as u64,
-                    digest: [0; 32],
-                    code: Code::Narrow,
-                };
-                CopyState::There(described, [digit as u8; 32])
-            }
-            None => CopyState::Absent,
-        };
         all.push(FoundCopy {
             name: String::from_str(alloc, "note.file")?,
-            state,
+            state: state_of(letter),
             is_wanted: true,
         })?;
     }

@@ -1,4 +1,5 @@
 //! The lines that say which files are in a store.
+use crate::asserting::assert_text;
 use lrc_code::Code;
 use std::io;
 use store_reports::{FileState, ListedFile, Rows, file_line, files_listed, removed, verified};
@@ -44,17 +45,18 @@ const FILES: [(ListedFile<'static>, &str, &str); 3] = [
 fn files_are_listed(rt: HostRuntime) -> io::Result<()> {
     let alloc = rt.alloc();
     for (file, line, object) in FILES {
-        assert_eq!(rt; file_line(alloc, &file, Rows::Csv)?.as_str(), line);
-        assert_eq!(rt; file_line(alloc, &file, Rows::Json)?.as_str(), object);
+        assert_text(&rt, file_line(alloc, &file, Rows::Csv)?.as_str(), line);
+        assert_text(&rt, file_line(alloc, &file, Rows::Json)?.as_str(), object);
     }
-    assert_eq!(rt; files_listed(alloc, 1, 0)?.as_str(), "1 file; not whole: 0");
-    assert_eq!(rt;
-        verified(alloc, 2, 1)?.as_str(),
-        "verified 2 files; not as described: 1"
+    let listed = files_listed(alloc, 1, 0)?;
+    assert_text(&rt, listed.as_str(), "1 file; not whole: 0");
+    let verified = verified(alloc, 2, 1)?;
+    assert_text(
+        &rt,
+        verified.as_str(),
+        "verified 2 files; not as described: 1",
     );
-    assert_eq!(rt;
-        removed(alloc, 0, 3)?.as_str(),
-        "removed 0 files; not removed: 3"
-    );
+    let removed = removed(alloc, 0, 3)?;
+    assert_text(&rt, removed.as_str(), "removed 0 files; not removed: 3");
     Ok(())
 }

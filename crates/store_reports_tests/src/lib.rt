@@ -3,7 +3,10 @@
 #![tactic(auto)]
 
 #[cfg(test)]
+mod asserting;
+#[cfg(test)]
 mod copies;
+#[cfg(test)]
 mod files;
 #[cfg(test)]
 mod lines;

@@ -1,6 +1,9 @@
 //! Lines: names with control characters, and requests for what is lost.
+use crate::asserting::{assert_holds, assert_text};
 use lrc_code::{Code, Place};
+use std::alloc::{AllocError, Global};
 use std::io;
+use std::process::Abort;
 use store_faults::{CopyFinding, CopyReason, DEVICE, device, escaped, words_of};
 use store_repair::{Found, Stripe, StripeFiles};
 use store_reports::{Rows, header_of, request_lines};
@@ -19,8 +22,7 @@ const ESCAPES: [(&str, &str); 7] = [
 #[test]
 fn control_characters_are_escaped(rt: HostRuntime) -> io::Result<()> {
     for (text, line) in ESCAPES {
-        let escaped = escaped(rt.alloc(), text)?;
-        assert_eq!(rt; escaped.as_str(), line);
+        assert_text(&rt, escaped(rt.alloc(), text)?.as_str(), line);
     }
     Ok(())
 }
@@ -32,26 +34,48 @@ const ERRORS: [(i32, &str); 3] = [
     (28, "No space left on device"),
 ];
 
+// Asserts that a text is this front and then these words.
+fn assert_ends(rt: &impl Abort, text: &str, front: &str, words: &str) {
+    assert!(rt; text.strip_suffix(words) == Some(front), "{text}");
+}
+
+// What is said of a copy that can't be read for an error.
+fn unread_text(alloc: Global, error: io::Error) -> Result<String, AllocError> {
+    let name = String::from_str(alloc, "a (os error 2)")?;
+    let reason = CopyReason::Unread(error);
+    CopyFinding { name, reason }.text(alloc)
+}
+
+// Asserts what is said of a device's fault with this number, and its status.
+fn assert_device(
+    rt: &impl Abort,
+    alloc: Global,
+    number: i32,
+    words: &str,
+) -> Result<(), AllocError> {
+    let fault = device(alloc, "b", io::Error::from_raw_os_error(number));
+    assert_ends(rt, format!(in alloc; "{fault}")?.as_str(), "b: ", words);
+    assert_holds(rt, fault.status() == DEVICE, words);
+    Ok(())
+}
+
+// Asserts that an error of this number is said in these words alone, of a copy too.
+fn assert_said(rt: &impl Abort, alloc: Global, number: i32, words: &str) -> Result<(), AllocError> {
+    let error = io::Error::from_raw_os_error(number);
+    assert_text(rt, words_of(alloc, &error)?.as_str(), words);
+    let text = unread_text(alloc, error)?;
+    assert_ends(rt, text.as_str(), "a (os error 2): can't be read: ", words);
+    assert_device(rt, alloc, number, words)
+}
+
 #[test]
-fn errors_are_said_without_their_numbers(rt: HostRuntime) -> io::Result<()> {
-    let alloc = rt.alloc();
+fn errors_are_said_without_their_numbers(rt: HostRuntime) -> Result<(), AllocError> {
     for (number, words) in ERRORS {
-        let error = io::Error::from_raw_os_error(number);
-        assert_eq!(rt; words_of(alloc, &error)?.as_str(), words);
-        let name = String::from_str(alloc, "a (os error 2)")?;
-        let reason = CopyReason::Unread(error);
-        let text = CopyFinding { name, reason }.text(alloc)?;
-        assert_eq!(rt;
-            text.as_str().strip_suffix(words),
-            Some("a (os error 2): can't be read: ")
-        );
-        let fault = device(alloc, "b", io::Error::from_raw_os_error(number));
-        let text = format!(in alloc; "{fault}")?;
-        assert_eq!(rt; text.as_str().strip_suffix(words), Some("b: "));
-        assert_eq!(rt; fault.status(), DEVICE);
+        assert_said(&rt, rt.alloc(), number, words)?;
     }
     for words in ["is a link", "(os error 2) odd", "odd (os error x)", ")"] {
-        assert_eq!(rt; words_of(alloc, &io::Error::other(words))?.as_str(), words);
+        let said = words_of(rt.alloc(), &io::Error::other(words))?;
+        assert_text(&rt, said.as_str(), words);
     }
     Ok(())
 }
@@ -79,45 +103,36 @@ const REQUESTS: [(&str, u64, Code, Option<&str>); 6] = [
 const OBJECT: &str = "{\"order\":\"rebuild\",\"stripe\":\"a \\\"b\",\"target\":\"y0\",\"length\":4,\
      \"survivors\":[\"x0\",\"x1\",\"y1\",\"y2\",\"px\",\"py\",\"p0\",\"p1\"],\"code\":\"6-2-2\"}\n";
 
+// Whether the request for y0 of a stripe is this, or there is none.
+fn is_request(
+    alloc: Global,
+    (name, length, code, line): (&str, u64, Code, Option<&str>),
+    rows: Rows,
+) -> Result<bool, AllocError> {
+    let stripe = without_two(name, length);
+    let lines = request_lines(alloc, code, &stripe, length, [Place::Y0].as_slice(), rows)?;
+    Ok(match &lines {
+        Some(lines) => line == Some(lines.as_str()),
+        None => line.is_none(),
+    })
+}
+
 #[test]
-fn requests_have_the_form_of_lists(rt: HostRuntime) -> io::Result<()> {
-    assert_eq!(rt;
-        header_of(Code::Narrow),
-        "order,stripe,target,length,survivors\n"
-    );
-    assert_eq!(rt;
-        header_of(Code::Wide),
-        "order,stripe,target,length,survivors,code\n"
-    );
-    for (name, length, code, line) in REQUESTS {
-        let stripe = without_two(name, length);
-        let places = [Place::Y0];
-        let lines = request_lines(
-            rt.alloc(),
-            code,
-            &stripe,
-            length,
-            places.as_slice(),
-            Rows::Csv,
-        )?;
-        assert_eq!(rt;
-            lines.as_ref().map(|lines| lines.as_str()),
-            line,
-            "{name} {length}"
-        );
+fn requests_have_the_form_of_lists(rt: HostRuntime) {
+    let narrow = "order,stripe,target,length,survivors\n";
+    assert_text(&rt, header_of(Code::Narrow), narrow);
+    let wide = "order,stripe,target,length,survivors,code\n";
+    assert_text(&rt, header_of(Code::Wide), wide);
+    for request in REQUESTS {
+        let is = is_request(rt.alloc(), request, Rows::Csv) == Ok(true);
+        assert_holds(&rt, is, request.0);
     }
-    let stripe = without_two("a \"b", 4);
-    let places = [Place::Y0];
-    let lines = request_lines(
-        rt.alloc(),
-        Code::Narrow,
-        &stripe,
-        4,
-        places.as_slice(),
-        Rows::Json,
-    )?;
-    assert_eq!(rt; lines.as_ref().map(|lines| lines.as_str()), Some(OBJECT));
-    Ok(())
+    let request = ("a \"b", 4, Code::Narrow, Some(OBJECT));
+    assert_holds(
+        &rt,
+        is_request(rt.alloc(), request, Rows::Json) == Ok(true),
+        OBJECT,
+    );
 }
 
 // A stripe with all fragments but x2 and y0, each of so many bytes.
