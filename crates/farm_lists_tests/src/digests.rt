@@ -1,6 +1,7 @@
 //! The digests of the rebuilt fragments of several racks, in lanes and threads, each against the crate `sha2`.
 ghost use Rattle.std.specs.Prelude.{◌<◌};
 
+use crate::asserting::assert_holds;
 use farm_reports::digests_of_racks;
 use lrc_code::{Bytes, Outcome};
 use sha2::{Digest, Sha256};
@@ -116,13 +117,24 @@ fn assert_agree<R: Abort + Threads + Sync>(
             let racks = racks_of(alloc, *lengths, longer, *fragments)?;
             let made = digests_of_racks(rt, alloc, racks.as_slice(), threads)?;
             let plain = plain_digests(alloc, racks.as_slice())?;
-            assert!(rt;
-                made.as_slice() == plain.as_slice(),
-                "{fragments} fragments of {lengths:?} lengths, {threads} threads"
-            );
+            assert_made(rt, made.as_slice(), plain.as_slice(), *lengths);
         }
     }
     Ok(())
+}
+
+// Asserts that the digests of fragments of these lengths are the plain ones.
+fn assert_made(
+    rt: &impl Abort,
+    made: &[Option<[u8; 32]>],
+    plain: &[Option<[u8; 32]>],
+    lengths: Lengths,
+) {
+    assert!(rt;
+        made == plain,
+        "{} fragments of {lengths:?} lengths",
+        plain.len()
+    );
 }
 
 #[test]
@@ -153,14 +165,23 @@ fn are_of_million(digests: &[Option<[u8; 32]>]) -> bool {
 // Two grains and one alone, for as many threads as can be made.
 #[test]
 fn three_threads_make_the_known_digest(rt: HostRuntime) -> Result<(), AllocError> {
-    let mut rack = Vec::new(rt.alloc());
+    let racks = [rack_of_million(rt.alloc())?];
+    let made = digests_of_racks(&rt, rt.alloc(), racks.as_slice(), 3)?;
+    assert_holds(
+        &rt,
+        are_of_million(made.as_slice()),
+        "a digest is another one",
+    );
+    Ok(())
+}
+
+// A rack with 33 fragments of a million times `a`, and an outcome without a fragment after each.
+fn rack_of_million(alloc: Global) -> Result<Vec<(usize, Outcome)>, AllocError> {
+    let mut rack = Vec::new(alloc);
     for _ in 0..33 {
-        let bytes = Bytes::new(vec![in rt.alloc(); b'a'; 1_000_000]?);
+        let bytes = Bytes::new(vec![in alloc; b'a'; 1_000_000]?);
         rack.push((0, Outcome::Rebuilt(bytes)))?;
         rack.push((0, Outcome::Several))?;
     }
-    let racks = vec![in rt.alloc(); rack]?;
-    let made = digests_of_racks(&rt, rt.alloc(), racks.as_slice(), 3)?;
-    assert!(&rt; are_of_million(made.as_slice()), "{made:?}");
-    Ok(())
+    Ok(rack)
 }

@@ -1,4 +1,5 @@
 //! How the command `farm` ends: statuses and fault lines.
+use crate::asserting::{assert_same, assert_text};
 use farm_lists::ListFault;
 use farm_reading::{ServeFault, farm_status, fault_line};
 use lrc_code::RequestFault;
@@ -13,9 +14,9 @@ fn assert_end(
     line: &str,
 ) -> Result<(), AllocError> {
     let shown = fault_line(rt.alloc(), &fault)?;
-    assert_eq!(rt; shown.as_str(), line);
+    assert_text(rt, shown.as_bytes(), line.as_bytes());
     let ended: Result<(), ServeFault> = Err(fault);
-    assert_eq!(rt; farm_status(&ended), status, "{line}");
+    assert_same(rt, &farm_status(&ended), &status);
     Ok(())
 }
 

@@ -1,4 +1,5 @@
 //! Which digests the threads make: all of them, the longest fragments first. Only the time would say it otherwise.
+use crate::asserting::{assert_holds, assert_same};
 use farm_reports::grains::{LEAST_PART, made_in_threads, places_by_length};
 use std::alloc::{AllocError, Global};
 use std::thread::Threads;
@@ -38,7 +39,7 @@ fn missing<R: Threads + Sync>(
 #[test]
 fn one_thread_makes_all_digests(rt: HostRuntime) -> Result<(), AllocError> {
     for count in &[0usize, 1, 15, 16, 17, 32, 33, 60, 97] {
-        assert_eq!(&rt; missing(&rt, rt.alloc(), 100, *count, 16)?, 0);
+        assert_same(&rt, &missing(&rt, rt.alloc(), 100, *count, 16)?, &0);
     }
     Ok(())
 }
@@ -46,22 +47,26 @@ fn one_thread_makes_all_digests(rt: HostRuntime) -> Result<(), AllocError> {
 #[test]
 fn two_threads_make_all_digests(rt: HostRuntime) -> Result<(), AllocError> {
     assert!(&rt; 22 * LONG as u64 > 2 * LEAST_PART);
-    assert_eq!(&rt; missing(&rt, rt.alloc(), LONG, 33, 2)?, 0);
+    assert_same(&rt, &missing(&rt, rt.alloc(), LONG, 33, 2)?, &0);
     Ok(())
 }
 
 #[test]
 fn the_longest_come_first(rt: HostRuntime) -> Result<(), AllocError> {
-    let bytes = [7u8; 9];
-    let lengths = [3usize, 9, 0, 5, 9, 1];
-    let mut fragments = Vec::new(rt.alloc());
-    for length in &lengths {
-        fragments.push(&bytes[..*length])?;
-    }
+    let fragments: [&[u8]; 6] = [&[7; 3], &[7; 9], &[], &[7; 5], &[7; 9], &[7]];
     let places = places_by_length(rt.alloc(), fragments.as_slice())?;
-    let ordered = places.iter().map(|place| fragments[*place].len());
-    let ordered = ordered.collect::<Vec<usize>>(rt.alloc())?;
-    let longest_first = [9usize, 9, 5, 3, 1, 0];
-    assert_eq!(&rt; ordered.as_slice(), longest_first.as_slice());
+    let is = are_of_lengths(places.as_slice(), &fragments, &[9, 9, 5, 3, 1, 0]);
+    assert_holds(&rt, is, "the longest come first");
     Ok(())
+}
+
+// Whether the fragments at these places have these lengths.
+fn are_of_lengths(places: &[usize], fragments: &[&[u8]], lengths: &[usize]) -> bool {
+    for (place, length) in places.iter().zip(lengths) {
+        match fragments.get(*place) {
+            Some(fragment) if fragment.len() == *length => {}
+            _ => return false,
+        }
+    }
+    places.len() == lengths.len()
 }

@@ -50,6 +50,11 @@ fn digests_of_rows(rt: &impl Abort, rows: &[[u8; 1000]; 8], len: usize) -> [[u8;
 
 const OTHER: &[u8] = &[0x5a; 1000];
 
+// Asserts that a digest is the right one.
+fn assert_digest(rt: &impl Abort, found: &[u8; 32], right: &[u8; 32], number: usize) {
+    assert!(rt; found == right, "message {number}");
+}
+
 // A message in each lane, beside other messages of its length.
 fn check_in_each_lane(rt: &impl Abort, message: &'static [u8], wanted: &[u8; 32]) {
     let Some(other) = OTHER.get(..message.len()) else {
@@ -61,7 +66,7 @@ fn check_in_each_lane(rt: &impl Abort, message: &'static [u8], wanted: &[u8; 32]
         messages[lane] = message;
         for (place, digest) in checked_digests(rt, &messages).iter().enumerate() {
             let right = if place == lane { wanted } else { &plain };
-            assert_eq!(rt; digest, right, "message in lane {lane}, digest {place}");
+            assert_digest(rt, digest, right, lane);
         }
     }
 }
@@ -119,13 +124,17 @@ fn lengths_around_a_block_have_their_digests(rt: HostRuntime) {
     for (len, wanted) in cases.into_iter().zip(wanted) {
         assert!(rt; len <= 1000);
         let rows = rows_of(len);
-        let mut hasher = Sha256::new();
-        for one in digests_of_rows(&rt, &rows, len).iter() {
-            hasher.update(one.as_slice());
-        }
-        let found: [u8; 32] = hasher.finalize();
-        assert_eq!(rt; found.as_slice(), wanted.as_slice(), "at {len}");
+        let found = digest_of_digests(&digests_of_rows(&rt, &rows, len));
+        assert_digest(&rt, &found, wanted, len);
     }
+}
+
+fn digest_of_digests(digests: &[[u8; 32]; 8]) -> [u8; 32] {
+    let mut hasher = Sha256::new();
+    for one in digests.iter() {
+        hasher.update(one.as_slice());
+    }
+    hasher.finalize()
 }
 
 // Each lane at each length up to 300 against the crate's own hasher.
@@ -136,7 +145,7 @@ fn every_length_agrees_with_sha2(rt: HostRuntime) {
         let found = digests_of_rows(&rt, &rows, len);
         for (lane, (row, digest)) in rows.iter().zip(&found).enumerate() {
             let plain: [u8; 32] = Sha256::digest(&row[..len]);
-            assert_eq!(rt; *digest, plain, "lane {lane} at {len}");
+            assert_digest(&rt, digest, &plain, lane);
         }
     }
 }
@@ -162,7 +171,7 @@ fn messages_of_mixed_lengths_agree_with_sha2(rt: HostRuntime) {
     digests(&messages, &mut found);
     for (i, (message, digest)) in messages.iter().zip(&found).enumerate() {
         let plain: [u8; 32] = Sha256::digest(*message);
-        assert_eq!(rt; *digest, plain, "message {i}");
+        assert_digest(&rt, digest, &plain, i);
     }
     let no_messages: [&[u8]; 0] = [];
     digests(&no_messages, &mut []);
@@ -179,7 +188,7 @@ fn owned_messages_agree_with_sha2(rt: HostRuntime) {
     digests(&messages, &mut found);
     for (i, (message, digest)) in messages.iter().zip(&found).enumerate() {
         let plain: [u8; 32] = Sha256::digest(message);
-        assert_eq!(rt; *digest, plain, "message {i}");
+        assert_digest(&rt, digest, &plain, i);
     }
 }
 
@@ -210,10 +219,7 @@ fn messages_come_in_pieces(rt: HostRuntime) {
     hasher.update(&[&one, &one, &one, &one, &one, &one, &one, &one]);
     let found = hasher.finalize(&[b"0", b"1", b"2", b"3", b"4", b"5", b"6", b"7"]);
     for lane in 0..8u8 {
-        assert_eq!(rt;
-            found[lane as usize],
-            plain_digest(b'0' + lane),
-            "lane {lane}"
-        );
+        let plain = plain_digest(b'0' + lane);
+        assert_digest(&rt, &found[lane as usize], &plain, lane as usize);
     }
 }

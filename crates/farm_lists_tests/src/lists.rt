@@ -1,8 +1,10 @@
 //! Lists, record by record and fault by fault.
+use crate::asserting::{assert_holds, assert_same};
 use crate::samples::LIST;
 use farm_lists::{ListFault, Listed, Record, read_list};
 use lrc_code::{Code, Place, RequestFault};
 use std::alloc::{AllocError, Global};
+use std::process::Abort;
 
 const HEADER: &[u8] = b"order,stripe,target,length,survivors\n";
 
@@ -108,13 +110,22 @@ fn fault_of(alloc: Global, header: &[u8], records: &[u8]) -> Result<Option<ListF
 fn each_wrong_record_has_its_fault(rt: HostRuntime) -> Result<(), AllocError> {
     for (records, fault) in FAULTS {
         let found = fault_of(rt.alloc(), HEADER, records)?;
-        assert_eq!(&rt; found, Some(*fault), "{:?}", str::from_utf8(records));
+        assert_fault(&rt, found, *fault, records);
     }
     for (records, fault) in FAULTS_WITH_CODES {
         let found = fault_of(rt.alloc(), CODED_HEADER, records)?;
-        assert_eq!(&rt; found, Some(*fault), "{:?}", str::from_utf8(records));
+        assert_fault(&rt, found, *fault, records);
     }
     Ok(())
+}
+
+// Asserts the fault of these bytes.
+fn assert_fault(rt: &impl Abort, found: Option<ListFault>, fault: ListFault, bytes: &[u8]) {
+    assert!(rt;
+        found == Some(fault),
+        "{found:?}: {:?}",
+        str::from_utf8(bytes)
+    );
 }
 
 // Headers that a list may not have.
@@ -134,12 +145,7 @@ const BAD_HEADERS: &[&[u8]] = &[
 fn other_headers_are_refused(rt: HostRuntime) -> Result<(), AllocError> {
     for header in BAD_HEADERS {
         let found = fault_of(rt.alloc(), header, b"")?;
-        assert_eq!(&rt;
-            found,
-            Some(ListFault::BadHeader),
-            "{:?}",
-            str::from_utf8(header)
-        );
+        assert_fault(&rt, found, ListFault::BadHeader, header);
     }
     Ok(())
 }
@@ -152,15 +158,21 @@ fn each_record_has_its_own_code(rt: HostRuntime) -> Result<(), AllocError> {
         CODED_HEADER,
         b"rebuild,abc,x0,3,x1 x2 x3 x4 x5 px,12-2-2\nclose,,,,,\nrebuild,abc,x0,3,x1 x2 px,6-2-2\n",
     )?;
-    match read_list(rt.alloc(), bytes.as_slice()) {
-        Ok(list) => assert!(&rt; are_of_both_codes(list.as_slice()), "{list:?}"),
-        Err(_) => panic!(&rt; "the list with codes is refused"),
-    }
-    match read_list(rt.alloc(), LIST) {
-        Ok(list) => assert!(&rt; begins_with_narrow(list.as_slice()), "{list:?}"),
-        Err(_) => panic!(&rt; "the list without codes is refused"),
-    }
+    let is = is_read(rt.alloc(), bytes.as_slice(), are_of_both_codes);
+    assert_holds(&rt, is, "the list with codes");
+    let is = is_read(rt.alloc(), LIST, begins_with_narrow);
+    assert_holds(&rt, is, "the list without codes");
     Ok(())
+}
+
+// Whether a list isn't refused, and its records are right.
+fn is_read<F: Fn(&[Record]) -> bool>(alloc: Global, bytes: &[u8], are_right: F) -> bool
+    requires { F.IsAlwaysCallable are_right }
+{
+    match read_list(alloc, bytes) {
+        Ok(list) => are_right(list.as_slice()),
+        Err(_) => false,
+    }
 }
 
 // Whether these are a request over the (12,2,2) code, a close, and a request over the (6,2,2) code.
@@ -203,10 +215,8 @@ const WRITTEN_OTHERWISE: &[&[u8]] = &[
 #[test]
 fn line_ends_and_quotes_change_no_record(rt: HostRuntime) {
     for bytes in WRITTEN_OTHERWISE {
-        match read_list(rt.alloc(), bytes) {
-            Ok(list) => assert!(&rt; is_one_request(list.as_slice()), "{list:?}"),
-            Err(fault) => panic!(&rt; "{fault}: {:?}", str::from_utf8(bytes)),
-        }
+        let is = is_read(rt.alloc(), bytes, is_one_request);
+        assert!(&rt; is, "{:?}", str::from_utf8(bytes));
     }
 }
 
@@ -226,10 +236,7 @@ fn is_one_request(list: &[Record]) -> bool {
 #[test]
 fn survivors_keep_their_order(rt: HostRuntime) {
     let bytes = b"order,stripe,target,length,survivors\nrebuild,a-1,p1,65536,py x0 p0\nclose,,,,\n";
-    match read_list(rt.alloc(), bytes) {
-        Ok(list) => assert!(&rt; has_survivors_in_order(list.as_slice()), "{list:?}"),
-        Err(_) => panic!(&rt; "the list is refused"),
-    }
+    assert!(&rt; is_read(rt.alloc(), bytes, has_survivors_in_order));
 }
 
 fn has_survivors_in_order(list: &[Record]) -> bool {
@@ -248,17 +255,21 @@ fn count_of(alloc: Global, bytes: &[u8]) -> Result<usize, ListFault> {
 
 #[test]
 fn a_byte_past_the_limit_is_refused(rt: HostRuntime) -> Result<(), AllocError> {
-    let mut bytes = Vec::from_slice(rt.alloc(), HEADER)?;
+    let mut bytes = greatest_list(rt.alloc())?;
+    assert_same(&rt, &count_of(rt.alloc(), bytes.as_slice()), &Ok(0));
+    bytes.push(b'\n')?;
+    let too_long = Err(ListFault::InputTooLong);
+    assert_same(&rt, &count_of(rt.alloc(), bytes.as_slice()), &too_long);
+    Ok(())
+}
+
+// A list of as many bytes as there may be.
+fn greatest_list(alloc: Global) -> Result<Vec<u8>, AllocError> {
+    let mut bytes = Vec::from_slice(alloc, HEADER)?;
     for _ in HEADER.len()..1_048_576 {
         bytes.push(b'\n')?;
     }
-    assert_eq!(&rt; count_of(rt.alloc(), bytes.as_slice()), Ok(0));
-    bytes.push(b'\n')?;
-    assert_eq!(&rt;
-        count_of(rt.alloc(), bytes.as_slice()),
-        Err(ListFault::InputTooLong)
-    );
-    Ok(())
+    Ok(bytes)
 }
 
 // How many records are read of the greatest number of closes with these bytes after them.
@@ -276,9 +287,9 @@ fn count_behind_closes(alloc: Global, last: &[u8]) -> Result<Result<usize, ListF
 fn a_record_past_the_limit_is_refused(rt: HostRuntime) -> Result<(), AllocError> {
     let alloc = rt.alloc();
     let too_many = Err(ListFault::TooManyOrders);
-    assert_eq!(&rt; count_behind_closes(alloc, b"")?, Ok(4096));
-    assert_eq!(&rt; count_behind_closes(alloc, b"close,,,,\n")?, too_many);
-    assert_eq!(&rt; count_behind_closes(alloc, b"x\n")?, too_many);
+    assert_same(&rt, &count_behind_closes(alloc, b"")?, &Ok(4096));
+    assert_same(&rt, &count_behind_closes(alloc, b"close,,,,\n")?, &too_many);
+    assert_same(&rt, &count_behind_closes(alloc, b"x\n")?, &too_many);
     Ok(())
 }
 
@@ -338,13 +349,10 @@ fn is_of_first_bytes(read: &Result<Vec<Record>, ListFault>, length: usize) -> bo
 // A list that is cut after each of its bytes.
 #[test]
 fn a_list_cut_short_is_refused_or_has_fewer_records(rt: HostRuntime) {
-    assert_eq!(&rt; LIST.len(), 109);
+    assert!(&rt; LIST.len() == 109);
     for length in 0..=LIST.len() {
-        let read = read_list(rt.alloc(), &LIST[..length]);
-        assert!(&rt;
-            is_of_first_bytes(&read, length),
-            "length {length}: {read:?}"
-        );
+        let is = is_of_first_bytes(&read_list(rt.alloc(), &LIST[..length]), length);
+        assert!(&rt; is, "length {length}");
     }
 }
 
@@ -381,7 +389,7 @@ fn listed_requests_are_refused_for_their_places(rt: HostRuntime) -> Result<(), A
         let stripe = String::from_str(rt.alloc(), "abc")?;
         let survivors = Vec::from_slice(rt.alloc(), places)?;
         let listed = Listed::new(Code::Narrow, stripe, *target, 3, survivors);
-        assert_eq!(&rt; listed.err(), Some(*fault));
+        assert_same(&rt, &listed.err(), &Some(*fault));
     }
     Ok(())
 }

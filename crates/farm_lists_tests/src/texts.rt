@@ -1,4 +1,5 @@
 //! The texts of the faults of lists, requests and serving, written out.
+use crate::asserting::assert_text;
 use farm_lists::ListFault;
 use farm_reading::ServeFault;
 use lrc_code::RequestFault;
@@ -27,7 +28,7 @@ const REQUEST_FAULTS: &[(RequestFault, &str)] = &[
 fn request_faults_say_their_limits(rt: HostRuntime) -> Result<(), AllocError> {
     for (fault, text) in REQUEST_FAULTS {
         let said = format!(in rt.alloc(); "{fault}")?;
-        assert_eq!(&rt; said.as_str(), *text);
+        assert_text(&rt, said.as_bytes(), text.as_bytes());
     }
     Ok(())
 }
@@ -61,7 +62,7 @@ const LIST_FAULTS: &[(ListFault, &str)] = &[
 fn list_faults_say_their_limits(rt: HostRuntime) -> Result<(), AllocError> {
     for (fault, text) in LIST_FAULTS {
         let said = format!(in rt.alloc(); "{fault}")?;
-        assert_eq!(&rt; said.as_str(), *text);
+        assert_text(&rt, said.as_bytes(), text.as_bytes());
     }
     Ok(())
 }
@@ -88,7 +89,7 @@ const SERVE_FAULTS: &[(ServeFault, &str)] = &[
 fn faults_of_serving_say_what_failed(rt: HostRuntime) -> Result<(), AllocError> {
     for (fault, text) in SERVE_FAULTS {
         let said = format!(in rt.alloc(); "{fault}")?;
-        assert_eq!(&rt; said.as_str(), *text);
+        assert_text(&rt, said.as_bytes(), text.as_bytes());
     }
     Ok(())
 }

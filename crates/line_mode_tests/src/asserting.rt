@@ -1,6 +1,7 @@
 //! Runs of line mode over texts, and assertions on what they write and answer.
 use line_mode::{LineCount, LineFault, line_mode, line_mode_in_threads, line_status};
 use std::alloc::{AllocError, Global};
+use std::fmt::Debug;
 use std::io::{Read, Write};
 use std::process::Abort;
 use std::thread::Threads;
@@ -55,18 +56,26 @@ pub(crate) fn assert_replies(
     let status = if refused == 0 { 0 } else { 1 };
     for mode in MODES {
         let (output, answer) = run(rt, mode, rt.alloc(), input);
-        let given = str::from_utf8(input);
-        assert_eq!(rt;
-            str::from_utf8(&output),
-            str::from_utf8(text),
-            "{mode:?} {given:?}"
-        );
-        assert_eq!(rt;
-            (answer, line_status(&answer)),
-            (Ok(LineCount { answered, refused }), status),
-            "{mode:?} {given:?}"
-        );
+        assert_written(rt, input, output.as_slice(), text);
+        let answered = LineCount { answered, refused };
+        assert_same(rt, &(answer, line_status(&answer)), &(Ok(answered), status));
     }
+}
+
+// Asserts what is written for an input. Such assertions are in functions of their own: a function that has values to drop is proved faster
+// if it calls them than if it asserts itself.
+fn assert_written(rt: &impl Abort, input: &[u8], output: &[u8], text: &[u8]) {
+    assert!(rt;
+        output == text,
+        "{:?} for {:?}",
+        str::from_utf8(output),
+        str::from_utf8(input)
+    );
+}
+
+/// Asserts that what was found is what is wanted, and shows both where it isn't.
+pub(crate) fn assert_same<T: PartialEq + Debug>(rt: &impl Abort, found: &T, wanted: &T) {
+    assert_eq!(rt; found, wanted);
 }
 
 /// Asserts the reply to a line, each without its line feed: a refusal where the reply says so, else an answer.

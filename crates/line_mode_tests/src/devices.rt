@@ -1,5 +1,5 @@
 //! Readers and writers that give and take little, or fail.
-use crate::asserting::{MODES, Mode};
+use crate::asserting::{MODES, Mode, assert_same};
 use line_mode::{LineCount, LineFault, line_status};
 use std::io;
 use std::io::{ErrorKind, Read, Write};
@@ -140,8 +140,8 @@ const ALL_ANSWERED: Result<LineCount, LineFault> = Ok(LineCount {
 
 // Asserts that a run wrote all replies and answers so.
 fn assert_whole(rt: &(impl Abort + AllocGlobal), run: &Run) {
-    assert_eq!(rt; str::from_utf8(&run.text), str::from_utf8(TEN_REPLIES));
-    assert_eq!(rt; run.answer, ALL_ANSWERED);
+    assert_same(rt, &str::from_utf8(&run.text), &str::from_utf8(TEN_REPLIES));
+    assert_same(rt, &run.answer, &ALL_ANSWERED);
 }
 
 // All is flushed, and nothing is read but the pieces and the end.
@@ -150,33 +150,39 @@ fn takes_small_pieces(rt: HostRuntime) {
     for mode in MODES {
         for most in [1usize, 2, 7, 100, 1000] {
             let run = run_ten(&rt, mode, most, Calls::AllWork, Calls::AllWork);
-            assert_whole(&rt, &run);
-            assert_eq!(rt; run.flushed, TEN_REPLIES.len(), "{mode:?} {most} at a call");
             let pieces = TEN_LINES.len().div_ceil(most) as u64;
-            assert_eq!(rt; run.reads, pieces + 1, "{mode:?} {most} at a call");
+            assert_whole(&rt, &run);
+            assert_same(&rt, &run.flushed, &TEN_REPLIES.len());
+            assert_same(&rt, &run.reads, &pieces.saturating_add(1));
         }
     }
 }
 
-// Asserts that a run ended at a fault of a device.
-fn assert_faulty(rt: &(impl Abort + AllocGlobal), run: &Run) {
-    assert_eq!(rt; run.answer, Err(LineFault::Device));
-    assert_eq!(rt; line_status(&run.answer), 3);
+// Whether a run ended at a fault of a device.
+fn is_faulty(run: &Run) -> bool {
+    run.answer == Err(LineFault::Device) && line_status(&run.answer) == 3
+}
+
+// Asserts that a run ended so, and so many bytes, writes and reads of it.
+fn assert_faulty_read(rt: &impl Abort, mode: Mode, run: &Run, reads: u64) {
+    let is = is_faulty(run) && run.text.is_empty() && run.writes == 0 && run.reads == reads;
+    assert!(rt; is, "{mode:?} {reads} reads");
+}
+
+// Asserts that a run ended so at a write, what it wrote, and how often.
+fn assert_faulty_write(rt: &impl Abort, mode: Mode, run: &Run, writes: u64) {
+    let is = is_faulty(run) && TEN_REPLIES.starts_with(&run.text) && run.writes == writes;
+    assert!(rt; is, "{mode:?} {writes} writes");
 }
 
 // Asserts that a read that fails, whichever it is, ends line mode, is not made again, and leaves the writer alone.
 fn assert_ends_at_reads(rt: &(impl Abort + AllocGlobal + Threads + Sync), mode: Mode, most: usize) {
     let whole = run_ten(rt, mode, most, Calls::AllWork, Calls::AllWork);
-    assert!(rt; 1 < whole.reads);
+    assert_same(rt, &(1 < whole.reads), &true);
     for k in 0..whole.reads {
         let reading = Calls::OneFails(k, ErrorKind::Other);
         let run = run_ten(rt, mode, most, reading, Calls::AllWork);
-        assert_faulty(rt, &run);
-        assert_eq!(rt;
-            (run.text.len(), run.writes, run.reads),
-            (0, 0, k + 1),
-            "{mode:?} read {k}, {most} at a call"
-        );
+        assert_faulty_read(rt, mode, &run, k.saturating_add(1));
     }
 }
 
@@ -196,15 +202,11 @@ fn assert_ends_at_writes(
     most: usize,
 ) {
     let whole = run_ten(rt, mode, most, Calls::AllWork, Calls::AllWork);
-    assert!(rt; 1 < whole.writes);
+    assert_same(rt, &(1 < whole.writes), &true);
     for k in 0..whole.writes {
         let writing = Calls::OneFails(k, ErrorKind::Other);
         let run = run_ten(rt, mode, most, Calls::AllWork, writing);
-        assert_faulty(rt, &run);
-        assert!(rt;
-            TEN_REPLIES.starts_with(&run.text) && run.writes == k + 1,
-            "{mode:?} write {k}, {most} at a call"
-        );
+        assert_faulty_write(rt, mode, &run, k.saturating_add(1));
     }
 }
 
@@ -250,6 +252,6 @@ fn ends_for_an_interrupted_reader(rt: HostRuntime) {
     let mut input = InterruptedReader { calls: 0 };
     let mut output = Vec::new(rt.alloc());
     let answer = Mode::InThreads.reply(&rt, rt.alloc(), &mut input, &mut output);
-    assert_eq!(rt; answer, Err(LineFault::Device));
-    assert_eq!(rt; (output.len(), input.calls), (0, 16_777_216));
+    assert_same(&rt, &answer, &Err(LineFault::Device));
+    assert_same(&rt, &(output.len(), input.calls), &(0, 16_777_216));
 }

@@ -21,17 +21,26 @@ fn cycled(alloc: Global, text: &str, count: usize) -> Result<String, AllocError>
     Ok(cycled)
 }
 
+// A line of digits at this length.
+fn line_of(alloc: Global, length: usize) -> Result<String, AllocError> {
+    let zeros = cycled(alloc, "0", length.wrapping_mul(2))?;
+    let digits = cycled(alloc, GIVEN, length.wrapping_mul(2))?;
+    Ok(format!(in alloc; "a x0 {length} x1={zeros} x2={zeros} px={digits}\n")?)
+}
+
+// The reply to it.
+fn reply_of(alloc: Global, length: usize) -> Result<String, AllocError> {
+    let written = cycled(alloc, WRITTEN, length.wrapping_mul(2))?;
+    Ok(format!(in alloc; "rebuilt {written}\n")?)
+}
+
 // Asserts that digits are read and written at this length.
 fn assert_digits(
     rt: &(impl Abort + AllocGlobal + Threads + Sync),
     length: usize,
 ) -> Result<(), AllocError> {
-    let alloc = rt.alloc();
-    let zeros = cycled(alloc, "0", length.wrapping_mul(2))?;
-    let digits = cycled(alloc, GIVEN, length.wrapping_mul(2))?;
-    let written = cycled(alloc, WRITTEN, length.wrapping_mul(2))?;
-    let line = format!(in alloc; "a x0 {length} x1={zeros} x2={zeros} px={digits}\n")?;
-    let reply = format!(in alloc; "rebuilt {written}\n")?;
+    let line = line_of(rt.alloc(), length)?;
+    let reply = reply_of(rt.alloc(), length)?;
     assert_replies(rt, line.as_bytes(), reply.as_bytes(), 1, 0);
     Ok(())
 }
@@ -49,15 +58,21 @@ fn digits_are_read_and_written_at_many_lengths(rt: HostRuntime) -> Result<(), Al
 fn a_bad_digit_is_refused_at_each_place(rt: HostRuntime) -> Result<(), AllocError> {
     let digits = cycled(rt.alloc(), GIVEN, 80)?;
     for place in 0..80usize {
-        let mut line = Vec::from_slice(rt.alloc(), b"a x0 40 px=")?;
-        line.extend_from_slice(digits.as_bytes())?;
-        line.push(b'\n')?;
-        if let Some(digit) = line.get_mut(11 + place) {
-            *digit = b'G';
-        }
+        let line = line_with_bad_digit(rt.alloc(), digits.as_str(), place)?;
         assert_replies(&rt, &line, b"refused E22\n", 0, 1);
     }
     Ok(())
+}
+
+// A line with these digits, of which the one at a place is no digit.
+fn line_with_bad_digit(alloc: Global, digits: &str, place: usize) -> Result<Vec<u8>, AllocError> {
+    let mut line = Vec::from_slice(alloc, b"a x0 40 px=")?;
+    line.extend_from_slice(digits.as_bytes())?;
+    line.push(b'\n')?;
+    if let Some(digit) = line.get_mut(place.saturating_add(11)) {
+        *digit = b'G';
+    }
+    Ok(line)
 }
 
 // Asserts that a byte is read as a digit just where it is one.
@@ -65,18 +80,22 @@ fn assert_digit(
     rt: &(impl Abort + AllocGlobal + Threads + Sync),
     byte: u8,
 ) -> Result<(), AllocError> {
-    let mut line = Vec::from_slice(rt.alloc(), b"a x0 1 x1=00 x2=00 px=0")?;
+    let line = ending(rt.alloc(), b"a x0 1 x1=00 x2=00 px=0", byte)?;
+    if GIVEN.as_bytes().contains(&byte) {
+        let reply = ending(rt.alloc(), b"rebuilt 0", byte.to_ascii_uppercase())?;
+        assert_replies(rt, &line, &reply, 1, 0);
+    } else {
+        assert_replies(rt, &line, b"refused E22\n", 0, 1);
+    }
+    Ok(())
+}
+
+// A line that ends in this byte.
+fn ending(alloc: Global, front: &[u8], byte: u8) -> Result<Vec<u8>, AllocError> {
+    let mut line = Vec::from_slice(alloc, front)?;
     line.push(byte)?;
     line.push(b'\n')?;
-    if !GIVEN.as_bytes().contains(&byte) {
-        assert_replies(rt, &line, b"refused E22\n", 0, 1);
-        return Ok(());
-    }
-    let mut reply = Vec::from_slice(rt.alloc(), b"rebuilt 0")?;
-    reply.push(byte.to_ascii_uppercase())?;
-    reply.push(b'\n')?;
-    assert_replies(rt, &line, &reply, 1, 0);
-    Ok(())
+    Ok(line)
 }
 
 // Of all bytes the 22 digits are digits, and no other.

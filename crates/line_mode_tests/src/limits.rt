@@ -1,7 +1,7 @@
 //! The greatest input and one byte more, and long lines.
-use crate::asserting::{Mode, assert_replies};
+use crate::asserting::{Mode, assert_replies, assert_same};
 use line_mode::{LineCount, LineFault, line_status};
-use std::alloc::AllocError;
+use std::alloc::{AllocError, Global};
 use std::io;
 use std::io::Read;
 use std::process::Abort;
@@ -43,15 +43,11 @@ fn assert_answer(
 ) {
     let mut output = Vec::new(rt.alloc());
     let answer = mode.reply(rt, rt.alloc(), input, &mut output);
-    assert_eq!(rt;
-        (answer, line_status(&answer)),
-        (wanted, status),
-        "{mode:?}"
-    );
-    assert!(rt;
-        output.is_empty() && input.calls <= reads,
-        "{mode:?} {} reads",
-        input.calls
+    assert_same(rt, &(answer, line_status(&answer)), &(wanted, status));
+    assert_same(
+        rt,
+        &(output.is_empty(), input.calls <= reads),
+        &(true, true),
     );
 }
 
@@ -108,15 +104,25 @@ fn add_fragment(line: &mut Vec<u8>, place: &[u8], byte: &[u8]) -> Result<(), All
 // Fragments of the greatest length: A5 + 5A + FF is 00 at each position.
 #[test]
 fn answers_long_fragments(rt: HostRuntime) -> Result<(), AllocError> {
-    let mut line = Vec::from_slice(rt.alloc(), b"a x0 65536")?;
+    let line = long_line(rt.alloc())?;
+    let text = long_reply(rt.alloc())?;
+    assert_replies(&rt, &line, &text, 1, 0);
+    Ok(())
+}
+
+fn long_line(alloc: Global) -> Result<Vec<u8>, AllocError> {
+    let mut line = Vec::from_slice(alloc, b"a x0 65536")?;
     add_fragment(&mut line, b" x1=", b"A5")?;
     add_fragment(&mut line, b" x2=", b"5a")?;
     add_fragment(&mut line, b" px=", b"fF")?;
-    let mut text = Vec::from_slice(rt.alloc(), b"rebuilt ")?;
+    Ok(line)
+}
+
+fn long_reply(alloc: Global) -> Result<Vec<u8>, AllocError> {
+    let mut text = Vec::from_slice(alloc, b"rebuilt ")?;
     add_times(&mut text, b"00", 65_536)?;
     text.push(b'\n')?;
-    assert_replies(&rt, &line, &text, 1, 0);
-    Ok(())
+    Ok(text)
 }
 
 static LONG_LINES: [(&[u8], &[u8], usize, &[u8]); 8] = [

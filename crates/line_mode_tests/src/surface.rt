@@ -1,5 +1,6 @@
 //! The names of `line_mode` and `command_line` that callers rely on: one that moves, or takes or gives something else, doesn't compile
 //! here.
+use crate::asserting::assert_same;
 use command_line::{Words, WordsFault, read_words};
 use line_mode::{LineCount, LineFault, line_mode, line_status};
 use std::alloc::Global;
@@ -40,7 +41,12 @@ fn line_mode_and_the_command_line_have_their_names(rt: HostRuntime) {
     let mut input = b"a x0 1\n".as_slice();
     let mut output = Vec::new(rt.alloc());
     let found = counted(rt.alloc(), &mut input, &mut output);
-    assert_eq!(rt; found, (Some((1, 0)), 0));
-    let arguments = Vec::new(rt.alloc());
-    assert!(rt; are_asking(&read_words(rt.alloc(), arguments.as_slice())));
+    assert_same(&rt, &found, &(Some((1, 0)), 0));
+    assert_same(&rt, &are_nothing_asked(rt.alloc()), &true);
+}
+
+// Whether no arguments ask for something.
+fn are_nothing_asked(alloc: Global) -> bool {
+    let arguments = Vec::new(alloc);
+    are_asking(&read_words(alloc, arguments.as_slice()))
 }

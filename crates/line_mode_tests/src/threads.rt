@@ -1,4 +1,5 @@
 //! Long inputs, whose lines are replied to in threads.
+use crate::asserting::assert_same;
 use line_mode::{LineCount, line_mode_in_threads};
 use std::alloc::{AllocError, Global};
 use std::fmt::Write;
@@ -33,12 +34,8 @@ fn assert_replies_in<R: Threads + Abort + Sync>(
     let mut output = Vec::new(alloc);
     let mut rest = input.as_bytes();
     let answer = line_mode_in_threads(rt, alloc, &mut rest, &mut output);
-    assert!(rt;
-        output.as_slice() == text.as_bytes(),
-        "{} bytes",
-        input.len()
-    );
-    assert_eq!(rt; answer, Ok(count), "{} bytes", input.len());
+    assert_same(rt, &(output.as_slice() == text.as_bytes()), &true);
+    assert_same(rt, &answer, &Ok(count));
 }
 
 // Of 300 lines, and of so many that there are two pieces, three or four.
@@ -55,13 +52,18 @@ fn long_inputs_keep_the_order_of_their_lines(rt: HostRuntime) -> Result<(), Allo
     Ok(())
 }
 
-// A line that goes on past the middle of a long input, to its end or almost.
-#[test]
-fn long_lines_are_not_cut(rt: HostRuntime) -> Result<(), AllocError> {
-    let mut input = String::from_str(rt.alloc(), "a x0 1\n")?;
+fn long_input(alloc: Global) -> Result<String, AllocError> {
+    let mut input = String::from_str(alloc, "a x0 1\n")?;
     for _ in 0..300_000 {
         input.push('a')?;
     }
+    Ok(input)
+}
+
+// A line that goes on past the middle of a long input, to its end or almost.
+#[test]
+fn long_lines_are_not_cut(rt: HostRuntime) -> Result<(), AllocError> {
+    let mut input = long_input(rt.alloc())?;
     let refused = LineCount {
         answered: 1,
         refused: 1,

@@ -1,4 +1,5 @@
 //! The arguments of the program.
+use crate::asserting::assert_same;
 use command_line::{Words, WordsFault, read_words};
 use std::alloc::{AllocError, Global};
 use std::process::Abort;
@@ -27,38 +28,42 @@ fn assert_farm(rt: &(impl Abort + AllocGlobal), arguments: &[&str], wanted: (usi
                 queue,
             },
         ) => {
-            assert_eq!(rt;
-                (input.as_str(), output.as_str()),
-                ("a", "b"),
-                "{arguments:?}"
-            );
-            assert_eq!(rt; (workers, queue), wanted, "{arguments:?}");
+            assert_between(rt, input.as_str(), output.as_str());
+            assert_same(rt, &(workers, queue), &wanted);
         }
-        other => panic!(rt; "{arguments:?}: {other:?}"),
+        _ => assert_same(rt, &arguments, &[].as_slice()),
     }
+}
+
+// Asserts that these are the two folders.
+fn assert_between(rt: &impl Abort, input: &str, output: &str) {
+    assert!(rt; input == "a" && output == "b", "{input} {output}");
+}
+
+// Asserts that the text that arguments have shown is this.
+fn assert_shown(rt: &impl Abort, arguments: &[&str], shown: &str, text: &str) {
+    assert!(rt; shown == text, "{arguments:?}: {shown}");
 }
 
 // Asserts that arguments are a mistake that is reported by this text.
 fn assert_mistaken(rt: &(impl Abort + AllocGlobal), arguments: &[&str], text: &str) {
     match read(rt.alloc(), arguments) {
-        Err(WordsFault::Usage(shown)) => assert_eq!(rt; shown.as_str(), text, "{arguments:?}"),
-        other => panic!(rt; "{arguments:?}: {other:?}"),
+        Err(WordsFault::Usage(shown)) => assert_shown(rt, arguments, shown.as_str(), text),
+        _ => assert_shown(rt, arguments, "no mistake", text),
     }
 }
 
 // Asserts that arguments ask for this text.
 fn assert_text(rt: &(impl Abort + AllocGlobal), arguments: &[&str], text: &str) {
     match read(rt.alloc(), arguments) {
-        Ok(Words::Help(shown)) => assert_eq!(rt; shown.as_str(), text, "{arguments:?}"),
-        other => panic!(rt; "{arguments:?}: {other:?}"),
+        Ok(Words::Help(shown)) => assert_shown(rt, arguments, shown.as_str(), text),
+        _ => assert_shown(rt, arguments, "no text", text),
     }
 }
 
 #[test]
 fn no_arguments_are_line_mode(rt: HostRuntime) {
-    let arguments = Vec::new(rt.alloc());
-    let read = read_words(rt.alloc(), arguments.as_slice());
-    assert!(rt; matches!(read, Ok(Words::Lines)), "{read:?}");
+    assert!(&rt; matches!(read(rt.alloc(), &[]), Ok(Words::Lines)));
 }
 
 // Arguments, and the numbers of workers and the capacities of the queue that they ask for. Options may be anywhere. Numbers out of a farm's
@@ -141,11 +146,8 @@ const REFUSED: &[&[&str]] = &[
 #[test]
 fn other_mistakes_are_refused(rt: HostRuntime) {
     for arguments in REFUSED {
-        let read = read(rt.alloc(), arguments);
-        assert!(&rt;
-            matches!(read, Err(WordsFault::Usage(_))),
-            "{arguments:?}: {read:?}"
-        );
+        let is_refused = matches!(read(rt.alloc(), arguments), Err(WordsFault::Usage(_)));
+        assert!(&rt; is_refused, "{arguments:?}");
     }
 }
 

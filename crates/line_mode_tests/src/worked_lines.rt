@@ -1,5 +1,5 @@
 //! Lines and their replies, each worked out by hand.
-use crate::asserting::{assert_replies, assert_reply};
+use crate::asserting::{assert_replies, assert_reply, assert_same};
 use line_mode::{LineFault, line_status};
 use std::alloc::AllocError;
 
@@ -174,12 +174,9 @@ const FAULTS: [(LineFault, &str, u8, u8); 3] = [
 fn faults_have_texts_numbers_and_statuses(rt: HostRuntime) -> Result<(), AllocError> {
     for (fault, text, number, status) in FAULTS {
         let said = format!(in rt.alloc(); "{fault}")?;
-        assert_eq!(rt; said.as_str(), text);
-        assert_eq!(rt;
-            (fault.number(), line_status(&Err(fault))),
-            (number, status),
-            "{text}"
-        );
+        assert_same(&rt, &said.as_str(), &text);
+        let numbers = (fault.number(), line_status(&Err(fault)));
+        assert_same(&rt, &numbers, &(number, status));
     }
     Ok(())
 }
