@@ -11,7 +11,7 @@ const ABOUT: &str = "Takes files out of a store";
 
 const NAMES_HELP: &str = "Names of files";
 
-const CODE_HELP: &str = "The store's code, where the places don't say it";
+const CODE_HELP: &str = "The store's code, if the places don't say it";
 
 /// What `remove` is given.
 #[derive(Debug, Drop)]

@@ -9,7 +9,7 @@ use lrc_code::Code;
 use std::alloc::{AllocError, Global};
 use store_folder::{Links, Part};
 
-const CODE_HELP: &str = "The store's code, where the places don't say it";
+const CODE_HELP: &str = "The store's code, if the places don't say it";
 
 const STRIPES_HELP: &str = "File of the stripes that should be there, a name on each line";
 
