@@ -31,7 +31,7 @@ _rebuild_lists() {
   fi
   # What each argument takes: a folder, a list, a number; the last goes on where a + is after it.
   case ${COMP_WORDS[1]} in
-    check) kinds='folder' ;;
+    check) kinds='folder folder' ;;
     split) kinds='list folder folder' options='--racks --requests --copy' ;;
     serve) kinds='folder number' options='--workers --program' ;;
     merge) kinds='folder folder' ;;

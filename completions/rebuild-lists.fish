@@ -46,6 +46,6 @@ complete -c rebuild-lists -n '__rebuild_lists_word_is put' -l lists -x -a '(__fi
 complete -c rebuild-lists -n '__rebuild_lists_word_is put' -l overwrite -d 'Replace fragments that have different contents'
 complete -c rebuild-lists -n '__rebuild_lists_word_is damaged' -l feed -x -a '0 1 2 3' -d 'The feed whose list it is'
 complete -c rebuild-lists -n '__rebuild_lists_place_is 1 1 split' -F
-for places in '1 1 check serve damaged' '1 2 merge' '2 3 split' '1 999 tell put'
+for places in '1 1 serve damaged' '1 2 check merge' '2 3 split' '1 999 tell put'
     complete -c rebuild-lists -n "__rebuild_lists_place_is $places" -a '(__fish_complete_directories (commandline -ct) "Folder")'
 end

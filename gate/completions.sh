@@ -43,7 +43,8 @@ rebuild-lists c:check
 rebuild-lists -:--help --version -V -h
 rebuild-lists check :lists served
 rebuild-lists check -:--help -h
-rebuild-lists check lists s:
+rebuild-lists check lists s:served
+rebuild-lists check lists served s:
 rebuild-lists split :list.csv lists served
 rebuild-lists split list.csv :lists served
 rebuild-lists split list.csv lists s:served

@@ -52,12 +52,27 @@ ends longer-input 1 '' E25 < "$scratch/feeds"
 ends many-survivors 1 'refused E3' '' < "$scratch/many"
 rm "$scratch/many"
 
+# With a terminal as its input it says first that it reads, since it answers only when the input has ended.
+said=$(timeout 60 python3 - "$program" << 'PY'
+import os, pty, subprocess, sys
+terminal, theirs = pty.openpty()
+os.write(terminal, b"a x0 1 x1=02 x2=03 px=00\n\x04")
+ended = subprocess.run([sys.argv[1]], stdin=theirs, capture_output=True, text=True)
+print(ended.returncode, ended.stdout + ended.stderr, end="")
+PY
+)
+[ "$said" = "0 rebuilt 01
+rebuild: reading lines until Ctrl-D; their form: rebuild --help" ] || fail terminal "gave $said"
+passed=$((passed + 1))
+
 ends version 0 'rebuild 0.1.0' '' --version
 ends_full help-full 3 '' --help
 ends_full farm-help-full 3 '' farm --help
 ends no-folders 2 '' 'error: the following required arguments were not provided:' farm
 ends other-command 2 '' "error: unrecognized subcommand 'shelf'" shelf
-ends great-number 2 '' "error: invalid value '65536' for '--queue <Q>': 65536 is not in 0..=65535" farm in out --queue 65536
+for number in 65536 two; do
+  ends "queue-$number" 2 '' 'error: --workers takes a number from 1 to 16, and --queue one from 1 to 1024' farm in out --queue "$number"
+done
 ends no-text 2 '' 'error: an argument is not text' $'\xff'
 for workers in 0 17; do
   ends "workers-$workers" 2 '' 'refused E11' farm demo/farm "$scratch/out" --workers "$workers" --queue 0

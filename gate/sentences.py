@@ -16,6 +16,8 @@ MOST_WORDS = 60
 # Each construction, what is written in its place, and how it is found in text without quoted code.
 RULES = [
     ("'Where' for a condition", "'If'", r"(?:^|(?<=[.;:!?|] ))Where\b"),
+    ("'where' for a condition", "'if'", r"\b(?:exactly|only|also|none|not) where\b|; where (?:it|two|files)\b"
+     r"|\bwhere (?:there (?:is|are|was|were)|no\b|it (?:has|can)\b|memory|a thread)"),
     ("'of' for 'about'", "'about'", r"\b(?:sa(?:y|ys|id|ying)|speaks?|spoken|known?|shows?) (?:\w+thing |more |less |little )?of\b"),
     ("a clause for a default", "'(default)'", r"\bwhich (?:it is|they are) (?:without|unless|if)\b"),
     ("a word for what was named before", "the name again", r"\bthe (?:former|latter)\b"),

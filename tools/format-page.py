@@ -39,11 +39,26 @@ The numbers of faults, such as E20, are in
 with their meanings.
 """
 FOOT = """\
+.Sh COMPATIBILITY
+From version 0.1.0 on, later versions take what this page describes, and give what
+it says.
 .Sh SEE ALSO
 .Xr rebuild 1 ,
 .Xr rebuild-lists 1 ,
 .Xr rebuild-store 1 ,
 .Xr rebuild-store 5
+.Sh STANDARDS
+Lists and reports are comma-separated values of RFC 4180, but that the lines of a
+report end by a line feed alone, and those of a list also by one or by a carriage
+return.
+Digests are SHA-256 of FIPS 180-4.
+.Sh HISTORY
+The first version is 0.1.0, which isn\\(aqt released yet.
+.Sh AUTHORS
+.An The Bucketuntil maintainers .
+.Sh COPYRIGHT
+Copyright 2026 the Bucketuntil maintainers.
+There is no licence yet: nobody else may pass it on.
 """
 
 

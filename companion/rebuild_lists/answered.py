@@ -35,7 +35,7 @@ def racks_of(folder: pathlib.Path) -> int:
 
 
 def answered_feeds(folder: pathlib.Path, rack: int, report: pathlib.Path) -> list[Feed]:
-    """The lists of a rack, each with how many of its requests a report answers. Refused where an answer is of another request."""
+    """The lists of a rack, each with how many of its requests a report answers. Refused if an answer is of another request."""
     feeds: list[Feed] = []
     while len(feeds) < FEEDS and is_there(folder / list_name(rack, len(feeds))):
         feeds.append(Feed(served_list(folder / list_name(rack, len(feeds)))))

@@ -15,7 +15,7 @@ from .progress import Progress
 from .records import Record, as_program
 
 
-# What helps where a list is too long.
+# What helps if a list is too long.
 LONG = "; `rebuild-lists split` makes folders of a long list"
 
 
@@ -149,8 +149,20 @@ def why_unread(folder: pathlib.Path, rack: int, feed: int) -> str:
     return f"a folder has at most {RACKS} racks, and a rack {FEEDS} feeds"
 
 
+def check_out(found: Checked, out: pathlib.Path) -> None:
+    """Checks the folder that the program is to write to, of which a run says only at its end that something is wrong."""
+    if not is_there(out):
+        found.mistake(f"{out}: E24: isn't there")
+    elif not out.is_dir():
+        found.mistake(f"{out}: E24: is no folder")
+    elif not os.access(out, os.R_OK | os.W_OK | os.X_OK):
+        found.mistake(f"{out}: E24: can't be written to")
+    elif any(os.scandir(out)):
+        found.note(f"{out}: isn't empty: what an earlier run left there stays")
+
+
 def check(args: argparse.Namespace) -> int:
-    """Checks the lists of a folder, in the order in which the program reads them."""
+    """Checks the lists of a folder, in the order in which the program reads them, and the folder that it is to write to."""
     read: set[str] = set()
     with Progress("requests checked") as shown:
         found = Checked(folder_named(args.folder), shown)
@@ -163,5 +175,7 @@ def check(args: argparse.Namespace) -> int:
         read.add(list_name(RACKS, 0))
         found.mistake(f"{list_name(RACKS, 0)}: E18: a folder has at most {RACKS} racks, the last of them {list_name(RACKS - 1, 0)}")
     check_names(found, read)
+    if args.out:
+        check_out(found, pathlib.Path(args.out))
     print(found)
     return 1 if found.mistakes else 0

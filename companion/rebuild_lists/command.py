@@ -21,9 +21,9 @@ from .serve import serve
 from .split import split
 from .tell import tell
 
-STATUSES = """The exit status is 0 where all was done, 1 where something is refused or found wrong, or `tell` or `put` find requests that
-weren't rebuilt, 2 for a mistake in the arguments and 3 where a file can't be read or written; that of `serve` is the program's where its
-run failed. rebuild-lists(1) says more."""
+STATUSES = """The exit status is 0 if all was done, 1 if something is refused or found wrong, or `tell` or `put` find requests that weren't
+rebuilt, 2 for a mistake in the arguments and 3 for an I/O error; that of `serve` is the program's if its run failed. rebuild-lists(1) says
+more."""
 FOLDER = "the folder of the lists and the surviving fragments"
 STORE = "the folder of the surviving fragments"
 OUT = "a served folder, or one that merge made"
@@ -115,7 +115,8 @@ def parser() -> argparse.ArgumentParser:
                                     description="Reads and writes the lists, reports and fragments of `rebuild farm`.")
     whole.add_argument("--version", "-V", action="version", version=f"rebuild-lists {VERSION}")
     commands = whole.add_subparsers(dest="command", metavar="COMMAND", required=True)
-    add(commands, check, "check", "say what is wrong with the lists of a folder", folder=FOLDER)
+    command = add(commands, check, "check", "say what is wrong with the lists of a folder", folder=FOLDER)
+    command.add_argument("out", metavar="OUT", nargs="?", help="the folder that is to be written to, which is checked too")
     add_jobs(commands)
     add_results(commands)
     return whole

@@ -40,7 +40,7 @@ def kind_of(mode: int) -> str:
 
 
 def why_unreadable(path: pathlib.Path) -> str | None:
-    """Why the program can't read what is under a name; None where it can, or where nothing is there."""
+    """Why the program can't read what is under a name; None if it can, or if nothing is there."""
     try:
         mode = os.stat(path).st_mode
     except FileNotFoundError:
@@ -53,7 +53,7 @@ def why_unreadable(path: pathlib.Path) -> str | None:
 
 
 def contents(path: pathlib.Path, most: int) -> bytes | None:
-    """At most this many bytes of a regular file; None where it isn't one, or can't be read."""
+    """At most this many bytes of a regular file; None if it isn't one, or can't be read."""
     if why_unreadable(path):
         return None
     try:
@@ -64,7 +64,7 @@ def contents(path: pathlib.Path, most: int) -> bytes | None:
 
 
 def why_left_out(path: pathlib.Path, length: int) -> str | None:
-    """Why the program leaves a survivor of this length out; None where it reads it."""
+    """Why the program leaves a survivor of this length out; None if it reads it."""
     why = why_unreadable(path)
     if why:
         return why
@@ -76,7 +76,7 @@ def why_left_out(path: pathlib.Path, length: int) -> str | None:
 
 
 def said_of(error: OSError) -> str:
-    """What a failed call says: the file, where it names one, and why."""
+    """What a failed call says: the file, if it names one, and why."""
     name = f"{os.fsdecode(error.filename)}: " if isinstance(error.filename, (str, bytes, os.PathLike)) else ""
     return name + (error.strerror or str(error))
 
@@ -100,7 +100,7 @@ def folder_named(name: str) -> pathlib.Path:
 
 
 def name_folder(part: pathlib.Path, path: pathlib.Path) -> bool:
-    """Gives a whole folder its name when its files are on their disk, and answers whether it got it: not where the name is taken. It
+    """Gives a whole folder its name when its files are on their disk, and answers whether it got it: not if the name is taken. It
     ends when the name is on the disk too."""
     os.chmod(part, 0o777 & ~UMASK)
     if subprocess.run(["sync", "-f", part], check=False).returncode:

@@ -41,7 +41,7 @@ def report_name(rack: int) -> str:
 
 
 def counted(number: int, noun: str) -> str:
-    """A number with its noun, in the plural where it isn't one."""
+    """A number with its noun, in the plural if it isn't one."""
     return f"{number} {noun}" if number == 1 else f"{number} {noun}s"
 
 

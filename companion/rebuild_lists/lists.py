@@ -157,7 +157,7 @@ def requests(path: str | pathlib.Path) -> tuple[list[str], Iterator[tuple[int, R
 @dataclasses.dataclass
 class Served:
     """A list that the program serves: its requests, also those after a close, each with the number of its line, and how many come
-    before the first close, or None where there is no close."""
+    before the first close, or None if there is no close."""
 
     path: pathlib.Path
     requests: list[tuple[int, Request]]

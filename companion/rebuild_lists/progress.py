@@ -7,7 +7,7 @@ import time
 
 
 class Progress:
-    """Shows a count on one line of a terminal; nothing is shown where standard error isn't one."""
+    """Shows a count on one line of a terminal; nothing is shown if standard error isn't one."""
 
     FIRST = 0.5
     EVERY = 0.2

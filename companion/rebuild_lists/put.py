@@ -28,7 +28,7 @@ class Plan:
 
 
 def lists_for(out: pathlib.Path, named: str | None, store: pathlib.Path) -> pathlib.Path:
-    """The folder of the lists that a served folder answers: the one that is named, that of split, or the store where it has lists."""
+    """The folder of the lists that a served folder answers: the one that is named, that of split, or the store if it has lists."""
     if named:
         return folder_named(named)
     whole = out.resolve()
@@ -41,7 +41,7 @@ def lists_for(out: pathlib.Path, named: str | None, store: pathlib.Path) -> path
 
 
 def rebuilt_of(args: argparse.Namespace, store: pathlib.Path, tally: Tally) -> dict[str, Answer]:
-    """The rebuilt fragments by name. All reports and digests are compared here, so that nothing is written where one differs."""
+    """The rebuilt fragments by name. All reports and digests are compared here, so that nothing is written if one differs."""
     if args.lists and len(args.lists) != len(args.outs):
         raise Refused(f"--lists is given {len(args.lists)} times for {len(args.outs)} OUT: once for each, in their order, or never")
     found: dict[str, Answer] = {}
@@ -73,7 +73,7 @@ def has_bytes_of(path: pathlib.Path, answer: Answer) -> bool:
 
 
 def regular(path: pathlib.Path) -> os.stat_result | None:
-    """What the system says of a regular file; None where there is none."""
+    """What the system says of a regular file; None if there is none."""
     try:
         found = os.stat(path)
     except OSError:
@@ -91,7 +91,7 @@ def neighbour(store: pathlib.Path, answer: Answer) -> os.stat_result | None:
 
 
 def planned(store: pathlib.Path, found: dict[str, Answer], overwrite: bool) -> Plan:
-    """What there is to do for a store, which is refused where it isn't the one that the fragments were rebuilt from."""
+    """What there is to do for a store, which is refused if it isn't the one that the fragments were rebuilt from."""
     plan = Plan()
     strange: list[str] = []
     for name, answer in found.items():

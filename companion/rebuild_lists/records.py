@@ -29,7 +29,7 @@ MARK = b"\xef\xbb\xbf"
 
 
 def as_program(data: bytes) -> Iterator[Record]:
-    """The records of a list just as the program reads them, also where a stricter reader would find a fault in the quotes."""
+    """The records of a list just as the program reads them, also if a stricter reader would find a fault in the quotes."""
     text = data[len(MARK) if data.startswith(MARK) else 0:].decode("utf-8", "surrogateescape")
     at = LINE_ENDS.match(text).end()
     line = 1 + len(LINE_END.findall(text, 0, at))

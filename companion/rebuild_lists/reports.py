@@ -22,7 +22,7 @@ SERVED_FRAGMENT = re.compile(r"rack(0|[1-9][0-9]*)-(0|[1-9][0-9]*)\.")
 @dataclasses.dataclass
 class Answer:
     """An answer of a report: its number in the report and its feed, what its other fields say, and the path of its fragment, which is
-    there where the outcome is rebuilt. Between the places of the survivors that were left out, `unread`, are spaces."""
+    there if the outcome is rebuilt. Between the places of the survivors that were left out, `unread`, are spaces."""
 
     number: int
     feed: int
@@ -49,7 +49,7 @@ class Answer:
         return (self.stripe, self.target, self.length, self.code) == (request.stripe, request.target, request.length, request.code)
 
     def pieces(self) -> Iterator[bytes]:
-        """The fragment's bytes, a piece at a time, since `join` makes long ones. Refused at the end where their number or their
+        """The fragment's bytes, a piece at a time, since `join` makes long ones. Refused at the end if their number or their
         digest isn't the report's."""
         found, length = hashlib.sha256(), 0
         try:
@@ -154,7 +154,7 @@ def read_report(path: pathlib.Path) -> Iterator[Answer]:
 
 
 def is_answer(fields: Sequence[str], code: str) -> bool:
-    """Whether these are an answer's fields. Its stripe is part of a file's name, also where `join` made the report."""
+    """Whether these are an answer's fields. Its stripe is part of a file's name, also if `join` made the report."""
     stripe, target, length, outcome, digest, _ = fields
     return bool(stripe) and "/" not in stripe and "\0" not in stripe and target in PLACES.get(code, []) \
         and re.fullmatch("[1-9][0-9]*", length) is not None and outcome in OUTCOMES \

@@ -69,7 +69,7 @@ def folders(asked: Iterable[Request], racks: int, most: int) -> Iterator[list[li
 
 
 def counted_requests(path: str) -> int:
-    """How many requests a list has, which is refused here where it has a mistake."""
+    """How many requests a list has, which is refused here if it has a mistake."""
     total = 0
     with Progress("lines read") as shown:
         _, lines = requests(path)

@@ -52,6 +52,24 @@ note: 'rack1.csv': is a link to nothing, which is read as if it weren't there
 note: 'rack2.csv': isn't read, since rack1.csv isn't there
 in: good: 1 rack, 1 list, 2 requests; 13 notes""")
 
+    def test_the_folder_to_write_to_is_checked_too(self):
+        self.list(FIVE)
+        good = "in: good: 1 rack, 1 list, 0 requests; 0 notes"
+        wrong = "in: 1 mistake: 1 rack, 1 list, 0 requests; 0 notes"
+        out = self.at / "out"
+        self.done(self.call("check", "in", "out"), f"mistake: out: E24: isn't there\n{wrong}", 1)
+        out.write_bytes(b"")
+        self.done(self.call("check", "in", "out"), f"mistake: out: E24: is no folder\n{wrong}", 1)
+        out.unlink()
+        out.mkdir()
+        self.done(self.call("check", "in", "out"), good)
+        (out / "rack0.report.csv").write_bytes(b"")
+        self.done(self.call("check", "in", "out"), "note: out: isn't empty: what an earlier run left there stays\n"
+                  "in: good: 1 rack, 1 list, 0 requests; 1 note")
+        if os.geteuid():
+            out.chmod(0o500)
+            self.done(self.call("check", "in", "out"), f"mistake: out: E24: can't be written to\n{wrong}", 1)
+
     def test_a_store_without_lists_has_one_mistake(self):
         for name in "My.Name.x1", "3f2504e0-4f89-11d3-9a0c-0305e82c3301.x1", "notes.txt":
             self.list("", name)

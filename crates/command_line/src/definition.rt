@@ -17,7 +17,7 @@ Without a command, rebuild replies to each line of its standard input, as
 The code is 6-2-2, which needs no word, or 12-2-2.
 Places: x0 x1 x2 y0 y1 y2 px py p0 p1; 12-2-2 has x3 x4 x5 y3 y4 y5 too.
 Example: echo 'a x0 1 x1=02 x2=03 px=00' | rebuild
-Exit status: 0 all lines answered, 1 a line refused, 2 usage, 3 device, 4 memory.
+Exit status: 0 all lines answered, 1 a line refused, 2 usage, 3 I/O error, 4 memory.
 Folders of request lists are served by rebuild farm: see rebuild farm --help.
 The manual: man rebuild for the program, man 5 rebuild for its files and lines.";
 
@@ -33,14 +33,14 @@ Files of IN:
 Files written to OUT, those of these names replaced:
   rack<k>-<n>.<stripe>.<place>   the fragment rebuilt for request n of rack k
   rack<k>.report.csv             the answers of rack k, each with its request
-Exit status: 0 served, 1 lists refused, 2 usage, 3 device, 4 memory or threads.
+Exit status: 0 served, 1 lists refused, 2 usage, 3 I/O error, 4 memory or threads.
 A fault is reported in one line, as 'rack0.csv: record 2: E20':
   E11 the workers are not 1 to 16         E21 a record's request is refused: E1 its
   E12 the queue is not 1 to 1024              stripe's name, E2 its length, E3 a
   E16 out of memory                           survivor listed twice, E4 the target
   E17 a thread was refused                    is among the survivors
   E18 there are more than 16 racks        E23 there is no rack0.csv
-  E19 the header is not one of a list     E24 a device failed
+  E19 the header is not one of a list     E24 an I/O error
   E20 a record does not have its form     E25 a list is over 1048576 bytes
   E28 a rack has more than 4 feeds        E26 a list has over 4096 records
 The manual: man rebuild for the program, man 5 rebuild for its files and lines.";

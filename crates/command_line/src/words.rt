@@ -14,6 +14,13 @@ use thiserror::Error;
 const NO_COMMAND: &str =
     "error: rebuild takes the command farm, or no arguments at all\n\nFor more information, try '--help'.\n";
 
+// clap's own text would name the range of the type, which is wider than the limits of a farm.
+const BAD_NUMBER: &str = "\
+error: --workers takes a number from 1 to 16, and --queue one from 1 to 1024\n\nFor more information, try '--help'.\n";
+
+const OTHER_COMMANDS: &str =
+    "The commands for stores, such as repair, are those of rebuild-store.\n";
+
 /// What the program's arguments ask for.
 #[derive(Debug, Drop)]
 pub enum Words {
@@ -94,6 +101,12 @@ fn shown(alloc: Global, error: &ParseError) -> Result<Words, WordsFault>
         ErrorKind::OutOfMemory => Err(WordsFault::OutOfMemory),
         ErrorKind::DisplayHelp | ErrorKind::DisplayVersion => {
             Ok(Words::Help(format!(in alloc; "{error}")?))
+        }
+        ErrorKind::ValueValidation => {
+            Err(WordsFault::Usage(String::from_str(alloc, BAD_NUMBER)?))
+        }
+        ErrorKind::InvalidSubcommand => {
+            Err(WordsFault::Usage(format!(in alloc; "{error}{OTHER_COMMANDS}")?))
         }
         _ => Err(WordsFault::Usage(format!(in alloc; "{error}")?)),
     }

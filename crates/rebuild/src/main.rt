@@ -18,11 +18,13 @@ use farm_core::{Settings, SettingsFault};
 use farm_files::{Served, serve_folders};
 use farm_reading::{farm_status, fault_line};
 use line_mode::{line_mode_in_threads, line_status};
-use std::io::ErrorKind;
+use std::io::{ErrorKind, IsTerminal};
 use std::process::ExitCode;
 use std::sync::Wait;
 use std::thread::Threads;
 use std::{env, io};
+
+const AT_TERMINAL: &str = "rebuild: reading lines until Ctrl-D; their form: rebuild --help";
 
 fn main(rt: HostRuntime) -> ExitCode {
     let status = match asked(&rt) {
@@ -63,8 +65,12 @@ fn arguments(rt: &HostRuntime) -> io::Result<Vec<String>> {
     Ok(env::args(rt)?.skip(1).collect(rt.alloc())?)
 }
 
-// Replies to the lines of standard input on standard output, and gives the exit status.
+// Replies to the lines of standard input on standard output, and gives the exit status. At a terminal it says so first, since nothing
+// is printed before the input has ended.
 fn answer_lines<T: Threads + Sync>(rt: &T, system: &HostRuntime) -> u8 {
+    if system.stdin().is_terminal() {
+        let _ = eprintln!(system; "{AT_TERMINAL}");
+    }
     let answered = line_mode_in_threads(
         rt,
         system.alloc(),

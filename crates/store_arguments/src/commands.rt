@@ -22,7 +22,7 @@ const ABOUT: &str =
 const AFTER_HELP: &str = "\
 A store is a folder with a file <stripe>.<place> for each fragment, as note.x1.
 Places: x0 x1 x2 y0 y1 y2 px py p0 p1; 12-2-2 has x3 x4 x5 y3 y4 y5 too.
-Exit status: 0 done, 1 something is left, 2 usage, 3 device, 4 memory.";
+Exit status: 0 done, 1 something is left, 2 usage, 3 I/O error, 4 memory.";
 
 const NO_COMMAND: &str =
     "error: rebuild-store takes a command\n\nFor more information, try '--help'.\n";

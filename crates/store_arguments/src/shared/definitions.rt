@@ -71,7 +71,7 @@ pub(crate) const CODE: Argument = Argument {
     id: "code",
     form: Form::Choice(CODES),
     value: "CODE",
-    help: "The store's code, where the places don't say it",
+    help: "The store's code, if the places don't say it",
     ..TEXT
 };
 
