@@ -10,11 +10,11 @@ use store_repair::Reads;
 
 // Options before the store and after it, with their values behind a space or an equals sign.
 const REPAIRS: [&str; 2] = [
-    "repair --code 12-2-2 --names d{shard}/{stripe} --layout groups --follow-links --stripes names --part 3/10 --workers 16 \
-     --sums sums --report rows --json --dry-run --replace-damaged --assume-one-damaged --to new --reads few --trust-writers \
+    "repair --code 12-2-2 --names d{shard}/{stripe} --layout groups --follow-links --stripes names --part 3/10 --workers 16 --rate 50M \
+     --progress rate --sums sums --report rows --json --dry-run --replace-damaged --assume-one-damaged --to new --reads few --trust-writers \
      --allow-unmounted -q s",
-    "repair s --code=12-2-2 --names=d{shard}/{stripe} --layout=groups --follow-links --stripes=names --part=3/10 -j 16 --quiet \
-     --sums=sums --report=rows --json -n --replace-damaged --assume-one-damaged --to=new --reads=few --trust-writers --allow-unmounted",
+    "repair s --code=12-2-2 --names=d{shard}/{stripe} --layout=groups --follow-links --stripes=names --part=3/10 -j 16 --quiet --rate=51200K \
+     --progress=rate --sums=sums --report=rows --json -n --replace-damaged --assume-one-damaged --to=new --reads=few --trust-writers --allow-unmounted",
 ];
 
 // Whether the options of a store are those of these lines.
@@ -28,7 +28,12 @@ fn is_store_as_asked(store: &StoreOptions<'_>) -> bool {
 
 // Whether those of the tests of fragments are.
 fn is_test_as_asked(test: &TestOptions<'_>) -> bool {
-    test.sums == Some("sums") && test.report == Some("rows") && test.json && test.workers == 16
+    test.sums == Some("sums")
+        && test.report == Some("rows")
+        && test.progress == Some("rate")
+        && test.rate == Some(52_428_800)
+        && test.json
+        && test.workers == 16
 }
 
 // Whether the names are in the layout of groups, in which px is number 6 of the wide code.
@@ -182,6 +187,30 @@ fn is_plain_encode(options: &EncodeOptions<'_>) -> bool {
         && !options.trusts_writers
 }
 
+// Numbers of bytes, and how many each is.
+const RATES: [(&str, u64); 5] = [
+    ("scrub --rate 1 s", 1),
+    ("scrub --rate=1023 s", 1_023),
+    ("scrub --rate 1K s", 1_024),
+    ("scrub --rate 3G s", 3_221_225_472),
+    ("scrub --rate 18446744073709551615 s", u64::MAX),
+];
+
+// Whether a line asks for this rate.
+fn is_rate(alloc: Global, line: &str, rate: u64) -> Result<bool, AllocError> {
+    match read_arguments(alloc, words_of(alloc, line)?.as_slice()) {
+        Ok(Command::Scrub(options)) => Ok(options.test.rate == Some(rate)),
+        _ => Ok(false),
+    }
+}
+
+#[test]
+fn rates_are_bytes_a_second(rt: HostRuntime) {
+    for (line, rate) in RATES {
+        assert!(&rt; is_rate(rt.alloc(), line, rate) == Ok(true), "{line}");
+    }
+}
+
 #[test]
 fn what_holds_without_options(rt: HostRuntime) {
     for line in ["repair s", "scrub s", "lost s", "encode s a b", "read s n"] {
@@ -204,7 +233,12 @@ fn is_plain_store(store: &StoreOptions<'_>) -> bool {
 
 // Whether nothing was given of the tests of fragments.
 fn is_plain_test(test: &TestOptions<'_>) -> bool {
-    test.sums.is_none() && test.report.is_none() && !test.json && test.workers == 4
+    test.sums.is_none()
+        && test.report.is_none()
+        && test.progress.is_none()
+        && test.rate.is_none()
+        && !test.json
+        && test.workers == 4
 }
 
 // A line, and words that the text it shows has.

@@ -5,7 +5,7 @@ use std::process::Abort;
 use store_arguments::read_arguments;
 
 // The texts of the parser are those of clap, of whose usage each command's line is one.
-static REFUSALS: [(&str, &str); 26] = [
+static REFUSALS: [(&str, &str); 29] = [
     ("encode s -", "error: - needs a name, --as NAME\n"),
     (
         "encode s a - --as b",
@@ -76,6 +76,18 @@ static REFUSALS: [(&str, &str); 26] = [
     (
         "repair --workers=four s",
         "error: --workers takes a number from 1 to 16\n",
+    ),
+    (
+        "repair --rate 0 s",
+        "error: --rate takes a number of bytes, from 1, as 500K, 50M or 1G\n",
+    ),
+    (
+        "scrub --rate=17179869184G s",
+        "error: --rate takes a number of bytes, from 1, as 500K, 50M or 1G\n",
+    ),
+    (
+        "repair --report rows --progress=rows s",
+        "error: --report and --progress take two files\n",
     ),
     (
         "repair --quit s",
