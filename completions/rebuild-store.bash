@@ -6,7 +6,7 @@ _rebuild_store_place() {
   place=0
   while ((index < COMP_CWORD)); do
     case ${COMP_WORDS[index]} in
-      --code | --names | --layout | --stripes | --part | --workers | --sums | --report | --to | --reads | --as | --output | -j | -o)
+      --code | --names | --layout | --stripes | --part | --workers | --rate | --sums | --report | --progress | --to | --reads | --as | --output | -j | -o)
         # The shell cuts --workers=4 into three words.
         [ "${COMP_WORDS[index + 1]}" != = ] || ((index++))
         ((index++))
@@ -35,10 +35,10 @@ _rebuild_store() {
   case ${COMP_WORDS[1]} in
     repair)
       kinds='folder'
-      options+=' --stripes --part --workers --sums --report --json --dry-run --replace-damaged --assume-one-damaged --to --reads --trust-writers --allow-unmounted --quiet -n -j -q'
+      options+=' --stripes --part --workers --rate --sums --report --json --progress --dry-run --replace-damaged --assume-one-damaged --to --reads --trust-writers --allow-unmounted --quiet -n -j -q'
       ;;
     lost | list) kinds='folder' options+=' --stripes --part --json' ;;
-    scrub) kinds='folder' options+=' --stripes --part --workers --sums --report --json --quiet -j -q' ;;
+    scrub) kinds='folder' options+=' --stripes --part --workers --rate --sums --report --json --progress --quiet -j -q' ;;
     encode)
       kinds='folder file+'
       options+=' --trust-writers --allow-unmounted --as --make-folders --replace --quiet -q'
@@ -62,8 +62,8 @@ _rebuild_store() {
     --layout) offered='plain groups' ;;
     --reads) offered='all few' ;;
     --workers | -j) offered='1 2 3 4 5 6 7 8 9 10 11 12 13 14 15 16' ;;
-    --names | --part | --as) return ;;
-    --stripes | --sums | --report | --output | -o) kinds=file ;;
+    --names | --part | --rate | --as) return ;;
+    --stripes | --sums | --report | --progress | --output | -o) kinds=file ;;
     --to) kinds=folder ;;
     *)
       _rebuild_store_place

@@ -15,7 +15,7 @@ function __rebuild_store_place_is
     for word in $words[3..]
         if test $skip = 1
             set skip 0
-        else if contains -- $word --code --names --layout --stripes --part --workers --sums --report --to --reads --as --output -j -o
+        else if contains -- $word --code --names --layout --stripes --part --workers --rate --sums --report --progress --to --reads --as --output -j -o
             set skip 1
         else if not string match -q -- '-*' $word
             set place (math $place + 1)
@@ -61,6 +61,8 @@ set -l held repair scrub
 complete -c rebuild-store -n "__rebuild_store_command_is $held" -s j -l workers -x -a '(seq 1 16)' -d 'Threads that work on stripes, 1 to 16'
 complete -c rebuild-store -n "__rebuild_store_command_is $held" -l sums -r -F -d 'Digests of the fragments'
 complete -c rebuild-store -n "__rebuild_store_command_is $held" -l report -r -F -d 'Write what became of each fragment'
+complete -c rebuild-store -n "__rebuild_store_command_is $held" -l progress -r -F -d 'Write counters for Prometheus'
+complete -c rebuild-store -n "__rebuild_store_command_is $held" -l rate -x -d 'Read at most so many bytes a second, as 50M'
 complete -c rebuild-store -n '__rebuild_store_command_is repair' -s n -l dry-run -d 'Only say what would be done'
 complete -c rebuild-store -n '__rebuild_store_command_is repair' -l replace-damaged -d 'Replace damaged fragments, and keep them'
 complete -c rebuild-store -n '__rebuild_store_command_is repair' -l assume-one-damaged -d 'Guess which fragment is damaged'

@@ -18,7 +18,7 @@ PARTS = {" (os error ", "can be made", "would be rebuilt", "standard output", "s
          ", with --replace-damaged ", "; left without --replace-damaged: ", "the survivors don't determine the fragment",
          "a survivor can't be read: <>", "a rebuilt fragment can't be written: <>"}
 LITERAL = r'"((?:[^"\\]|\\[\s\S])*)"'
-HELP = rf"const \w*(?:HELP|ABOUT): &str =\s*{LITERAL};"
+HELP = rf"(?:const \w*(?:HELP|ABOUT): &str =|\bhelp:)\s*{LITERAL}[;,]"
 
 
 def plain(text):

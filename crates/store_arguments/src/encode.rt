@@ -1,25 +1,55 @@
 //! The command `encode`.
 use crate::faults::UsageFault;
 use crate::shared::definitions::{
-    code, code_of, flag, follow, quiet, store, text, trust, unmounted, word,
+    Argument, CODE, FLAG, FOLLOW, Form, QUIET, STORE, TEXT, TRUST, UNMOUNTED, WORD, code_of,
+    defined,
 };
-use crate::shared::naming::{Naming, links_of, with_names};
-use clap::{ArgAction, ArgMatches, Command as Definition};
+use crate::shared::naming::{LAYOUT, NAMES, Naming, links_of};
+use clap::{ArgMatches, Command as Definition};
 use lrc_code::Code;
 use std::alloc::{AllocError, Global};
 use store_folder::Links;
 
 const ABOUT: &str = "Makes the fragments of files, each file a stripe that is named for it";
 
-const FILES_HELP: &str = "Files to encode, or - for standard input";
+const FILES: Argument = Argument {
+    id: "files",
+    form: Form::Words,
+    value: "FILE",
+    help: "Files to encode, or - for standard input",
+    ..WORD
+};
 
-const AS_HELP: &str = "Name in the store, of one file";
+const CODE_OF_STRIPES: Argument = Argument {
+    default: Some("6-2-2"),
+    help: "Code of the stripes",
+    ..CODE
+};
 
-const FOLDERS_HELP: &str = "Make the folders that the fragments' names have";
+const AS: Argument = Argument {
+    id: "as",
+    value: "NAME",
+    help: "Name in the store, of one file",
+    ..TEXT
+};
 
-const REPLACE_HELP: &str = "Replace files of the store that have other bytes";
+const FOLDERS: Argument = Argument {
+    id: "make-folders",
+    help: "Make the folders that the fragments' names have",
+    ..FLAG
+};
 
-const CODE_HELP: &str = "Code of the stripes";
+const REPLACE: Argument = Argument {
+    id: "replace",
+    help: "Replace files of the store that have other bytes",
+    ..FLAG
+};
+
+// The folder and the files; how the stripes are made and named.
+static ARGUMENTS: &[Argument] = &[STORE, FILES, CODE_OF_STRIPES, NAMES, LAYOUT];
+
+// What may be done.
+static PERMISSIONS: &[Argument] = &[FOLLOW, TRUST, UNMOUNTED, AS, FOLDERS, REPLACE, QUIET];
 
 /// What `encode` is given.
 #[derive(Debug, Drop)]
@@ -47,20 +77,8 @@ pub struct EncodeOptions<'a> {
 
 /// The definition of the command.
 pub(crate) fn definition<'a>(alloc: Global) -> Result<Definition<'a>, AllocError> {
-    let files = word(alloc, "files", "FILE", FILES_HELP).action(ArgAction::Append);
-    let encode = Definition::new(alloc, "encode")
-        .about(ABOUT)
-        .arg(store(alloc))?
-        .arg(files)?
-        .arg(code(alloc, CODE_HELP).default_value("6-2-2"))?;
-    with_names(alloc, encode)?
-        .arg(follow(alloc))?
-        .arg(trust(alloc))?
-        .arg(unmounted(alloc))?
-        .arg(text(alloc, "as", "NAME", AS_HELP))?
-        .arg(flag(alloc, "make-folders", FOLDERS_HELP))?
-        .arg(flag(alloc, "replace", REPLACE_HELP))?
-        .arg(quiet(alloc))
+    let tables = [ARGUMENTS, PERMISSIONS];
+    defined(alloc, "encode", ABOUT, &tables)
 }
 
 impl<'a> EncodeOptions<'a> {

@@ -18,6 +18,10 @@ pub enum UsageFault {
     BadPart,
     #[error("error: --workers takes a number from 1 to 16\n")]
     BadWorkers,
+    #[error("error: --rate takes a number of bytes, from 1, as 500K, 50M or 1G\n")]
+    BadRate,
+    #[error("error: --report and --progress take two files\n")]
+    TwoFiles,
     #[error("error: --as and - take one FILE alone\n")]
     OneFile,
     #[error("error: - needs a name, --as NAME\n")]

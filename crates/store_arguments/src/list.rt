@@ -1,13 +1,19 @@
 //! The command `list`.
 use crate::faults::UsageFault;
-use crate::shared::definitions::flag;
-use crate::shared::store::{StoreOptions, over_store};
+use crate::shared::definitions::{Argument, FLAG, defined};
+use crate::shared::store::{STORE_ARGUMENTS, StoreOptions};
 use clap::{ArgMatches, Command as Definition};
 use std::alloc::{AllocError, Global};
 
 const ABOUT: &str = "Says which files are in a store, and whether they are whole";
 
-const JSON_HELP: &str = "Write a JSON object for each file, on a line of its own";
+const JSON: Argument = Argument {
+    id: "json",
+    help: "Write a JSON object for each file, on a line of its own",
+    ..FLAG
+};
+
+static ARGUMENTS: &[Argument] = &[JSON];
 
 /// What `list` is given.
 #[derive(Clone, Copy, Debug)]
@@ -19,7 +25,8 @@ pub struct ListOptions<'a> {
 
 /// The definition of the command.
 pub(crate) fn definition<'a>(alloc: Global) -> Result<Definition<'a>, AllocError> {
-    over_store(alloc, "list", ABOUT)?.arg(flag(alloc, "json", JSON_HELP))
+    let tables = [STORE_ARGUMENTS, ARGUMENTS];
+    defined(alloc, "list", ABOUT, &tables)
 }
 
 impl<'a> ListOptions<'a> {

@@ -1,13 +1,19 @@
 //! The command `lost`.
 use crate::faults::UsageFault;
-use crate::shared::definitions::flag;
-use crate::shared::store::{StoreOptions, over_store};
+use crate::shared::definitions::{Argument, FLAG, defined};
+use crate::shared::store::{STORE_ARGUMENTS, StoreOptions};
 use clap::{ArgMatches, Command as Definition};
 use std::alloc::{AllocError, Global};
 
 const ABOUT: &str = "Writes the request list of what is lost";
 
-const JSON_HELP: &str = "Write the requests as JSON, an object on each line";
+const JSON: Argument = Argument {
+    id: "json",
+    help: "Write the requests as JSON, an object on each line",
+    ..FLAG
+};
+
+static ARGUMENTS: &[Argument] = &[JSON];
 
 /// What `lost` is given.
 #[derive(Clone, Copy, Debug)]
@@ -19,7 +25,8 @@ pub struct LostOptions<'a> {
 
 /// The definition of the command.
 pub(crate) fn definition<'a>(alloc: Global) -> Result<Definition<'a>, AllocError> {
-    over_store(alloc, "lost", ABOUT)?.arg(flag(alloc, "json", JSON_HELP))
+    let tables = [STORE_ARGUMENTS, ARGUMENTS];
+    defined(alloc, "lost", ABOUT, &tables)
 }
 
 impl<'a> LostOptions<'a> {

@@ -1,7 +1,7 @@
 //! The command `read`.
 use crate::faults::UsageFault;
-use crate::shared::definitions::{follow, quiet, store, text, word};
-use crate::shared::naming::{Naming, links_of, with_names};
+use crate::shared::definitions::{Argument, FOLLOW, QUIET, STORE, TEXT, WORD, defined};
+use crate::shared::naming::{LAYOUT, NAMES, Naming, links_of};
 use clap::{ArgMatches, Command as Definition};
 use lrc_code::Code;
 use std::alloc::{AllocError, Global};
@@ -9,9 +9,22 @@ use store_folder::Links;
 
 const ABOUT: &str = "Writes a file to standard output, also while fragments are lost";
 
-const NAME_HELP: &str = "Name of the file";
+const NAME: Argument = Argument {
+    id: "name",
+    value: "NAME",
+    help: "Name of the file",
+    ..WORD
+};
 
-const OUTPUT_HELP: &str = "Write to this file, which gets its name when all of it is on the disk";
+const OUTPUT: Argument = Argument {
+    id: "output",
+    short: Some('o'),
+    value: "FILE",
+    help: "Write to this file, which gets its name when all of it is on the disk",
+    ..TEXT
+};
+
+static ARGUMENTS: &[Argument] = &[STORE, NAME, NAMES, LAYOUT, FOLLOW, OUTPUT, QUIET];
 
 /// What `read` is given.
 #[derive(Clone, Copy, Debug)]
@@ -30,14 +43,7 @@ pub struct ReadOptions<'a> {
 
 /// The definition of the command.
 pub(crate) fn definition<'a>(alloc: Global) -> Result<Definition<'a>, AllocError> {
-    let read = Definition::new(alloc, "read")
-        .about(ABOUT)
-        .arg(store(alloc))?
-        .arg(word(alloc, "name", "NAME", NAME_HELP))?;
-    with_names(alloc, read)?
-        .arg(follow(alloc))?
-        .arg(text(alloc, "output", "FILE", OUTPUT_HELP).short('o'))?
-        .arg(quiet(alloc))
+    defined(alloc, "read", ABOUT, &[ARGUMENTS])
 }
 
 impl<'a> ReadOptions<'a> {

@@ -1,17 +1,25 @@
 //! The command `remove`.
 use crate::faults::UsageFault;
-use crate::shared::definitions::{code, code_of, follow, quiet, store, trust, word};
-use crate::shared::naming::{Naming, links_of, with_names};
-use clap::{ArgAction, ArgMatches, Command as Definition};
+use crate::shared::definitions::{
+    Argument, CODE, FOLLOW, Form, QUIET, STORE, TRUST, WORD, code_of, defined,
+};
+use crate::shared::naming::{LAYOUT, NAMES, Naming, links_of};
+use clap::{ArgMatches, Command as Definition};
 use lrc_code::Code;
 use std::alloc::{AllocError, Global};
 use store_folder::Links;
 
 const ABOUT: &str = "Takes files out of a store";
 
-const NAMES_HELP: &str = "Names of files";
+const FILES: Argument = Argument {
+    id: "files",
+    form: Form::Words,
+    value: "NAME",
+    help: "Names of files",
+    ..WORD
+};
 
-const CODE_HELP: &str = "The store's code, if the places don't say it";
+static ARGUMENTS: &[Argument] = &[STORE, FILES, CODE, NAMES, LAYOUT, FOLLOW, TRUST, QUIET];
 
 /// What `remove` is given.
 #[derive(Debug, Drop)]
@@ -32,16 +40,7 @@ pub struct RemoveOptions<'a> {
 
 /// The definition of the command.
 pub(crate) fn definition<'a>(alloc: Global) -> Result<Definition<'a>, AllocError> {
-    let names = word(alloc, "files", "NAME", NAMES_HELP).action(ArgAction::Append);
-    let remove = Definition::new(alloc, "remove")
-        .about(ABOUT)
-        .arg(store(alloc))?
-        .arg(names)?
-        .arg(code(alloc, CODE_HELP))?;
-    with_names(alloc, remove)?
-        .arg(follow(alloc))?
-        .arg(trust(alloc))?
-        .arg(quiet(alloc))
+    defined(alloc, "remove", ABOUT, &[ARGUMENTS])
 }
 
 impl<'a> RemoveOptions<'a> {

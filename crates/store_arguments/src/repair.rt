@@ -1,28 +1,55 @@
 //! The command `repair`.
 use crate::faults::UsageFault;
-use crate::shared::definitions::{flag, text, trust, unmounted};
-use crate::shared::store::{StoreOptions, over_store};
-use crate::shared::testing::{TestOptions, with_rows, workers};
+use crate::shared::definitions::{Argument, FLAG, Form, TEXT, TRUST, UNMOUNTED, defined};
+use crate::shared::store::{STORE_ARGUMENTS, StoreOptions};
+use crate::shared::testing::{TEST_ARGUMENTS, TestOptions, WORKERS};
 use clap::{ArgMatches, Command as Definition};
 use std::alloc::{AllocError, Global};
 use store_repair::Reads;
 
 const ABOUT: &str = "Rebuilds each lost fragment and puts it in its place";
 
-const DRY_RUN_HELP: &str = "Only say what would be done";
+const DRY_RUN: Argument = Argument {
+    id: "dry-run",
+    short: Some('n'),
+    help: "Only say what would be done",
+    ..FLAG
+};
 
-const REPLACE_HELP: &str =
-    "Replace fragments that are damaged or have another length; keep them as <name>.damaged";
+const REPLACE: Argument = Argument {
+    id: "replace-damaged",
+    help: "Replace fragments that are damaged or have another length; keep them as <name>.damaged",
+    ..FLAG
+};
 
-const ASSUME_HELP: &str =
-    "Take a fragment for the damaged one if it alone may be, a guess that no check covers";
+const ASSUME: Argument = Argument {
+    id: "assume-one-damaged",
+    help: "Take a fragment for the damaged one if it alone may be, a guess that no check covers",
+    ..FLAG
+};
 
-const TO_HELP: &str = "Write the rebuilt fragments to this folder and not into the store";
+const TO: Argument = Argument {
+    id: "to",
+    value: "FOLDER",
+    help: "Write the rebuilt fragments to this folder and not into the store",
+    ..TEXT
+};
 
-const READS_HELP: &str =
-    "The survivors that are read: all, so that damage shows, or as few as are needed";
+const WAYS: &[&str] = &["all", "few"];
 
-const READS: &[&str] = &["all", "few"];
+const READS: Argument = Argument {
+    id: "reads",
+    form: Form::Choice(WAYS),
+    value: "WHICH",
+    default: Some("all"),
+    help: "The survivors that are read: all, so that damage shows, or as few as are needed",
+    ..TEXT
+};
+
+// The arguments that it has alone, and the number of threads.
+static ARGUMENTS: &[Argument] = &[
+    WORKERS, DRY_RUN, REPLACE, ASSUME, TO, TRUST, UNMOUNTED, READS,
+];
 
 /// What `repair` is given.
 #[derive(Clone, Copy, Debug)]
@@ -44,19 +71,8 @@ pub struct RepairOptions<'a> {
 
 /// The definition of the command.
 pub(crate) fn definition<'a>(alloc: Global) -> Result<Definition<'a>, AllocError> {
-    let reads = text(alloc, "reads", "WHICH", READS_HELP)
-        .value_parser(READS)
-        .default_value("all");
-    let repair = over_store(alloc, "repair", ABOUT)?
-        .arg(workers(alloc))?
-        .arg(flag(alloc, "dry-run", DRY_RUN_HELP).short('n'))?
-        .arg(flag(alloc, "replace-damaged", REPLACE_HELP))?
-        .arg(flag(alloc, "assume-one-damaged", ASSUME_HELP))?
-        .arg(text(alloc, "to", "FOLDER", TO_HELP))?
-        .arg(trust(alloc))?
-        .arg(unmounted(alloc))?
-        .arg(reads)?;
-    with_rows(alloc, repair)
+    let tables = [STORE_ARGUMENTS, ARGUMENTS, TEST_ARGUMENTS];
+    defined(alloc, "repair", ABOUT, &tables)
 }
 
 impl<'a> RepairOptions<'a> {

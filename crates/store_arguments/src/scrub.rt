@@ -1,11 +1,14 @@
 //! The command `scrub`.
 use crate::faults::UsageFault;
-use crate::shared::store::{StoreOptions, over_store};
-use crate::shared::testing::{TestOptions, with_rows, workers};
+use crate::shared::definitions::{Argument, defined};
+use crate::shared::store::{STORE_ARGUMENTS, StoreOptions};
+use crate::shared::testing::{TEST_ARGUMENTS, TestOptions, WORKERS};
 use clap::{ArgMatches, Command as Definition};
 use std::alloc::{AllocError, Global};
 
 const ABOUT: &str = "Tests whether the fragments of each stripe belong together";
+
+static ARGUMENTS: &[Argument] = &[WORKERS];
 
 /// What `scrub` is given.
 #[derive(Clone, Copy, Debug)]
@@ -16,8 +19,8 @@ pub struct ScrubOptions<'a> {
 
 /// The definition of the command.
 pub(crate) fn definition<'a>(alloc: Global) -> Result<Definition<'a>, AllocError> {
-    let scrub = over_store(alloc, "scrub", ABOUT)?.arg(workers(alloc))?;
-    with_rows(alloc, scrub)
+    let tables = [STORE_ARGUMENTS, ARGUMENTS, TEST_ARGUMENTS];
+    defined(alloc, "scrub", ABOUT, &tables)
 }
 
 impl<'a> ScrubOptions<'a> {

@@ -1,15 +1,23 @@
 //! The command `verify`.
 use crate::faults::UsageFault;
-use crate::shared::definitions::{follow, quiet, store, word};
-use crate::shared::naming::{Naming, links_of, with_names};
-use clap::{ArgAction, ArgMatches, Command as Definition};
+use crate::shared::definitions::{Argument, FOLLOW, Form, QUIET, STORE, WORD, defined};
+use crate::shared::naming::{LAYOUT, NAMES, Naming, links_of};
+use clap::{ArgMatches, Command as Definition};
 use lrc_code::Code;
 use std::alloc::{AllocError, Global};
 use store_folder::Links;
 
 const ABOUT: &str = "Reads files back and holds them to their digests, and writes nothing";
 
-const NAMES_HELP: &str = "Names of files [default: all]";
+const FILES: Argument = Argument {
+    id: "files",
+    form: Form::AnyWords,
+    value: "NAME",
+    help: "Names of files [default: all]",
+    ..WORD
+};
+
+static ARGUMENTS: &[Argument] = &[STORE, FILES, NAMES, LAYOUT, FOLLOW, QUIET];
 
 /// What `verify` is given.
 #[derive(Debug, Drop)]
@@ -26,16 +34,7 @@ pub struct VerifyOptions<'a> {
 
 /// The definition of the command.
 pub(crate) fn definition<'a>(alloc: Global) -> Result<Definition<'a>, AllocError> {
-    let names = word(alloc, "files", "NAME", NAMES_HELP)
-        .required(false)
-        .action(ArgAction::Append);
-    let verify = Definition::new(alloc, "verify")
-        .about(ABOUT)
-        .arg(store(alloc))?
-        .arg(names)?;
-    with_names(alloc, verify)?
-        .arg(follow(alloc))?
-        .arg(quiet(alloc))
+    defined(alloc, "verify", ABOUT, &[ARGUMENTS])
 }
 
 impl<'a> VerifyOptions<'a> {

@@ -4,8 +4,16 @@ pub(crate) mod lost;
 pub(crate) mod repair;
 pub(crate) mod scrub;
 
+use crate::output::counters_file::CountersFile;
+use crate::output::row_stream::RowStream;
+use crate::output::say_rows;
+use std::alloc::AllocError;
+use std::io;
+use std::sync::Arc;
 use store_arguments::{StoreOptions, TestOptions};
 use store_opening::Opening;
+use store_progress::{Progress, Task};
+use store_reports::Results;
 
 /// A store that is opened to be read, or some of its stripes.
 pub(crate) fn opening_of<'a>(store: &StoreOptions<'a>) -> Opening<'a> {
@@ -28,6 +36,39 @@ pub(crate) fn test_opening_of<'a>(store: &StoreOptions<'a>, test: &TestOptions<'
     Opening {
         sums: test.sums,
         report: test.report,
+        progress: test.progress,
         ..opening_of(store)
     }
+}
+
+/// Where the counters of a task over a store go, of which nothing is done; it keeps to the rate that is given.
+pub(crate) fn counters_of<'a>(
+    rt: &HostRuntime,
+    task: Task,
+    is_quiet: bool,
+    test: &TestOptions<'a>,
+    store: &'a str,
+) -> Result<CountersFile<'a>, AllocError> {
+    let mut progress = Progress::new(rt, task, is_quiet);
+    if test.progress.is_some() {
+        progress = progress.counted(rt);
+    }
+    if let Some(rate) = test.rate {
+        progress = progress.paced(rt, rate);
+    }
+    let progress = Arc::new(rt.alloc(), progress)?;
+    Ok(CountersFile::new(test.progress, store, progress))
+}
+
+/// Prints the rows that were held back, and writes those of a report. Says whether all could be written.
+pub(crate) fn say_worked(
+    rt: &HostRuntime,
+    results: &Results<'_>,
+    rows: &RowStream<'_>,
+    held: String,
+    test: &TestOptions<'_>,
+) -> io::Result<bool> {
+    let mut held = held;
+    let are_printed = !test.json || rows.end(rt, &mut held, results.alone)?;
+    Ok(say_rows(rt, results, test)? && are_printed)
 }

@@ -1,5 +1,7 @@
 //! What commands say: lines, rows and a summary.
+pub(crate) mod counters_file;
 mod report_file;
+pub(crate) mod row_stream;
 
 use report_file::write_report;
 use std::alloc::AllocError;
@@ -9,7 +11,6 @@ use store_arguments::TestOptions;
 use store_faults::{FileFault, device, say, words_of, write};
 use store_folder::folder_of;
 use store_opening::{OpenStore, Opening};
-use store_progress::allow_output;
 use store_reports::{Results, Rows, alone_lines, rows_of};
 
 /// Says lines on standard error.
@@ -47,49 +48,30 @@ pub(crate) fn say_summary(
     write(rt, Ok(summary))
 }
 
-/// Refuses a report whose folder isn't there, before anything is done.
-pub(crate) fn refuse_report(rt: &HostRuntime, test: &TestOptions<'_>) -> Result<(), FileFault> {
-    let Some(path) = test.report else {
-        return Ok(());
-    };
-    match fs::metadata(rt, folder_of(path)) {
-        Ok(_) => Ok(()),
-        Err(error) => Err(device(rt.alloc(), path, error)),
-    }
-}
-
-// Writes rows to standard output. Says whether it may get so long.
-fn print_rows(rt: &HostRuntime, results: &Results<'_>) -> io::Result<bool> {
-    let rows = rows_of(rt.alloc(), results, Rows::Json)?;
-    match allow_output(rt, rows.len() as u64) {
-        Ok(()) => {
-            print!(rt; "{rows}")?;
-            Ok(true)
-        }
-        Err(error) => {
-            let why = words_of(rt.alloc(), &error)?;
-            say(
-                rt,
-                format!(in rt.alloc(); "rebuild-store: standard output: {why}"),
-            )?;
-            Ok(false)
+/// Refuses a report or counters whose folder isn't there, before anything is done.
+pub(crate) fn refuse_outputs(rt: &HostRuntime, test: &TestOptions<'_>) -> Result<(), FileFault> {
+    for path in [test.report, test.progress] {
+        if let Some(path) = path {
+            if let Err(error) = fs::metadata(rt, folder_of(path)) {
+                return Err(device(rt.alloc(), path, error));
+            }
         }
     }
+    Ok(())
 }
 
-/// Writes the rows of a report to where they are asked for. Says whether they could be written.
+/// Writes the rows of a report, if one is asked for. Says whether they could be written.
 pub(crate) fn say_rows(
     rt: &HostRuntime,
     results: &Results<'_>,
     test: &TestOptions<'_>,
 ) -> io::Result<bool> {
-    let are_printed = !test.json || print_rows(rt, results)?;
     let Some(path) = test.report else {
-        return Ok(are_printed);
+        return Ok(true);
     };
     let rows = rows_of(rt.alloc(), results, Rows::Csv)?;
     match write_report(rt, path, rows.as_str()) {
-        Ok(()) => Ok(are_printed),
+        Ok(()) => Ok(true),
         Err(error) if error.kind() == ErrorKind::OutOfMemory => Err(error),
         Err(error) => {
             let why = words_of(rt.alloc(), &error)?;

@@ -1,6 +1,8 @@
 //! Threads that work on stripes side by side.
 pub(crate) mod tasks;
 
+use crate::output::counters_file::CountersFile;
+use crate::output::row_stream::RowStream;
 use lrc_code::Code;
 use std::alloc::{AllocError, Global};
 use std::sync::Arc;
@@ -9,8 +11,8 @@ use std::thread;
 use std::thread::Threads;
 use store_faults::Descriptions;
 use store_folder::{FolderStore, SeparateStore, Site, SystemFolder};
-use store_opening::OpenStore;
-use store_progress::{CountedReads, CountingFolder, Progress};
+use store_opening::{OpenStore, Opening};
+use store_progress::{CountedReads, CountingFolder};
 use store_reading::{CopyWork, DescribedStripe, tend_descriptions};
 use store_repair::{Found, Outcome, Repair, Stripe, plan_stripe, repair_stripe, scrub_stripe};
 use store_reports::{Contents, Done, without_left, without_repeated};
@@ -28,24 +30,39 @@ pub(crate) enum Work {
     Scrub(Code),
 }
 
-/// The stripes of an open store that are worked on, and where they are.
+/// A store that is open for a command, with the stripes that are worked on, and where its counters go.
 #[derive(Clone, Copy)]
-pub(crate) struct Stripes<'a> {
+pub(crate) struct Opened<'a> {
     pub(crate) store: &'a OpenStore,
-    pub(crate) site: &'a Site<'a>,
-    pub(crate) all: &'a [Stripe<'a>],
-    pub(crate) progress: &'a Arc<Progress, Global>,
+    pub(crate) opening: &'a Opening<'a>,
+    pub(crate) stripes: &'a [Stripe<'a>],
+    pub(crate) counters: &'a CountersFile<'a>,
 }
 
-impl<'a> Stripes<'a> {
-    /// What is in their store.
+/// Where its stripes are, and where rows are printed as they are known, if that is wanted.
+#[derive(Clone, Copy)]
+pub(crate) struct Stripes<'a> {
+    pub(crate) opened: Opened<'a>,
+    pub(crate) site: &'a Site<'a>,
+    pub(crate) rows: Option<&'a RowStream<'a>>,
+}
+
+impl<'a> Opened<'a> {
+    /// What is in the store.
     pub(crate) fn contents(&self) -> Contents<'a> {
         Contents {
-            stripes: self.all,
+            stripes: self.stripes,
             alone: self.store.found.alone.as_slice(),
             has_unlisted: self.store.has_unlisted,
         }
     }
+}
+
+/// What was done with stripes, and the rows that are still to be printed.
+#[derive(Drop)]
+pub(crate) struct Worked {
+    pub(crate) all: Vec<Done>,
+    pub(crate) held: String,
 }
 
 impl Work {
@@ -82,29 +99,32 @@ impl Work {
 }
 
 /// Does some work with each stripe, in so many threads at most, those that have lost most first, and gives the outcomes in the order of the
-/// stripes.
+/// stripes. Rows are printed and counters written meanwhile.
 pub(crate) fn work_on<R: Threads + Sync>(
     rt: &R,
     system: &HostRuntime,
     stripes: &Stripes<'_>,
     work: Work,
     workers: usize,
-) -> Result<Vec<Done>, AllocError> {
+) -> Result<Worked, AllocError> {
     // Without that memory the work goes on as well.
     drop(Vec::<u8>::with_capacity(system.alloc(), HELD));
-    let order = by_losses(system.alloc(), stripes.all)?;
+    let order = by_losses(system.alloc(), stripes.opened.stripes)?;
     let order = order.as_slice();
     let next = AtomicUsize::new(0);
     let worker = |_worker: usize| { take_stripes(system, stripes, work, order, &next) };
     let parts = thread::map_indices(rt, system.alloc(), workers, &worker)?;
-    let mut all = Vec::with_capacity(system.alloc(), stripes.all.len())?;
+    let mut all = Vec::with_capacity(system.alloc(), order.len())?;
+    let mut held = String::new(system.alloc());
     for part in parts {
-        for done in part? {
+        let part = part?;
+        held.push_str(part.held.as_str())?;
+        for done in part.all {
             all.push(done)?;
         }
     }
     all.sort_by_key(|done| done.index)?;
-    Ok(all)
+    Ok(Worked { all, held })
 }
 
 // The indexes of the stripes in the order in which they are worked on: those of which fewest fragments are there first.
@@ -132,9 +152,11 @@ fn take_stripes(
     work: Work,
     order: &[usize],
     next: &AtomicUsize,
-) -> Result<Vec<Done>, AllocError> {
+) -> Result<Worked, AllocError> {
     let mut all = Vec::new(system.alloc());
-    let reads = CountedReads::new(system, stripes.progress)?;
+    let mut held = String::new(system.alloc());
+    let counters = stripes.opened.counters;
+    let reads = CountedReads::new(system, &counters.progress)?;
     let reads = Arc::new(system.alloc(), reads)?;
     let counted = Arc::try_clone(&reads)?;
     let files = CountingFolder::new(SystemFolder::new(system), counted);
@@ -143,22 +165,27 @@ fn take_stripes(
         let Some(index) = order.get(next.fetch_add(1, Ordering::SeqCst)).copied() else {
             break;
         };
-        let Some(stripe) = stripes.all.get(index) else {
+        let Some(stripe) = stripes.opened.stripes.get(index) else {
             break;
         };
         let bytes = work.bytes_of(stripe);
         reads.begin(bytes);
         let outcome = outcome_of(system.alloc(), &mut store, work, stripe)?;
-        stripes.progress.note(&outcome);
+        counters.progress.note(&outcome);
         reads.end(work.units_of(&outcome), bytes);
         let descriptions = descriptions_of(system, stripes, work, stripe, outcome.length)?;
-        all.push(Done {
+        let done = Done {
             index,
             outcome,
             descriptions,
-        })?;
+        };
+        if let Some(rows) = stripes.rows {
+            rows.add(system, &mut held, stripe.name, &done)?;
+        }
+        counters.write_in_time(system);
+        all.push(done)?;
     }
-    Ok(all)
+    Ok(Worked { all, held })
 }
 
 // Does the work with the descriptions of a stripe whose fragments have so many bytes, if it has any.
@@ -169,7 +196,7 @@ fn descriptions_of(
     stripe: &Stripe<'_>,
     length: usize,
 ) -> Result<Option<Descriptions>, AllocError> {
-    let store = stripes.store;
+    let store = stripes.opened.store;
     if !store.found.described.contains(stripe.name) {
         return Ok(None);
     }

@@ -10,6 +10,7 @@ mod giving;
 mod leaving;
 mod links;
 mod listed_descriptions;
+mod listed_folders;
 mod listing;
 mod placing;
 mod regular;

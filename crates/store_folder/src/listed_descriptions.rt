@@ -28,6 +28,9 @@ impl Listing {
         if self.names.is_described(stripe) && !may_be_fragment {
             return Ok(true);
         }
+        if wanted.knows_code && !may_be_fragment && !self.names.is_wanted(stripe) {
+            return Ok(true);
+        }
         let path = path_in(alloc, folder, name)?;
         match read_description(rt, path.as_str(), wanted.links) {
             Ok(Some(described)) => self.names.describe(alloc, stripe, described.code)?,

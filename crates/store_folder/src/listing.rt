@@ -1,15 +1,13 @@
 //! What is in a store: which fragments of which stripes, and how many bytes each has.
 use crate::disks::Unlisted;
 use crate::links::{Links, followed, look_at};
-use crate::regular::Identity;
 use crate::stripe_names::StripeNames;
-use crate::watching::{Foreign, Wanted, is_of_store, may_others_write};
+use crate::watching::{Foreign, Wanted};
 use folders::folder_of;
 use std::alloc::{AllocError, Global};
 use std::collections::BTreeSet;
 use std::fs::{self, Metadata};
 use std::io::{self, ErrorKind};
-use std::os::unix::fs::MetadataExt;
 use store_names::{disk_folders, is_ambiguous, is_of_runs, last_of, path_in};
 use store_repair::Found;
 
@@ -34,8 +32,8 @@ pub struct Listing {
     pub linked: BTreeSet<String>,
     /// A folder of the store that others than root may write into.
     pub foreign: Option<Foreign>,
-    /// Whether the path that was to be watched is one of the store's.
-    pub is_watched: bool,
+    /// The first path of those that were to be watched that was found to be one of the store's.
+    pub watched: Option<String>,
     // Whether names of descriptions may be those of fragments.
     pub(crate) is_ambiguous: bool,
 }
@@ -71,7 +69,7 @@ impl Listing {
             links: 0,
             linked: BTreeSet::new(alloc),
             foreign: None,
-            is_watched: false,
+            watched: None,
             is_ambiguous: is_ambiguous(alloc, &wanted.pattern, wanted.code)?,
         })
     }
@@ -161,7 +159,7 @@ impl Listing {
             return Ok(names);
         }
         let path = path_inside(alloc, folder, inside)?;
-        if let Err(error) = self.names_in(rt, path.as_str(), inside, &mut names) {
+        if let Err(error) = self.names_in(rt, path.as_str(), inside, wanted, &mut names) {
             self.note_unlisted(alloc, folder, inside, error)?;
         }
         Ok(names)
@@ -204,43 +202,26 @@ impl Listing {
         Ok(true)
     }
 
-    // Notes that a folder inside the store's can't be listed; the store's own has to be.
-    fn note_unlisted(
-        &mut self,
-        alloc: Global,
-        folder: &str,
-        inside: &str,
-        error: io::Error,
-    ) -> io::Result<()> {
-        let is_noted = |other: &Unlisted| other.name.as_str() == inside;
-        if inside.is_empty() || error.kind() == ErrorKind::OutOfMemory {
-            return Err(error);
-        }
-        if !self.unlisted.iter().any(is_noted) {
-            self.unlisted.push(Unlisted {
-                name: String::from_str(alloc, inside)?,
-                path: path_in(alloc, folder, inside)?,
-                error,
-            })?;
-        }
-        Ok(())
-    }
-
     // Adds the names in the folder at a path, each with the name that this has in the store.
     fn names_in(
         &mut self,
         rt: &HostRuntime,
         path: &str,
         inside: &str,
+        wanted: &Wanted<'_>,
         names: &mut Vec<String>,
     ) -> io::Result<()> {
         let alloc = rt.alloc();
         for entry in fs::read_dir(rt, path)? {
             match entry {
                 Ok(entry) if inside.is_empty() => {
-                    names.push(String::from_str(alloc, entry.file_name())?)?;
+                    let name = String::from_str(alloc, entry.file_name())?;
+                    self.keep_name(wanted, name, names)?;
                 }
-                Ok(entry) => names.push(path_in(alloc, inside, entry.file_name())?)?,
+                Ok(entry) => {
+                    let name = path_in(alloc, inside, entry.file_name())?;
+                    self.keep_name(wanted, name, names)?;
+                }
                 Err(error) if error.kind() == ErrorKind::InvalidFilename => {
                     self.unreadable_names = self.unreadable_names.saturating_add(1);
                 }
@@ -250,41 +231,23 @@ impl Listing {
         Ok(())
     }
 
-    // Notes a link that isn't followed.
-    fn note_link(&mut self, path: String) -> Result<(), AllocError> {
-        if self.link.is_none() {
-            self.link = Some(path);
-        }
-        self.links = self.links.saturating_add(1);
-        Ok(())
-    }
-
-    // Notes who may write into a folder of the store, and whether the watched path is a name of the store's in it.
-    fn note_folder(
+    // Keeps a name of the store, unless it is that of another part's fragment: such are only counted, so that a part costs its part, and
+    // listing the names. A watched path may be a fragment of any part.
+    fn keep_name(
         &mut self,
-        alloc: Global,
-        path: &str,
-        inside: &str,
-        metadata: &Metadata,
         wanted: &Wanted<'_>,
+        name: String,
+        names: &mut Vec<String>,
     ) -> Result<(), AllocError> {
-        if self.foreign.is_none() && may_others_write(metadata) {
-            self.foreign = Some(Foreign {
-                folder: String::from_str(alloc, path)?,
-                user: metadata.uid(),
-            });
+        if wanted.has_stripes && wanted.watched.is_empty() && !self.is_ambiguous {
+            if let Some((stripe, _)) = wanted.pattern.read(wanted.code, name.as_str()) {
+                if !self.names.is_wanted(stripe) {
+                    self.names.note_name();
+                    return Ok(());
+                }
+            }
         }
-        let Some(watched) = wanted.watched else {
-            return Ok(());
-        };
-        if watched.folder == Identity::of(metadata) {
-            let name = if inside.is_empty() {
-                String::from_str(alloc, watched.name)?
-            } else {
-                path_in(alloc, inside, watched.name)?
-            };
-            self.is_watched = self.is_watched || is_of_store(name.as_str(), wanted);
-        }
+        names.push(name)?;
         Ok(())
     }
 
@@ -333,10 +296,7 @@ impl Listing {
         };
         match metadata {
             Ok(metadata) => {
-                if let Some(watched) = wanted.watched {
-                    let is_it = watched.file == Some(Identity::of(&metadata));
-                    self.is_watched = self.is_watched || is_it;
-                }
+                self.note_file(rt.alloc(), &metadata, wanted)?;
                 Ok(found_of(&metadata))
             }
             Err(error) if error.kind() == ErrorKind::NotFound => Ok(Some(Found::Dangling)),

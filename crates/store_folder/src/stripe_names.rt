@@ -90,6 +90,11 @@ impl StripeNames {
         self.named == 0
     }
 
+    /// Notes that a file is named as a fragment.
+    pub fn note_name(&mut self) {
+        self.named = self.named.saturating_add(1);
+    }
+
     /// Notes what is under the name of a fragment.
     pub fn note(
         &mut self,
@@ -98,7 +103,7 @@ impl StripeNames {
         place: Place,
         found: Found,
     ) -> Result<(), AllocError> {
-        self.named = self.named.saturating_add(1);
+        self.note_name();
         if !self.is_wanted(stripe) {
             return Ok(());
         }
@@ -182,7 +187,8 @@ impl StripeNames {
         self.described.contains(stripe)
     }
 
-    fn is_wanted(&self, stripe: &str) -> bool {
+    /// Whether a stripe is of the part that is wanted.
+    pub fn is_wanted(&self, stripe: &str) -> bool {
         match self.part {
             Some(part) => part.has(stripe),
             None => true,

@@ -19,28 +19,33 @@ pub struct Wanted<'a> {
     pub pattern: Pattern<'a>,
     /// The code by which names are read.
     pub code: Code,
+    /// Whether that is the store's, so that no description is asked for it.
+    pub knows_code: bool,
     /// Whether stripes are listed, and not only what runs have left.
     pub has_stripes: bool,
     /// The part whose stripes are listed, or all.
     pub part: Option<Part>,
     pub links: Links,
-    /// A path that may be one of the store's.
-    pub watched: Option<&'a Watched<'a>>,
+    /// Paths that may be some of the store's.
+    pub watched: &'a [Watched<'a>],
 }
 
-/// A path that may lead to a file of a store: its folder, its last part, and which file is there, if one is.
+/// A path that may lead to a file of a store: as it was given, and of what it leads to the folder, the last part, and which file is
+/// there, if one is.
 #[derive(Clone, Copy)]
 pub struct Watched<'a> {
+    pub(crate) given: &'a str,
     pub(crate) folder: Identity,
     pub(crate) name: &'a str,
     pub(crate) file: Option<Identity>,
 }
 
 impl<'a> Watched<'a> {
-    /// The path, if its folder is there.
-    pub fn at(rt: &HostRuntime, path: &'a str) -> Option<Watched<'a>> {
+    /// A path that was given and leads to this path, if the folder of that is there.
+    pub fn at(rt: &HostRuntime, given: &'a str, path: &'a str) -> Option<Watched<'a>> {
         let folder = fs::metadata(rt, folder_of(path)).ok()?;
         Some(Watched {
+            given,
             folder: Identity::of(&folder),
             name: last_of(path),
             file: fs::metadata(rt, path)

@@ -20,6 +20,8 @@ pub struct Opening<'a> {
     pub sums: Option<&'a str>,
     /// The path of the file that rows are to be written to.
     pub report: Option<&'a str>,
+    /// The path of the file that counters are to be written to.
+    pub progress: Option<&'a str>,
     /// The folder that rebuilt fragments are written to, if that isn't the store's.
     pub to: Option<&'a str>,
     pub access: Access,
@@ -45,6 +47,7 @@ impl<'a> Opening<'a> {
             part: None,
             sums: None,
             report: None,
+            progress: None,
             to: None,
             access: Access::Reads,
             unmounted: Unmounted::Named,

@@ -54,19 +54,13 @@ pub fn other_than(code: Code) -> Code {
     }
 }
 
-/// Refuses a report that would be written over a file of the store.
-pub(crate) fn refuse_report(
-    rt: &HostRuntime,
-    opening: &Opening<'_>,
-    listing: &Listing,
-    target: Option<&Listing>,
-) -> Result<(), StoreFault> {
-    let is_there = listing.is_watched || target.is_some_and(|target| target.is_watched);
-    match opening.report {
-        Some(path) if is_there => Err(StoreFault::ReportInStore {
-            path: String::from_str(rt.alloc(), path)?,
+/// Refuses a listed folder of which a file would be written over by a report or by counters.
+pub(crate) fn refuse_watched(rt: &HostRuntime, listing: &Listing) -> Result<(), StoreFault> {
+    match &listing.watched {
+        Some(path) => Err(StoreFault::ReportInStore {
+            path: String::from_str(rt.alloc(), path.as_str())?,
         }),
-        _ => Ok(()),
+        None => Ok(()),
     }
 }
 

@@ -2,7 +2,7 @@
 use crate::expecting::expected;
 use crate::locks::Locks;
 use crate::opening::{Access, Opening};
-use crate::refusing::{refuse_other_code, refuse_report, refuse_writing};
+use crate::refusing::{refuse_other_code, refuse_watched, refuse_writing};
 use crate::unlisted::{listed, say_unlisted};
 use crate::unmounted::{leave_alone, left_alone};
 use lrc_code::Code;
@@ -93,14 +93,23 @@ impl Unlocked {
     }
 }
 
-// Opens a store whose locks are taken. What a report's path leads to is looked out for: it may be the name of a fragment that is lost.
+// Opens a store whose locks are taken. What the path of a report or of counters leads to is looked out for: it may be the name of a
+// fragment that is lost.
 fn open_locked(rt: &HostRuntime, opening: &Opening<'_>) -> Result<Unlocked, StoreFault> {
-    let Some(path) = opening.report else {
-        return open_watched(rt, opening, None);
-    };
-    let path = end_of_links(rt, path)?;
-    let watched = Watched::at(rt, path.as_str());
-    open_watched(rt, opening, watched.as_ref())
+    let alloc = rt.alloc();
+    let mut ends = Vec::new(alloc);
+    for path in [opening.report, opening.progress] {
+        if let Some(path) = path {
+            ends.push((path, end_of_links(rt, path)?))?;
+        }
+    }
+    let mut watched = Vec::new(alloc);
+    for (given, end) in &ends {
+        if let Some(path) = Watched::at(rt, given, end.as_str()) {
+            watched.push(path)?;
+        }
+    }
+    open_watched(rt, opening, watched.as_slice())
 }
 
 // The path that a path's links lead to, or itself if they lead nowhere.
@@ -111,15 +120,16 @@ fn end_of_links(rt: &HostRuntime, path: &str) -> Result<String, AllocError> {
     }
 }
 
-// Opens a store, and looks out for a path that may be one of its own.
+// Opens a store, and looks out for paths that may be some of its own.
 fn open_watched(
     rt: &HostRuntime,
     opening: &Opening<'_>,
-    watched: Option<&Watched<'_>>,
+    watched: &[Watched<'_>],
 ) -> Result<Unlocked, StoreFault> {
     let wanted = Wanted {
         pattern: opening.pattern,
         code: opening.code.unwrap_or(Code::Wide),
+        knows_code: opening.code.is_some(),
         has_stripes: true,
         part: opening.part,
         links: opening.links,
@@ -127,7 +137,10 @@ fn open_watched(
     };
     let mut listing = listed(rt, opening.folder, &wanted)?;
     let target = listed_target(rt, opening, &wanted)?;
-    refuse_report(rt, opening, &listing, target.as_ref())?;
+    refuse_watched(rt, &listing)?;
+    if let Some(target) = &target {
+        refuse_watched(rt, target)?;
+    }
     refuse_writing(rt, opening, target.as_ref().unwrap_or(&listing))?;
     let sums = expected(rt, opening, &wanted, &mut listing)?;
     let code = match opening.code {

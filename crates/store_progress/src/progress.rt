@@ -1,4 +1,6 @@
-//! The line on a terminal that says how far a command is, also within a long file or stripe.
+//! How far a command is, counted also within a long file or stripe, and the line on a terminal that says so.
+use crate::pace::Pace;
+use crate::turns::Turns;
 use std::alloc::{AllocError, Global};
 use std::io::{self, IsTerminal};
 use std::sync::atomic::{AtomicU64, Ordering};
@@ -72,7 +74,10 @@ pub struct Task {
 /// What is to be done, what of it is done, and since when. Nothing is shown where standard error is no terminal.
 #[derive(Drop)]
 pub struct Progress {
+    // Since when it is counted; none if nobody sees it.
     start: Option<Instant>,
+    is_seen: bool,
+    pace: Option<Pace>,
     task: Task,
     done: AtomicU64,
     done_bytes: AtomicU64,
@@ -80,8 +85,8 @@ pub struct Progress {
     passed: AtomicU64,
     damaged: AtomicU64,
     others: AtomicU64,
-    // When the line was shown last, in milliseconds since the start.
-    shown: AtomicU64,
+    // When the line is shown.
+    turns: Turns,
     // 1 while the line is there.
     lines: AtomicU64,
 }
@@ -89,19 +94,19 @@ pub struct Progress {
 impl Progress {
     /// The progress of a task, of which nothing is done.
     pub fn new(rt: &HostRuntime, task: Task, is_quiet: bool) -> Progress {
+        let is_seen = Progress::is_seen(rt, is_quiet);
+        let start = if is_seen { Instant::now(rt).ok() } else { None };
         Progress {
-            start: if Progress::is_seen(rt, is_quiet) {
-                Instant::now(rt).ok()
-            } else {
-                None
-            },
+            start,
+            is_seen,
+            pace: None,
             task,
             done: AtomicU64::new(0),
             done_bytes: AtomicU64::new(0),
             passed: AtomicU64::new(0),
             damaged: AtomicU64::new(0),
             others: AtomicU64::new(0),
-            shown: AtomicU64::new(0),
+            turns: Turns::new(BETWEEN),
             lines: AtomicU64::new(0),
         }
     }
@@ -111,9 +116,58 @@ impl Progress {
         !is_quiet && rt.stderr().is_terminal()
     }
 
-    /// Whether the line is shown.
-    pub fn is_shown(&self) -> bool {
+    /// The same, counted also if no line is shown.
+    pub fn counted(self, rt: &HostRuntime) -> Progress {
+        match self.start {
+            Some(_) => self,
+            None => Progress {
+                start: Instant::now(rt).ok(),
+                ..self
+            },
+        }
+    }
+
+    /// The same, in which all threads together read at most so many bytes a second.
+    pub fn paced(self, rt: &HostRuntime, rate: u64) -> Progress {
+        Progress {
+            pace: Pace::new(rt, rate),
+            ..self
+        }
+    }
+
+    /// Whether what is done is counted.
+    pub fn is_counted(&self) -> bool {
         self.start.is_some()
+    }
+
+    /// The name of the command.
+    pub fn command(&self) -> &'static str {
+        self.task.operation.name()
+    }
+
+    /// How many milliseconds have passed since it began; none if it isn't counted.
+    pub fn milliseconds(&self, rt: &HostRuntime) -> Option<u64> {
+        let elapsed = self.start?.elapsed(rt).ok()?;
+        Some(u64::try_from(elapsed.as_millis()).unwrap_or(u64::MAX))
+    }
+
+    /// Sleeps after so many bytes were read for as long as the limit on that says.
+    pub(crate) fn keep_pace(&self, rt: &HostRuntime, bytes: u64) {
+        if let Some(pace) = &self.pace {
+            pace.keep(rt, bytes);
+        }
+    }
+
+    /// What is counted, each with its name: what is to be done, what is done, and what was found.
+    pub(crate) fn counts(&self) -> [(&'static str, u64); 6] {
+        [
+            ("units", self.task.units),
+            ("units_done", self.done.load(Ordering::SeqCst)),
+            ("bytes", self.task.bytes),
+            ("bytes_done", self.bytes_done()),
+            ("damaged", self.damaged.load(Ordering::SeqCst)),
+            ("left", self.others.load(Ordering::SeqCst)),
+        ]
     }
 
     /// How often each byte is gone over.
@@ -157,24 +211,15 @@ impl Progress {
         self.show_in_time(rt);
     }
 
-    // Shows the line if it was shown long enough ago. Of several threads one does it.
+    // Shows the line if somebody sees it and it was shown long enough ago.
     fn show_in_time(&self, rt: &HostRuntime) {
-        let Some(start) = self.start else {
-            return;
-        };
-        let Ok(elapsed) = start.elapsed(rt) else {
-            return;
-        };
-        let now = u64::try_from(elapsed.as_millis()).unwrap_or(u64::MAX);
-        let last = self.shown.load(Ordering::SeqCst);
-        if now.saturating_sub(last) < BETWEEN {
+        if !self.is_seen {
             return;
         }
-        let taken = self
-            .shown
-            .compare_exchange(last, now, Ordering::SeqCst, Ordering::SeqCst);
-        if taken.is_ok() {
-            let _ = self.show(rt, now);
+        if let Some(now) = self.milliseconds(rt) {
+            if self.turns.take(now) {
+                let _ = self.show(rt, now);
+            }
         }
     }
 

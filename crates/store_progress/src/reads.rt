@@ -37,9 +37,10 @@ impl CountedReads {
         self.read.store(0, Ordering::SeqCst);
     }
 
-    // Counts bytes that were read.
+    // Counts bytes that were read, and keeps to the limit on them.
     fn advance(&self, bytes: u64) {
-        if !self.progress.is_shown() {
+        self.progress.keep_pace(&self.rt, bytes);
+        if !self.progress.is_counted() {
             return;
         }
         let most = self.most.load(Ordering::SeqCst);

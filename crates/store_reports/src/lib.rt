@@ -24,8 +24,8 @@ pub use files::{FileState, ListedFile, file_line};
 pub use findings::{alone_lines, finding_lines, unchecked_lines, unknown_lines, unlisted_lines};
 pub use plans::{without_left, without_repeated};
 pub use requests::{header_of, request_lines};
-pub use results::{Contents, Results};
-pub use rows::{Rows, rows_of};
+pub use results::{Contents, Results, RowSource};
+pub use rows::{Rows, add_alone, add_stripe, rows_of};
 pub use statuses::{status_of, status_of_plan};
 pub use summaries::{
     encoded, files_listed, listed, planned, removed, repaired, scrubbed, verified,

@@ -28,6 +28,14 @@ pub struct Results<'a> {
     pub totals: Totals,
 }
 
+/// What rows are of: a store that a command works on.
+#[derive(Clone, Copy)]
+pub struct RowSource<'a> {
+    pub site: &'a Site<'a>,
+    /// What rows say of a fragment that was rebuilt, or would be.
+    pub word: &'static str,
+}
+
 impl<'a> Results<'a> {
     /// The results of a command over what is in a store, counted.
     pub fn new(
@@ -52,5 +60,13 @@ impl<'a> Results<'a> {
             word,
             totals,
         })
+    }
+
+    /// What rows are of.
+    pub fn source(&self) -> RowSource<'a> {
+        RowSource {
+            site: self.site,
+            word: self.word,
+        }
     }
 }

@@ -1,6 +1,7 @@
 //! The rows of a report.
+use crate::done::Done;
 use crate::findings::{ALONE, reason_text};
-use crate::results::Results;
+use crate::results::{Results, RowSource};
 use crate::totals::{rebuilt_places, unchecked_places};
 use csv::WriterBuilder;
 use serde_json::Value;
@@ -36,41 +37,60 @@ pub fn rows_of(alloc: Global, results: &Results<'_>, rows: Rows) -> io::Result<S
     }
     for done in results.all {
         if let Some(stripe) = results.stripes.get(done.index) {
-            add_rows(alloc, results, stripe.name, &done.outcome, rows, &mut text)?;
-            if let Some(descriptions) = &done.descriptions {
-                add_descriptions(alloc, results, stripe.name, descriptions, rows, &mut text)?;
-            }
+            add_stripe(alloc, results.source(), stripe.name, done, rows, &mut text)?;
         }
     }
-    for Alone { stripe, place } in results.alone {
+    add_alone(alloc, results.alone, rows, &mut text)?;
+    Ok(text)
+}
+
+/// Adds the rows of a stripe.
+pub fn add_stripe(
+    alloc: Global,
+    source: RowSource<'_>,
+    stripe: &str,
+    done: &Done,
+    rows: Rows,
+    text: &mut String,
+) -> io::Result<()> {
+    add_rows(alloc, source, stripe, &done.outcome, rows, text)?;
+    match &done.descriptions {
+        Some(descriptions) => add_descriptions(alloc, source, stripe, descriptions, rows, text),
+        None => Ok(()),
+    }
+}
+
+/// Adds the rows of files that are of no stripe.
+pub fn add_alone(alloc: Global, alone: &[Alone], rows: Rows, text: &mut String) -> io::Result<()> {
+    for Alone { stripe, place } in alone {
         let row = Row {
             stripe: stripe.as_str(),
             place: place.name(),
             outcome: "alone",
             detail: String::from_str(alloc, ALONE)?,
         };
-        add_row(alloc, &row, rows, &mut text)?;
+        add_row(alloc, &row, rows, text)?;
     }
-    Ok(text)
+    Ok(())
 }
 
-// Adds the rows of a stripe.
+// Adds the rows of a stripe's fragments.
 fn add_rows(
     alloc: Global,
-    results: &Results<'_>,
+    source: RowSource<'_>,
     stripe: &str,
     outcome: &Outcome,
     rows: Rows,
     text: &mut String,
 ) -> io::Result<()> {
-    let unchecked = unchecked_places(alloc, results.site, stripe, outcome)?;
+    let unchecked = unchecked_places(alloc, source.site, stripe, outcome)?;
     for place in rebuilt_places(alloc, outcome)? {
         let is_unchecked = unchecked.iter().any(|other| *other == place);
         let detail = if is_unchecked { "unchecked" } else { "" };
         let row = Row {
             stripe,
             place: place.name(),
-            outcome: results.word,
+            outcome: source.word,
             detail: String::from_str(alloc, detail)?,
         };
         add_row(alloc, &row, rows, text)?;
@@ -97,7 +117,7 @@ fn add_rows(
 // Adds the rows of a stripe's descriptions.
 fn add_descriptions(
     alloc: Global,
-    results: &Results<'_>,
+    source: RowSource<'_>,
     stripe: &str,
     descriptions: &Descriptions,
     rows: Rows,
@@ -107,7 +127,7 @@ fn add_descriptions(
         let row = Row {
             stripe,
             place: "file",
-            outcome: results.word,
+            outcome: source.word,
             detail: String::from_str(alloc, name.as_str())?,
         };
         add_row(alloc, &row, rows, text)?;

@@ -1,17 +1,29 @@
 //! How the fragments of a store are named, and which files are taken for them.
 use crate::faults::UsageFault;
-use crate::shared::definitions::text;
-use clap::{ArgMatches, Command as Definition};
+use crate::shared::definitions::{Argument, Form, TEXT};
+use clap::ArgMatches;
 use lrc_code::Code;
-use std::alloc::{AllocError, Global};
 use store_folder::{Layout, Links, Pattern};
 
-const NAMES_HELP: &str =
-    "How the files are named: {stripe} and {place}, or {shard} [default: {stripe}.{place}]";
-
-const LAYOUT_HELP: &str = "The order of the shards: plain (data, then px py p0 p1) or groups";
+/// The option with the pattern of names.
+pub(crate) const NAMES: Argument = Argument {
+    id: "names",
+    value: "PATTERN",
+    help: "How the files are named: {stripe} and {place}, or {shard} [default: {stripe}.{place}]",
+    ..TEXT
+};
 
 const LAYOUTS: &[&str] = &["plain", "groups"];
+
+/// The option with the order of shards.
+pub(crate) const LAYOUT: Argument = Argument {
+    id: "layout",
+    form: Form::Choice(LAYOUTS),
+    value: "LAYOUT",
+    default: Some("plain"),
+    help: "The order of the shards: plain (data, then px py p0 p1) or groups",
+    ..TEXT
+};
 
 // The pattern of names that a store has if no other is given.
 const DEFAULT_NAMES: &str = "{stripe}.{place}";
@@ -22,19 +34,6 @@ pub struct Naming<'a> {
     /// The pattern as it was given.
     pub text: &'a str,
     pub pattern: Pattern<'a>,
-}
-
-/// A command with the options that say how fragments are named.
-pub(crate) fn with_names<'a>(
-    alloc: Global,
-    definition: Definition<'a>,
-) -> Result<Definition<'a>, AllocError> {
-    let layout = text(alloc, "layout", "LAYOUT", LAYOUT_HELP)
-        .value_parser(LAYOUTS)
-        .default_value("plain");
-    definition
-        .arg(text(alloc, "names", "PATTERN", NAMES_HELP))?
-        .arg(layout)
 }
 
 impl<'a> Naming<'a> {

@@ -2,18 +2,25 @@
 ghost use Rattle.std.specs.Prelude.{◌≤◌, IfOk, IfSome};
 
 use crate::faults::UsageFault;
-use crate::shared::definitions::{code, code_of, follow, store, text};
-use crate::shared::naming::{Naming, links_of, with_names};
-use clap::{ArgMatches, Command as Definition};
+use crate::shared::definitions::{Argument, CODE, FOLLOW, STORE, TEXT, code_of};
+use crate::shared::naming::{LAYOUT, NAMES, Naming, links_of};
+use clap::ArgMatches;
 use lrc_code::Code;
-use std::alloc::{AllocError, Global};
 use store_folder::{Links, Part};
 
-const CODE_HELP: &str = "The store's code, if the places don't say it";
+const STRIPES: Argument = Argument {
+    id: "stripes",
+    value: "FILE",
+    help: "File of the stripes that should be there, a name on each line",
+    ..TEXT
+};
 
-const STRIPES_HELP: &str = "File of the stripes that should be there, a name on each line";
-
-const PART_HELP: &str = "Only the stripes of part I of N, as 3/10";
+const PART: Argument = Argument {
+    id: "part",
+    value: "I/N",
+    help: "Only the stripes of part I of N, as 3/10",
+    ..TEXT
+};
 
 /// A store, and the stripes of it that a command works on.
 #[derive(Clone, Copy, Debug)]
@@ -29,21 +36,10 @@ pub struct StoreOptions<'a> {
     pub part: Option<Part>,
 }
 
-/// The definition of a command over a store.
-pub(crate) fn over_store<'a>(
-    alloc: Global,
-    name: &'a str,
-    about: &'a str,
-) -> Result<Definition<'a>, AllocError> {
-    let definition = Definition::new(alloc, name)
-        .about(about)
-        .arg(store(alloc))?
-        .arg(code(alloc, CODE_HELP))?;
-    with_names(alloc, definition)?
-        .arg(follow(alloc))?
-        .arg(text(alloc, "stripes", "FILE", STRIPES_HELP))?
-        .arg(text(alloc, "part", "I/N", PART_HELP))
-}
+/// The arguments of a command over a store.
+pub(crate) static STORE_ARGUMENTS: &[Argument] = &[
+    STORE, CODE, NAMES, LAYOUT, FOLLOW, STRIPES, PART,
+];
 
 impl<'a> StoreOptions<'a> {
     /// The store that matches name.

@@ -1,12 +1,12 @@
 //! The command `repair`.
-use crate::commands::test_opening_of;
-use crate::output::{refuse_report, say_all, say_alone, say_rows, say_summary};
+use crate::commands::{counters_of, say_worked, test_opening_of};
+use crate::output::row_stream::RowStream;
+use crate::output::{refuse_outputs, say_all, say_alone, say_summary};
 use crate::work::tasks::repair_task;
-use crate::work::{Stripes, Work, work_on};
+use crate::work::{Opened, Stripes, Work, Worked, work_on};
 use lrc_code::Code;
 use std::alloc::{AllocError, Global};
 use std::io;
-use std::sync::Arc;
 use std::thread::Threads;
 use store_arguments::RepairOptions;
 use store_faults::{DEVICE, FileFault, LEFT, device, say};
@@ -14,10 +14,11 @@ use store_folder::{FolderStore, Part, Site, tag_of_part};
 use store_opening::{
     Access, OpenStore, Opening, Unmounted, open_store, refuse_other_stores, remove_leftovers,
 };
-use store_progress::{Progress, most_file_bytes, refuse_over_limit};
+use store_progress::{most_file_bytes, refuse_over_limit};
 use store_repair::{Reads, Repair, Stripe};
 use store_reports::{
-    Results, finding_lines, planned, repaired, status_of, status_of_plan, unchecked_lines,
+    Results, RowSource, finding_lines, planned, repaired, status_of, status_of_plan,
+    unchecked_lines,
 };
 
 /// Repairs the stripes of a store, says what was done and what is left, and gives the exit status.
@@ -26,29 +27,38 @@ pub fn repair<R: Threads + Sync>(
     system: &HostRuntime,
     options: &RepairOptions<'_>,
 ) -> Result<u8, FileFault> {
-    refuse_report(system, &options.test)?;
+    refuse_outputs(system, &options.test)?;
     let opening = opening_of(options);
     let store = open_store(system, &opening)?;
+    let stripes = store.stripes(system)?;
     if !options.dry_run {
-        refuse_long(system, &store)?;
+        refuse_long(system, store.code, stripes.as_slice())?;
     }
-    let status = repair_all(rt, system, &store, &opening, options);
-    let released = store.locks.release(system);
-    ended(status, released).map_err(|error| device(system.alloc(), opening.folder, error))
+    let task = repair_task(system.alloc(), &store, options.reads, stripes.as_slice())?;
+    let is_quiet = options.test.quiet || options.dry_run;
+    let counters = counters_of(system, task, is_quiet, &options.test, opening.folder)?;
+    let opened = Opened {
+        store: &store,
+        opening: &opening,
+        stripes: stripes.as_slice(),
+        counters: &counters,
+    };
+    let status = repair_all(rt, system, opened, options);
+    let ended = ended(status, store.locks.release(system));
+    counters.end(
+        system,
+        ended.map_err(|error| device(system.alloc(), opening.folder, error)),
+    )
 }
 
-// Refuses a store of which fragments are lost that are longer than files may get here: the system would end the run at the first of them.
-fn refuse_long(rt: &HostRuntime, store: &OpenStore) -> Result<(), FileFault> {
+// Refuses stripes of which fragments are lost that are longer than files may get here: the system would end the run at the first of them.
+fn refuse_long(rt: &HostRuntime, code: Code, stripes: &[Stripe<'_>]) -> Result<(), FileFault> {
     if most_file_bytes(rt).is_none() {
         return Ok(());
     }
-    for stripe in &store.stripes(rt)? {
+    for stripe in stripes {
         if let Some(length) = stripe.files.length() {
-            if !stripe
-                .files
-                .lost(rt.alloc(), store.code, length)?
-                .is_empty()
-            {
+            if !stripe.files.lost(rt.alloc(), code, length)?.is_empty() {
                 refuse_over_limit(rt, stripe.name, length)?;
             }
         }
@@ -95,28 +105,26 @@ fn tag_of(alloc: Global, part: Option<Part>) -> Result<String, AllocError> {
 }
 
 // Repairs the stripes of an open store.
-fn repair_all<'a, R: Threads + Sync>(
+fn repair_all<R: Threads + Sync>(
     rt: &R,
     system: &HostRuntime,
-    store: &'a OpenStore,
-    opening: &Opening<'a>,
+    opened: Opened<'_>,
     options: &RepairOptions<'_>,
 ) -> io::Result<u8> {
+    let Opened { store, opening, .. } = opened;
     let tag = tag_of(system.alloc(), opening.part)?;
     let site = Site {
         target: opening.to.unwrap_or(store.folder.as_str()),
         tag: tag.as_str(),
         ..store.site_of(opening)
     };
-    let stripes = store.stripes(system)?;
-    let stripes = stripes.as_slice();
-    if is_refused(system, store, opening, &site, stripes)? {
+    if is_refused(system, store, opening, &site, opened.stripes)? {
         return Ok(LEFT);
     }
     say_alone(system, store, opening, options.dry_run);
     let target = store.target.as_ref().unwrap_or(&store.listing);
     let are_removed = options.dry_run || remove_leftovers(system, target, tag.as_str())?;
-    let status = repair_at(rt, system, store, options, &site, stripes)?;
+    let status = repair_at(rt, system, opened, options, &site)?;
     if !are_removed {
         return Ok(DEVICE);
     }
@@ -127,31 +135,27 @@ fn repair_all<'a, R: Threads + Sync>(
 fn repair_at<'a, R: Threads + Sync>(
     rt: &R,
     system: &HostRuntime,
-    store: &'a OpenStore,
+    opened: Opened<'a>,
     options: &RepairOptions<'_>,
     site: &'a Site<'a>,
-    stripes: &'a [Stripe<'a>],
 ) -> io::Result<u8> {
-    let alloc = system.alloc();
-    let task = repair_task(alloc, store, options.reads, stripes)?;
-    let is_quiet = options.test.quiet || options.dry_run;
-    let progress = Arc::new(alloc, Progress::new(system, task, is_quiet))?;
-    let repair = repair_of(store.code, options);
+    let repair = repair_of(opened.store.code, options);
     let (work, word) = if options.dry_run {
         (Work::Plan(repair), "would be rebuilt")
     } else {
         (Work::Repair(repair), "rebuilt")
     };
-    let of_store = Stripes {
-        store,
+    let rows = RowStream::new(RowSource { site, word });
+    let stripes = Stripes {
+        opened,
         site,
-        all: stripes,
-        progress: &progress,
+        rows: if options.test.json { Some(&rows) } else { None },
     };
-    let all = work_on(rt, system, &of_store, work, options.test.workers)?;
-    progress.clear(system);
-    let results = Results::new(alloc, site, of_store.contents(), all.as_slice(), word)?;
-    say_repaired(system, &results, options)
+    let Worked { all, held } = work_on(rt, system, &stripes, work, options.test.workers)?;
+    opened.counters.progress.clear(system);
+    let alloc = system.alloc();
+    let results = Results::new(alloc, site, opened.contents(), all.as_slice(), word)?;
+    say_repaired(system, &results, &rows, held, options)
 }
 
 // Whether no stripe fits the code that the places say, which then is said. A code that was given is believed, and a part may have others.
@@ -190,6 +194,8 @@ fn repair_of(code: Code, options: &RepairOptions<'_>) -> Repair {
 fn say_repaired(
     rt: &HostRuntime,
     results: &Results<'_>,
+    rows: &RowStream<'_>,
+    held: String,
     options: &RepairOptions<'_>,
 ) -> io::Result<u8> {
     let alloc = rt.alloc();
@@ -199,7 +205,7 @@ fn say_repaired(
             say_all(rt, unchecked_lines(alloc, results, done)?)?;
         }
     }
-    let is_reported = say_rows(rt, results, &options.test)?;
+    let is_reported = say_worked(rt, results, rows, held, &options.test)?;
     if options.dry_run {
         say_summary(rt, planned(alloc, results)?, &options.test)?;
         return Ok(status_of_plan(&results.totals, is_reported));

@@ -1,16 +1,15 @@
 //! The command `scrub`.
-use crate::commands::test_opening_of;
-use crate::output::{refuse_report, say_alone, say_rows, say_summary};
+use crate::commands::{counters_of, say_worked, test_opening_of};
+use crate::output::row_stream::RowStream;
+use crate::output::{refuse_outputs, say_alone, say_summary};
 use crate::work::tasks::scrub_task;
-use crate::work::{Stripes, Work, work_on};
+use crate::work::{Opened, Stripes, Work, Worked, work_on};
 use std::io;
-use std::sync::Arc;
 use std::thread::Threads;
 use store_arguments::{ScrubOptions, TestOptions};
 use store_faults::{FileFault, device, write};
-use store_opening::{OpenStore, Opening, open_store};
-use store_progress::Progress;
-use store_reports::{Results, finding_lines, scrubbed, status_of};
+use store_opening::open_store;
+use store_reports::{Results, RowSource, finding_lines, scrubbed, status_of};
 
 /// Tests the stripes of a store, says what isn't as it should be, and gives the exit status.
 pub fn scrub<R: Threads + Sync>(
@@ -18,46 +17,59 @@ pub fn scrub<R: Threads + Sync>(
     system: &HostRuntime,
     options: &ScrubOptions<'_>,
 ) -> Result<u8, FileFault> {
-    refuse_report(system, &options.test)?;
-    let opening = test_opening_of(&options.store, &options.test);
+    let test = &options.test;
+    refuse_outputs(system, test)?;
+    let opening = test_opening_of(&options.store, test);
     let store = open_store(system, &opening)?;
-    scrub_all(rt, system, &store, &opening, &options.test).map_err(|error| device(
-        system.alloc(),
-        opening.folder,
-        error,
-    ))
+    let stripes = store.stripes(system)?;
+    let task = scrub_task(&store, stripes.as_slice());
+    let counters = counters_of(system, task, test.quiet, test, opening.folder)?;
+    let opened = Opened {
+        store: &store,
+        opening: &opening,
+        stripes: stripes.as_slice(),
+        counters: &counters,
+    };
+    let ended = scrub_all(rt, system, opened, test);
+    counters.end(
+        system,
+        ended.map_err(|error| device(system.alloc(), opening.folder, error)),
+    )
 }
 
 // Tests the stripes of an open store.
-fn scrub_all<'a, R: Threads + Sync>(
+fn scrub_all<R: Threads + Sync>(
     rt: &R,
     system: &HostRuntime,
-    store: &'a OpenStore,
-    opening: &Opening<'a>,
+    opened: Opened<'_>,
     test: &TestOptions<'_>,
 ) -> io::Result<u8> {
-    let stripes = store.stripes(system)?;
-    let site = store.site_of(opening);
+    let Opened { store, opening, .. } = opened;
+    let site = &store.site_of(opening);
     say_alone(system, store, opening, false);
-    let task = scrub_task(store, stripes.as_slice());
-    let progress = Progress::new(system, task, test.quiet);
-    let progress = Arc::new(system.alloc(), progress)?;
-    let of_store = Stripes {
-        store,
-        site: &site,
-        all: stripes.as_slice(),
-        progress: &progress,
+    let word = "rebuilt";
+    let rows = RowStream::new(RowSource { site, word });
+    let stripes = Stripes {
+        opened,
+        site,
+        rows: if test.json { Some(&rows) } else { None },
     };
     let work = Work::Scrub(store.code);
-    let all = work_on(rt, system, &of_store, work, test.workers)?;
-    progress.clear(system);
-    let contents = of_store.contents();
-    let results = Results::new(system.alloc(), &site, contents, all.as_slice(), "rebuilt")?;
-    say_scrubbed(system, &results, test)
+    let Worked { all, held } = work_on(rt, system, &stripes, work, test.workers)?;
+    opened.counters.progress.clear(system);
+    let alloc = system.alloc();
+    let results = Results::new(alloc, site, opened.contents(), all.as_slice(), word)?;
+    say_scrubbed(system, &results, &rows, held, test)
 }
 
 // Says what isn't as it should be, and gives the exit status.
-fn say_scrubbed(rt: &HostRuntime, results: &Results<'_>, test: &TestOptions<'_>) -> io::Result<u8> {
+fn say_scrubbed(
+    rt: &HostRuntime,
+    results: &Results<'_>,
+    rows: &RowStream<'_>,
+    held: String,
+    test: &TestOptions<'_>,
+) -> io::Result<u8> {
     let alloc = rt.alloc();
     if !test.json {
         for done in results.all {
@@ -66,7 +78,7 @@ fn say_scrubbed(rt: &HostRuntime, results: &Results<'_>, test: &TestOptions<'_>)
             }
         }
     }
-    let is_reported = say_rows(rt, results, test)?;
+    let is_reported = say_worked(rt, results, rows, held, test)?;
     say_summary(rt, scrubbed(alloc, results)?, test)?;
     Ok(status_of(&results.totals, is_reported))
 }

@@ -148,10 +148,11 @@ fn listed(rt: &HostRuntime, options: &EncodeOptions<'_>) -> Result<Listing, File
     let wanted = Wanted {
         pattern,
         code,
+        knows_code: false,
         has_stripes: true,
         part: None,
         links: options.links,
-        watched: None,
+        watched: &[],
     };
     let listing = list(rt, options.folder, &wanted).map_err(|error| device(
         rt.alloc(),

@@ -1,0 +1,90 @@
+//! The file that says how far a command is, in counters that Prometheus reads.
+use crate::output::report_file::write_report;
+use std::alloc::Global;
+use std::io::{self, ErrorKind};
+use std::sync::Arc;
+use std::sync::atomic::{AtomicU64, Ordering};
+use store_faults::{DEVICE, FileFault, say, words_of};
+use store_progress::{Progress, Turns};
+
+// The least time between two writes, in milliseconds.
+const BETWEEN: u64 = 5_000;
+
+/// Where the counters of a command go, if they are wanted: a path, the store that they are of, and what is counted.
+#[derive(Drop)]
+pub(crate) struct CountersFile<'a> {
+    path: Option<&'a str>,
+    store: &'a str,
+    pub(crate) progress: Arc<Progress, Global>,
+    turns: Turns,
+    // 1 while a thread writes.
+    is_taken: AtomicU64,
+}
+
+impl<'a> CountersFile<'a> {
+    pub(crate) fn new(
+        path: Option<&'a str>,
+        store: &'a str,
+        progress: Arc<Progress, Global>,
+    ) -> CountersFile<'a> {
+        CountersFile {
+            path,
+            store,
+            progress,
+            turns: Turns::new(BETWEEN),
+            is_taken: AtomicU64::new(0),
+        }
+    }
+
+    /// Writes the counters if they were written long enough ago. What fails now may not fail at the end, which says so.
+    pub(crate) fn write_in_time(&self, rt: &HostRuntime) {
+        let Some(path) = self.path else {
+            return;
+        };
+        let Some(now) = self.progress.milliseconds(rt) else {
+            return;
+        };
+        if !self.turns.take(now) || self.is_taken.swap(1, Ordering::SeqCst) == 1 {
+            return;
+        }
+        let _ = self.write(rt, path, None);
+        self.is_taken.store(0, Ordering::SeqCst);
+    }
+
+    // Writes the counters, and the status of a command that has ended.
+    fn write(&self, rt: &HostRuntime, path: &str, status: Option<u8>) -> io::Result<()> {
+        let text = self.progress.counters(rt, self.store, status)?;
+        write_report(rt, path, text.as_str())
+    }
+
+    /// Writes the counters of a command that has ended so, if they are wanted, and gives its status: that a device failed if they can't be
+    /// written.
+    pub(crate) fn end(
+        &self,
+        rt: &HostRuntime,
+        ended: Result<u8, FileFault>,
+    ) -> Result<u8, FileFault> {
+        let Some(path) = self.path else {
+            return ended;
+        };
+        let status = match &ended {
+            Ok(status) => *status,
+            Err(fault) => fault.status(),
+        };
+        match self.write(rt, path, Some(status)) {
+            Ok(()) => ended,
+            Err(error) if error.kind() == ErrorKind::OutOfMemory => Err(FileFault::OutOfMemory),
+            Err(error) => {
+                let why = words_of(rt.alloc(), &error)?;
+                say(
+                    rt,
+                    format!(in rt.alloc();
+                        "rebuild-store: {path}: the counters can't be written: {why}"
+                    ),
+                )?;
+                ended?;
+                Ok(DEVICE)
+            }
+        }
+    }
+}

@@ -1,0 +1,98 @@
+//! What is noted of folders, links and files that are met while a store is listed.
+use crate::disks::Unlisted;
+use crate::listing::Listing;
+use crate::regular::Identity;
+use crate::watching::{Foreign, Wanted, Watched, is_of_store, may_others_write};
+use std::alloc::{AllocError, Global};
+use std::fs::Metadata;
+use std::io::{self, ErrorKind};
+use std::os::unix::fs::MetadataExt;
+use store_names::path_in;
+
+impl Listing {
+    /// Notes that a folder inside the store's can't be listed; the store's own has to be.
+    pub(crate) fn note_unlisted(
+        &mut self,
+        alloc: Global,
+        folder: &str,
+        inside: &str,
+        error: io::Error,
+    ) -> io::Result<()> {
+        let is_noted = |other: &Unlisted| other.name.as_str() == inside;
+        if inside.is_empty() || error.kind() == ErrorKind::OutOfMemory {
+            return Err(error);
+        }
+        if !self.unlisted.iter().any(is_noted) {
+            self.unlisted.push(Unlisted {
+                name: String::from_str(alloc, inside)?,
+                path: path_in(alloc, folder, inside)?,
+                error,
+            })?;
+        }
+        Ok(())
+    }
+
+    /// Notes a link that isn't followed.
+    pub(crate) fn note_link(&mut self, path: String) -> Result<(), AllocError> {
+        if self.link.is_none() {
+            self.link = Some(path);
+        }
+        self.links = self.links.saturating_add(1);
+        Ok(())
+    }
+
+    /// Notes who may write into a folder of the store, and whether the watched path is a name of the store's in it.
+    pub(crate) fn note_folder(
+        &mut self,
+        alloc: Global,
+        path: &str,
+        inside: &str,
+        metadata: &Metadata,
+        wanted: &Wanted<'_>,
+    ) -> Result<(), AllocError> {
+        if self.foreign.is_none() && may_others_write(metadata) {
+            self.foreign = Some(Foreign {
+                folder: String::from_str(alloc, path)?,
+                user: metadata.uid(),
+            });
+        }
+        let here = Identity::of(metadata);
+        for watched in wanted.watched {
+            if watched.folder == here {
+                let name = if inside.is_empty() {
+                    String::from_str(alloc, watched.name)?
+                } else {
+                    path_in(alloc, inside, watched.name)?
+                };
+                if is_of_store(name.as_str(), wanted) {
+                    self.note_watched(alloc, watched)?;
+                }
+            }
+        }
+        Ok(())
+    }
+
+    // Notes that a watched path is one of the store's.
+    fn note_watched(&mut self, alloc: Global, watched: &Watched<'_>) -> Result<(), AllocError> {
+        if self.watched.is_none() {
+            self.watched = Some(String::from_str(alloc, watched.given)?);
+        }
+        Ok(())
+    }
+
+    /// Notes the watched paths at which this file is.
+    pub(crate) fn note_file(
+        &mut self,
+        alloc: Global,
+        metadata: &Metadata,
+        wanted: &Wanted<'_>,
+    ) -> Result<(), AllocError> {
+        let here = Identity::of(metadata);
+        for watched in wanted.watched {
+            if watched.file == Some(here) {
+                self.note_watched(alloc, watched)?;
+            }
+        }
+        Ok(())
+    }
+}

@@ -1,0 +1,298 @@
+#!/usr/bin/env python3
+"""Tries how a repair and a scrub are watched and held back: rows that come as they are known, counters for Prometheus in a file, a limit on
+what is read in a second, and parts that look at nothing but their part.
+
+    store-watching.py [PROGRAM]
+
+Stores are made by an independent encoder, and each expected number is worked out here."""
+
+import json
+import os
+import pathlib
+import random
+import re
+import selectors
+import signal
+import stat
+import subprocess
+import sys
+import tempfile
+import time
+
+# No compiled copy of the modules is left beside them.
+sys.dont_write_bytecode = True
+ROOT = pathlib.Path(__file__).resolve().parent.parent
+sys.path.append(str(ROOT / "tools"))
+from store import stripe
+
+PROGRAM = pathlib.Path(sys.argv[1] if sys.argv[1:] else ROOT / "crates/rebuild_store/out/rebuild_store").resolve()
+# What a file of counters has, in order, while a command runs and at its end.
+RUNNING = ["units", "units_done", "bytes", "bytes_done", "damaged", "left", "seconds"]
+ENDED = [*RUNNING, "status", "end_seconds"]
+LINE = re.compile(r'rebuild_store_(\w+)\{command="(\w+)",store="((?:[^"\\\n]|\\["\\n])*)"\} (\d+)')
+passed = 0
+
+
+def check(holds, what):
+    """Counts what holds, and ends with what doesn't."""
+    global passed
+    if not holds:
+        sys.exit(f"store-watching: {what}")
+    passed += 1
+
+
+def run(*arguments, status=0, **how):
+    """Runs the program, holds its status to this one, and gives what it says on standard output and on standard error."""
+    done = subprocess.run([PROGRAM, *map(str, arguments)], capture_output=True, text=True, timeout=300, **how)
+    asked = " ".join(map(str, arguments))
+    check(done.returncode == status, f"{asked}: status {done.returncode}, not {status}:\n{done.stdout}{done.stderr}")
+    return done.stdout, done.stderr
+
+
+def start(*arguments):
+    """Starts the program."""
+    return subprocess.Popen([PROGRAM, *map(str, arguments)], stdout=subprocess.PIPE, stderr=subprocess.PIPE, text=True)
+
+
+def make(folder, choose, names, length, lost=("x1",)):
+    """A store of stripes that have lost these places, and what all of it was."""
+    folder.mkdir()
+    all_of_it = {}
+    for name in names:
+        for place, data in stripe("6-2-2", length, choose).items():
+            all_of_it[f"{name}.{place}"] = data
+            if place not in lost:
+                (folder / f"{name}.{place}").write_bytes(data)
+    return all_of_it
+
+
+def is_whole(folder, all_of_it):
+    there = {path.name: path.read_bytes() for path in folder.iterdir()}
+    return there == all_of_it
+
+
+def counters(text, command, store):
+    """The counters of a file by their names, each of which is there once and of this command over this store."""
+    found = {}
+    for line in text.splitlines():
+        match = LINE.fullmatch(line)
+        check(match, f"{line!r} is no counter")
+        name, *labels, value = match.groups()
+        check(labels == [command, store] and name not in found, f"{line!r} is of something else, or there twice")
+        found[name] = int(value)
+    check(list(found) in (RUNNING, ENDED) and text.endswith("\n"), f"other counters: {text!r}")
+    return found
+
+
+def rows_of(text):
+    return [json.loads(line) for line in text.splitlines()]
+
+
+def test_counters_at_the_end(place, choose):
+    """The counters of a repair and of a scrub say what there was to do, what was done, and the status."""
+    store, file, many, length = place / "s", place / "counters.prom", 7, 5_000
+    all_of_it = make(store, choose, [f"a{k}" for k in range(many)], length, ("x1", "p0"))
+    (store / "a0.y0").write_bytes(b"short")
+    began = int(time.time())
+    run("repair", "--progress", file, store, status=1)
+    found = counters(file.read_text(), "repair", str(store))
+    check(list(found) == ENDED and found["status"] == 1, f"{found}")
+    check(found["units"] == 2 * many + 1 and found["units_done"] == 2 * many, f"{found}")
+    check(found["bytes"] == found["bytes_done"] == (8 * many - 1) * length, f"{found}")
+    check(found["damaged"] == 0 and found["left"] == 1, f"{found}")
+    check(began <= found["end_seconds"] <= time.time() and found["seconds"] <= time.time() - began + 1, f"{found}")
+    (store / "a0.y0").unlink()
+    run("repair", store)
+    check(is_whole(store, all_of_it), "the store isn't whole")
+    damaged = bytearray(all_of_it["a3.x0"])
+    damaged[7] ^= 1
+    (store / "a3.x0").write_bytes(damaged)
+    run("scrub", "--progress", file, store, status=1)
+    found = counters(file.read_text(), "scrub", str(store))
+    check(found["units"] == found["units_done"] == many and found["damaged"] == 1 and found["status"] == 1, f"{found}")
+    check(found["bytes"] == found["bytes_done"] == 10 * many * length, f"{found}")
+
+
+def test_counters_of_odd_names(place, choose):
+    """A store's name is quoted as the format wants it."""
+    store, file = place / 's"\\ \n', place / "counters"
+    make(store, choose, ["a"], 10)
+    run("scrub", "--progress", file, store, status=1)
+    found = counters(file.read_text(), "scrub", str(store).replace("\\", "\\\\").replace('"', '\\"').replace("\n", "\\n"))
+    check(found["status"] == 1 and found["left"] == 1, f"{found}")
+
+
+def test_places_of_counters(place, choose):
+    """A file of the store, a folder that isn't there and the report's own file are refused; rights and other things stay."""
+    store, file = place / "s", place / "counters"
+    all_of_it = make(store, choose, ["a", "b"], 10)
+    before = {path.name: path.read_bytes() for path in store.iterdir()}
+    for name in ("a.x1", "a.x0", "SHA256SUMS", "c.p1"):
+        _, said = run("repair", "--progress", store / name, store, status=2)
+        check(said == f"rebuild-store: {store / name}: is a file of the store, and no place for a report\n", said)
+    (place / "link").symlink_to(store / "b.x1")
+    run("repair", "--progress", place / "link", store, status=2)
+    _, said = run("repair", "--progress", place / "none/counters", store, status=3)
+    check("none/counters: No such file or directory" in said, said)
+    _, said = run("repair", "--report", file, "--progress", file, store, status=2)
+    check(said == "error: --report and --progress take two files\n", said)
+    check({path.name: path.read_bytes() for path in store.iterdir()} == before and not file.exists(), "something was written")
+    file.write_text("old")
+    file.chmod(0o640)
+    run("repair", "--progress", file, "--report", place / "report", store)
+    check(stat.S_IMODE(file.stat().st_mode) == 0o640 and "status" in file.read_text(), "rights or counters are lost")
+    check((place / "report").read_text().count("\n") == 3 and is_whole(store, all_of_it), "another report, or another store")
+    os.mkfifo(place / "fifo")
+    reader = subprocess.Popen(["cat", place / "fifo"], stdout=subprocess.PIPE, text=True)
+    run("scrub", "--progress", place / "fifo", store)
+    check(counters(reader.communicate(timeout=60)[0], "scrub", str(store))["status"] == 0, "the FIFO has something else")
+    check(stat.S_ISFIFO((place / "fifo").stat().st_mode), "the FIFO is gone")
+    if os.path.exists("/dev/full"):
+        _, said = run("scrub", "--progress", "/dev/full", store, status=3)
+        check("rebuild-store: /dev/full: the counters can't be written: No space left on device\n" == said, said)
+
+
+def test_rates(place, choose):
+    """A number of bytes from 1, with K, M or G, is taken, and nothing else; the bytes of the limit are read in a second, and no more."""
+    store, many, length = place / "s", 16, 64 * 1024
+    names = [f"a{k}" for k in range(many)]
+    all_of_it = make(store, choose, names, length)
+    for text in ("0", "0G", "", "M", "1T", "1m", "5.5M", "-1", " 1", "18446744073709551615K", "99999999999G"):
+        _, said = run("repair", f"--rate={text}", store, status=2)
+        check(said == "error: --rate takes a number of bytes, from 1, as 500K, 50M or 1G\n", f"{text}: {said}")
+    # 16 stripes with nine survivors of 64 KiB are 9 MiB: three seconds and no less.
+    for workers in ("1", "8"):
+        began = time.monotonic()
+        run("repair", "--rate", "3M", "-j", workers, store)
+        took = time.monotonic() - began
+        check(2.9 <= took, f"{took} s with {workers} workers")
+        check(is_whole(store, all_of_it), "the store isn't whole")
+        for name in names:
+            (store / f"{name}.x1").unlink()
+    for rate in ("1G", "3221225472", "18446744073709551615"):
+        run("repair", "--rate", rate, store)
+        check(is_whole(store, all_of_it), "the store isn't whole")
+        (store / "a3.x1").unlink()
+    began = time.monotonic()
+    run("scrub", "--rate=4096K", store, status=1)
+    check(2.4 <= time.monotonic() - began, "a scrub isn't held back")
+
+
+def lines_until_the_end(process):
+    """The lines of a process' standard output, each with when it came before the process ended, in seconds."""
+    came, waiter = [], selectors.DefaultSelector()
+    waiter.register(process.stdout, selectors.EVENT_READ)
+    while line := process.stdout.readline():
+        came.append((line, time.monotonic()))
+    process.wait(timeout=60)
+    end = time.monotonic()
+    return [(line, end - when) for line, when in came]
+
+
+def test_rows_as_they_are_known(place, choose):
+    """Rows come while the run goes on, and are those of the report."""
+    store, report, many = place / "s", place / "report", 12
+    names = [f"a{k:02}" for k in range(many)]
+    all_of_it = make(store, choose, names, 64 * 1024)
+    (store / "b.x0").write_bytes(b"alone")
+    # 6.75 MiB take more than three seconds.
+    process = start("repair", "--json", "--report", report, "--rate", "2M", "-j", "3", store)
+    came = lines_until_the_end(process)
+    check(process.returncode == 0, f"status {process.returncode}: {process.stderr.read()}")
+    rows = rows_of("".join(line for line, _ in came))
+    check(came[0][1] > 1.5, f"the first row came {came[0][1]} s before the end")
+    check(rows[-1]["outcome"] == "alone" and all(row["outcome"] == "rebuilt" for row in rows[:-1]), f"{rows}")
+    of_report = [line.split(",")[:3] for line in report.read_text().splitlines()[1:]]
+    check(sorted([row["stripe"], row["place"], row["outcome"]] for row in rows[:-1]) == of_report[:-1], f"{of_report}")
+    check(is_whole(store, {**all_of_it, "b.x0": b"alone"}), "the store isn't whole")
+
+
+def test_what_a_kill_leaves(place, choose):
+    """A run that is killed has printed the rows of what it did, and its counters say no status."""
+    store, file, many = place / "s", place / "counters", 64
+    names = [f"a{k:02}" for k in range(many)]
+    all_of_it = make(store, choose, names, 64 * 1024)
+    # 36 MiB take twelve seconds; counters are written after five.
+    process = start("repair", "--json", "--progress", file, "--rate", "3M", store)
+    seen = set()
+    began = time.monotonic()
+    while time.monotonic() - began < 8 and process.poll() is None:
+        if file.exists():
+            seen.add(file.read_text())
+        time.sleep(0.005)
+    process.send_signal(signal.SIGKILL)
+    said, _ = process.communicate(timeout=60)
+    check(process.returncode == -signal.SIGKILL, f"it ended by itself: {process.returncode}")
+    rows = rows_of(said)
+    check(0 < len(rows) < many, f"{len(rows)} rows")
+    for row in rows:
+        path = f"{row['stripe']}.{row['place']}"
+        check(row["outcome"] == "rebuilt" and (store / path).read_bytes() == all_of_it[path], f"{row}")
+    check(seen, "no counters were written")
+    for text in seen:
+        found = counters(text, "repair", str(store))
+        check(list(found) == RUNNING and 0 < found["bytes_done"] < found["bytes"] == many * 9 * 64 * 1024, f"{found}")
+        check(0 < found["units_done"] < found["units"] == many and found["seconds"] >= 4, f"{found}")
+    run("repair", "--progress", file, store)
+    check(is_whole(store, all_of_it), "the store isn't whole")
+    check(counters(file.read_text(), "repair", str(store))["status"] == 0, "no status")
+
+
+def test_output_that_ends(place, choose):
+    """If nobody reads the rows the repair is done, and the status says so."""
+    store = place / "s"
+    all_of_it = make(store, choose, [f"a{k}" for k in range(40)], 2_000)
+    for target in ("/dev/full",):
+        with open(target, "w") as full:
+            done = subprocess.run([PROGRAM, "repair", "--json", store], stdout=full, stderr=subprocess.PIPE, text=True, timeout=60)
+        check(done.returncode == 3 and "No space left on device" in done.stderr, f"{target}: {done.returncode} {done.stderr}")
+        check(is_whole(store, all_of_it), "the store isn't whole")
+        for path in store.glob("*.x1"):
+            path.unlink()
+    process = start("repair", "--json", store)
+    process.stdout.close()
+    said = process.stderr.read()
+    check(process.wait(timeout=60) == 3, f"status {process.returncode}: {said}")
+    check(is_whole(store, all_of_it), "the store isn't whole")
+
+
+def looks(trace):
+    """At how many files of a store a run has looked, by what strace wrote."""
+    return len(re.findall(r"(?:statx|newfstatat|lstat|stat)\([^)]*/a\d+\.\w\w", pathlib.Path(trace).read_text()))
+
+
+def test_parts_look_at_their_part(place, choose):
+    """A part of ten looks at some tenth of the files, if strace is there to count it; all parts together make the store whole."""
+    store, many = place / "s", 200
+    names = [f"a{k}" for k in range(many)]
+    all_of_it = make(store, choose, names, 16)
+    has_strace = subprocess.run(["sh", "-c", "strace -f -o /dev/null true"], capture_output=True).returncode == 0
+    if has_strace:
+        for part in ([], ["--part", "1/10"], ["--part", "1/10", "--code", "6-2-2"]):
+            trace = place / "trace"
+            subprocess.run(["strace", "-f", "-qq", "-e", "trace=%stat,statx", "-o", trace, PROGRAM, "repair", "-n", "-q", *part, store],
+                           capture_output=True, timeout=120)
+            found = looks(trace)
+            # Each stripe has nine files, and is looked at once when the store is listed and once when it is read.
+            most = 2.5 * 9 * many * (0.25 if part else 1)
+            check(9 * many * (0.02 if part else 1) <= found <= most, f"{part}: {found} looks, at most {most}")
+    else:
+        print("store-watching: left out: how many files a part looks at (strace isn't installed)")
+    for part in range(1, 11):
+        run("repair", "--part", f"{part}/10", store)
+    check(is_whole(store, all_of_it), "the store isn't whole")
+
+
+def main():
+    choose = random.Random(2026)
+    with tempfile.TemporaryDirectory() as scratch:
+        for name, test in globals().items():
+            if name.startswith("test_"):
+                folder = pathlib.Path(scratch) / name
+                folder.mkdir()
+                test(folder, choose)
+    print(f"store-watching: {passed} checks passed")
+
+
+if __name__ == "__main__":
+    main()
