@@ -48,9 +48,8 @@ it says.
 .Xr rebuild-store 1 ,
 .Xr rebuild-store 5
 .Sh STANDARDS
-Lists and reports are comma-separated values of RFC 4180, but that the lines of a
-report end by a line feed alone, and those of a list also by one or by a carriage
-return.
+Lists and reports are comma-separated values of RFC 4180, but the lines of a report
+end by LF, and those of a list by CR LF, LF or CR.
 Digests are SHA-256 of FIPS 180-4.
 .Sh HISTORY
 The first version is 0.1.0, which isn\\(aqt released yet.
