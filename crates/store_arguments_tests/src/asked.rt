@@ -10,11 +10,12 @@ use store_repair::Reads;
 
 // Options before the store and after it, with their values behind a space or an equals sign.
 const REPAIRS: [&str; 2] = [
-    "repair --code 12-2-2 --names d{shard}/{stripe} --layout groups --follow-links --stripes names --part 3/10 --workers 16 --rate 50M \
-     --progress rate --sums sums --report rows --json --dry-run --replace-damaged --assume-one-damaged --to new --reads few --trust-writers \
-     --allow-unmounted -q s",
-    "repair s --code=12-2-2 --names=d{shard}/{stripe} --layout=groups --follow-links --stripes=names --part=3/10 -j 16 --quiet --rate=51200K \
-     --progress=rate --sums=sums --report=rows --json -n --replace-damaged --assume-one-damaged --to=new --reads=few --trust-writers --allow-unmounted",
+    "repair --code 12-2-2 --names d{shard}/{stripe} --layout groups --follow-links --stripes names --part 3/10 --workers 16 \
+     --rate 50M --progress rate --sums sums --report rows --json --dry-run --replace-damaged --assume-one-damaged --to new --reads few \
+     --trust-writers --allow-unmounted -q s",
+    "repair s --code=12-2-2 --names=d{shard}/{stripe} --layout=groups --follow-links --stripes=names --part=3/10 -j 16 --quiet \
+     --rate=51200K --progress=rate --sums=sums --report=rows --json -n --replace-damaged --assume-one-damaged --to=new --reads=few \
+     --trust-writers --allow-unmounted",
 ];
 
 // Whether the options of a store are those of these lines.
