@@ -62,7 +62,7 @@ impl<'a> RowStream<'a> {
         match allow_output(rt, held.len() as u64) {
             Ok(()) => {
                 if let Err(error) = print!(rt; "{held}") {
-                    let number = u64::from(error.raw_os_error().unwrap_or(0).unsigned_abs());
+                    let number = u64::try_from(error.raw_os_error().unwrap_or(0)).unwrap_or(0);
                     self.state
                         .store(FAILED.saturating_add(number), Ordering::SeqCst);
                 }
@@ -93,7 +93,10 @@ impl<'a> RowStream<'a> {
         match self.state.load(Ordering::SeqCst) {
             FINE => Ok(true),
             TOO_LONG => Ok(false),
-            state => Err(Error::from_raw_os_error(state.saturating_sub(FAILED) as i32)),
+            state => {
+                let number = i32::try_from(state.saturating_sub(FAILED)).unwrap_or(0);
+                Err(Error::from_raw_os_error(number))
+            }
         }
     }
 }
