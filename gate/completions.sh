@@ -11,7 +11,8 @@ trap 'rm -rf "$scratch"' EXIT
 workers='1 2 3 4 5 6 7 8 9 10 11 12 13 14 15 16'
 repair='--allow-unmounted --assume-one-damaged --code --dry-run --follow-links --help --json --layout --names --part --quiet --reads'
 encode='--allow-unmounted --as --code --follow-links --help --layout --make-folders --names --quiet --replace --trust-writers -h -q'
-repair+=' --replace-damaged --report --stripes --sums --to --trust-writers --workers -h -j -n -q'
+scrub='--code --follow-links --help --json --layout --names --part --progress --quiet --rate --report --stripes --sums --workers -h -j -q'
+repair+=' --progress --rate --replace-damaged --report --stripes --sums --to --trust-writers --workers -h -j -n -q'
 
 # Each line, up to where the key is pressed, and what is offered there: the folder below has two folders and a file.
 mkdir -p "$scratch/here/lists" "$scratch/here/served"
@@ -99,7 +100,9 @@ rebuild-store lost l:lists
 rebuild-store lost -:--code --follow-links --help --json --layout --names --part --stripes -h
 rebuild-store lost --stripes l:list.csv lists
 rebuild-store scrub l:lists
-rebuild-store scrub -:--code --follow-links --help --json --layout --names --part --quiet --report --stripes --sums --workers -h -j -q
+rebuild-store scrub -:$scrub
+rebuild-store scrub --rate :
+rebuild-store repair --progress l:list.csv lists
 rebuild-store scrub --sums list.:list.csv
 rebuild-store encode :lists served
 rebuild-store encode lists :list.csv lists served
