@@ -100,12 +100,12 @@ fn open_locked(rt: &HostRuntime, opening: &Opening<'_>) -> Result<Unlocked, Stor
     let mut ends = Vec::new(alloc);
     for path in [opening.report, opening.progress] {
         if let Some(path) = path {
-            ends.push((path, end_of_links(rt, path)?))?;
+            ends.push((String::from_str(alloc, path)?, end_of_links(rt, path)?))?;
         }
     }
     let mut watched = Vec::new(alloc);
     for (given, end) in &ends {
-        if let Some(path) = Watched::at(rt, given, end.as_str()) {
+        if let Some(path) = Watched::at(rt, given.as_str(), end.as_str()) {
             watched.push(path)?;
         }
     }
