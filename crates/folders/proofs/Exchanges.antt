@@ -1,7 +1,7 @@
 -- A new file gets the path of another one, which a second path keeps.
 use Rattle.std.proofs.Common.{◌≡◌, ◌⊎◌, inl, inr, ℕ, suc, List, ◌∷◌, length, Bool, true, false, Option, Some, None, option_map}
 use Rattle.std.proofs.Common.{IfSome, IsSome, refl, sym, ◌∙◌, ap, subst}
-use Rattle.folders.specs.Calls.{Call, Answered, make, sync, link, link_again, rename, rename_again, remove, sync_folder, same_file}
+use Rattle.folders.specs.Calls.{Call, Answered, make, sync, link, link_again, rename, rename_again, remove, sync_folder, same_file, absent}
 use Rattle.folders.specs.Files.{Files, under, IsIn}
 use Rattle.folders.specs.Worlds.{World, IsLawful, IsStep, MayChange, is_closed}
 use Rattle.folders.specs.Kept.{IsSound, AreClosed}
@@ -23,6 +23,7 @@ Prepares path second (rename_again from to) = ⊥
 Prepares path second (remove p) = ⊥
 Prepares path second (sync_folder p) = Unit {0}
 Prepares path second (same_file p other) = Unit {0}
+Prepares path second (absent p) = Unit {0}
 
 makes_none : (path second : List ℕ) (call : Call) → Prepares path second call → (p : List ℕ) → call ≡ make p → ⊥
 makes_none path second (make q) prepares p is = absurd prepares
@@ -34,6 +35,7 @@ makes_none path second (rename_again from to) prepares p is = absurd prepares
 makes_none path second (remove q) prepares p is = absurd prepares
 makes_none path second (sync_folder q) prepares p is = absurd (cc)
 makes_none path second (same_file q other) prepares p is = absurd (cc)
+makes_none path second (absent q) prepares p is = absurd (cc)
 
 -- the second path leads where it led, or, if nothing was seen there, where the first one was seen to lead
 abbrev pub Second : List ℕ → List ℕ → Files → Files → Files → Type 0
@@ -80,6 +82,7 @@ module _ (temporary : List ℕ → Type 0) (path second : List ℕ) (w : World) 
   named_next shown old new n (remove q) prepares may p ours other = absurd prepares
   named_next shown old new n (sync_folder q) prepares may p ours other = may p ours (λ none. none)
   named_next shown old new n (same_file q to) prepares may p ours other = may p ours (λ none. none)
+  named_next shown old new n (absent q) prepares may p ours other = may p ours (λ none. none)
 
   moved : (first old mid new : Files) → new.named second ≡ mid.named second → Second path second first old mid
       → Second path second first old new
@@ -112,6 +115,8 @@ module _ (temporary : List ℕ → Type 0) (path second : List ℕ) (w : World) 
   second_next first shown old mid new n (sync_folder q) prepares may at in_shown was = moved first old mid new
       (may second our_second (λ none. none)) was
   second_next first shown old mid new n (same_file q to) prepares may at in_shown was = moved first old mid new
+      (may second our_second (λ none. none)) was
+  second_next first shown old mid new n (absent q) prepares may at in_shown was = moved first old mid new
       (may second our_second (λ none. none)) was
 
   bytes_next : (call : Call) (ok : Bool) (calls : List Answered) → ((p : List ℕ) → call ≡ make p → ⊥) → IsStep w call ok calls
@@ -155,6 +160,7 @@ module _ (temporary : List ℕ → Type 0) (path second : List ℕ) (w : World) 
   at_second_next shown mid new n (remove q) prepares may = absurd prepares
   at_second_next shown mid new n (sync_folder q) prepares may = inl (may second our_second (λ none. none))
   at_second_next shown mid new n (same_file q to) prepares may = inl (may second our_second (λ none. none))
+  at_second_next shown mid new n (absent q) prepares may = inl (may second our_second (λ none. none))
 
   pub ready_next : (call : Call) (ok : Bool) (calls : List Answered) → Prepares path second call → IsStep w call ok calls
       → IsReady temporary path second w before calls → IsReady temporary path second w before ((call, ok) ∷ calls)

@@ -1,11 +1,11 @@
 -- Files get another path too, in place of what has that.
 use Rattle.std.proofs.Common.{◌≡◌, ◌⊎◌, inl, inr, ℕ, suc, List, [], ◌∷◌, ◌++◌, length, Bool, true, false, Option, option_map}
 use Rattle.std.proofs.Common.{refl, sym, ◌∙◌, ap, subst}
-use Rattle.folders.specs.Calls.{Call, Answered, make, sync, link, link_again, rename, rename_again, remove, sync_folder, same_file}
+use Rattle.folders.specs.Calls.{Call, Answered, make, sync, link, link_again, rename, rename_again, remove, sync_folder, same_file, absent}
 use Rattle.folders.specs.Files.{Files, IsIn}
 use Rattle.folders.specs.Worlds.{World, IsLawful, IsStep, MayChange, is_closed}
 use Rattle.folders.specs.Kept.{AtEach, IsSound, AreClosed}
-use Rattle.folders.specs.Given.{Nothing, AreGiven, Gives, HasOneOf, IsPair, LeadThere, RenameOwn}
+use Rattle.folders.specs.Given.{NothingNew, AreGiven, Gives, HasOneOf, IsPair, LeadThere, RenameOwn}
 use Rattle.folders.specs.Exchanged.{seen_at}
 use Rattle.folders.proofs.Exchanges.{Stays}
 use Rattle.folders.proofs.Links.{same_or_other}
@@ -25,6 +25,7 @@ LeadsNone temporary (rename_again from to) = ⊥
 LeadsNone temporary (remove p) = temporary p
 LeadsNone temporary (sync_folder p) = Unit {0}
 LeadsNone temporary (same_file p other) = Unit {0}
+LeadsNone temporary (absent p) = Unit {0}
 
 makes_none : (temporary : List ℕ → Type 0) (call : Call) → LeadsNone temporary call → (p : List ℕ) → call ≡ make p → ⊥
 makes_none temporary (make q) none p is = absurd none
@@ -36,6 +37,7 @@ makes_none temporary (rename_again from to) none p is = absurd none
 makes_none temporary (remove q) none p is = absurd (cc)
 makes_none temporary (sync_folder q) none p is = absurd (cc)
 makes_none temporary (same_file q other) none p is = absurd (cc)
+makes_none temporary (absent q) none p is = absurd (cc)
 
 is_other : (temporary : List ℕ → Type 0) (p q : List ℕ) → (temporary p → ⊥) → temporary q → p ≡ q → ⊥
 is_other temporary p q lasting is same = lasting (subst temporary (sym same) is)
@@ -51,6 +53,7 @@ named_still temporary w shown old new n (rename_again from to) none may p ours l
 named_still temporary w shown old new n (remove q) none may p ours lasting = may.0 p ours (is_other temporary p q lasting none)
 named_still temporary w shown old new n (sync_folder q) none may p ours lasting = may p ours (λ no. no)
 named_still temporary w shown old new n (same_file q other) none may p ours lasting = may p ours (λ no. no)
+named_still temporary w shown old new n (absent q) none may p ours lasting = may p ours (λ no. no)
 
 stay_next : (w : World) (before : List Answered) (call : Call) (ok : Bool) (calls : List Answered) → ((p : List ℕ) → call ≡ make p → ⊥)
     → IsStep w call ok calls → Stays w before calls → Stays w before ((call, ok) ∷ calls)
@@ -143,7 +146,7 @@ module _ (temporary : List ℕ → Type 0) (gives : List ℕ → List ℕ → Ty
 
     has : (old new : Files) → AreClosed temporary w before old → ((f : ℕ) → is_closed f before ≡ true → new.bytes f ≡ old.bytes f)
         → (path : List ℕ) → w.ours path ≡ true → (temporary path → ⊥) → LeadsAs gives (w.seen before) old new path
-        → HasOneOf gives Nothing (w.seen before) old new path
+        → HasOneOf gives NothingNew (w.seen before) old new path
     has old new in_old bytes path ours lasting (inl had) =
         inl (same_under old new path had (λ f at. bytes f (in_old path f ours lasting at)))
     has old new in_old bytes path ours lasting (inr got) = inr (inl (
@@ -168,13 +171,13 @@ module _ (temporary : List ℕ → Type 0) (gives : List ℕ → List ℕ → Ty
       left = closed (w.left before) (w.left calls) sound.left led.left;
     }
 
-    pub led_given : AreGiven temporary gives Nothing w before calls
+    pub led_given : AreGiven temporary gives NothingNew w before calls
     led_given = record {
       seen = λ path ours lasting. has (w.seen before) (w.seen calls) sound.seen (λ f at. (led.bytes f at).1.0) path ours lasting
           (led.seen path ours lasting);
       left = λ path ours lasting. has (w.left before) (w.left calls) sound.left (λ f at. (led.bytes f at).1.1) path ours lasting
           (led.left path ours lasting);
-      still = λ path ours lasting none no_bytes. stays_there path ours lasting none (led.seen path ours lasting);
+      still = λ path ours lasting none none_new. stays_there path ours lasting none (led.seen path ours lasting);
     }
 
 -- ---- runs
@@ -228,12 +231,12 @@ module _ (temporary : List ℕ → Type 0) (gives : List ℕ → List ℕ → Ty
 
   -- so it gives the files
   pub leads_gives : ((from to : List ℕ) → gives from to → temporary from → ⊥) → (old new : List Answered)
-      → Leads temporary gives old new → Gives temporary gives Nothing old new
+      → Leads temporary gives old new → Gives temporary gives NothingNew old new
   leads_gives last old new run = record {
     more = run.more;
     are = run.are;
     whenever = λ w sound own_renamed own. each_weaker (λ calls. IsLawful w calls → AreLed temporary gives w old calls)
-        (λ calls. IsLawful w calls → IsSound temporary w calls × AreGiven temporary gives Nothing w old calls)
+        (λ calls. IsLawful w calls → IsSound temporary w calls × AreGiven temporary gives NothingNew w old calls)
         (λ calls led lawful. let is = led lawful in (
           led_sound temporary gives w old own last sound calls is,
           led_given temporary gives w old own last sound calls is,
@@ -255,11 +258,11 @@ module _ (temporary : List ℕ → Bool) (path by other : List ℕ) (off : tempo
   abbrev Pair : List ℕ → List ℕ → Type 0
   Pair = IsPair path other
 
-  all_leads : (new : List Answered) → Leads IsTemporary Pair old new → Gives IsTemporary Pair Nothing old new
+  all_leads : (new : List Answered) → Leads IsTemporary Pair old new → Gives IsTemporary Pair NothingNew old new
   all_leads new run = leads_gives IsTemporary Pair (lasts temporary path other off) old new run
 
   -- the link couldn't be made
-  pub gives_no_link : (new : List Answered) → new ≡ (link_again path by, false) ∷ old → Gives IsTemporary Pair Nothing old new
+  pub gives_no_link : (new : List Answered) → new ≡ (link_again path by, false) ∷ old → Gives IsTemporary Pair NothingNew old new
   gives_no_link new is = all_leads new (leads_more IsTemporary Pair (link_again path by) false old old new on is
       (leads_none IsTemporary Pair old))
 
@@ -270,13 +273,13 @@ module _ (temporary : List ℕ → Bool) (path by other : List ℕ) (off : tempo
 
   -- it was made, and taken away again
   pub gives_taken : (mid renamed new : List Answered) (ok : Bool) (last : Bool) → mid ≡ (link_again path by, true) ∷ old
-      → renamed ≡ (rename_again by other, ok) ∷ mid → new ≡ (remove by, last) ∷ renamed → Gives IsTemporary Pair Nothing old new
+      → renamed ≡ (rename_again by other, ok) ∷ mid → new ≡ (remove by, last) ∷ renamed → Gives IsTemporary Pair NothingNew old new
   gives_taken mid renamed new ok last links renames takes = all_leads new (taken mid renamed new ok last links renames takes)
 
   -- and the names in a folder were to be written to the disk
   pub gives_named : (folder : List ℕ) (mid renamed gone new : List Answered) (ok last named : Bool)
       → mid ≡ (link_again path by, true) ∷ old → renamed ≡ (rename_again by other, ok) ∷ mid → gone ≡ (remove by, last) ∷ renamed
-      → new ≡ (sync_folder folder, named) ∷ gone → Gives IsTemporary Pair Nothing old new
+      → new ≡ (sync_folder folder, named) ∷ gone → Gives IsTemporary Pair NothingNew old new
   gives_named folder mid renamed gone new ok last named links renames takes names = all_leads new
       (leads_more IsTemporary Pair (sync_folder folder) named old gone new tt names (taken mid renamed gone ok last links renames takes))
 

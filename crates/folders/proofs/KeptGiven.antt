@@ -50,7 +50,7 @@ module _ (temporary : List ℕ → Type 0) (w : World) (path : List ℕ) (ours :
       ((w.seen (more ++ old)).named path) refl
       ∙ still_over more old takes.1 each.1 lawful.0
 
-module _ (temporary : List ℕ → Type 0) (gives puts : List ℕ → List ℕ → Type 0) where
+module _ (temporary : List ℕ → Type 0) (gives : List ℕ → List ℕ → Type 0) (puts : List ℕ → Option (List ℕ) → Type 0) where
   each_kept : (w : World) (more old : List Answered) → TakeNone temporary more
       → AtEach (λ calls. IsLawful w calls → Holds temporary Nothing w old calls) more old
       → AtEach (λ calls. IsLawful w calls → Sound temporary gives puts w old calls) more old
@@ -63,7 +63,7 @@ module _ (temporary : List ℕ → Type 0) (gives puts : List ℕ → List ℕ �
             ((now.1 path ours lasting).0));
         left = λ path ours lasting. inl (kept_same (w.seen old) (w.left old) (w.left (call ∷ more ++ old)) path
             ((now.1 path ours lasting).1));
-        still = λ path ours lasting none no_bytes. still_over temporary w path ours lasting (call ∷ more) old takes each lawful;
+        still = λ path ours lasting none none_new. still_over temporary w path ours lasting (call ∷ more) old takes each lawful;
       },
     ),
     each_kept w more old takes.1 each.1,

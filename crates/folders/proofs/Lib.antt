@@ -3,9 +3,10 @@ pub mod ExchangeRuns
 pub mod Exchanges
 pub mod GivenAfter
 pub mod Givings
-pub mod Links
 pub mod KeptGiven
 pub mod LastNames
+pub mod Links
+pub mod NewFiles
 pub mod Runs
 pub mod Staying
 pub mod Steps

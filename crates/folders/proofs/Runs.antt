@@ -1,7 +1,7 @@
 -- Runs of calls that keep what they have to keep: none, one more, and one after another.
 use Rattle.std.proofs.Common.{◌≡◌, inl, inr, ℕ, List, [], ◌∷◌, ◌++◌, Bool, false, Some, None, refl, sym, ◌∙◌, ap, subst}
 use Rattle.std.proofs.lemmas.List.{append_assoc}
-use Rattle.folders.specs.Calls.{Call, Answered, make, sync, link, link_again, rename, rename_again, remove, sync_folder, same_file}
+use Rattle.folders.specs.Calls.{Call, Answered, make, sync, link, link_again, rename, rename_again, remove, sync_folder, same_file, absent}
 use Rattle.folders.specs.Files.{Files}
 use Rattle.folders.specs.Worlds.{World, IsLawful}
 use Rattle.folders.specs.Kept.{AtEach, IsSound, IsKept, AreKept, Keeps, TakeNone, TakesNone}
@@ -137,6 +137,7 @@ module _ (temporary : List ℕ → Type 0) where
   quiet_takes w (remove path) quiet = quiet
   quiet_takes w (sync_folder path) quiet = tt
   quiet_takes w (same_file path other) quiet = tt
+  quiet_takes w (absent path) quiet = tt
 
   pub keeps_after : (given : List ℕ → List ℕ → Type 0) (old mid new : List Answered)
       → Keeps temporary given old mid → Keeps temporary given mid new → Keeps temporary given old new

@@ -1,7 +1,7 @@
 -- What is at a path, and on the disk, stays over calls that take nothing away.
 use Rattle.std.proofs.Common.{◌≡◌, inl, inr, ℕ, suc, List, [], ◌∷◌, ◌++◌, length, Bool, true, refl, sym, ◌∙◌, ap, subst}
 use Rattle.std.proofs.Common.{Option, Some, None}
-use Rattle.folders.specs.Calls.{Call, Answered, make, sync, link, link_again, rename, rename_again, remove, sync_folder, same_file}
+use Rattle.folders.specs.Calls.{Call, Answered, make, sync, link, link_again, rename, rename_again, remove, sync_folder, same_file, absent}
 use Rattle.folders.specs.Files.{Files, IsIn}
 use Rattle.folders.specs.Worlds.{World, IsLawful, IsStep, MayChange, is_closed}
 use Rattle.folders.specs.Kept.{TakesNone, TakeNone}
@@ -35,6 +35,7 @@ module _ (temporary : List ℕ → Type 0) (w : World) (path : List ℕ) (ours :
       may.0 path ours (λ same. lasting (subst temporary (sym same) takes))
   leads_still shown old new made file (sync_folder p) takes there may = may path ours (λ none. none)
   leads_still shown old new made file (same_file p other) takes there may = may path ours (λ none. none)
+  leads_still shown old new made file (absent p) takes there may = may path ours (λ none. none)
 
   module _ (call : Call) (ok : Bool) (calls : List Answered) (bytes : List ℕ) (takes : TakesNone temporary call)
       (step : IsStep w call ok calls) where
@@ -97,6 +98,7 @@ refused_since path ((rename_again from to, ok) ∷ more) old was = refused_since
 refused_since path ((remove to, ok) ∷ more) old was = refused_since path more old was
 refused_since path ((sync_folder to, ok) ∷ more) old was = refused_since path more old was
 refused_since path ((same_file to other, ok) ∷ more) old was = refused_since path more old was
+refused_since path ((absent to, ok) ∷ more) old was = refused_since path more old was
 
 pub refused_over : (path : List ℕ) (more old new : List Answered) → new ≡ more ++ old → WasRefused path old → WasRefused path new
 refused_over path more old new are was = subst (WasRefused path) (sym are) (refused_since path more old was)

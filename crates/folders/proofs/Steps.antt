@@ -2,7 +2,7 @@
 use Rattle.std.proofs.Common.{◌≡◌, ◌≢◌, inl, ℕ, suc, List, ◌∷◌, length, Bool, true, not, ◌==◌}
 use Rattle.std.proofs.Common.{Option, Some, None, option_map, refl, sym, ◌∙◌, ap, subst, arith}
 use Rattle.std.proofs.lemmas.Bool.{and_from, or_right}
-use Rattle.folders.specs.Calls.{Call, Answered, make, sync, link, link_again, rename, rename_again, remove, sync_folder, same_file}
+use Rattle.folders.specs.Calls.{Call, Answered, make, sync, link, link_again, rename, rename_again, remove, sync_folder, same_file, absent}
 use Rattle.folders.specs.Files.{Files, under}
 use Rattle.folders.specs.Worlds.{World, IsStep, MayChange, Makes, IsNew, KeepsClosed, is_closed}
 use Rattle.folders.specs.Kept.{IsSound, AreKept}
@@ -31,6 +31,7 @@ stays_closed (rename_again from to) ok calls file other closed = closed
 stays_closed (remove path) ok calls file other closed = closed
 stays_closed (sync_folder path) ok calls file other closed = closed
 stays_closed (same_file path to) ok calls file other closed = closed
+stays_closed (absent path) ok calls file other closed = closed
 
 pub new_seen : (w : World) (call : Call) (calls : List Answered) (path : List ℕ) → Makes w call calls → call ≡ make path → IsNew w.ours (suc
     (length calls)) (w.seen calls)
@@ -43,6 +44,7 @@ new_seen w (rename_again from to) calls path makes same = cc
 new_seen w (remove p) calls path makes same = cc
 new_seen w (sync_folder p) calls path makes same = cc
 new_seen w (same_file p other) calls path makes same = cc
+new_seen w (absent p) calls path makes same = cc
 
 new_left : (w : World) (call : Call) (calls : List Answered) (path : List ℕ) → Makes w call calls → call ≡ make path → IsNew w.ours (suc
     (length calls)) (w.left calls)
@@ -55,6 +57,7 @@ new_left w (rename_again from to) calls path makes same = cc
 new_left w (remove p) calls path makes same = cc
 new_left w (sync_folder p) calls path makes same = cc
 new_left w (same_file p other) calls path makes same = cc
+new_left w (absent p) calls path makes same = cc
 
 pub same_map : (f g : ℕ → List ℕ) (o : Option ℕ) → ((j : ℕ) → o ≡ Some j → f j ≡ g j) → option_map f o ≡ option_map g o
 same_map f g None same = refl
@@ -93,6 +96,7 @@ module _ (temporary : List ℕ → Type 0) (w : World) where
   IsQuiet (remove path) = temporary path
   IsQuiet (sync_folder path) = Unit {0}
   IsQuiet (same_file path other) = Unit {0}
+  IsQuiet (absent path) = Unit {0}
 
   other_path : (path other : List ℕ) → temporary other → (temporary path → ⊥) → path ≡ other → ⊥
   other_path path other is not_temporary same = not_temporary (subst temporary (sym same) is)
@@ -108,6 +112,7 @@ module _ (temporary : List ℕ → Type 0) (w : World) where
   quiet_named shown old new made (remove p) quiet may path ours not_temporary = may.0 path ours (other_path path p quiet not_temporary)
   quiet_named shown old new made (sync_folder p) quiet may path ours not_temporary = may path ours (λ none. none)
   quiet_named shown old new made (same_file p other) quiet may path ours not_temporary = may path ours (λ none. none)
+  quiet_named shown old new made (absent p) quiet may path ours not_temporary = may path ours (λ none. none)
 
   module _ (call : Call) (ok : Bool) (calls : List Answered) (step : IsStep w call ok calls) (sound : IsSound temporary w calls)
       (quiet : IsQuiet call) where

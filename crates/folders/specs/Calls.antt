@@ -22,8 +22,10 @@ pub data Call : Type 0 where
   sync_folder : List ℕ → Call
   -- whether two paths lead to one file
   same_file : List ℕ → List ℕ → Call
+  -- whether nothing is at a path
+  absent : List ℕ → Call
 
--- a call, and whether it answered Ok; `same_file`, whether it answered that they do
+-- a call, and whether it answered Ok; `same_file` and `absent`, whether it answered that so it is
 abbrev pub Answered : Type 0
 Answered = Call × Bool
 
@@ -42,6 +44,7 @@ to_parts (rename_again from to) = (5, (0, (None, (from, to))))
 to_parts (remove path) = (6, (0, (None, (path, []))))
 to_parts (sync_folder path) = (7, (0, (None, (path, []))))
 to_parts (same_file path other) = (8, (0, (None, (path, other))))
+to_parts (absent path) = (9, (0, (None, (path, []))))
 
 abbrev from_parts : Parts → Call
 from_parts p =
@@ -49,7 +52,7 @@ from_parts p =
     (link_again p.1.1.1.0 p.1.1.1.1)
     (cond (p.0 == 4) (rename p.1.0 p.1.1.1.0 p.1.1.1.1) (cond (p.0 == 5) (rename_again p.1.1.1.0 p.1.1.1.1) (cond (p.0 == 6)
     (remove p.1.1.1.0)
-    (cond (p.0 == 7) (sync_folder p.1.1.1.0) (same_file p.1.1.1.0 p.1.1.1.1))))))))
+    (cond (p.0 == 7) (sync_folder p.1.1.1.0) (cond (p.0 == 8) (same_file p.1.1.1.0 p.1.1.1.1) (absent p.1.1.1.0)))))))))
 
 pub from_parts-to_parts : (call : Call) → from_parts (to_parts call) ≡ call
 from_parts-to_parts (make path) = refl
@@ -61,6 +64,7 @@ from_parts-to_parts (rename_again from to) = refl
 from_parts-to_parts (remove path) = refl
 from_parts-to_parts (sync_folder path) = refl
 from_parts-to_parts (same_file path other) = refl
+from_parts-to_parts (absent path) = refl
 
 abbrev pub answered_code : Coded (List Answered)
 answered_code =

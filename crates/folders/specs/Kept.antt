@@ -1,6 +1,6 @@
 -- What a run of calls keeps of what is at the paths of files, whenever it ends.
 use Rattle.std.specs.Prelude.{◌≡◌, ◌⊎◌, ℕ, List, [], ◌∷◌, ◌++◌, Bool, true, Some, None}
-use Rattle.folders.specs.Calls.{Call, Answered, make, sync, link, link_again, rename, rename_again, remove, sync_folder, same_file}
+use Rattle.folders.specs.Calls.{Call, Answered, make, sync, link, link_again, rename, rename_again, remove, sync_folder, same_file, absent}
 use Rattle.folders.specs.Files.{Files, under}
 use Rattle.folders.specs.Worlds.{World, IsLawful, is_closed}
 
@@ -41,6 +41,7 @@ TakesNone temporary (rename_again from to) = ⊥
 TakesNone temporary (remove path) = temporary path
 TakesNone temporary (sync_folder path) = Unit {0}
 TakesNone temporary (same_file path other) = Unit {0}
+TakesNone temporary (absent path) = Unit {0}
 
 abbrev pub TakeNone : (List ℕ → Type 0) → List Answered → Type 0
 TakeNone temporary [] = Unit {0}

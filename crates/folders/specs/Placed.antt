@@ -1,6 +1,6 @@
 -- What is said of a new file that gets a path.
 use Rattle.std.specs.Prelude.{◌≡◌, ◌⊎◌, ℕ, List, [], ◌∷◌, true, false, Option, Some, IfSome}
-use Rattle.folders.specs.Calls.{Answered, make, sync, link, link_again, rename, rename_again, remove, sync_folder, same_file}
+use Rattle.folders.specs.Calls.{Answered, make, sync, link, link_again, rename, rename_again, remove, sync_folder, same_file, absent}
 use Rattle.folders.specs.Disk.{HasWhole}
 
 -- a file was put on the disk, to which these bytes were appended and no append failed
@@ -15,6 +15,7 @@ WasSynced bytes ((rename_again from to, ok) ∷ calls) = WasSynced bytes calls
 WasSynced bytes ((remove path, ok) ∷ calls) = WasSynced bytes calls
 WasSynced bytes ((sync_folder path, ok) ∷ calls) = WasSynced bytes calls
 WasSynced bytes ((same_file path other, ok) ∷ calls) = WasSynced bytes calls
+WasSynced bytes ((absent path, ok) ∷ calls) = WasSynced bytes calls
 
 -- this path, and all the bytes that were appended to the file, which one of the calls put on the disk
 pub record IsGiven (to : List ℕ) (written : Option (List ℕ)) (calls : List Answered) (path bytes : List ℕ) : Type 0 where
@@ -38,3 +39,4 @@ WasRefused path ((rename_again from to, ok) ∷ calls) = WasRefused path calls
 WasRefused path ((remove to, ok) ∷ calls) = WasRefused path calls
 WasRefused path ((sync_folder to, ok) ∷ calls) = WasRefused path calls
 WasRefused path ((same_file to other, ok) ∷ calls) = WasRefused path calls
+WasRefused path ((absent to, ok) ∷ calls) = WasRefused path calls

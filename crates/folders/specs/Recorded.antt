@@ -15,6 +15,7 @@ call_of (made.RenameAgain from to) = calls.rename_again from.now to.now
 call_of (made.Remove path) = calls.remove path.now
 call_of (made.SyncFolder path) = calls.sync_folder path.now
 call_of (made.SameFile path other) = calls.same_file path.now other.now
+call_of (made.Absent path) = calls.absent path.now
 
 -- the call, and whether it answered Ok
 abbrev pub recorded : Call → Bool → Answered

@@ -5,7 +5,7 @@
 -- lead to. Of other paths and files nothing is said. It says no more than POSIX does, but where a line names what else it rests on.
 use Rattle.std.specs.Prelude.{◌≡◌, ◌≢◌, ◌⊎◌, ℕ, suc, List, [], ◌∷◌, length, Bool, true, ◌==◌, ◌&&◌, ◌||◌, not}
 use Rattle.std.specs.Prelude.{Some, None, IfSome}
-use Rattle.folders.specs.Calls.{Call, Answered, make, sync, link, link_again, rename, rename_again, remove, sync_folder, same_file}
+use Rattle.folders.specs.Calls.{Call, Answered, make, sync, link, link_again, rename, rename_again, remove, sync_folder, same_file, absent}
 use Rattle.folders.specs.Files.{Files, IsIn}
 
 -- One way in which a run may go: what programs see after each front of its calls, the newest call first, and what one crash leaves if it
@@ -29,6 +29,7 @@ is_closed file ((rename_again from to, ok) ∷ calls) = is_closed file calls
 is_closed file ((remove path, ok) ∷ calls) = is_closed file calls
 is_closed file ((sync_folder path, ok) ∷ calls) = is_closed file calls
 is_closed file ((same_file path other, ok) ∷ calls) = is_closed file calls
+is_closed file ((absent path, ok) ∷ calls) = is_closed file calls
 
 -- each of our paths but those of which P holds leads where it led
 abbrev pub SameBut : (List ℕ → Bool) → (List ℕ → Type 0) → Files → Files → Type 0
@@ -61,6 +62,7 @@ MayChange ours shown file (remove path) old new =
     SameBut ours (λ p. p ≡ path) old new × (ours path ≡ true → (new.named path ≡ old.named path) ⊎ (new.named path ≡ None))
 MayChange ours shown file (sync_folder path) old new = SameBut ours (λ p. ⊥) old new
 MayChange ours shown file (same_file path other) old new = SameBut ours (λ p. ⊥) old new
+MayChange ours shown file (absent path) old new = SameBut ours (λ p. ⊥) old new
 
 -- what an answer Ok says: of what is seen, and of what a crash leaves from then on
 abbrev pub HasDone : (List ℕ → Bool) → Files → ℕ → Call → Files → Files → Type 0
@@ -77,6 +79,7 @@ HasDone ours shown file (remove path) seen left = ours path ≡ true → seen.na
 HasDone ours shown file (sync_folder path) seen left = (p : List ℕ) → ours p ≡ true → IsIn path p → left.named p ≡ seen.named p
 -- the device and the number of a file are those of no other file
 HasDone ours shown file (same_file path other) seen left = ours path ≡ true → ours other ≡ true → shown.named path ≡ shown.named other
+HasDone ours shown file (absent path) seen left = ours path ≡ true → shown.named path ≡ None
 
 -- no path of ours leads to the file
 abbrev pub IsNew : (List ℕ → Bool) → ℕ → Files → Type 0
@@ -93,6 +96,7 @@ Makes w (rename_again from to) calls = Unit {0}
 Makes w (remove path) calls = Unit {0}
 Makes w (sync_folder path) calls = Unit {0}
 Makes w (same_file path other) calls = Unit {0}
+Makes w (absent path) calls = Unit {0}
 
 -- Bytes stay in files that can't be appended to. Those of others may be any, as long as they aren't on the disk: nothing is said of the
 -- order

@@ -1,6 +1,6 @@
 //! What a store asks of a file system: each method is one of its calls.
 ghost use Rattle.std.specs.Prelude.{◌≡◌, ◌∷◌, ◌++◌, [], ℕ, List, length, Option, Some, None, true, false, option_map, IfOk, OnOk, OnErr};
-ghost use Rattle.folders.specs.Calls.{Answered, make, sync, link, link_again, rename, rename_again, remove, sync_folder, same_file};
+ghost use Rattle.folders.specs.Calls.{Answered, make, sync, link, link_again, rename, rename_again, remove, sync_folder, same_file, absent};
 
 use crate::status::{Rights, Status};
 use std::io;
@@ -137,4 +137,9 @@ pub trait Folder {
     fn is_same_file(&mut self, path: &str, other: &str) -> io::Result<bool>
         ensures ok { IfOk result (λ is. calls self.new ≡ (same_file path.now other.now, is) ∷ calls self.old) }
         ensures err { OnErr result (calls self.new ≡ (same_file path.now other.now, false) ∷ calls self.old) };
+
+    /// Whether nothing is at a path: no file and no link.
+    fn is_absent(&mut self, path: &str) -> io::Result<bool>
+        ensures ok { IfOk result (λ is. calls self.new ≡ (absent path.now, is) ∷ calls self.old) }
+        ensures err { OnErr result (calls self.new ≡ (absent path.now, false) ∷ calls self.old) };
 }

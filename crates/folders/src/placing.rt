@@ -1,6 +1,7 @@
 //! A new file gets the path at which others look for it: only once it is whole and on the disk.
-ghost use Rattle.std.specs.Prelude.{◌≡◌, ℕ, List, Bool, true, IfOk, IsSome, MatchResult};
+ghost use Rattle.std.specs.Prelude.{◌≡◌, ℕ, List, Bool, true, IfOk, IsSome, MatchResult, OnOk};
 ghost use Rattle.folders.specs.Files.{under};
+ghost use Rattle.folders.specs.Given.{Gives, IsNewAt, Nothing};
 ghost use Rattle.folders.specs.Kept.{Keeps};
 ghost use Rattle.folders.specs.Placed.{IsGiven, HasPath, WasRefused};
 
@@ -37,4 +38,20 @@ pub fn place<F: Folder>(folder: &mut F, file: F::New, to: &str) -> io::Result<Pl
         file: whole,
         answer,
     })
+}
+
+/// Writes a file to the disk and gives it a path in place of what is there and of the one at which it was made. Whenever that ends, the
+/// path has what it had, or all the bytes of the file. If it got the path, that leads to the file, whose bytes are on the disk.
+///
+/// # Errors
+///
+/// The file couldn't be written to the disk, or it couldn't get the path.
+pub fn place_over<F: Folder>(folder: &mut F, file: F::New, to: &str) -> io::Result<()>
+    requires { IsSome (F.New.written file) }
+    ensures whenever { (temporary : List ℕ → Bool) → temporary (F.New.path file) ≡ true
+        → Gives (λ p. temporary p ≡ true) Nothing (IsNewAt to.now (F.New.written file)) (F.calls folder.old) (F.calls folder.new) }
+    ensures given { OnOk result (HasPath to.now (F.New.written file) (F.calls folder.new)) }
+{
+    let whole = folder.sync(file)?;
+    folder.rename(&whole, to)
 }

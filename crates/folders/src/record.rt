@@ -37,6 +37,7 @@ pub enum Call<'a> {
     Remove(&'a str),
     SyncFolder(&'a str),
     SameFile(&'a str, &'a str),
+    Absent(&'a str),
 }
 
 impl Record {

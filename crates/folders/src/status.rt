@@ -1,4 +1,5 @@
 //! What a file system says of what is at a path.
+use std::io::ErrorKind;
 
 /// What is at a path.
 #[derive(Clone, Copy, Debug, PartialEq, Eq)]
@@ -58,4 +59,12 @@ impl Status {
     pub fn is_link(&self) -> bool {
         self.kind == Kind::Link
     }
+}
+
+/// Whether the kind of an error says that nothing has a name.
+pub fn is_absent(kind: ErrorKind) -> bool {
+    matches!(
+        kind,
+        ErrorKind::NotFound | ErrorKind::NotADirectory | ErrorKind::InvalidFilename
+    )
 }

@@ -4,7 +4,7 @@ ghost use Rattle.std.specs.Prelude.{◌≡◌, ◌∷◌, length, string_bytes};
 
 use crate::folder::{Folder, NewFile, OpenFile, WholeFile};
 use crate::record::{Call, Record, Written};
-use crate::status::{Identity, Kind, Rights, Status, Time};
+use crate::status::{Identity, Kind, Rights, Status, Time, is_absent};
 use std::fs::{self, File, Metadata, Permissions, TryLockError};
 use std::io::{self, Write};
 use std::os::unix::fs::{FileExt, MetadataExt, OpenOptionsExt, PermissionsExt, fchown};
@@ -261,6 +261,16 @@ impl Folder for SystemFolder<'_> {
             (Err(error), _) | (_, Err(error)) => Err(error),
         };
         self.note(&Call::SameFile(path, other), matches!(answer, Ok(true)));
+        answer
+    }
+
+    fn is_absent(&mut self, path: &str) -> io::Result<bool> {
+        let answer = match fs::symlink_metadata(self.rt, path) {
+            Ok(_) => Ok(false),
+            Err(error) if is_absent(error.kind()) => Ok(true),
+            Err(error) => Err(error),
+        };
+        self.note(&Call::Absent(path), matches!(answer, Ok(true)));
         answer
     }
 }

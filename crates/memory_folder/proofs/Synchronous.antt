@@ -4,7 +4,7 @@ use Rattle.std.proofs.Common.{Option, Some, None, sym, ◌∙◌, ap, subst}
 use Rattle.std.specs.Prelude.{bytes_eq, not}
 use Rattle.std.proofs.lemmas.Bool.{and_parts, cases_Bool}
 use Rattle.std.proofs.lemmas.Slice.Eq.{bytes_eq-Decides}
-use Rattle.folders.specs.Calls.{Call, Answered, make, sync, link, link_again, rename, rename_again, remove, sync_folder, same_file}
+use Rattle.folders.specs.Calls.{Call, Answered, make, sync, link, link_again, rename, rename_again, remove, sync_folder, same_file, absent}
 use Rattle.folders.specs.Files.{Files}
 use Rattle.folders.specs.Worlds.{IsLawful, IsStep, MayChange, Makes, KeepsClosed, HasDone, is_closed}
 use Rattle.folders.proofs.Steps.{equal}
@@ -68,6 +68,7 @@ done_small (remove path) calls can before p f is = named_small path p None (afte
     (λ h none. none_small h (suc (length calls)) none) (λ q h leads. more h (length calls) (before q h leads)) f is
 done_small (sync_folder path) calls can before p f is = more f (length calls) (before p f is)
 done_small (same_file path other) calls can before p f is = more f (length calls) (before p f is)
+done_small (absent path) calls can before p f is = more f (length calls) (before p f is)
 
 small : (calls : List Answered) → AreAnswered calls → (p : List ℕ) (f : ℕ) → (after calls).named p ≡ Some f → f ≤ length calls
 small [] are p f is = none_small f 0 is
@@ -92,6 +93,7 @@ makes (rename_again from to) calls are = tt
 makes (remove path) calls are = tt
 makes (sync_folder path) calls are = tt
 makes (same_file path other) calls are = tt
+makes (absent path) calls are = tt
 
 same_may : (call : Call) (n : ℕ) (files : Files) → MayChange synchronous.ours files n call files files
 same_may (make path) n files = (λ p ours other. refl, λ ours. inl refl)
@@ -103,6 +105,7 @@ same_may (rename_again from to) n files = (λ p ours other. refl, λ ours our_fr
 same_may (remove path) n files = (λ p ours other. refl, λ ours. inl refl)
 same_may (sync_folder path) n files = λ p ours other. refl
 same_may (same_file path to) n files = λ p ours other. refl
+same_may (absent path) n files = λ p ours other. refl
 
 done_may : (call : Call) (calls : List Answered) → CanBeDone call calls
     → MayChange synchronous.ours (after calls) (suc (length calls)) call (after calls) (done call (suc (length calls)) (after calls))
@@ -136,6 +139,7 @@ done_may (remove path) calls can = (
 )
 done_may (sync_folder path) calls can = λ p ours other. refl
 done_may (same_file path to) calls can = λ p ours other. refl
+done_may (absent path) calls can = λ p ours other. refl
 
 not_equal : (n m : ℕ) → not (m == n) ≡ true → (n == m) ≡ false
 not_equal n m differ = grind arith
@@ -161,6 +165,7 @@ done_closed (rename_again from to) calls can file before now = refl
 done_closed (remove path) calls can file before now = refl
 done_closed (sync_folder path) calls can file before now = refl
 done_closed (same_file path other) calls can file before now = refl
+done_closed (absent path) calls can file before now = refl
 
 has_done : (call : Call) (calls : List Answered) → CanBeDone call calls
     → HasDone synchronous.ours (after calls) (suc (length calls)) call (done call (suc (length calls)) (after calls))
@@ -176,6 +181,7 @@ has_done (rename_again from to) calls can = λ ours our_from. hit to ((after cal
 has_done (remove path) calls can = λ ours. hit path None ((after calls).named path)
 has_done (sync_folder path) calls can = λ p ours inside. refl
 has_done (same_file path other) calls can = λ ours our_other. can
+has_done (absent path) calls can = λ ours. can
 
 step : (call : Call) (ok : Bool) (calls : List Answered) → AreAnswered calls → (ok ≡ true → CanBeDone call calls)
     → IsStep synchronous call ok calls

@@ -2,7 +2,7 @@
 -- that premise can be met.
 use Rattle.std.specs.Prelude.{◌≡◌, ◌≤◌, ℕ, suc, List, [], ◌∷◌, length, true, false, ◌==◌, bytes_eq, if◌then◌else◌}
 use Rattle.std.specs.Prelude.{Option, Some, None}
-use Rattle.folders.specs.Calls.{Call, Answered, make, sync, link, link_again, rename, rename_again, remove, sync_folder, same_file}
+use Rattle.folders.specs.Calls.{Call, Answered, make, sync, link, link_again, rename, rename_again, remove, sync_folder, same_file, absent}
 use Rattle.folders.specs.Files.{Files}
 use Rattle.folders.specs.Worlds.{World, is_closed}
 
@@ -30,6 +30,7 @@ done (rename_again from to) file files = with_name (with_name files from None) t
 done (remove path) file files = with_name files path None
 done (sync_folder path) file files = files
 done (same_file path other) file files = files
+done (absent path) file files = files
 
 -- what is there after calls: those that answered Ok are done, and the others aren't
 abbrev pub after : List Answered → Files
@@ -37,7 +38,7 @@ after [] = empty
 after ((call, ok) ∷ calls) = if ok then done call (suc (length calls)) (after calls) else after calls
 
 -- when a call can answer Ok: nothing is at a path that is given, a file that is written to the disk or gets a path was made before, and
--- paths of one file lead to one
+-- paths of one file lead to one, and nothing is at a path of which that is said
 abbrev pub CanBeDone : Call → List Answered → Type 0
 CanBeDone (make path) calls = (after calls).named path ≡ None
 CanBeDone (sync f bytes) calls = is_closed f calls ≡ false
@@ -48,6 +49,7 @@ CanBeDone (rename_again from to) calls = Unit {0}
 CanBeDone (remove path) calls = Unit {0}
 CanBeDone (sync_folder path) calls = Unit {0}
 CanBeDone (same_file path other) calls = (after calls).named path ≡ (after calls).named other
+CanBeDone (absent path) calls = (after calls).named path ≡ None
 
 -- each answer Ok was one that could be
 abbrev pub AreAnswered : List Answered → Type 0

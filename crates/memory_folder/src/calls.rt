@@ -121,4 +121,10 @@ impl Folder for MemoryFolder {
         self.note(&Call::SameFile(path, other), is);
         Ok(is)
     }
+
+    fn is_absent(&mut self, path: &str) -> io::Result<bool> {
+        let is = self.node_at(path).is_none();
+        self.note(&Call::Absent(path), is);
+        Ok(is)
+    }
 }

@@ -1,2 +1,6 @@
+pub mod HaveGot
+pub mod Names
+pub mod Order
 pub mod Replaced
+pub mod Sums
 pub mod Taken

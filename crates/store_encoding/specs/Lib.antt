@@ -1,2 +1,4 @@
+pub mod Names
+pub mod Own
 pub mod Replaced
 pub mod Taken

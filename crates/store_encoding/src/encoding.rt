@@ -5,6 +5,7 @@ pub(crate) mod placing;
 mod replacing;
 pub(crate) mod source;
 pub(crate) mod spool;
+mod stripe_files;
 pub(crate) mod subfolders;
 pub(crate) mod sums;
 

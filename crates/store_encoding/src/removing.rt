@@ -1,7 +1,8 @@
 //! Taking files out of a store. The digests go first, so that nothing is expected of the file any more, then its descriptions, then its
 //! fragments: what a run that was killed has left is a file that can still be read, or fragments that the same command removes.
-ghost use Rattle.std.specs.Prelude.{◌≡◌};
-ghost use Rattle.store_encoding.specs.Taken.{KeepsRest};
+ghost use Rattle.std.specs.Prelude.{◌≡◌, ℕ, List, Option};
+ghost use Rattle.store_folder.specs.Written.{Puts};
+ghost use Rattle.store_encoding.specs.Taken.{GoesOf, IsTakenOut, KeepsRest};
 
 use crate::encoding::sums::write_new_sums;
 use crate::own_folders::remove_own_folders;
@@ -43,12 +44,33 @@ pub fn remove_stored(
             target.is_changed = true;
         }
     }
-    write_new_sums(rt, target)?;
     let files = &mut SystemFolder::new(rt);
-    remove_names(rt, files, target, descriptions.as_slice())?;
-    remove_names(rt, files, target, fragments.as_slice())?;
+    take_out(
+        rt,
+        files,
+        target,
+        descriptions.as_slice(),
+        fragments.as_slice(),
+    )?;
     remove_own_folders(rt, target, staged.as_str(), name)?;
     Ok(remove_own_folders(rt, target, name, staged.as_str())?)
+}
+
+// Writes the digests that are left, and takes the files of some descriptions and fragments away. Whenever that ends, each of them has what
+// it had, or nothing, the digests' path has what it had, or all of the text, and no other path has changed but temporary ones.
+fn take_out<F: Folder>(
+    rt: &HostRuntime,
+    files: &mut F,
+    target: &mut Target<'_>,
+    descriptions: &[String],
+    fragments: &[String],
+) -> Result<(), FileFault>
+    ensures { (text : Option (List ℕ)) × Puts (IsTakenOut target.old.folder.now text descriptions.now fragments.now) (F.calls files.old)
+        (F.calls files.new) }
+{
+    write_new_sums(rt, files, target)?;
+    remove_names(rt, files, target, descriptions)?;
+    remove_names(rt, files, target, fragments)
 }
 
 // Whether there is anything under one of some names.
@@ -72,6 +94,7 @@ pub(crate) fn remove_names<F: Folder>(
 ) -> Result<(), FileFault>
     ensures folder { target.new.folder ≡ target.old.folder }
     ensures rest { KeepsRest (F.calls files.old) (F.calls files.new) }
+    ensures gone { Puts (GoesOf target.old.folder.now names.now) (F.calls files.old) (F.calls files.new) }
 {
     let alloc = rt.alloc();
     let mut paths = Vec::with_capacity(alloc, names.len())?;

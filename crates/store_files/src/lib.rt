@@ -16,7 +16,7 @@ mod target;
 pub use descriptions::{descriptions_of, first_described};
 pub use digesting::{DigestAlone, DigestedFile, digest_at};
 pub use staging::{
-    has_some, is_absent, is_begun, is_staged, is_there, no_stored, refuse_linked, staged_name,
+    has_some, is_begun, is_staged, is_there, no_stored, refuse_linked, staged_name,
 };
 pub use stored_file::{Sought, StoredFile};
 pub use target::Target;

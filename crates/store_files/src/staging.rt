@@ -4,9 +4,8 @@ use crate::target::Target;
 use lrc_code::{Code, Place};
 use std::alloc::{AllocError, Global};
 use std::fs;
-use std::io::ErrorKind;
 use store_faults::{FileFault, device, fragment_name};
-use store_folder::{path_in, refuse_linked_folders};
+use store_folder::{is_absent, path_in, refuse_linked_folders};
 
 // How the name of a stripe ends that is to replace another one.
 const STAGED: &str = ".rebuild-store-new";
@@ -83,12 +82,4 @@ pub fn is_there(rt: &HostRuntime, path: &str) -> Result<bool, FileFault> {
         Err(error) if is_absent(error.kind()) => Ok(false),
         Err(error) => Err(device(rt.alloc(), path, error)),
     }
-}
-
-/// Whether the kind of an error says that nothing has a name.
-pub fn is_absent(kind: ErrorKind) -> bool {
-    matches!(
-        kind,
-        ErrorKind::NotFound | ErrorKind::NotADirectory | ErrorKind::InvalidFilename
-    )
 }

@@ -1,6 +1,6 @@
 -- Runs of a store's calls, one after another.
 use Rattle.std.proofs.Common.{◌≡◌, inl, inr, ◌⊎◌, ℕ, List, [], ◌∷◌, ◌++◌, Bool, subst, sym}
-use Rattle.folders.specs.Calls.{Call, Answered, make, sync, link, link_again, rename, rename_again, remove, sync_folder, same_file}
+use Rattle.folders.specs.Calls.{Call, Answered, make, sync, link, link_again, rename, rename_again, remove, sync_folder, same_file, absent}
 use Rattle.folders.specs.Kept.{Keeps}
 use Rattle.folders.specs.Placed.{WasSynced}
 use Rattle.folders.proofs.Runs.{keeps_after, keeps_weaker}
@@ -23,6 +23,7 @@ synced_since bytes ((rename_again from to, ok) ∷ more) old was = synced_since 
 synced_since bytes ((remove path, ok) ∷ more) old was = synced_since bytes more old was
 synced_since bytes ((sync_folder path, ok) ∷ more) old was = synced_since bytes more old was
 synced_since bytes ((same_file path other, ok) ∷ more) old was = synced_since bytes more old was
+synced_since bytes ((absent path, ok) ∷ more) old was = synced_since bytes more old was
 
 later : (bytes : List ℕ) (more old new : List Answered) → new ≡ more ++ old → WasSynced bytes old → WasSynced bytes new
 later bytes more old new are was = subst (WasSynced bytes) (sym are) (synced_since bytes more old was)

@@ -3,3 +3,4 @@ pub mod Done
 pub mod Kept
 pub mod Replaced
 pub mod Temporary
+pub mod Written

@@ -4,3 +4,4 @@ pub mod Kept
 pub mod Replaced
 pub mod Stays
 pub mod Temporary
+pub mod Written

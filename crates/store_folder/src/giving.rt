@@ -1,6 +1,6 @@
 //! A file of a store gets another name too, in place of what has that.
 ghost use Rattle.std.specs.Prelude.{◌≡◌, ℕ, List, Bool, true, false, OnOk};
-ghost use Rattle.folders.specs.Given.{Gives, IsPair, LeadThere, Nothing};
+ghost use Rattle.folders.specs.Given.{Gives, IsPair, LeadThere, NothingNew};
 ghost use Rattle.store_folder.specs.Temporary.{AreTaken, is_temporary};
 
 use crate::links::Links;
@@ -18,7 +18,7 @@ pub fn give_name<F: Folder>(
     other: &str,
 ) -> io::Result<()>
     ensures whenever { (taken : List ℕ → Bool) → AreTaken taken → taken path.now ≡ false
-        → Gives (λ p. taken p ≡ true) (IsPair path.now other.now) Nothing (F.calls files.old) (F.calls files.new) }
+        → Gives (λ p. taken p ≡ true) (IsPair path.now other.now) NothingNew (F.calls files.old) (F.calls files.new) }
     ensures given { is_temporary path.now ≡ false → is_temporary other.now ≡ false
         → OnOk result (LeadThere path.now other.now (F.calls files.new)) }
 {

@@ -1,11 +1,12 @@
 //! Putting new files in their places. A file has no name that a fragment can have until it is whole and on the disk.
-ghost use Rattle.std.specs.Prelude.{◌≡◌, IfOk, IsSome, MatchResult, None, true, string_bytes};
+ghost use Rattle.std.specs.Prelude.{◌≡◌, IfOk, IsSome, MatchResult, None, OnOk, true, string_bytes};
 ghost use Rattle.folders.specs.Placed.{HasPath, WasRefused};
 ghost use Rattle.store_folder.specs.Kept.{GivesOne};
+ghost use Rattle.store_folder.specs.Written.{PutsOne};
 ghost use Rattle.store_folder.specs.Temporary.{is_temporary};
 
 use crate::unfinished::{Unfinished, create_unfinished};
-use folders::{Folder, NewFile as _, Rights, SystemFolder, SystemNew, place};
+use folders::{Folder, NewFile as _, Rights, SystemFolder, SystemNew, place, place_over};
 use std::alloc::Global;
 use std::fs::{self, Metadata};
 use std::io::{self, ErrorKind};
@@ -15,8 +16,8 @@ use store_repair::{NewFragment, Placed};
 /// The rights of a new file that nobody but its user may read.
 pub(crate) const PRIVATE: u32 = 0o600;
 
-// The rights of a new file where the user's mask takes none.
-const OPEN: u32 = 0o666;
+/// The rights of a new file where the user's mask takes none.
+pub(crate) const OPEN: u32 = 0o666;
 
 // A file gets no rights but these: none to run it, and none that its owner's or group's identity would go with.
 const MOST_RIGHTS: u32 = 0o666;
@@ -141,21 +142,33 @@ fn place_whole<F: Folder>(
 /// Writes a file to the disk and gives it the name at a path, in place of the file that has it, if one does.
 pub fn place_again(rt: &HostRuntime, new: NewFile, path: &str) -> io::Result<()> {
     let mut files = SystemFolder::new(rt);
-    let whole = new.unfinished.refuse_part();
-    let Unfinished { file, made_at, .. } = new.unfinished;
-    let placed = match whole {
-        Ok(()) => rename(&mut files, file, path),
-        Err(error) => Err(error),
-    };
-    if placed.is_err() {
-        files.remove(made_at.as_str())?;
+    match new.unfinished.refuse_part() {
+        Ok(()) => place_whole_over(&mut files, new.unfinished, path),
+        Err(error) => {
+            files.remove(new.path())?;
+            Err(error)
+        }
     }
-    placed
 }
 
-fn rename(files: &mut SystemFolder<'_>, file: SystemNew, path: &str) -> io::Result<()> {
-    let whole = files.sync(file)?;
-    files.rename(&whole, path)
+/// Writes a whole file to the disk and gives it a path in place of what is there. A file that doesn't get the path is taken away.
+pub(crate) fn place_whole_over<F: Folder>(
+    files: &mut F,
+    new: Unfinished<F::New>,
+    path: &str,
+) -> io::Result<()>
+    requires { IsSome (F.New.written new.file) }
+    ensures whenever { PutsOne path.now (F.New.written new.file) (F.calls files.old) (F.calls files.new) }
+    ensures given { OnOk result (HasPath path.now (F.New.written new.file) (F.calls files.new)) }
+{
+    let Unfinished { file, made_at, .. } = new;
+    match place_over(files, file, path) {
+        Ok(()) => Ok(()),
+        Err(error) => {
+            files.remove(made_at.as_str())?;
+            Err(error)
+        }
+    }
 }
 
 /// Writes the names of a folder to the disk.

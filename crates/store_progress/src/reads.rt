@@ -155,4 +155,8 @@ impl<F: Folder> Folder for CountingFolder<F> {
     fn is_same_file(&mut self, path: &str, other: &str) -> io::Result<bool> {
         self.files.is_same_file(path, other)
     }
+
+    fn is_absent(&mut self, path: &str) -> io::Result<bool> {
+        self.files.is_absent(path)
+    }
 }

@@ -1,12 +1,15 @@
 //! Replacing a file of a store by one that has other bytes. The new one is encoded first, as a stripe of a name of its own. Once its
 //! description is there, all of it is on the disk, and reading gives the new file. Then each of its files gets its name beside that, in
 //! place of the old one, and at last the names of its own go. So at any moment the store has all of the old file or all of the new one.
-ghost use Rattle.std.specs.Prelude.{◌≡◌, ◌∷◌, ◌++◌, ℕ, List, Bool, true, false};
-ghost use Rattle.folders.specs.Given.{Gives, IsPair, Nothing, Remove};
-ghost use Rattle.store_encoding.specs.Replaced.{AreToGet, CanGet, GivesNames, GivesTo};
-ghost use Rattle.store_encoding.specs.Taken.{KeepsRest};
-ghost use Rattle.store_folder.specs.Temporary.{AreTaken};
+ghost use Rattle.std.specs.Prelude.{◌≡◌, ◌∷◌, ◌++◌, IfOk, OnOk, true};
+ghost use Rattle.folders.specs.Given.{IsAbsent, IsPair};
+ghost use Rattle.store_folder.specs.Kept.{KeepsEach};
+ghost use Rattle.store_folder.specs.Written.{Puts};
+ghost use Rattle.store_encoding.specs.Names.{AreApart, CanGive, IsPairOf, Replaces, path_of};
+ghost use Rattle.store_encoding.specs.Replaced.{AllGot, GivesOnly, Goes, IsGivenTo, ReplacesFile};
 
+use crate::encoding::source::no_name;
+use crate::encoding::stripe_files::{StripeFiles, are_apart};
 use crate::encoding::subfolders::make_folders;
 use crate::encoding::sums::write_new_sums;
 use crate::encoding::{Given, encode_as};
@@ -17,26 +20,8 @@ use std::alloc::{AllocError, Global};
 use std::slice;
 use std::thread::Threads;
 use store_faults::{FileFault, device};
-use store_files::{
-    StoredFile, Target, first_described, is_begun, is_there, refuse_linked, staged_name,
-};
-use store_folder::{SystemFolder, description_names, give_name};
-
-// The names in the store of a stripe's files.
-#[derive(Drop)]
-struct StripeFiles {
-    fragments: Vec<String>,
-    descriptions: Vec<String>,
-}
-
-impl StripeFiles {
-    fn of(alloc: Global, target: &Target<'_>, stripe: &str) -> Result<StripeFiles, AllocError> {
-        Ok(StripeFiles {
-            descriptions: description_names(alloc, &target.pattern, target.code, stripe)?,
-            fragments: target.names(alloc, stripe)?,
-        })
-    }
-}
+use store_files::{StoredFile, Target, first_described, is_begun, refuse_linked, staged_name};
+use store_folder::{SystemFolder, give_name};
 
 /// Replaces the file of a name.
 pub(crate) fn replace<R: Threads + Sync>(
@@ -79,29 +64,66 @@ pub(crate) fn finish_replacing(
     let begun = StripeFiles::of(alloc, target, staged)?;
     refuse_linked(rt, target, begun.descriptions.as_slice())?;
     refuse_linked(rt, target, begun.fragments.as_slice())?;
-    let files = &mut SystemFolder::new(rt);
-    if first_described(rt, &file)?.is_some() {
-        let replaced = StripeFiles::of(alloc, target, name)?;
-        give_all(rt, files, target, &begun, &replaced)?;
-        // Before its files go, so that no digest is left of what isn't there, wherever the run is killed.
-        forget_digests(target, begun.descriptions.as_slice());
-        forget_digests(target, begun.fragments.as_slice());
-        write_new_sums(rt, target)?;
+    let replaced = StripeFiles::of(alloc, target, name)?;
+    if !are_apart(target.folder, &begun, &replaced) {
+        return Err(no_name(rt, name)?);
     }
-    remove_names(rt, files, target, begun.descriptions.as_slice())?;
-    remove_names(rt, files, target, begun.fragments.as_slice())?;
+    let files = &mut SystemFolder::new(rt);
+    let is_whole = first_described(rt, &file)?.is_some();
+    end(rt, files, target, &begun, &replaced, is_whole)?;
     Ok(remove_own_folders(rt, target, staged, name)?)
 }
 
+// Gives the files of a stripe the names of another one's, if they are whole, writes the digests, and takes their own names away. At each
+// moment no other path has changed, or all of the stripe's files are there, or each of the other names has its file and the digests are
+// there, also after a crash.
+fn end<F: Folder>(
+    rt: &HostRuntime,
+    files: &mut F,
+    target: &mut Target<'_>,
+    begun: &StripeFiles,
+    replaced: &StripeFiles,
+    is_whole: bool,
+) -> Result<(), FileFault>
+    requires { AreApart target.old.folder.now begun.now replaced.now }
+    ensures { ReplacesFile target.old.folder.now begun.now replaced.now (F.calls files.old) (F.calls files.new) }
+{
+    if !is_whole {
+        return remove_all(rt, files, target, begun);
+    }
+    give_all(rt, files, target, begun, replaced)?;
+    // Before its files go, so that no digest is left of what isn't there, wherever the run is killed.
+    forget_digests(target, begun.descriptions.as_slice());
+    forget_digests(target, begun.fragments.as_slice());
+    write_new_sums(rt, files, target)?;
+    remove_all(rt, files, target, begun)
+}
+
+// Takes the names of a stripe's files away, its descriptions first.
+fn remove_all<F: Folder>(
+    rt: &HostRuntime,
+    files: &mut F,
+    target: &mut Target<'_>,
+    begun: &StripeFiles,
+) -> Result<(), FileFault>
+    ensures { Puts (Goes target.old.folder.now begun.now) (F.calls files.old) (F.calls files.new) }
+{
+    remove_names(rt, files, target, begun.descriptions.as_slice())?;
+    remove_names(rt, files, target, begun.fragments.as_slice())
+}
+
 // Takes the digests of some names out of those of the store.
-fn forget_digests(target: &mut Target<'_>, names: &[String]) {
-    for name in names {
+fn forget_digests(target: &mut Target<'_>, names: &[String])
+    ensures { target.new.folder ≡ target.old.folder }
+{
+    'names: for name in names {
         target.is_changed = target.sums.remove(name.as_str()) || target.is_changed;
     }
 }
 
 // Gives the files of a stripe the names of another one's too, in place of what has these, its descriptions last. Whenever that ends, each
-// path that isn't temporary and that no call takes away has what it had, or is one of those names and has what the file of the stripe has.
+// path that isn't temporary has what it had, or is one of those names and has what was seen at the file of the stripe that was to get it.
+// Once it is done, each of those names has that, also after a crash, if something was there.
 fn give_all<F: Folder>(
     rt: &HostRuntime,
     files: &mut F,
@@ -109,10 +131,10 @@ fn give_all<F: Folder>(
     begun: &StripeFiles,
     replaced: &StripeFiles,
 ) -> Result<(), FileFault>
-    ensures whenever { (taken : List ℕ → Bool) (gives : List ℕ → List ℕ → Bool) → CanGet taken gives
-        → AreToGet gives target.old.folder.now begun.now.fragments.items replaced.now.fragments.items
-        → AreToGet gives target.old.folder.now begun.now.descriptions.items replaced.now.descriptions.items
-        → Remove (λ path. taken path ≡ true) (F.calls files.new) → GivesTo taken gives (F.calls files.old) (F.calls files.new) }
+    requires { CanGive (Replaces target.old.folder.now begun.now replaced.now) }
+    ensures folder { target.new.folder ≡ target.old.folder }
+    ensures whenever { GivesOnly (Replaces target.old.folder.now begun.now replaced.now) (F.calls files.old) (F.calls files.new) }
+    ensures got { OnOk result (AllGot (Replaces target.old.folder.now begun.now replaced.now) (F.calls files.old) (F.calls files.new)) }
 {
     let fragments = replaced.fragments.as_slice();
     give_names(rt, files, target, begun.fragments.as_slice(), fragments)?;
@@ -134,8 +156,9 @@ fn remove_old<F: Folder>(
     names: &[String],
     others: &[String],
 ) -> Result<(), FileFault>
+    requires { CanGive (IsPairOf target.old.folder.now names.now others.now) }
     ensures folder { target.new.folder ≡ target.old.folder }
-    ensures rest { KeepsRest (F.calls files.old) (F.calls files.new) }
+    ensures whenever { GivesOnly (IsPairOf target.old.folder.now names.now others.now) (F.calls files.old) (F.calls files.new) }
 {
     'names: for (name, other) in names.iter().zip(others.iter()) {
         remove_lost(rt, files, target, name.as_str(), other)?;
@@ -143,7 +166,7 @@ fn remove_old<F: Folder>(
     Ok(())
 }
 
-// Removes what has another name if nothing has this one.
+// Removes what has another name if nothing has this one: so the other has what this one has.
 fn remove_lost<F: Folder>(
     rt: &HostRuntime,
     files: &mut F,
@@ -151,14 +174,27 @@ fn remove_lost<F: Folder>(
     name: &str,
     other: &String,
 ) -> Result<(), FileFault>
+    requires { CanGive (IsPair (target.old.folder.now ++ 47 ∷ name.now) (path_of target.old.folder.now other.now)) }
     ensures folder { target.new.folder ≡ target.old.folder }
-    ensures rest { KeepsRest (F.calls files.old) (F.calls files.new) }
+    ensures whenever { GivesOnly (IsPair (target.old.folder.now ++ 47 ∷ name.now) (path_of target.old.folder.now other.now))
+        (F.calls files.old) (F.calls files.new) }
 {
     let path = target.path(rt.alloc(), name)?;
-    if is_there(rt, path.as_str())? {
+    if !is_lost(rt, files, path.as_str())? {
         return Ok(());
     }
     remove_names(rt, files, target, slice::from_ref(other))
+}
+
+// Whether nothing is at a path.
+fn is_lost<F: Folder>(rt: &HostRuntime, files: &mut F, path: &str) -> Result<bool, FileFault>
+    ensures kept { KeepsEach (F.calls files.old) (F.calls files.new) }
+    ensures lost { IfOk result (λ is. is ≡ true → IsAbsent path.now (F.calls files.new)) }
+{
+    match files.is_absent(path) {
+        Ok(lost) => Ok(lost),
+        Err(error) => Err(device(rt.alloc(), path, error)),
+    }
 }
 
 // Gives the files of some names each the name at its index too, in place of what has it, and notes their digests.
@@ -169,8 +205,10 @@ fn give_names<F: Folder>(
     names: &[String],
     others: &[String],
 ) -> Result<(), FileFault>
+    requires { CanGive (IsPairOf target.old.folder.now names.now others.now) }
     ensures folder { target.new.folder ≡ target.old.folder }
-    ensures whenever { GivesNames target.old.folder.now names.now others.now (F.calls files.old) (F.calls files.new) }
+    ensures whenever { GivesOnly (IsPairOf target.old.folder.now names.now others.now) (F.calls files.old) (F.calls files.new) }
+    ensures got { OnOk result (AllGot (IsPairOf target.old.folder.now names.now others.now) (F.calls files.old) (F.calls files.new)) }
 {
     'names: for (name, other) in names.iter().zip(others.iter()) {
         give_one(rt, files, target, name.as_str(), other.as_str())?;
@@ -186,15 +224,17 @@ fn give_one<F: Folder>(
     name: &str,
     other: &str,
 ) -> Result<(), FileFault>
+    requires { CanGive (IsPair (target.old.folder.now ++ 47 ∷ name.now) (target.old.folder.now ++ 47 ∷ other.now)) }
     ensures folder { target.new.folder ≡ target.old.folder }
-    ensures whenever { (taken : List ℕ → Bool) → AreTaken taken → taken (target.old.folder.now ++ 47 ∷ name.now) ≡ false
-        → Gives (λ path. taken path ≡ true) (IsPair (target.old.folder.now ++ 47 ∷ name.now) (target.old.folder.now ++ 47 ∷ other.now))
-        Nothing (F.calls files.old) (F.calls files.new) }
+    ensures whenever { GivesOnly (IsPair (target.old.folder.now ++ 47 ∷ name.now) (target.old.folder.now ++ 47 ∷ other.now))
+        (F.calls files.old) (F.calls files.new) }
+    ensures given { OnOk result (IsGivenTo (target.old.folder.now ++ 47 ∷ name.now) (target.old.folder.now ++ 47 ∷ other.now)
+        (F.calls files.new)) }
 {
     let alloc = rt.alloc();
     let path = target.path(alloc, name)?;
     let to = target.path(alloc, other)?;
-    if !is_there(rt, path.as_str())? {
+    if is_lost(rt, files, path.as_str())? {
         return Ok(());
     }
     match give_name(rt, files, path.as_str(), to.as_str()) {

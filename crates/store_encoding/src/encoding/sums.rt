@@ -1,13 +1,16 @@
 //! The digests in a store: the file of them that `encode` writes.
-use std::fs;
+ghost use Rattle.std.specs.Prelude.{ℕ, List, Option, OnOk, IfSome, Some};
+ghost use Rattle.folders.specs.Disk.{IsOnDisk};
+ghost use Rattle.store_folder.specs.Written.{Puts, PutsOne};
+ghost use Rattle.store_encoding.specs.Names.{sums_path};
+ghost use Rattle.store_encoding.specs.Replaced.{IsSums};
+
+use folders::Folder;
 use std::io::{self, ErrorKind};
 use store_faults::{FileFault, device};
 use store_files::Target;
-use store_folder::{
-    Links, NewFile, SUMS_NAME, Sums, SumsFault, path_in, place_again, read_sums, sync_folder,
-};
+use store_folder::{Links, SUMS_NAME, Sums, SumsFault, path_in, read_sums, write_over};
 use store_progress::allow_file;
-use store_repair::NewFragment;
 
 /// The digests that the store's file of them has; none where there is no such file.
 pub fn stored_sums(rt: &HostRuntime, folder: &str) -> Result<Sums, FileFault> {
@@ -26,44 +29,46 @@ pub fn stored_sums(rt: &HostRuntime, folder: &str) -> Result<Sums, FileFault> {
     }
 }
 
-/// Writes the digests of a store in place of those that are there, if there are new ones.
-pub fn write_new_sums(rt: &HostRuntime, target: &Target<'_>) -> Result<(), FileFault> {
+/// Writes the digests of a store in place of those that are there, if there are new ones. Whenever that ends, their path has what it had,
+/// or all of one text, and no other path changes but temporary ones. Once it is done, a crash leaves the text there.
+pub fn write_new_sums<F: Folder>(
+    rt: &HostRuntime,
+    files: &mut F,
+    target: &Target<'_>,
+) -> Result<(), FileFault>
+    ensures { (text : Option (List ℕ)) × Puts (IsSums target.now.folder.now text) (F.calls files.old) (F.calls files.new)
+        × OnOk result (IfSome text (λ bytes. IsOnDisk (sums_path target.now.folder.now) bytes (F.calls files.new))) }
+{
     if !target.is_changed {
         return Ok(());
     }
-    write_sums(rt, target.folder, &target.sums)
+    write_sums(rt, files, target.folder, &target.sums)
 }
 
 // Writes the digests of a store, in place of those that are there.
-fn write_sums(rt: &HostRuntime, folder: &str, sums: &Sums) -> Result<(), FileFault> {
+fn write_sums<F: Folder>(
+    rt: &HostRuntime,
+    files: &mut F,
+    folder: &str,
+    sums: &Sums,
+) -> Result<(), FileFault>
+    ensures { (text : Option (List ℕ)) × Puts (IsSums folder.now text) (F.calls files.old) (F.calls files.new)
+        × OnOk result (IfSome text (λ bytes. IsOnDisk (sums_path folder.now) bytes (F.calls files.new))) }
+{
     let alloc = rt.alloc();
     let path = path_in(alloc, folder, SUMS_NAME)?;
     let text = sums.text(alloc)?;
-    match write_over(rt, folder, path.as_str(), text.as_slice()) {
+    match write_text(rt, files, path.as_str(), text.as_slice()) {
         Ok(()) => Ok(()),
         Err(error) => Err(device(alloc, path.as_str(), error)),
     }
 }
 
-fn write_over(rt: &HostRuntime, folder: &str, path: &str, text: &[u8]) -> io::Result<()> {
+// Writes a text to a file in place of the one at a path, if a file may be so long.
+fn write_text<F: Folder>(rt: &HostRuntime, files: &mut F, path: &str, text: &[u8]) -> io::Result<()>
+    ensures whenever { PutsOne path.now (Some text.now) (F.calls files.old) (F.calls files.new) }
+    ensures done { OnOk result (IsOnDisk path.now text.now (F.calls files.new)) }
+{
     allow_file(rt, text.len() as u64)?;
-    let mut file = NewFile::create_as_user(rt, rt.alloc(), folder)?;
-    if let Err(error) = fill(rt, &mut file, path, text) {
-        file.discard(rt)?;
-        return Err(error);
-    }
-    place_again(rt, file, path)?;
-    sync_folder(rt, folder)
-}
-
-// Writes a text into a new file, which gets the owner and the rights of the one at a path, if there is one.
-fn fill(rt: &HostRuntime, file: &mut NewFile, path: &str, text: &[u8]) -> io::Result<()> {
-    match fs::symlink_metadata(rt, path) {
-        Ok(there) => {
-            file.take_after(&there)?;
-        }
-        Err(error) if error.kind() == ErrorKind::NotFound => {}
-        Err(error) => return Err(error),
-    }
-    file.append(text)
+    write_over(rt, files, path, text)
 }

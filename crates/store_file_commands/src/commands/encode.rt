@@ -7,7 +7,7 @@ use store_arguments::EncodeOptions;
 use store_encoding::{SourceFile, Spool, encode_file, stored_sums, write_new_sums};
 use store_faults::{DEVICE, DONE, FileFault, StoreFault, device, say, write};
 use store_files::Target;
-use store_folder::{Listing, Others, Wanted, list};
+use store_folder::{Listing, Others, SystemFolder, Wanted, list};
 use store_opening::{
     lock_folder, other_than, refuse_unmounted, refuse_untrusted, remove_leftovers, say_links,
 };
@@ -31,7 +31,7 @@ pub fn encode<R: Threads + Sync>(
     ))?;
     let mut target = target_of(rt, options, &listing)?;
     let Encoded { count, status } = encode_all(threads, rt, options, &mut target)?;
-    write_new_sums(rt, &target)?;
+    write_new_sums(rt, &mut SystemFolder::new(rt), &target)?;
     let left = (options.files.len() as u64).saturating_sub(count);
     if !options.quiet {
         write(rt, encoded(alloc, count, left)).map_err(|error| device(

@@ -1,5 +1,10 @@
-use Rattle.std.proofs.Common.{◌≡◌}
+use Rattle.std.proofs.Common.{◌≡◌, ℕ, List}
+use Rattle.store_encoding.specs.Names.{IsNamed}
+use Rattle.store_encoding.specs.Taken.{IsOneOf}
 use Rattle.store_encoding.proofs.removing.remove_names.Given as goal
 
 abbrev pub invariant-names : goal.invariant-names
-invariant-names g l = l.target.folder ≡ l.fn.target.folder
+invariant-names g l = record {
+  folder : l.target.folder ≡ l.fn.target.folder;
+  named : (path : List ℕ) → IsOneOf l.paths.items path → IsNamed l.fn.target.folder.now l.names path;
+}

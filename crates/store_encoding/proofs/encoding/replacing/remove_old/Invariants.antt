@@ -1,9 +1,14 @@
-use Rattle.std.proofs.Common.{◌≡◌}
-use Rattle.store_encoding.specs.Taken.{KeepsRest}
+use Rattle.std.proofs.Common.{◌≡◌, ℕ, List}
+use Rattle.store_encoding.specs.Names.{IsPairOf}
+use Rattle.store_encoding.specs.Replaced.{GivesOnly}
 use Rattle.store_encoding.proofs.encoding.replacing.remove_old.Given as goal
 
 abbrev pub invariant-names : goal.invariant-names
-invariant-names g l = record {
-  folder : l.target.folder ≡ l.fn.target.folder;
-  rest : KeepsRest (g.F.Folder.calls l.fn.files) (g.F.Folder.calls l.files);
-}
+invariant-names g l =
+    let folder = l.fn.target.folder in
+    let pairs = IsPairOf folder.now l.names l.others in
+    let waiting = IsPairOf folder.now l.name-iterator.a.rest.now l.name-iterator.b.rest.now in record {
+      same : l.target.folder ≡ folder;
+      gives : GivesOnly pairs (g.F.Folder.calls l.fn.files) (g.F.Folder.calls l.files);
+      rest : (from to : List ℕ) → waiting from to → pairs from to;
+    }

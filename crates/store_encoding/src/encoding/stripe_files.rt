@@ -1,0 +1,97 @@
+//! The names of a stripe's files, and whether these can get the names of another stripe's.
+ghost use Rattle.std.specs.Prelude.{◌≡◌, true, not, ◌&&◌, codes, string_bytes};
+ghost use Rattle.std.specs.List.{list_all, list_any};
+ghost use Rattle.std.specs.Str.{bytes_eq};
+ghost use Rattle.store_names.specs.Temporary.{is_free};
+ghost use Rattle.store_encoding.specs.Names.{AreApart};
+ghost use Rattle.store_encoding.specs.Own.{has, is_own, shares_none};
+
+use std::alloc::{AllocError, Global};
+use store_files::Target;
+use store_folder::{SUMS_NAME, description_names};
+use store_names::is_free;
+
+/// The names in the store of a stripe's files.
+#[derive(Drop)]
+pub(crate) struct StripeFiles {
+    pub(crate) fragments: Vec<String>,
+    pub(crate) descriptions: Vec<String>,
+}
+
+impl StripeFiles {
+    pub(crate) fn of(
+        alloc: Global,
+        target: &Target<'_>,
+        stripe: &str,
+    ) -> Result<StripeFiles, AllocError> {
+        Ok(StripeFiles {
+            descriptions: description_names(alloc, &target.pattern, target.code, stripe)?,
+            fragments: target.names(alloc, stripe)?,
+        })
+    }
+}
+
+/// Whether the files of a stripe in a folder can get the names of another one's: no name is of both, and none is one that files have which
+/// aren't whole yet, or that of the digests.
+pub(crate) fn are_apart(folder: &str, files: &StripeFiles, others: &StripeFiles) -> bool
+    ensures { result ≡ true → AreApart folder.now files.now others.now }
+{
+    let fragments = others.fragments.as_slice();
+    let descriptions = others.descriptions.as_slice();
+    if !is_free(folder) {
+        return false;
+    }
+    if !is_free(SUMS_NAME) {
+        return false;
+    }
+    if !are_own(files.fragments.as_slice()) {
+        return false;
+    }
+    if !are_own(files.descriptions.as_slice()) {
+        return false;
+    }
+    if !are_own(fragments) {
+        return false;
+    }
+    if !are_own(descriptions) {
+        return false;
+    }
+    if !share_none(files.fragments.as_slice(), fragments, descriptions) {
+        return false;
+    }
+    share_none(files.descriptions.as_slice(), fragments, descriptions)
+}
+
+// Whether no name is one that files have which aren't whole yet, or that of the digests.
+fn are_own(names: &[String]) -> bool
+    ensures { result ≡ list_all is_own names.now }
+{
+    names.iter().all(|name| is_own(name.as_str()))
+}
+
+fn is_own(name: &str) -> bool
+    ensures { result ≡ (is_free name.now && not (bytes_eq name.now (codes "SHA256SUMS"))) }
+{
+    is_free(name) && name != SUMS_NAME
+}
+
+// Whether none of the names is one of some others.
+fn share_none(names: &[String], fragments: &[String], descriptions: &[String]) -> bool
+    ensures { result ≡ list_all (shares_none fragments.now descriptions.now) names.now }
+{
+    names
+        .iter()
+        .all(|name| is_none_of(name.as_str(), fragments, descriptions))
+}
+
+fn is_none_of(name: &str, fragments: &[String], descriptions: &[String]) -> bool
+    ensures { result ≡ (not (has fragments.now name.now) && not (has descriptions.now name.now)) }
+{
+    !has(fragments, name) && !has(descriptions, name)
+}
+
+fn has(names: &[String], name: &str) -> bool
+    ensures { result ≡ list_any (λ other. bytes_eq (string_bytes other) name.now) names.now }
+{
+    names.iter().any(|other| other.as_str() == name)
+}
