@@ -1,5 +1,5 @@
 -- The names of files in a store, and their paths.
-use Rattle.std.proofs.Common.{◌≡◌, ◌∙◌, ◌⊎◌, inl, inr, refl, sym, ap, ℕ, List, [], ◌∷◌, ◌++◌, Bool, true, false, not, ◌&&◌, codes}
+use Rattle.std.proofs.Common.{◌≡◌, ◌∙◌, ◌⊎◌, inl, inr, refl, sym, subst, ap, ℕ, List, [], ◌∷◌, ◌++◌, Bool, true, false, not, ◌&&◌, codes}
 use Rattle.std.proofs.Common.{String, Global, string_bytes}
 use Rattle.std.specs.List.{list_all}
 use Rattle.std.specs.Str.{bytes_eq}
@@ -97,16 +97,17 @@ none_shared folder fragments descriptions (name ∷ names) all path (inl here) t
 none_shared folder fragments descriptions (name ∷ names) all path (inr more) too = none_shared folder fragments descriptions names
     (and_parts (shares_none fragments descriptions name) (list_all (shares_none fragments descriptions) names) all).1 path more too
 
-pub apart_from : (folder : List ℕ) (files others : StripeFiles) → is_free folder ≡ true → list_all is_own files.fragments.items ≡ true
+pub apart_from : (folder : List ℕ) (files others : StripeFiles) → is_free folder ≡ true → is_free (codes "SHA256SUMS") ≡ true
+    → list_all is_own files.fragments.items ≡ true
     → list_all is_own files.descriptions.items ≡ true → list_all is_own others.fragments.items ≡ true
     → list_all is_own others.descriptions.items ≡ true
     → list_all (shares_none others.fragments.items others.descriptions.items) files.fragments.items ≡ true
     → list_all (shares_none others.fragments.items others.descriptions.items) files.descriptions.items ≡ true
     → AreApart folder files others
-apart_from folder files others free fragments descriptions other_fragments other_descriptions none none_too = record {
+apart_from folder files others free sums_free fragments descriptions other_fragments other_descriptions none none_too = record {
   lasting = λ path is. (own files fragments descriptions path is).0;
   lasting_too = λ path is. (own others other_fragments other_descriptions path is).0;
-  sums_lasting = ap not (free_in folder (codes "SHA256SUMS") ∙ and_from (is_free folder) (is_free (codes "SHA256SUMS")) free refl);
+  sums_lasting = ap not (free_in folder (codes "SHA256SUMS") ∙ and_from (is_free folder) (is_free (codes "SHA256SUMS")) free sums_free);
   sums = λ is. (own files fragments descriptions (sums_path folder) is).1 refl;
   sums_too = λ is. (own others other_fragments other_descriptions (sums_path folder) is).1 refl;
   apart = λ path is too. elim is [
@@ -119,3 +120,12 @@ apart_from folder files others free fragments descriptions other_fragments other
       → IsFileOf folder f path → (is_temporary path ≡ false) × (path ≡ sums_path folder → ⊥)
   own f all all_too path (inl fragment) = named_own folder f.fragments.items free all path fragment
   own f all all_too path (inr description) = named_own folder f.descriptions.items free all_too path description
+
+-- a test that none of some names is one of others, by lists as these are known
+pub none_is : (fragments these descriptions those names here : List (String Global)) → these ≡ fragments → those ≡ descriptions
+    → here ≡ names → (is : Bool) → is ≡ list_all (shares_none these those) here → is ≡ true
+    → list_all (shares_none fragments descriptions) names ≡ true
+none_is fragments these descriptions those names here same same_too same_names is tested holds =
+    subst (λ (l : List (String Global)). list_all (shares_none l descriptions) names ≡ true) same
+    (subst (λ (l : List (String Global)). list_all (shares_none these l) names ≡ true) same_too
+    (subst (λ (l : List (String Global)). list_all (shares_none these those) l ≡ true) same_names (sym tested ∙ holds)))

@@ -1,12 +1,10 @@
 -- Files that get the names of others.
 use Rattle.std.proofs.Common.{◌≡◌, ◌⊎◌, inl, inr, ℕ, List, [], ◌∷◌, ◌++◌, Bool, true, false, Option, None, refl, sym, ◌∙◌, ap, subst}
-use Rattle.std.proofs.Common.{String, Global, string_bytes, OnOk}
-use Rattle.std.specs.declared.result.Result.{Result}
+use Rattle.std.proofs.Common.{String, Global, string_bytes}
 use Rattle.folders.specs.Calls.{Answered}
 use Rattle.folders.specs.Given.{AreGiven, Gives, IsAbsent, IsNewAt, IsPair, LeadThere, NothingNew, RenameOwn}
 use Rattle.folders.specs.Kept.{IsSound}
 use Rattle.folders.specs.Worlds.{World, IsLawful}
-use Rattle.folders.proofs.Answers.{on_ok}
 use Rattle.folders.proofs.GivenAfter.{gives_after, gives_nothing, gives_weaker, own_front}
 use Rattle.folders.proofs.KeptGiven.{keeps_gives}
 use Rattle.folders.proofs.NewFiles.{lost_gives}
@@ -160,10 +158,6 @@ all_step gives rest rest_next can path other is next old mid new first second gi
       | inr has ↦ inr (keeps_got gives (IsPair path other) can pair_gives old mid new first second w went from to gets ours has)
     ]
 
--- no call was made, and all are still to get theirs
-pub all_first : (gives : List ℕ → List ℕ → Type 0) (old : List Answered) → AllBut gives gives old old
-all_first gives old w went from to gets ours = inl gets
-
 -- none is still to get one
 pub all_last : (gives rest : List ℕ → List ℕ → Type 0) (old new : List Answered) → ((from to : List ℕ) → rest from to → ⊥)
     → AllBut rest gives old new → AllGot gives old new
@@ -223,8 +217,8 @@ all_joined first last can old given mid new gives gone gives_last got got_last_o
     let at_mid = run_front both both (λ p q is. is) w old mid new last NothingNew gives_last went in
     let at_given = run_front both first (λ p q is. inl is) w old given mid first NothingNew gone at_mid in
     elim gets [
-      | inl is ↦ keeps_got both last can (λ p q so. inr so) old mid new two gives_last w went from to gets ours
-          (keeps_got both first can (λ p q so. inl so) old given mid one gone w at_mid from to gets ours
+      | inl is ↦ keeps_got both last can (λ p q so. inr so) old mid new two gives_last w went from to (inl is) ours
+          (keeps_got both first can (λ p q so. inl so) old given mid one gone w at_mid from to (inl is) ours
           (got_more both first (λ p q so. inl so) w old given from to (got w at_given from to is ours)))
       | inr is ↦ got_later both last can (λ p q so. inr so) old mid new two gives_last w went from to is
           (got_last_ones w (run_since both last (λ p q so. inr so) w old mid new
@@ -265,12 +259,11 @@ module _ (path other here there : List ℕ) (is : here ≡ path) (is_other : the
   name_given old mid new kept gives = kept_then path other can old mid new kept
       (same_pair here there path other is is_other mid new (gives is_temporary (λ p temporary. temporary) off))
 
-  pub given_lead : {T E : Type 0} (result : Result T E) (calls : List Answered)
-      → (is_temporary here ≡ false → is_temporary there ≡ false → OnOk result (LeadThere here there calls))
-      → OnOk result (IsGivenTo path other calls)
-  given_lead result calls leads = on_ok result (LeadThere here there calls) (IsGivenTo path other calls)
-      (λ lead. inr (subst (λ (p : List ℕ). LeadThere p other calls) is (subst (λ (p : List ℕ). LeadThere here p calls) is_other lead)))
-      (leads off (ap is_temporary is_other ∙ can.lasting_too path other (refl, refl)))
+  pub lead_given : (calls : List Answered)
+      → (is_temporary here ≡ false → is_temporary there ≡ false → LeadThere here there calls) → IsGivenTo path other calls
+  lead_given calls leads = inr (subst (λ (p : List ℕ). LeadThere p other calls) is
+      (subst (λ (p : List ℕ). LeadThere here p calls) is_other (leads off
+      (ap is_temporary is_other ∙ can.lasting_too path other (refl, refl)))))
 
 -- ---- names that are gone through: this one and the other one are the next of those that are left
 module _ (folder here : List ℕ) (name other : String Global) (some some_others names others all all_others : List (String Global))

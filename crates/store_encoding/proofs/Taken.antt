@@ -1,6 +1,6 @@
 -- Paths that are taken away.
 use Rattle.std.proofs.Common.{◌≡◌, ◌<◌, ◌≤◌, inl, inr, refl, ◌∙◌, ℕ, List, [], ◌∷◌, ◌++◌, length, suc, get_or, Bool, true, Option, None}
-use Rattle.std.proofs.Common.{sym, subst, arith}
+use Rattle.std.proofs.Common.{zero, sym, subst, arith}
 use Rattle.std.proofs.Common.{string_bytes, String, Global}
 use Rattle.std.proofs.lemmas.List.{get_or_append_left, length-append}
 use Rattle.std.proofs.Math.Seq.{get_or-append_seam}
@@ -92,7 +92,7 @@ path_added folder names all front last name is named among before path one =
 pub named_at : (folder : List ℕ) (names : List (String Global)) (index : ℕ) (d : String Global) → index < length names
     → IsNamed folder names (path_of folder (get_or names index d))
 named_at folder [] index d below = absurd (omega (arith, below))
-named_at folder (name ∷ names) 0 d below = inl refl
+named_at folder (name ∷ names) zero d below = inl refl
 named_at folder (name ∷ names) (suc index) d below = inr (named_at folder names index d (omega (arith, below)))
 
 pub goes_named : (folder : List ℕ) (paths names : List (String Global)) → ((path : List ℕ) → IsOneOf paths path → IsNamed folder names path)

@@ -192,7 +192,7 @@ fn is_lost<F: Folder>(rt: &HostRuntime, files: &mut F, path: &str) -> Result<boo
     ensures lost { IfOk result (λ is. is ≡ true → IsAbsent path.now (F.calls files.new)) }
 {
     match files.is_absent(path) {
-        Ok(is) => Ok(is),
+        Ok(lost) => Ok(lost),
         Err(error) => Err(device(rt.alloc(), path, error)),
     }
 }

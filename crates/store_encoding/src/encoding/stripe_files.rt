@@ -4,7 +4,7 @@ ghost use Rattle.std.specs.List.{list_all, list_any};
 ghost use Rattle.std.specs.Str.{bytes_eq};
 ghost use Rattle.store_names.specs.Temporary.{is_free};
 ghost use Rattle.store_encoding.specs.Names.{AreApart};
-ghost use Rattle.store_encoding.specs.Own.{is_own, shares_none};
+ghost use Rattle.store_encoding.specs.Own.{has, is_own, shares_none};
 
 use std::alloc::{AllocError, Global};
 use store_files::Target;
@@ -36,13 +36,30 @@ impl StripeFiles {
 pub(crate) fn are_apart(folder: &str, files: &StripeFiles, others: &StripeFiles) -> bool
     ensures { result ≡ true → AreApart folder.now files.now others.now }
 {
-    is_free(folder)
-        && are_own(files.fragments.as_slice())
-        && are_own(files.descriptions.as_slice())
-        && are_own(others.fragments.as_slice())
-        && are_own(others.descriptions.as_slice())
-        && share_none(files.fragments.as_slice(), others)
-        && share_none(files.descriptions.as_slice(), others)
+    let fragments = others.fragments.as_slice();
+    let descriptions = others.descriptions.as_slice();
+    if !is_free(folder) {
+        return false;
+    }
+    if !is_free(SUMS_NAME) {
+        return false;
+    }
+    if !are_own(files.fragments.as_slice()) {
+        return false;
+    }
+    if !are_own(files.descriptions.as_slice()) {
+        return false;
+    }
+    if !are_own(fragments) {
+        return false;
+    }
+    if !are_own(descriptions) {
+        return false;
+    }
+    if !share_none(files.fragments.as_slice(), fragments, descriptions) {
+        return false;
+    }
+    share_none(files.descriptions.as_slice(), fragments, descriptions)
 }
 
 // Whether no name is one that files have which aren't whole yet, or that of the digests.
@@ -58,13 +75,19 @@ fn is_own(name: &str) -> bool
     is_free(name) && name != SUMS_NAME
 }
 
-// Whether none of the names is one of a stripe's files.
-fn share_none(names: &[String], files: &StripeFiles) -> bool
-    ensures { result ≡ list_all (shares_none files.now.fragments.items files.now.descriptions.items) names.now }
+// Whether none of the names is one of some others.
+fn share_none(names: &[String], fragments: &[String], descriptions: &[String]) -> bool
+    ensures { result ≡ list_all (shares_none fragments.now descriptions.now) names.now }
 {
-    let fragments = files.fragments.as_slice();
-    let descriptions = files.descriptions.as_slice();
-    names.iter().all(|name| !has(fragments, name.as_str()) && !has(descriptions, name.as_str()))
+    names
+        .iter()
+        .all(|name| is_none_of(name.as_str(), fragments, descriptions))
+}
+
+fn is_none_of(name: &str, fragments: &[String], descriptions: &[String]) -> bool
+    ensures { result ≡ (not (has fragments.now name.now) && not (has descriptions.now name.now)) }
+{
+    !has(fragments, name) && !has(descriptions, name)
 }
 
 fn has(names: &[String], name: &str) -> bool

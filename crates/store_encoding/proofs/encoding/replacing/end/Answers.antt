@@ -4,8 +4,8 @@ use Rattle.store_encoding.proofs.Order.{given_early, got_after, replaces_all, re
 use Rattle.store_encoding.proofs.Order.{sums_there}
 use Rattle.store_encoding.proofs.encoding.replacing.end.Goals as goal
 
-pub returns-then-not-branch : goal.returns-then-not-branch
-returns-then-not-branch g c = replaces_none c.args.target.now.folder.now c.args.begun.now c.args.replaced.now _ _ c.remove_all.ensures
+pub returns-then-not-is_whole : goal.returns-then-not-is_whole
+returns-then-not-is_whole g c = replaces_none c.args.target.now.folder.now c.args.begun.now c.args.replaced.now _ _ c.remove_all.ensures
 
 pub give_all-requires : goal.give_all-requires
 give_all-requires g c = can_replace c.args.target.now.folder.now c.args.begun.now c.args.replaced.now c.requires
@@ -19,17 +19,20 @@ returns-in_err-write_new_sums g c =
     let folder = c.args.target.now.folder.now in
     let same = ap (λ (f : Bor (List ℕ)). f.now) (c.forget_digests-2.ensures ∙ c.forget_digests.ensures ∙ c.give_all.ensures.folder) in
     replaces_early folder c.args.begun.now c.args.replaced.now c.requires c.write_new_sums.ensures.0 _ _
-    (sums_after folder c.args.begun.now c.args.replaced.now c.write_new_sums.ensures.0 _ same _ _ _ c.give_all.ensures.whenever
-    c.write_new_sums.ensures.1.0)
+    (sums_after folder c.args.begun.now c.args.replaced.now c.write_new_sums.ensures.0 c.forget_digests-2.new.target.folder.now same _
+    _ _ c.give_all.ensures.whenever
+    c.write_new_sums.ensures.1)
 
 pub returns : goal.returns
 returns g c =
     let folder = c.args.target.now.folder.now in
     let same = ap (λ (f : Bor (List ℕ)). f.now) (c.forget_digests-2.ensures ∙ c.forget_digests.ensures ∙ c.give_all.ensures.folder) in
     replaces_all folder c.args.begun.now c.args.replaced.now c.requires c.in_ok-write_new_sums.ensures.0 _ _ _
-    (sums_after folder c.args.begun.now c.args.replaced.now c.in_ok-write_new_sums.ensures.0 _ same _ _ _ c.give_all.ensures.whenever
-    c.in_ok-write_new_sums.ensures.1.0)
-    (got_after folder c.args.begun.now c.args.replaced.now c.requires c.in_ok-write_new_sums.ensures.0 _ same _ _ _
-    c.give_all.ensures.whenever c.in_ok-write_new_sums.ensures.1.0 c.in_ok-give_all.ensures.got)
-    (sums_there folder _ same c.in_ok-write_new_sums.ensures.0 _ c.in_ok-write_new_sums.ensures.1.1)
-    (same_goes folder _ same c.args.begun.now _ _ c.remove_all-2.ensures)
+    (sums_after folder c.args.begun.now c.args.replaced.now c.in_ok-write_new_sums.ensures.0 c.forget_digests-2.new.target.folder.now
+    same _ _ _ c.give_all.ensures.whenever
+    c.in_ok-write_new_sums.ensures.1)
+    (got_after folder c.args.begun.now c.args.replaced.now c.requires c.in_ok-write_new_sums.ensures.0
+    c.forget_digests-2.new.target.folder.now same _ _ _
+    c.give_all.ensures.whenever c.in_ok-write_new_sums.ensures.1 c.in_ok-give_all.ensures.got)
+    (sums_there folder c.forget_digests-2.new.target.folder.now same c.in_ok-write_new_sums.ensures.0 _ c.in_ok-write_new_sums.ensures.2)
+    (same_goes folder c.forget_digests-2.new.target.folder.now same c.args.begun.now _ _ c.remove_all-2.ensures)

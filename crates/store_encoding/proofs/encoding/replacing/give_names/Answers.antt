@@ -1,6 +1,7 @@
-use Rattle.std.proofs.Common.{◌≡◌, ◌∙◌, ap, inl, refl, sym, ℕ, List, Bor, arith}
+use Rattle.std.proofs.Common.{◌≡◌, ◌∙◌, ap, inl, inr, refl, sym, ℕ, List, Bor, arith}
+use Rattle.std.proofs.lemmas.List.{nil_from_length}
 use Rattle.store_encoding.specs.Names.{IsPairOf}
-use Rattle.store_encoding.proofs.Replaced.{all_first, all_last, can_next, gives_none, next_gives, next_got, rest_of, same_pairs}
+use Rattle.store_encoding.proofs.Replaced.{all_last, can_next, gives_none, next_gives, next_got, no_pair, rest_of, same_pairs}
 use Rattle.store_encoding.proofs.encoding.replacing.give_names.Goals as goal
 
 pub names-init : goal.names-init
@@ -44,3 +45,13 @@ returns-in_err-give_one-clause-whenever g c = next_gives c.args.target.now.folde
     (ap (λ (f : Bor (List ℕ)). f.now) c.names.invariant.same) c.in-Some.ensures.steps.0 c.in-Some.ensures.steps.1
     c.as_str.ensures.value c.as_str-in-names.ensures.value c.requires c.names.invariant.rest _ _ _ c.names.invariant.gives
     c.give_one.ensures.whenever
+
+pub returns-clause-got : goal.returns-clause-got
+returns-clause-got g c =
+    let folder = c.args.target.now.folder.now in
+    all_last (IsPairOf folder c.args.names.now c.args.others.now)
+    (IsPairOf folder c.names.name-iterator.a.rest.now c.names.name-iterator.b.rest.now) _ _
+    (no_pair folder c.names.name-iterator.a.rest.now c.names.name-iterator.b.rest.now (elim c.in-None.ensures.steps [
+      | inl none ↦ inl (nil_from_length _ none.1.0)
+      | inr none ↦ inr (nil_from_length _ none.1.0)
+    ])) c.names.invariant.got

@@ -1,7 +1,6 @@
-use Rattle.std.proofs.Common.{◌≡◌, ◌∙◌, ◌∷◌, ◌++◌, inl, inr, sym, subst, ap, refl, ℕ, List}
+use Rattle.std.proofs.Common.{◌∙◌, ◌∷◌, ◌++◌, inl, subst, ℕ, List}
 use Rattle.folders.specs.Given.{IsAbsent, IsPair}
-use Rattle.store_folder.specs.Temporary.{is_temporary}
-use Rattle.store_encoding.proofs.Replaced.{gives_none, given_lead, kept_gives, kept_then, name_given}
+use Rattle.store_encoding.proofs.Replaced.{gives_none, kept_gives, lead_given, name_given}
 use Rattle.store_encoding.proofs.encoding.replacing.give_one.Goals as goal
 
 pub returns-in_err-path-clause-whenever : goal.returns-in_err-path-clause-whenever
@@ -37,3 +36,16 @@ returns-clause-whenever g c =
     name_given (folder ++ 47 ∷ c.args.name.now) (folder ++ 47 ∷ c.args.other.now) c.as_str-2.result.now c.as_str-3.result.now
     (c.as_str-2.ensures.value ∙ c.in_ok-path.ensures) (c.as_str-3.ensures.value ∙ c.in_ok-to.ensures) c.requires
     (g.F.Folder.calls c.args.files.now) (g.F.Folder.calls c.is_lost.new.files) _ c.is_lost.ensures.kept c.give_name.ensures.whenever
+
+pub returns-in-Ok-clause-whenever : goal.returns-in-Ok-clause-whenever
+returns-in-Ok-clause-whenever g c =
+    let folder = c.args.target.now.folder.now in
+    name_given (folder ++ 47 ∷ c.args.name.now) (folder ++ 47 ∷ c.args.other.now) c.as_str-2.result.now c.as_str-3.result.now
+    (c.as_str-2.ensures.value ∙ c.in_ok-path.ensures) (c.as_str-3.ensures.value ∙ c.in_ok-to.ensures) c.requires
+    (g.F.Folder.calls c.args.files.now) (g.F.Folder.calls c.is_lost.new.files) _ c.is_lost.ensures.kept c.give_name.ensures.whenever
+
+pub returns-in-Ok-clause-given : goal.returns-in-Ok-clause-given
+returns-in-Ok-clause-given g c =
+    let folder = c.args.target.now.folder.now in
+    lead_given (folder ++ 47 ∷ c.args.name.now) (folder ++ 47 ∷ c.args.other.now) c.as_str-2.result.now c.as_str-3.result.now
+    (c.as_str-2.ensures.value ∙ c.in_ok-path.ensures) (c.as_str-3.ensures.value ∙ c.in_ok-to.ensures) c.requires _ c.in-Ok.ensures.given

@@ -6,7 +6,7 @@ use Rattle.store_folder.specs.Kept.{IsTemporary}
 use Rattle.store_encoding.proofs.encoding.replacing.is_lost.Goals as goal
 
 pub returns-in-Ok-clause-kept : goal.returns-in-Ok-clause-kept
-returns-in-Ok-clause-kept g c = keeps_quiet IsTemporary (λ path bytes. ⊥) (absent c.args.path.now) c.in-Ok.is _ _ c.in-Ok.ensures.ok
+returns-in-Ok-clause-kept g c = keeps_quiet IsTemporary (λ path bytes. ⊥) (absent c.args.path.now) c.in-Ok.lost _ _ c.in-Ok.ensures.ok
     (λ w. tt)
 
 pub returns-in-Ok-clause-lost : goal.returns-in-Ok-clause-lost

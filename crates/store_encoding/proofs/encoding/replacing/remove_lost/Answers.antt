@@ -21,4 +21,4 @@ returns-clause-whenever g c = lost_then (c.args.target.now.folder.now ++ 47 ∷ 
     (path_of c.args.target.now.folder.now c.args.other.now) c.as_str.result.now (c.as_str.ensures.value ∙ c.in_ok-path.ensures)
     c.requires (g.F.Folder.calls c.args.files.now) (g.F.Folder.calls c.is_lost.new.files) _ c.is_lost.ensures.kept
     (c.in_ok-is_lost.ensures.lost c.if-not-branch.false)
-    (one_goes c.args.target.now.folder.now c.args.other.now c.from_ref.result.now c.from_ref.ensures _ _ c.remove_names.ensures.gone)
+    (one_goes c.args.target.now.folder.now c.args.other.now c.from_ref.result.now c.from_ref.ensures.value _ _ c.remove_names.ensures.gone)
