@@ -85,7 +85,7 @@ class RandomFolders(Folder):
                 self.random_folder(random.Random(seed))
                 farm = self.farm(f"out{seed}")
                 with contextlib.redirect_stdout(io.StringIO()) as said:
-                    status = check(argparse.Namespace(folder=str(self.store)))
+                    status = check(argparse.Namespace(folder=str(self.store), out=None))
                 self.assertEqual(status, int(farm.returncode != 0), (farm.stderr, said.getvalue()))
                 mistakes = [line[9:] for line in said.getvalue().splitlines() if line.startswith("mistake: ")]
                 refused += bool(mistakes)

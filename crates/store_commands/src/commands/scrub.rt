@@ -8,6 +8,7 @@ use std::io;
 use std::thread::Threads;
 use store_arguments::{ScrubOptions, TestOptions};
 use store_faults::{FileFault, device, write};
+use store_folder::Site;
 use store_opening::open_store;
 use store_reports::{Results, RowSource, finding_lines, scrubbed, status_of};
 
@@ -45,8 +46,19 @@ fn scrub_all<R: Threads + Sync>(
     test: &TestOptions<'_>,
 ) -> io::Result<u8> {
     let Opened { store, opening, .. } = opened;
-    let site = &store.site_of(opening);
+    let site = store.site_of(opening);
     say_alone(system, store, opening, false);
+    scrub_at(rt, system, opened, test, &site)
+}
+
+// Tests the stripes of a store at a site.
+fn scrub_at<'a, R: Threads + Sync>(
+    rt: &R,
+    system: &HostRuntime,
+    opened: Opened<'a>,
+    test: &TestOptions<'_>,
+    site: &'a Site<'a>,
+) -> io::Result<u8> {
     let word = "rebuilt";
     let rows = RowStream::new(RowSource { site, word });
     let stripes = Stripes {
@@ -54,7 +66,7 @@ fn scrub_all<R: Threads + Sync>(
         site,
         rows: if test.json { Some(&rows) } else { None },
     };
-    let work = Work::Scrub(store.code);
+    let work = Work::Scrub(opened.store.code);
     let Worked { all, held } = work_on(rt, system, &stripes, work, test.workers)?;
     opened.counters.progress.clear(system);
     let alloc = system.alloc();
