@@ -557,7 +557,10 @@ def test_limit_on_other_files(place, choose):
         with open(place / "output", "wb") as output:
             ended = subprocess.run([PROGRAM, *words], stdout=output, stderr=subprocess.PIPE, timeout=SECONDS, preexec_fn=limited)
         hold(ended.returncode == 3 and f"standard output: {said}".encode() in ended.stderr, f"{words}: {ended}")
-        hold(not (place / "output").read_bytes(), f"{words}: a part was written")
+        # Rows come stripe by stripe, each whole; of a file nothing is written.
+        written = (place / "output").read_text()
+        hold(not written or "--json" in words and all(json.loads(line)["stripe"] for line in written.splitlines()) and written[-1] == "\n",
+             f"{words}: a part was written")
     with subprocess.Popen([PROGRAM, "read", store, "a"], stdout=subprocess.PIPE, stderr=subprocess.DEVNULL, preexec_fn=limited) as process:
         hold(process.stdout.read() == (place / "a").read_bytes() and process.wait() == 0, "a pipe is taken for a file")
 
