@@ -16,7 +16,7 @@ LEFT_OUT = {"progress.rt", "tasks.rt"}
 # Texts that are filled into others, or that others take the place of before anything is said.
 PARTS = {" (os error ", "can be made", "would be rebuilt", "standard output", "standard output: <>", "standard input", "Max file size",
          ", with --replace-damaged ", "; left without --replace-damaged: ", "the survivors don't determine the fragment",
-         "a survivor can't be read: <>", "a rebuilt fragment can't be written: <>"}
+         "a run that isn't known", "a survivor can't be read: <>", "a rebuilt fragment can't be written: <>"}
 LITERAL = r'"((?:[^"\\]|\\[\s\S])*)"'
 HELP = rf"(?:const \w*(?:HELP|ABOUT): &str =|\bhelp:)\s*{LITERAL}[;,]"
 

@@ -15,6 +15,7 @@
 mod descriptions;
 mod disks;
 mod layouts;
+mod mounts;
 mod name_laws;
 mod names;
 mod parts;
@@ -28,9 +29,13 @@ pub use descriptions::{
 };
 pub use disks::{disk_folders, is_folder_of, stripe_folders};
 pub use layouts::Layout;
+pub use mounts::{Locking, locking_at};
 pub use name_laws::names_differ;
 pub use names::KEPT;
 pub use parts::Part;
 pub use paths::{folder_in, last_of, path_in};
 pub use patterns::{Pattern, PatternFault};
-pub use temporary::{is_free, is_left_by, is_of_runs, is_unfinished, lock_name, tag_of_part};
+pub use temporary::{
+    is_free, is_left_by, is_of_runs, is_run, is_unfinished, lock_name, run_named, run_of,
+    tag_of_part,
+};

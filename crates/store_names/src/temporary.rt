@@ -17,6 +17,9 @@ const OF: &str = "-of-";
 // How many digits at random end the name of an unfinished file.
 const RANDOM_DIGITS: usize = 16;
 
+// How many letters of a host's name are kept: as many as Linux lets it have.
+const MOST_OF_HOST: usize = 64;
+
 fn is_digit(byte: u8) -> bool
     ensures { result ≡ is_digit byte }
 {
@@ -60,15 +63,70 @@ pub fn is_free(path: &str) -> bool
 }
 
 // Whether a name has exactly the form of an unfinished file's: `.rebuild-store-`, then `I-N-` if the run worked on part I of N, then
-// sixteen digits at random.
+// `PROCESS@HOST-` if the name says which run that was, then sixteen digits at random.
 fn is_of_unfinished(name: &str) -> bool {
     let Some(rest) = name.strip_prefix(UNFINISHED) else {
         return false;
     };
     match rest.rsplit_once('-') {
-        Some((part, digits)) => is_part(part, "-") && is_random(digits),
+        Some((before, digits)) => is_random(digits) && is_tag(before),
         None => is_random(rest),
     }
+}
+
+// Whether a text is what the name of an unfinished file has before its digits.
+fn is_tag(text: &str) -> bool {
+    match run_in(text) {
+        Some((before, run)) => (before.is_empty() || is_part(before, "-")) && is_run(run),
+        None => is_part(text, "-"),
+    }
+}
+
+// The part and the run that such a text says, if it says a run.
+fn run_in(text: &str) -> Option<(&str, &str)> {
+    let (left, _) = text.split_once('@')?;
+    match left.rsplit_once('-') {
+        Some((part, _)) => Some((part, text.strip_prefix(part)?.strip_prefix('-')?)),
+        None => Some(("", text)),
+    }
+}
+
+/// The run that made an unfinished file, as `PROCESS@HOST`, if the name says it.
+pub fn run_of(name: &str) -> Option<&str> {
+    let (before, digits) = name.strip_prefix(UNFINISHED)?.rsplit_once('-')?;
+    let (_, run) = run_in(before)?;
+    if is_random(digits) && is_run(run) {
+        Some(run)
+    } else {
+        None
+    }
+}
+
+/// Whether a text says a run: the number of its process, `@`, and its host, of at most 64 letters, digits, `.`, `-` and `_`.
+pub fn is_run(text: &str) -> bool {
+    match text.split_once('@') {
+        Some((process, host)) => {
+            is_number(process)
+                && !host.is_empty()
+                && host.len() <= MOST_OF_HOST
+                && host.chars().all(is_of_host)
+        }
+        None => false,
+    }
+}
+
+/// A run as the names of its files say it: the number of its process, and its host, of whose name other signs than those are `_`.
+pub fn run_named(alloc: Global, process: &str, host: &str) -> Result<String, AllocError> {
+    let mut run = String::from_str(alloc, process)?;
+    run.push('@')?;
+    for letter in host.chars().take(MOST_OF_HOST) {
+        run.push(if is_of_host(letter) { letter } else { '_' })?;
+    }
+    Ok(run)
+}
+
+fn is_of_host(letter: char) -> bool {
+    letter.is_ascii_alphanumeric() || letter == '.' || letter == '-' || letter == '_'
 }
 
 /// Whether a name is one that runs give to files of their own: that of an unfinished file, or of the lock of a part.
@@ -84,7 +142,15 @@ pub fn is_left_by(name: &str, tag: &str) -> bool {
     }
     name.strip_prefix(UNFINISHED)
         .and_then(|rest| rest.strip_prefix(tag))
-        .is_some_and(is_random)
+        .is_some_and(is_own)
+}
+
+// Whether a text is what follows the tag in the name of an unfinished file.
+fn is_own(text: &str) -> bool {
+    match text.rsplit_once('-') {
+        Some((run, digits)) => is_random(digits) && is_run(run),
+        None => is_random(text),
+    }
 }
 
 /// The name of the lock of part I of N.
@@ -92,7 +158,7 @@ pub fn lock_name(alloc: Global, index: u64, of: u64) -> Result<String, AllocErro
     format!(in alloc; "{UNFINISHED}{PART}{index}{OF}{of}")
 }
 
-/// What the names of unfinished files of part I of N have before their digits.
+/// What the names of unfinished files of part I of N have before the run, or before their digits.
 pub fn tag_of_part(alloc: Global, index: u64, of: u64) -> Result<String, AllocError> {
     format!(in alloc; "{index}-{of}-")
 }

@@ -4,8 +4,9 @@ use folders::folder_of;
 use lrc_code::Code;
 use std::alloc::{AllocError, Global};
 use store_names::{
-    Layout, Part, Pattern, described_stripe, description_names, folder_in, is_ambiguous,
-    is_left_by, is_of_runs, last_of, lock_name, path_in, tag_of_part,
+    Layout, Locking, Part, Pattern, described_stripe, description_names, folder_in, is_ambiguous,
+    is_left_by, is_of_runs, last_of, lock_name, locking_at, path_in, run_named, run_of,
+    tag_of_part,
 };
 
 // A name, and whether runs give it.
@@ -36,6 +37,18 @@ const NAMES: &[(&str, bool)] = &[
     (".rebuild-store-part-01-of-2", false),
     ("", false),
     (".rebuild-store-part-1-of-2-of-3", false),
+    (".rebuild-store-4711@alpha-0123456789abcdef", true),
+    (".rebuild-store-4711@a-b.c_D9-0123456789abcdef", true),
+    (".rebuild-store-1-2-4711@3-4-0123456789abcdef", true),
+    (".rebuild-store-@alpha-0123456789abcdef", false),
+    (".rebuild-store-4711@-0123456789abcdef", false),
+    (".rebuild-store-4711-0123456789abcdef", false),
+    (".rebuild-store-1-4711@alpha-0123456789abcdef", false),
+    (".rebuild-store-1-2-0@alpha-0123456789abcdef", false),
+    (".rebuild-store-4711@a b-0123456789abcdef", false),
+    (".rebuild-store-4711@a@b-0123456789abcdef", false),
+    (".rebuild-store-4711@alpha-0123456789abcde", false),
+    (".rebuild-store-part-1-of-2@alpha-0123456789abcdef", false),
 ];
 
 // A name, a tag, and whether a run with the tag may have left it.
@@ -48,6 +61,77 @@ const LEFT: &[(&str, &str, bool)] = &[
     (".rebuild-store-1-2-0123456789abcdef", "", true),
     (".rebuild-store-1-2-0123456789abcde", "1-2-", false),
     ("a.x0", "", false),
+    (
+        ".rebuild-store-1-2-4711@alpha-0123456789abcdef",
+        "1-2-",
+        true,
+    ),
+    (".rebuild-store-1-2-4711@alpha-0123456789abcdef", "", true),
+    (
+        ".rebuild-store-1-3-4711@alpha-0123456789abcdef",
+        "1-2-",
+        false,
+    ),
+    (".rebuild-store-4711@alpha-0123456789abcdef", "1-2-", false),
+    (
+        ".rebuild-store-1-2-4711@alpha-0123456789abcde",
+        "1-2-",
+        false,
+    ),
+    (".rebuild-store-1-2-@alpha-0123456789abcdef", "1-2-", false),
+    (
+        ".rebuild-store-1-2-3-4711@alpha-0123456789abcdef",
+        "1-2-",
+        false,
+    ),
+];
+
+// The name of an unfinished file, and the run that it says.
+const RUNS: &[(&str, Option<&str>)] = &[
+    (
+        ".rebuild-store-4711@alpha-0123456789abcdef",
+        Some("4711@alpha"),
+    ),
+    (
+        ".rebuild-store-1-2-4711@a-b-0123456789abcdef",
+        Some("4711@a-b"),
+    ),
+    (".rebuild-store-0123456789abcdef", None),
+    (".rebuild-store-1-2-0123456789abcdef", None),
+    (".rebuild-store-part-1-of-2", None),
+    (".rebuild-store-4711@-0123456789abcdef", None),
+    ("4711@alpha-0123456789abcdef", None),
+];
+
+// A table of mounts as Linux has it: of two at one place the last is seen, and a field has no space.
+const MOUNTS: &str = "22 27 0:21 / /proc rw,relatime - proc proc rw
+27 1 254:0 / / rw,relatime shared:1 - ext4 /dev/vda rw,discard
+28 27 0:30 / /srv rw,relatime shared:2 master:1 - nfs4 one:/srv rw,vers=4.2,local_lock=none,addr=10.0.0.1
+29 28 0:31 / /srv/a rw,relatime - nfs one:/a rw,vers=3,local_lock=all,addr=10.0.0.1
+30 28 0:39 / /srv/b rw,nosuid,nodev,relatime - fuse.sshfs two:/b rw,user_id=0,group_id=0
+31 28 0:40 / /srv/with\\040space rw,relatime - tmpfs tmpfs rw
+32 28 0:41 / /srv/c rw,relatime - fuse.sshfs two:/c rw
+33 32 0:42 / /srv/c rw,relatime - xfs /dev/vdb rw
+a line of another form
+";
+
+// A path, and whom locks keep out there.
+const LOCKINGS: &[(&str, Locking)] = &[
+    ("/", Locking::OneHost),
+    ("/home/store", Locking::OneHost),
+    ("/proc/self", Locking::Unknown),
+    ("/process", Locking::OneHost),
+    ("/srv", Locking::SharedFiles),
+    ("/srv/store", Locking::SharedFiles),
+    ("/srvs", Locking::OneHost),
+    ("/srv/a", Locking::Unknown),
+    ("/srv/a/store", Locking::Unknown),
+    ("/srv/ab", Locking::SharedFiles),
+    ("/srv/b/store", Locking::Unknown),
+    ("/srv/with space/store", Locking::OneHost),
+    ("/srv/with", Locking::SharedFiles),
+    ("/srv/c/store", Locking::OneHost),
+    ("store", Locking::Unknown),
 ];
 
 // A path, its folder, its last part, and the folder in the store of a name.
@@ -68,6 +152,28 @@ fn files_of_runs_are_known(rt: HostRuntime) {
     }
     for (name, tag, wanted) in LEFT {
         assert_eq!(rt; is_left_by(name, tag), *wanted, "{name} {tag}");
+    }
+}
+
+#[test]
+fn runs_are_named(rt: HostRuntime) {
+    for (name, wanted) in RUNS {
+        assert!(rt; run_of(name) == *wanted, "{name}");
+    }
+    let alloc = rt.alloc();
+    assert!(rt; is_text(run_named(alloc, "17", "a-b.c_D9"), "17@a-b.c_D9"));
+    assert!(rt; is_text(run_named(alloc, "17", "a b/c@d"), "17@a_b_c_d"));
+}
+
+// Whether locks keep these out at a path of the table.
+fn is_locking(alloc: Global, path: &str, wanted: Locking) -> bool {
+    matches!(locking_at(alloc, MOUNTS, path), Ok(locking) if locking == wanted)
+}
+
+#[test]
+fn locks_are_those_of_the_mount(rt: HostRuntime) {
+    for (path, wanted) in LOCKINGS {
+        assert!(rt; is_locking(rt.alloc(), path, *wanted), "{path}");
     }
 }
 

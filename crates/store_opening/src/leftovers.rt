@@ -1,16 +1,23 @@
 //! What runs that were killed have left: it is removed by the next run that writes to the same.
+use crate::locks::Locks;
+use crate::sharing::OtherRun;
 use std::io;
 use store_faults::{say, words_of};
 use store_folder::{Leftover, Listing, is_left_by, left_in, remove_leftover};
 use store_names::last_of;
 
 /// Removes what a killed run with this tag has left in a folder that was listed, and in those that its links lead to. Each file that is
-/// removed, or can't be, is named. Says whether all could be.
-pub fn remove_leftovers(rt: &HostRuntime, listing: &Listing, tag: &str) -> io::Result<bool> {
+/// removed, or can't be, is named, and so is one of a run that may still work, which stays. Says whether all others could be removed.
+pub fn remove_leftovers(
+    rt: &HostRuntime,
+    locks: &Locks,
+    listing: &Listing,
+    tag: &str,
+) -> io::Result<bool> {
     let mut are_removed = true;
     for path in &listing.leftovers {
         if is_left_by(last_of(path.as_str()), tag) {
-            are_removed = remove(rt, path.as_str(), true)? && are_removed;
+            are_removed = remove(rt, locks, path.as_str(), true)? && are_removed;
         }
     }
     for folder in &listing.linked {
@@ -19,14 +26,23 @@ pub fn remove_leftovers(rt: &HostRuntime, listing: &Listing, tag: &str) -> io::R
             continue;
         };
         for path in &paths {
-            are_removed = remove(rt, path.as_str(), false)? && are_removed;
+            are_removed = remove(rt, locks, path.as_str(), false)? && are_removed;
         }
     }
     Ok(are_removed)
 }
 
 // Removes a file, and says so. Says whether it could be removed, or is to stay.
-fn remove(rt: &HostRuntime, path: &str, is_known_dead: bool) -> io::Result<bool> {
+fn remove(rt: &HostRuntime, locks: &Locks, path: &str, is_known_dead: bool) -> io::Result<bool> {
+    if let Some(OtherRun { words }) = locks.other_at(rt, path)? {
+        say(
+            rt,
+            format!(in rt.alloc();
+                "rebuild-store: {path}: was left by {words}, which may still work: remove it if that has ended"
+            ),
+        )?;
+        return Ok(true);
+    }
     match remove_leftover(rt, path, is_known_dead) {
         Leftover::Removed => {
             say(

@@ -14,13 +14,14 @@ mod leftovers;
 mod locks;
 mod opening;
 mod refusing;
+mod sharing;
 mod stores;
 mod unlisted;
 mod unmounted;
 
 pub use fitting::refuse_other_stores;
 pub use leftovers::remove_leftovers;
-pub use locks::{Locks, lock_folder};
+pub use locks::Locks;
 pub use opening::{Access, Opening, Unmounted};
 pub use refusing::{other_than, refuse_untrusted};
 pub use stores::{OpenStore, open_store};

@@ -1,9 +1,11 @@
 //! Locks, which keep runs that write to the same out of each other's way.
-use std::alloc::Global;
+use crate::sharing::{OtherRun, Sharing};
+use std::alloc::{AllocError, Global};
 use std::fs::{self, File, TryLockError};
-use std::io::{self, ErrorKind};
+use std::io::{self, ErrorKind, Write};
 use store_faults::{StoreFault, device_fault};
 use store_folder::{Links, Part, is_named, lock_name, open_as, open_regular, path_in};
+use store_names::Locking;
 
 // How often the file of a part's lock is opened anew where another run has removed it meanwhile.
 const MOST_OPENINGS: usize = 100;
@@ -14,6 +16,7 @@ pub struct Locks {
     files: Vec<File>,
     // The path of the lock of a part, whose file is the last.
     part: Option<String>,
+    sharing: Sharing,
 }
 
 impl Locks {
@@ -22,24 +25,78 @@ impl Locks {
         Locks {
             files: Vec::new(alloc),
             part: None,
+            sharing: Sharing::none(alloc),
         }
     }
 
-    /// Those that keep other runs that write out of a folder, or out of a part of it.
+    /// Those that keep other runs that write out of a folder, or out of a part of it. A lock of a folder keeps out runs of this host alone:
+    /// if others may have the folder too, a run that works on all of it has the lock of part 1 of 1 besides.
     pub fn take(rt: &HostRuntime, folder: &str, part: Option<Part>) -> Result<Locks, StoreFault> {
-        let alloc = rt.alloc();
-        let mut locks = Locks::none(alloc);
+        let sharing = Sharing::read(rt)?;
+        let locking = sharing.locking(rt, folder)?;
+        let mut locks = Locks {
+            files: Vec::new(rt.alloc()),
+            part: None,
+            sharing,
+        };
         match part {
-            None => locks.files.push(lock_folder(rt, folder)?)?,
-            Some(Part { index, of }) => {
+            None => {
+                locks.files.push(lock_folder(rt, folder)?)?;
+                if locking != Locking::OneHost {
+                    locks.add_part(rt, folder, Part { index: 1, of: 1 })?;
+                }
+            }
+            Some(part) => {
                 locks.files.push(share_folder(rt, folder)?)?;
-                let name = lock_name(alloc, index, of)?;
-                let path = path_in(alloc, folder, name.as_str())?;
-                locks.files.push(lock_part(rt, path.as_str())?)?;
-                locks.part = Some(path);
+                locks.add_part(rt, folder, part)?;
             }
         }
         Ok(locks)
+    }
+
+    // Adds the lock of a part of a folder.
+    fn add_part(&mut self, rt: &HostRuntime, folder: &str, part: Part) -> Result<(), StoreFault> {
+        let name = lock_name(rt.alloc(), part.index, part.of)?;
+        let path = path_in(rt.alloc(), folder, name.as_str())?;
+        let file = lock_part(rt, &self.sharing, path.as_str())?;
+        self.files.push(file)?;
+        self.part = Some(path);
+        Ok(())
+    }
+
+    /// What the names of this run's unfinished files have before their digits, with this tag of its part.
+    pub fn tag_of_run(&self, alloc: Global, part: &str) -> Result<String, AllocError> {
+        let run = self.sharing.run();
+        if run.is_empty() {
+            return String::from_str(alloc, part);
+        }
+        format!(in alloc; "{part}{run}-")
+    }
+
+    /// The run that left a file of its own at a path and may still work on it, though none has locked the file here.
+    pub(crate) fn other_at(
+        &self,
+        rt: &HostRuntime,
+        path: &str,
+    ) -> Result<Option<OtherRun>, AllocError> {
+        if is_locked(rt, path) {
+            return Ok(None);
+        }
+        self.sharing.other_at(rt, path)
+    }
+
+    /// Refuses a store in which a run works, or may work, that divides it into another number of parts, by the paths of what runs left.
+    pub fn refuse_other_parts(&self, rt: &HostRuntime, paths: &[String]) -> Result<(), StoreFault> {
+        let Some(of) = self.part.as_ref().and_then(|own| parts_of(own.as_str())) else {
+            return Ok(());
+        };
+        for path in paths {
+            let path = path.as_str();
+            if parts_of(path).is_some_and(|other| other != of) {
+                refuse_held(rt, &self.sharing, path)?;
+            }
+        }
+        Ok(())
     }
 
     /// Removes the file of a part's lock while it is still held, so that no other run holds a file that has no name.
@@ -53,8 +110,8 @@ impl Locks {
     }
 }
 
-/// Keeps other runs that write out of a folder until the file is closed.
-pub fn lock_folder(rt: &HostRuntime, folder: &str) -> Result<File, StoreFault> {
+// Keeps other runs that write out of a folder until the file is closed.
+fn lock_folder(rt: &HostRuntime, folder: &str) -> Result<File, StoreFault> {
     let name = String::from_str(rt.alloc(), folder)?;
     match open_folder(rt, folder) {
         Ok(file) => {
@@ -77,24 +134,31 @@ fn share_folder(rt: &HostRuntime, folder: &str) -> Result<File, StoreFault> {
     }
 }
 
-/// The path of the lock that a run holds which divides a store into another number of parts, among the paths of what runs have left.
-pub(crate) fn other_parts_lock<'p>(
-    rt: &HostRuntime,
-    part: &Part,
-    paths: &'p [String],
-) -> Option<&'p str> {
-    let is_held = |path: &&String| {
-        is_of_other_parts(path.as_str(), part.of) && is_locked(rt, path.as_str())
-    };
-    paths.iter().find(is_held).map(|path| path.as_str())
+// Refuses a store because of the lock of another part, if a run has it, or may have it.
+fn refuse_held(rt: &HostRuntime, sharing: &Sharing, path: &str) -> Result<(), StoreFault> {
+    if is_locked(rt, path) {
+        return Err(StoreFault::InUse {
+            folder: String::from_str(rt.alloc(), path)?,
+        });
+    }
+    refuse_other(rt, sharing, path)
 }
 
-// Whether a path is that of the lock of a part of another number of parts.
-fn is_of_other_parts(path: &str, of: u64) -> bool {
-    match path.rsplit_once("-of-") {
-        Some((_, count)) => count.parse::<u64>().is_ok_and(|count| count != of),
-        None => false,
+// Refuses a store because of the file of a lock that a run has left which may still work.
+fn refuse_other(rt: &HostRuntime, sharing: &Sharing, path: &str) -> Result<(), StoreFault> {
+    match sharing.other_at(rt, path)? {
+        Some(OtherRun { words }) => Err(StoreFault::MayBeInUse {
+            path: String::from_str(rt.alloc(), path)?,
+            run: words,
+        }),
+        None => Ok(()),
     }
+}
+
+// Into how many parts the run divides a store that has the lock at a path.
+fn parts_of(path: &str) -> Option<u64> {
+    let (_, count) = path.rsplit_once("-of-")?;
+    count.parse::<u64>().ok()
 }
 
 // Whether a run holds a lock.
@@ -115,18 +179,19 @@ fn open_folder(rt: &HostRuntime, folder: &str) -> io::Result<File> {
 
 // Keeps other runs out of a part. A file that another run has removed since it was opened keeps nobody out, so that the file that has the
 // name is locked.
-fn lock_part(rt: &HostRuntime, path: &str) -> Result<File, StoreFault> {
+fn lock_part(rt: &HostRuntime, sharing: &Sharing, path: &str) -> Result<File, StoreFault> {
     let alloc = rt.alloc();
     for _opening in 0..MOST_OPENINGS {
-        let file = match open_lock(rt, path) {
-            Ok(file) => file,
+        let opened = match open_lock(rt, path) {
+            Ok(opened) => opened,
             Err(error) if error.kind() == ErrorKind::NotFound => continue,
             Err(error) => return Err(device_fault(String::from_str(alloc, path)?, error)),
         };
+        let LockFile { file, is_new } = opened;
         let lock = file.try_lock();
         let file = locked(file, lock, String::from_str(alloc, path)?)?;
         match is_named(rt, &file, path) {
-            Ok(true) => return Ok(file),
+            Ok(true) => return owned(rt, sharing, path, file, is_new),
             Ok(false) => {}
             Err(error) => return Err(device_fault(String::from_str(alloc, path)?, error)),
         }
@@ -136,16 +201,61 @@ fn lock_part(rt: &HostRuntime, path: &str) -> Result<File, StoreFault> {
     })
 }
 
+// The file of a lock, in which this run is written if nothing is known of locks there; it is refused if a run may have it that was there
+// before.
+fn owned(
+    rt: &HostRuntime,
+    sharing: &Sharing,
+    path: &str,
+    file: File,
+    is_new: bool,
+) -> Result<File, StoreFault> {
+    if sharing.locking(rt, path)? != Locking::Unknown {
+        return Ok(file);
+    }
+    if !is_new {
+        refuse_other(rt, sharing, path)?;
+    }
+    let mut file = file;
+    match write_run(rt.alloc(), &mut file, sharing.run()) {
+        Ok(()) => Ok(file),
+        Err(error) => {
+            if is_new {
+                let _ = fs::remove_file(rt, path);
+            }
+            Err(device_fault(String::from_str(rt.alloc(), path)?, error))
+        }
+    }
+}
+
+// Writes a run into the file of its lock, in place of what is there.
+fn write_run(alloc: Global, file: &mut File, run: &str) -> io::Result<()> {
+    let line = format!(in alloc; "{run}\n")?;
+    file.set_len(0)?;
+    file.write_all(line.as_bytes())
+}
+
+// The file of a lock that is open, and whether this run has made it.
+#[derive(Drop)]
+struct LockFile {
+    file: File,
+    is_new: bool,
+}
+
 // Makes the file of a lock, or opens the regular file that is there.
-fn open_lock(rt: &HostRuntime, path: &str) -> io::Result<File> {
+fn open_lock(rt: &HostRuntime, path: &str) -> io::Result<LockFile> {
     let mut options = File::options();
     options.write(true);
     let mut new = File::options();
     new.write(true).create_new(true);
     match new.open(rt, path) {
-        Ok(file) => Ok(file),
+        Ok(file) => Ok(LockFile { file, is_new: true }),
         Err(error) if error.kind() == ErrorKind::AlreadyExists => {
-            Ok(open_as(rt, path, Links::NotFollowed, &options)?.file)
+            let opened = open_as(rt, path, Links::NotFollowed, &options)?;
+            Ok(LockFile {
+                file: opened.file,
+                is_new: false,
+            })
         }
         Err(error) => Err(error),
     }

@@ -1,5 +1,5 @@
 //! Why a store that was listed is refused.
-use crate::locks::other_parts_lock;
+use crate::locks::Locks;
 use crate::opening::{Access, Opening};
 use lrc_code::Code;
 use std::fs;
@@ -11,6 +11,7 @@ use store_folder::{Listing, Others};
 pub(crate) fn refuse_writing(
     rt: &HostRuntime,
     opening: &Opening<'_>,
+    locks: &Locks,
     listing: &Listing,
 ) -> Result<(), StoreFault> {
     let Access::Writes { trusts_writers } = opening.access else {
@@ -19,15 +20,7 @@ pub(crate) fn refuse_writing(
     if !trusts_writers {
         refuse_untrusted(rt, listing)?;
     }
-    let Some(part) = opening.part else {
-        return Ok(());
-    };
-    match other_parts_lock(rt, &part, listing.leftovers.as_slice()) {
-        Some(path) => Err(StoreFault::InUse {
-            folder: String::from_str(rt.alloc(), path)?,
-        }),
-        None => Ok(()),
-    }
+    locks.refuse_other_parts(rt, listing.leftovers.as_slice())
 }
 
 /// Refuses a store all of whose stripes are of another code than the one that was given.

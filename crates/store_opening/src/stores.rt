@@ -45,7 +45,7 @@ pub fn open_store(rt: &HostRuntime, opening: &Opening<'_>) -> Result<OpenStore, 
         }
         Access::Reads => Locks::none(rt.alloc()),
     };
-    match open_locked(rt, opening) {
+    match open_locked(rt, opening, &locks) {
         Ok(opened) => Ok(opened.with(locks)),
         Err(fault) => {
             let _ = locks.release(rt);
@@ -95,7 +95,11 @@ impl Unlocked {
 
 // Opens a store whose locks are taken. What the path of a report or of counters leads to is looked out for: it may be the name of a
 // fragment that is lost.
-fn open_locked(rt: &HostRuntime, opening: &Opening<'_>) -> Result<Unlocked, StoreFault> {
+fn open_locked(
+    rt: &HostRuntime,
+    opening: &Opening<'_>,
+    locks: &Locks,
+) -> Result<Unlocked, StoreFault> {
     let alloc = rt.alloc();
     let mut ends = Vec::new(alloc);
     for path in [opening.report, opening.progress] {
@@ -109,7 +113,7 @@ fn open_locked(rt: &HostRuntime, opening: &Opening<'_>) -> Result<Unlocked, Stor
             watched.push(path)?;
         }
     }
-    open_watched(rt, opening, watched.as_slice())
+    open_watched(rt, opening, locks, watched.as_slice())
 }
 
 // The path that a path's links lead to, or itself if they lead nowhere.
@@ -124,6 +128,7 @@ fn end_of_links(rt: &HostRuntime, path: &str) -> Result<String, AllocError> {
 fn open_watched(
     rt: &HostRuntime,
     opening: &Opening<'_>,
+    locks: &Locks,
     watched: &[Watched<'_>],
 ) -> Result<Unlocked, StoreFault> {
     let wanted = Wanted {
@@ -141,7 +146,7 @@ fn open_watched(
     if let Some(target) = &target {
         refuse_watched(rt, target)?;
     }
-    refuse_writing(rt, opening, target.as_ref().unwrap_or(&listing))?;
+    refuse_writing(rt, opening, locks, target.as_ref().unwrap_or(&listing))?;
     let sums = expected(rt, opening, &wanted, &mut listing)?;
     let code = match opening.code {
         Some(code) => code,

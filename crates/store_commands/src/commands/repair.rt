@@ -113,9 +113,10 @@ fn repair_all<R: Threads + Sync>(
 ) -> io::Result<u8> {
     let Opened { store, opening, .. } = opened;
     let tag = tag_of(system.alloc(), opening.part)?;
+    let tag_of_run = store.locks.tag_of_run(system.alloc(), tag.as_str())?;
     let site = Site {
         target: opening.to.unwrap_or(store.folder.as_str()),
-        tag: tag.as_str(),
+        tag: tag_of_run.as_str(),
         ..store.site_of(opening)
     };
     if is_refused(system, store, opening, &site, opened.stripes)? {
@@ -123,7 +124,8 @@ fn repair_all<R: Threads + Sync>(
     }
     say_alone(system, store, opening, options.dry_run);
     let target = store.target.as_ref().unwrap_or(&store.listing);
-    let are_removed = options.dry_run || remove_leftovers(system, target, tag.as_str())?;
+    let are_removed = options.dry_run
+        || remove_leftovers(system, &store.locks, target, tag.as_str())?;
     let status = repair_at(rt, system, opened, options, &site)?;
     if !are_removed {
         return Ok(DEVICE);

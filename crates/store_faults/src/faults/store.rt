@@ -22,6 +22,12 @@ pub enum StoreFault {
     InUse {
         folder: String,
     },
+    /// Another run may work in the store: this file of its lock is there, on a file system of whose locks nothing is known.
+    #[error("{path}: {run} may work in this store: if it has ended, remove this file")]
+    MayBeInUse {
+        path: String,
+        run: String,
+    },
     /// No file in the folder is named as a fragment.
     #[error("{folder}: no file is named as a fragment, {names}: is this the store?")]
     NoFragments {
@@ -96,6 +102,7 @@ impl StoreFault {
             StoreFault::OutOfMemory => NO_MEMORY,
             StoreFault::Untrusted { .. } | StoreFault::ReportInStore { .. } => USAGE,
             StoreFault::InUse { .. }
+            | StoreFault::MayBeInUse { .. }
             | StoreFault::OtherCode { .. }
             | StoreFault::NoFragments { .. }
             | StoreFault::FitsNot { .. }

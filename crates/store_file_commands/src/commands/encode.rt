@@ -9,7 +9,7 @@ use store_faults::{DEVICE, DONE, FileFault, StoreFault, device, say, write};
 use store_files::Target;
 use store_folder::{Listing, Others, SystemFolder, Wanted, list};
 use store_opening::{
-    lock_folder, other_than, refuse_unmounted, refuse_untrusted, remove_leftovers, say_links,
+    Locks, other_than, refuse_unmounted, refuse_untrusted, remove_leftovers, say_links,
 };
 use store_progress::{Operation, Progress, Task};
 use store_reports::encoded;
@@ -20,11 +20,26 @@ pub fn encode<R: Threads + Sync>(
     rt: &HostRuntime,
     options: &EncodeOptions<'_>,
 ) -> Result<u8, FileFault> {
-    let alloc = rt.alloc();
     make_folder(rt, options.folder)?;
-    let _lock = lock_folder(rt, options.folder)?;
+    let locks = Locks::take(rt, options.folder, None)?;
+    let status = encode_locked(threads, rt, options, &locks);
+    let released = locks.release(rt);
+    let status = status?;
+    released.map_err(|error| device(rt.alloc(), options.folder, error))?;
+    Ok(status)
+}
+
+// Encodes files into a folder out of which other runs are kept.
+fn encode_locked<R: Threads + Sync>(
+    threads: &R,
+    rt: &HostRuntime,
+    options: &EncodeOptions<'_>,
+    locks: &Locks,
+) -> Result<u8, FileFault> {
+    let alloc = rt.alloc();
     let listing = listed(rt, options)?;
-    let is_clean = remove_leftovers(rt, &listing, "").map_err(|error| device(
+    locks.refuse_other_parts(rt, listing.leftovers.as_slice())?;
+    let is_clean = remove_leftovers(rt, locks, &listing, "").map_err(|error| device(
         alloc,
         options.folder,
         error,

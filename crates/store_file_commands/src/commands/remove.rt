@@ -4,12 +4,11 @@ use store_arguments::RemoveOptions;
 use store_encoding::{remove_stored, stored_sums};
 use store_faults::{DEVICE, DONE, FileFault, device, say, write};
 use store_files::Target;
-use store_opening::{Access, Opening, open_store, remove_leftovers};
+use store_opening::{Access, OpenStore, Opening, open_store, remove_leftovers};
 use store_reports::removed;
 
 /// Takes files out of a store, says which of them weren't, and gives the exit status.
 pub fn remove(rt: &HostRuntime, options: &RemoveOptions<'_>) -> Result<u8, FileFault> {
-    let alloc = rt.alloc();
     let opening = Opening {
         access: Access::Writes {
             trusts_writers: options.trusts_writers,
@@ -23,7 +22,21 @@ pub fn remove(rt: &HostRuntime, options: &RemoveOptions<'_>) -> Result<u8, FileF
         )
     };
     let store = open_store(rt, &opening)?;
-    let is_clean = remove_leftovers(rt, &store.listing, "").map_err(|error| device(
+    let status = remove_all(rt, options, &store);
+    let released = store.locks.release(rt);
+    let status = status?;
+    released.map_err(|error| device(rt.alloc(), options.folder, error))?;
+    Ok(status)
+}
+
+// Takes files out of an open store.
+fn remove_all(
+    rt: &HostRuntime,
+    options: &RemoveOptions<'_>,
+    store: &OpenStore,
+) -> Result<u8, FileFault> {
+    let alloc = rt.alloc();
+    let is_clean = remove_leftovers(rt, &store.locks, &store.listing, "").map_err(|error| device(
         alloc,
         options.folder,
         error,

@@ -1,0 +1,329 @@
+#!/usr/bin/env python3
+"""Tries runs of rebuild-store that share a store, on each file system that can be mounted here: two at once, what a killed one has left,
+locks and unfinished files that are another host's.
+
+    store-sharing.py [PROGRAM]
+
+The mounts are in memory, in files by a loop device, or of this host by sshfs, in a namespace of mounts that ends with this script; another
+host is a namespace with another name. What can't be mounted here, or what root alone can try, is said to be skipped."""
+
+import os
+import pathlib
+import random
+import shutil
+import signal
+import socket
+import subprocess
+import sys
+import tempfile
+import time
+
+# No compiled copy of the modules is left beside them.
+sys.dont_write_bytecode = True
+ROOT = pathlib.Path(__file__).resolve().parent.parent
+sys.path.append(str(ROOT / "tools"))
+from store import stripe  # noqa: E402
+
+PROGRAM = pathlib.Path(sys.argv[1] if sys.argv[1:] else ROOT / "crates/rebuild_store/out/rebuild_store").resolve()
+# The tools that make a file system in a file, with how many MiB it has to have.
+IN_FILES = {"ext4": 16, "xfs": 320, "btrfs": 128}
+# On these other hosts may be, and nothing is known of their locks; ramfs stands for all of which nothing is known.
+UNKNOWN = ("ramfs", "sshfs")
+SFTP = "/usr/lib/openssh/sftp-server"
+PREFIX = ".rebuild-store-"
+DIGITS = "0123456789abcdef"
+HELD = "another run works in this store"
+MAYBE = "may work in this store: if it has ended, remove this file"
+STAYS = "which may still work: remove it if that has ended"
+REMOVED = "was left by a run that was killed, and is removed"
+SECONDS = 60
+passed, skipped = 0, []
+
+
+class Skipped(Exception):
+    """What can't be tried here."""
+
+
+def check(holds, what):
+    """Counts what holds, and ends with what doesn't."""
+    global passed
+    if not holds:
+        raise SystemExit(f"store-sharing: {what}")
+    passed += 1
+
+
+def ended(*words):
+    """Runs the program, and gives its status and all that it says."""
+    done = subprocess.run([PROGRAM, *map(str, words)], stdin=subprocess.DEVNULL, capture_output=True, text=True, timeout=SECONDS)
+    return done.returncode, done.stdout + done.stderr
+
+
+def run(*words, status):
+    """Runs the program, holds its status to this one, and gives all that it says."""
+    found, said = ended(*words)
+    check(found == status, f"{' '.join(map(str, words))}: status {found}, not {status}: {said}")
+    return said
+
+
+def ended_process():
+    """The number of a process that is gone."""
+    gone = subprocess.Popen(["true"])
+    gone.wait()
+    return gone.pid
+
+
+def there(folder):
+    """The bytes of a folder's files by their names."""
+    return {path.name: path.read_bytes() for path in folder.iterdir()}
+
+
+def as_host(name):
+    """What begins a command that runs on a host of this name."""
+    return [] if name is None else ["unshare", "--uts", "sh", "-c", f'echo {name} > /proc/sys/kernel/hostname; exec "$@"', "sh"]
+
+
+def system(*words):
+    ended = subprocess.run(list(map(str, words)), capture_output=True, text=True)
+    if ended.returncode != 0:
+        raise Skipped(f"{words[0]}: {(ended.stderr or ended.stdout).strip()}")
+
+
+def runs_there(folder):
+    """The names that runs have given in a folder."""
+    return sorted(path.name for path in folder.iterdir() if path.name.startswith(PREFIX))
+
+
+def lay(folder, choose, names=("a", "b"), length=3_000):
+    """A store of stripes that have lost a fragment each, and what all of it was."""
+    shutil.rmtree(folder, ignore_errors=True)
+    folder.mkdir()
+    whole = {f"{name}.{place}": data for name in names for place, data in stripe("6-2-2", length, choose).items()}
+    for name, data in whole.items():
+        if not name.endswith(".x1"):
+            (folder / name).write_bytes(data)
+    return whole
+
+
+def is_whole(folder, whole):
+    found = there(folder)
+    check(found == whole, f"{sorted(set(found) ^ set(whole)) or 'other bytes'}")
+
+
+def begun(folder, *words, host=None):
+    """A run that has begun to write and goes on for long, since it may read few bytes a second."""
+    process = subprocess.Popen(
+        [*as_host(host), PROGRAM, "repair", folder, "--rate", "2000", "--workers", "1", *words],
+        stdin=subprocess.DEVNULL, stdout=subprocess.DEVNULL, stderr=subprocess.DEVNULL,
+    )
+    until = time.monotonic() + SECONDS
+    while not any(name[-16:].strip(DIGITS) == "" for name in runs_there(folder)):
+        check(process.poll() is None and time.monotonic() < until, "a slow run wrote nothing")
+        time.sleep(0.02)
+    return process
+
+
+def killed(process):
+    process.send_signal(signal.SIGKILL)
+    process.wait()
+
+
+def try_two(kind, one, other, choose):
+    """While a run works, no other of the same part does, by whichever mount; once it is killed, another goes on."""
+    for words in ((), ("--part", "1/1")):
+        whole = lay(one / "store", choose)
+        process = begun(one / "store", *words)
+        before = runs_there(one / "store")
+        said = run("repair", other / "store", *words, status=1)
+        check(MAYBE in said if kind == "sshfs" else HELD in said, f"two runs worked at once: {said}")
+        for command in (("remove", other / "store", "a"), ("repair", other / "store", "--part", "1/2")):
+            said = run(*command, status=1)
+            check(HELD in said or MAYBE in said, f"{command[0]} worked beside a repair: {said}")
+        check(process.poll() is None and runs_there(one / "store") == before, "what a run works on was taken away")
+        killed(process)
+        check(runs_there(one / "store") == before, "what was killed has removed something")
+        said = run("repair", other / "store", *words, status=0)
+        check(REMOVED in said, f"nothing was left by what was killed: {said}")
+        is_whole(one / "store", whole)
+
+
+def try_other_host(kind, one, other, choose):
+    """The same with a run of another host: if nothing is known of locks it is asked to be removed by hand, else it is as before."""
+    for words in ((), ("--part", "1/1")):
+        whole = lay(one / "store", choose)
+        process = begun(one / "store", *words, host="beta")
+        said = run("repair", other / "store", *words, status=1)
+        check(HELD in said or (kind in UNKNOWN and MAYBE in said), f"two hosts worked at once: {said}")
+        killed(process)
+        left = runs_there(one / "store")
+        unfinished = [name for name in left if "@beta-" in name]
+        check(len(unfinished) == 1, f"no unfinished file names its host: {left}")
+        if kind in UNKNOWN:
+            said = run("repair", other / "store", *words, status=1)
+            check(f"process {unfinished[0].split('@')[0].rpartition('-')[2]} of the host beta {MAYBE}" in said, said)
+            check(runs_there(one / "store") == left, "what another host may work on was taken away")
+            (one / "store" / f"{PREFIX}part-1-of-1").unlink()
+            said = run("repair", other / "store", *words, status=0)
+            check(STAYS in said and "of the host beta" in said, said)
+            check(runs_there(one / "store") == unfinished, f"{runs_there(one / 'store')}")
+            (one / "store" / unfinished[0]).unlink()
+        else:
+            run("repair", other / "store", *words, status=0)
+        is_whole(one / "store", whole)
+
+
+def try_leftovers(kind, one, _other, choose):
+    """Unfinished files: those of a process of this host that is gone go, and so do all on a file system of one host; others stay if nothing
+    is known of locks."""
+    host, gone = socket.gethostname(), ended_process()
+    for part, tag in ((), ""), (("--part", "1/1"), "1-1-"):
+        whole = lay(one / "store", choose, names=("a",))
+        names = {
+            f"{PREFIX}{tag}{gone}@{host}-{DIGITS}": False,
+            f"{PREFIX}{tag}{os.getpid()}@{host}-{DIGITS}": True,
+            f"{PREFIX}{tag}{gone}@beta-{DIGITS}": True,
+            f"{PREFIX}{tag}{DIGITS}": True,
+        }
+        for name in names:
+            (one / "store" / name).write_bytes(b"half")
+        said = run("repair", one / "store", *part, status=0)
+        kept = {name for name, stays in names.items() if stays and kind in UNKNOWN}
+        check(set(runs_there(one / "store")) == kept, f"{runs_there(one / 'store')}, not {sorted(kept)}: {said}")
+        check(said.count(STAYS) == len(kept) and said.count(REMOVED) == len(names) - len(kept), said)
+        for name in kept:
+            check((one / "store" / name).read_bytes() == b"half", "what may be another run's was written to")
+            (one / "store" / name).unlink()
+        is_whole(one / "store", whole)
+
+
+# The lock that is there, and the commands that it keeps out.
+KEPT_OUT = {
+    "part-1-of-1": [("repair",), ("repair", "--part", "1/1"), ("repair", "--part", "1/2"), ("remove", "a")],
+    "part-1-of-3": [("repair",), ("repair", "--part", "1/2"), ("remove", "a")],
+    "part-2-of-2": [("repair",), ("repair", "--part", "2/2"), ("repair", "--part", "1/3"), ("remove", "a")],
+}
+
+
+def try_locks(kind, one, _other, choose):
+    """The file of a lock that nobody has locked here: another host's, one of a process here that works or is gone, or of nobody known."""
+    host, gone = socket.gethostname(), ended_process()
+    texts = {f"{gone}@{host}\n": False, f"{os.getpid()}@{host}\n": True, f"{gone}@beta\n": True, "": True, "x" * 1_000: True}
+    for text, may_work in texts.items():
+        for name, commands in KEPT_OUT.items():
+            for verb, *words in commands:
+                lay(one / "store", choose)
+                lock = one / "store" / f"{PREFIX}{name}"
+                lock.write_text(text)
+                before = there(one / "store")
+                status, said = ended(verb, one / "store", *words)
+                what = f"{verb} {words}, {name}, {text!r}: {status}: {said}"
+                if may_work and kind in UNKNOWN:
+                    check(status == 1 and MAYBE in said and there(one / "store") == before, what)
+                else:
+                    check(MAYBE not in said and HELD not in said and (verb == "remove" or status == 0), what)
+
+
+def try_encode(kind, one, other, choose):
+    """A run that encodes has the lock of all of the store while it works, and takes it away."""
+    source = one / "source"
+    source.write_bytes(choose.randbytes(5_000))
+    shutil.rmtree(one / "files", ignore_errors=True)
+    run("encode", one / "files", source, status=0)
+    check(not runs_there(one / "files"), f"a lock is left: {runs_there(one / 'files')}")
+    lock = one / "files" / f"{PREFIX}part-1-of-1"
+    lock.write_text("4711@beta\n")
+    run("verify", other / "files", status=0)
+    said = run("encode", other / "files", source, "--replace", status=1 if kind in UNKNOWN else 0)
+    check((MAYBE in said) == (kind in UNKNOWN), said)
+    lock.unlink(missing_ok=True)
+    run("encode", other / "files", source, "--replace", status=0)
+    run("remove", other / "files", "source", status=0)
+    check(not runs_there(one / "files"), f"a lock is left: {runs_there(one / 'files')}")
+
+
+TRIES = [try_two, try_other_host, try_leftovers, try_locks, try_encode]
+
+
+def in_memory(kind, place):
+    """A file system in memory, by one mount."""
+    folder = place / kind
+    folder.mkdir()
+    system("mount", "-t", kind, kind, folder)
+    return folder, folder
+
+
+def in_file(kind, place):
+    """A file system in a file, by one mount."""
+    if not shutil.which(f"mkfs.{kind}"):
+        raise Skipped(f"no mkfs.{kind} here")
+    image, folder = place / f"{kind}.image", place / kind
+    with open(image, "wb") as file:
+        file.truncate(IN_FILES[kind] << 20)
+    system(f"mkfs.{kind}", "-q", image)
+    folder.mkdir()
+    system("mount", "-o", "loop", image, folder)
+    return folder, folder
+
+
+def by_sshfs(_kind, place):
+    """A folder of this host by two mounts, as two hosts have it."""
+    if not shutil.which("sshfs") or not os.path.exists("/dev/fuse"):
+        raise Skipped("no sshfs here")
+    hosts = place / "hosts"
+    system(ROOT / "tools/ssh-hosts.sh", "start", hosts)
+    behind = place / "behind"
+    behind.mkdir()
+    mounts = []
+    for name in ("host-a", "host-b"):
+        folder = place / name
+        folder.mkdir()
+        how = ["-F", hosts / "config", "-o", f"sftp_server={SFTP}", "-o", "attr_timeout=0,entry_timeout=0,dir_cache=no"]
+        system("sshfs", *how, f"{name}:{behind}", folder)
+        mounts.append(folder)
+    return tuple(mounts)
+
+
+MOUNTS = {"tmpfs": in_memory, "ext4": in_file, "xfs": in_file, "btrfs": in_file, "ramfs": in_memory, "sshfs": by_sshfs}
+
+
+def try_all(place):
+    for kind, mounted in MOUNTS.items():
+        choose = random.Random(1)
+        before = passed
+        try:
+            one, other = mounted(kind, place)
+            for it in TRIES:
+                if it is try_other_host and os.geteuid():
+                    raise Skipped("only root can be another host")
+                it(kind, one, other, choose)
+        except Skipped as why:
+            skipped.append(f"{kind}: {why}")
+        print(f"{kind}: {passed - before} checks")
+
+
+def in_own_mounts():
+    """This script again, in a namespace of mounts that ends with it; where there can be none, nothing is tried."""
+    alone = ["unshare", "--mount", "--propagation", "private", *(["--user", "--map-root-user"] if os.geteuid() else [])]
+    if subprocess.run([*alone, "true"], capture_output=True).returncode:
+        print("store-sharing: skipped, since nothing can be mounted here")
+        sys.exit(0)
+    os.execvp(alone[0], [*alone, sys.executable, __file__, *sys.argv[1:], "--mounted"])
+
+
+def main():
+    if sys.argv[-1:] != ["--mounted"]:
+        in_own_mounts()
+    with tempfile.TemporaryDirectory() as place:
+        place = pathlib.Path(place)
+        try:
+            try_all(place)
+        finally:
+            for folder in [path for path in place.iterdir() if path.is_dir() and os.path.ismount(path)]:
+                subprocess.run(["umount", "--lazy", folder], check=False)
+            if (place / "hosts").exists():
+                subprocess.run([ROOT / "tools/ssh-hosts.sh", "stop", place / "hosts"], check=False)
+    for it in skipped:
+        print(f"store-sharing: skipped: {it}")
+    print(f"store-sharing: {passed} checks passed")
+
+
+main()
