@@ -282,7 +282,31 @@ def by_sshfs(_kind, place):
     return tuple(mounts)
 
 
-MOUNTS = {"tmpfs": in_memory, "ext4": in_file, "xfs": in_file, "btrfs": in_file, "ramfs": in_memory, "sshfs": by_sshfs}
+def by_nfs(_kind, place):
+    """A folder of this host by NFS, as two hosts have it: the second one is a namespace of networks with a name of its own."""
+    if "nfs4" not in pathlib.Path("/proc/filesystems").read_text() or not shutil.which("exportfs"):
+        raise Skipped("this kernel has no NFS, or no exportfs is here")
+    behind = place / "exported"
+    behind.mkdir()
+    system("mount", "-t", "tmpfs", "tmpfs", behind)
+    system("mount", "-t", "nfsd", "nfsd", "/proc/fs/nfsd")
+    system("rpc.mountd", "-N", "3")
+    system("rpc.nfsd", "-N", "3", "-G", "5", "-L", "5", "4")
+    system("exportfs", "-o", "rw,no_root_squash,insecure,fsid=0", f"*:{behind}")
+    for words in ("netns add beta", "link add to-beta type veth peer name eth0 netns beta", "addr add 10.99.0.1/24 dev to-beta",
+                  "link set to-beta up", "link set lo up", "-n beta addr add 10.99.0.2/24 dev eth0", "-n beta link set eth0 up"):
+        system("ip", *words.split())
+    mounts = [place / "nfs-here", place / "nfs-beta"]
+    for folder in mounts:
+        folder.mkdir()
+    # Attributes aren't kept for a while by these clients, so that what one writes the other sees at once.
+    how = ["mount", "-t", "nfs4", "-o", "vers=4.2,noac", "10.99.0.1:/"]
+    system(*how, mounts[0])
+    system("nsenter", "--net=/run/netns/beta", *as_host("beta"), *how, mounts[1])
+    return tuple(mounts)
+
+
+MOUNTS = {"tmpfs": in_memory, "ext4": in_file, "xfs": in_file, "btrfs": in_file, "ramfs": in_memory, "sshfs": by_sshfs, "nfs": by_nfs}
 
 
 def try_all(place):

@@ -239,7 +239,8 @@ impl Listing {
         name: String,
         names: &mut Vec<String>,
     ) -> Result<(), AllocError> {
-        if wanted.has_stripes && wanted.watched.is_empty() && !self.is_ambiguous {
+        let is_only_counted = wanted.has_stripes && wanted.watched.is_empty() && !self.is_ambiguous;
+        if wanted.part.is_some() && is_only_counted {
             if let Some((stripe, _)) = wanted.pattern.read(wanted.code, name.as_str()) {
                 if !self.names.is_wanted(stripe) {
                     self.names.note_name();
