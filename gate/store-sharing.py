@@ -117,7 +117,8 @@ def begun(folder, *words, host=None):
     )
     until = time.monotonic() + SECONDS
     while not any(name[-16:].strip(DIGITS) == "" for name in runs_there(folder)):
-        check(process.poll() is None and time.monotonic() < until, "a slow run wrote nothing")
+        if process.poll() is not None or time.monotonic() > until:
+            raise SystemExit("store-sharing: a slow run wrote nothing")
         time.sleep(0.02)
     return process
 
