@@ -24,7 +24,10 @@ ROOT = pathlib.Path(__file__).resolve().parent.parent
 sys.path.append(str(ROOT / "tools"))
 from store import stripe  # noqa: E402
 
-PROGRAM = pathlib.Path(sys.argv[1] if sys.argv[1:] else ROOT / "crates/rebuild_store/out/rebuild_store").resolve()
+# What this script says to itself, once it is in a namespace of its own.
+MOUNTED = "--mounted"
+GIVEN = [word for word in sys.argv[1:] if word != MOUNTED]
+PROGRAM = pathlib.Path(GIVEN[0] if GIVEN else ROOT / "crates/rebuild_store/out/rebuild_store").resolve()
 # The tools that make a file system in a file, with how many MiB it has to have.
 IN_FILES = {"ext4": 16, "xfs": 320, "btrfs": 128}
 # On these other hosts may be, and nothing is known of their locks; ramfs stands for all of which nothing is known.
@@ -331,11 +334,11 @@ def in_own_mounts():
     if subprocess.run([*alone, "true"], capture_output=True).returncode:
         print("store-sharing: skipped, since nothing can be mounted here")
         sys.exit(0)
-    os.execvp(alone[0], [*alone, sys.executable, __file__, *sys.argv[1:], "--mounted"])
+    os.execvp(alone[0], [*alone, sys.executable, __file__, *GIVEN, MOUNTED])
 
 
 def main():
-    if sys.argv[-1:] != ["--mounted"]:
+    if MOUNTED not in sys.argv:
         in_own_mounts()
     with tempfile.TemporaryDirectory() as place:
         place = pathlib.Path(place)
