@@ -115,7 +115,7 @@ def is_whole(folder, whole):
 def begun(folder, *words, host=None):
     """A run that has begun to write and goes on for long, since it may read few bytes a second."""
     process = subprocess.Popen(
-        [*as_host(host), PROGRAM, "repair", folder, "--rate", "2000", "--workers", "1", *words],
+        [*as_host(host), PROGRAM, "repair", folder, "--rate", "200", "--workers", "1", *words],
         stdin=subprocess.DEVNULL, stdout=subprocess.DEVNULL, stderr=subprocess.DEVNULL,
     )
     until = time.monotonic() + SECONDS
