@@ -39,7 +39,7 @@ HELD = "another run works in this store"
 MAYBE = "may work in this store: if it has ended, remove this file"
 STAYS = "which may still work: remove it if that has ended"
 REMOVED = "was left by a run that was killed, and is removed"
-SECONDS = 60
+SECONDS = 300
 passed, skipped = 0, []
 
 
