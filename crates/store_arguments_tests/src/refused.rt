@@ -55,7 +55,7 @@ static REFUSALS: [(&str, &str); 29] = [
     ),
     (
         "repair --reads some s",
-        "error: invalid value 'some' for '--reads <WHICH>'\n  [possible values: all, few]\n\nFor more information, try '--help'.\n",
+        "error: invalid value 'some' for '--reads <WHICH>'\n  [possible values: all, checked, few]\n\nFor more information, try '--help'.\n",
     ),
     (
         "read --layout zig s n",
