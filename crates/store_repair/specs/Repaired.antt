@@ -36,8 +36,8 @@ abbrev pub IsAccountedFor : CodeName → (Place → Bool) → List Place → Lis
 IsAccountedFor code survives made findings p =
     has_place (tables_of code) p ≡ true → survives p ≡ false → Contains made p ⊎ Contains (named findings) p
 
--- Damage of what was read shows, or of what was made of it, where not all survivors had to be read: the store knows digests of the fragments
--- that were made, or those that were read cover them.
+-- Damage of what was read shows, or of what was made of it, where not all survivors had to be read: the store knows digests of the
+-- fragments that were made, or those that were read cover them.
 abbrev pub IsShown : (Place → Type 0) → CodeName → (Place → Bool) → List Place → Type 0
 IsShown listed code survives made = All listed made ⊎ AreCovered code survives made
 

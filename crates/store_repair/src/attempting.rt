@@ -16,8 +16,8 @@ use crate::stripes::Stripe;
 use lrc_code::{Place, PlaceSet};
 use std::alloc::{AllocError, Global};
 
-/// Makes files for the lost fragments from as few survivors as a repair reads; none where all have to be read: one of the few can't be opened
-/// or read, they contradict each other, or damage of them wouldn't show.
+/// Makes files for the lost fragments from as few survivors as a repair reads; none where all have to be read: one of the few can't be
+/// opened or read, they contradict each other, or damage of them wouldn't show.
 pub(crate) fn make_from_fewest<S: Store>(
     alloc: Global,
     store: &mut S,

@@ -1,8 +1,11 @@
 //! Reading few of a stripe's survivors: as few as determine what is lost, or as few as cover it.
-ghost use Rattle.std.specs.Prelude.{◌≡◌, ◌⊎◌, All, IfOk, IfSome, true, vec_len};
+ghost use Rattle.std.specs.Prelude.{◌≡◌, ◌&&◌, All, IfOk, IfSome, true, vec_len};
+ghost use Rattle.lrc_code.specs.Code.{has_place};
+ghost use Rattle.lrc_code.specs.Codes.{tables_of};
+ghost use Rattle.store_repair.specs.declared.settings.Reads.TheVariants.{All as ReadsAll};
 ghost use Rattle.lrc_code.specs.declared.places.Place.{Place};
 ghost use Rattle.store_repair.specs.Damage.{IsDetermined};
-ghost use Rattle.store_repair.specs.Losses.{AreCovered, AreHeld};
+ghost use Rattle.store_repair.specs.Losses.{AreCovered, AreHeld, has_file};
 ghost use Rattle.lrc_code.specs.Sets.{is_in};
 ghost use Rattle.store_repair.specs.Opened.{AreOpened};
 
@@ -34,8 +37,8 @@ struct Few {
     are_digested: bool,
 }
 
-/// Opens as few survivors as a repair reads; none where it reads all, or where one of the few can't be opened or isn't as the store knows it,
-/// which then is noted.
+/// Opens as few survivors as a repair reads; none where it reads all, or where one of the few can't be opened or isn't as the store knows
+/// it, which then is noted.
 pub(crate) fn open_fewest<S: Store>(
     alloc: Global,
     store: &S,
@@ -91,7 +94,10 @@ fn few_of(
     stripe: &Stripe<'_>,
     length: usize,
     listed: PlaceSet,
-) -> Result<Option<Few>, AllocError> {
+) -> Result<Option<Few>, AllocError>
+    ensures { IfOk result (λ o. IfSome o (λ few. (p : Place) → is_in few.set p ≡ true
+        → (has_place (tables_of repair.now.code) p && has_file stripe.now.files.found length p) ≡ true)) }
+{
     let code = repair.code;
     let survivors = stripe.files.survivors(code, length as u64);
     let lost = lost_places(alloc, code, survivors, code.others(survivors))?;
@@ -120,18 +126,23 @@ fn few_of(
     }))
 }
 
-/// How many survivors of a stripe a repair reads if none of them is damaged; the store may know a digest of each fragment.
+/// The survivors of a stripe that a repair reads if none of them is damaged; the store may know a digest of each fragment.
 pub fn survivors_read(
     alloc: Global,
     repair: &Repair,
     stripe: &Stripe<'_>,
     length: usize,
     are_listed: bool,
-) -> Result<usize, AllocError> {
+) -> Result<PlaceSet, AllocError>
+    ensures own { IfOk result (λ set. (p : Place) → is_in set p ≡ true
+        → (has_place (tables_of repair.now.code) p && has_file stripe.now.files.found length p) ≡ true) }
+    ensures all { repair.now.reads ≡ ReadsAll → IfOk result (λ set. (p : Place)
+        → is_in set p ≡ (has_place (tables_of repair.now.code) p && has_file stripe.now.files.found length p)) }
+{
     let code = repair.code;
     let survivors = stripe.files.survivors(code, length as u64);
     if matches!(repair.reads, Reads::All) {
-        return Ok(survivors.len());
+        return Ok(survivors);
     }
     let listed = if are_listed {
         code.others(PlaceSet::empty())
@@ -139,8 +150,8 @@ pub fn survivors_read(
         PlaceSet::empty()
     };
     match few_of(alloc, repair, stripe, length, listed)? {
-        Some(few) => Ok(few.set.len()),
-        None => Ok(survivors.len()),
+        Some(few) => Ok(few.set),
+        None => Ok(survivors),
     }
 }
 

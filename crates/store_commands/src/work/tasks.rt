@@ -64,7 +64,7 @@ pub(crate) fn bytes_read(
         return Ok(0);
     };
     let survivors = survivors_read(alloc, repair, stripe, length, has_sums)?;
-    Ok((survivors as u64).saturating_mul(length as u64))
+    Ok((survivors.len() as u64).saturating_mul(length as u64))
 }
 
 /// How many bytes the files of a stripe have together.
