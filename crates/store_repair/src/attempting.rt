@@ -72,10 +72,8 @@ fn is_as_asked<S: Store>(
         return Ok(true);
     }
     let places = made.places.as_slice();
-    if !is_shown(repair.code, made.set, listed, places) {
-        return Ok(false);
-    }
-    are_as_listed(store, stripe, places, made.files.as_slice())
+    let are = are_as_listed(store, stripe, places, made.files.as_slice())?;
+    Ok(are && is_shown(repair.code, made.set, listed, places))
 }
 
 // Whether new files at places of a stripe have the digests that the store knows of them.

@@ -48,7 +48,8 @@ pub fn plan_stripe<S: Store>(
     if !matches!(repair.reads, Reads::All) {
         let mut noted = Vec::new(alloc);
         if let Some(few) = open_fewest(alloc, store, repair, stripe, length, &mut noted)? {
-            return planned(alloc, repair, stripe, &few.opened, findings);
+            let plan = planned(alloc, repair, stripe, &few.opened, findings)?;
+            return Ok(plan);
         }
     }
     let all = Repair {
@@ -56,7 +57,8 @@ pub fn plan_stripe<S: Store>(
         ..*repair
     };
     let opened = open_survivors(alloc, store, code, stripe, length, &mut findings)?;
-    planned(alloc, &all, stripe, &opened, findings)
+    let plan = planned(alloc, &all, stripe, &opened, findings)?;
+    Ok(plan)
 }
 
 // What a repair of a stripe from these survivors would do.
@@ -69,12 +71,12 @@ fn planned<F>(
 ) -> Result<Outcome, AllocError>
     ensures length { IfOk result (λ o. o.length ≡ opened.now.length) }
     ensures survivors { IfOk result (λ o. o.survivors ≡ opened.now.set) }
-    ensures lost { IfOk result (λ o. AreLost repair.now.code (is_in opened.now.set) o.rebuilt.items) }
+    ensures lost { IfOk result (λ o. AreLost repair.now.code (is_in o.survivors) o.rebuilt.items) }
     ensures apart { IfOk result (λ o. AreApart o.rebuilt.items) }
-    ensures determined { IfOk result (λ o. All (IsDetermined repair.now.code (is_in opened.now.set)) o.rebuilt.items) }
-    ensures all { repair.now.reads ≡ ReadsAll → IfOk result (λ o. HasAny (is_in opened.now.set) → (p : Place)
-        → IsAccountedFor repair.now.code (is_in opened.now.set) o.rebuilt.items o.findings.items p) }
-    ensures checked { IfOk result (λ o. o.is_checked ≡ true → AreChecked repair.now.code (is_in opened.now.set) opened.now.length) }
+    ensures determined { IfOk result (λ o. All (IsDetermined repair.now.code (is_in o.survivors)) o.rebuilt.items) }
+    ensures all { repair.now.reads ≡ ReadsAll → IfOk result (λ o. HasAny (is_in o.survivors) → (p : Place)
+        → IsAccountedFor repair.now.code (is_in o.survivors) o.rebuilt.items o.findings.items p) }
+    ensures checked { IfOk result (λ o. o.is_checked ≡ true → AreChecked repair.now.code (is_in o.survivors) o.length) }
 {
     let code = repair.code;
     let among = to_be_rebuilt(repair, stripe, opened);
