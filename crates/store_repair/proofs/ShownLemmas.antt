@@ -1,29 +1,42 @@
 -- Damage that shows where not all survivors are read.
-use Rattle.std.proofs.Common.{◌≡◌, ◌∙◌, ◌<◌, ℕ, List, [], ◌++◌, Bool, true, sym, ap, subst, inl, inr, arith, length, get_or, Option, All}
-use Rattle.std.specs.Prelude.{◌⊎◌, Contains}
-use Rattle.std.proofs.lemmas.List.Elements.{All-contains, Contains-append_left}
+use Rattle.std.proofs.Common.{◌≡◌, ℕ, List, [], ◌++◌, Bool, true, sym, ap, subst, inl, inr, arith, length, Option, All, IfOk, IfSome}
+use Rattle.std.specs.Prelude.{◌⊎◌, Contains, Result}
+use Rattle.std.proofs.lemmas.List.Elements.{All-contains, All-weaker, Contains-append_left}
+use Rattle.std.proofs.lemmas.Option.{IfSome_then}
+use Rattle.std.proofs.lemmas.Result.{IfOk-weaker}
 use Rattle.lrc_code.specs.declared.places.Place.{Place}
 use Rattle.lrc_code.specs.declared.places.Place.TheVariants.{X0}
 use Rattle.lrc_code.specs.declared.codes.Code.{Code as CodeName}
+use Rattle.lrc_code.specs.Sets.{is_in}
 use Rattle.store_repair.specs.Findings.{named}
-use Rattle.store_repair.specs.Losses.{AreCovered, AreHeld, IsCovered}
+use Rattle.store_repair.specs.Losses.{AreHeld, IsCovered}
 use Rattle.store_repair.specs.Opened.{IsPutOf}
 use Rattle.store_repair.specs.Repaired.{IsAccountedFor, IsShown, IsShownOrAll}
 use Rattle.store_repair.specs.Store.{ShownFiles}
+use Rattle.store_repair.specs.declared.making.Made.{Made}
 use Rattle.store_repair.specs.declared.outcomes.Finding.{Finding}
 use Rattle.store_repair.proofs.NamedLemmas.{named_append}
+
+-- where all survivors were read, each place is accounted for
+abbrev AreAccounted : {N : Type 0} → CodeName → List Finding → Made N → Type 0
+AreAccounted code findings made = (p : Place) → IsAccountedFor code (is_in made.set) made.places.items findings p
+
+abbrev AreShown : {N : Type 0} → (Place → Type 0) → CodeName → List Finding → Made N → Type 0
+AreShown listed code findings made = IsShownOrAll listed code (is_in made.set) made.places.items findings
+
+pub all_accounted : {N E : Type 0} (listed : Place → Type 0) (code : CodeName) (findings : List Finding) (r : Result (Option (Made N)) E)
+    → IfOk r (λ o. IfSome o (AreAccounted code findings)) → IfOk r (λ o. IfSome o (AreShown listed code findings))
+all_accounted listed code findings r all =
+    IfOk-weaker r (λ o. IfSome o (AreAccounted code findings)) (λ o. IfSome o (AreShown listed code findings))
+    (λ o some. IfSome_then o {P = AreAccounted code findings} {Q = AreShown listed code findings} some (λ made so. inr so)) all
 
 all_none : (P : Place → Type 0) (places : List Place) → places ≡ [] → All P places
 all_none P places none k d lt = absurd (let long = ap length none in omega (arith, lt, long))
 
--- what is listed among places is known
-each_known : (P Q : Place → Type 0) (places : List Place) → ((p : Place) → P p → Q p) → All P places → All Q places
-each_known P Q places so all k d lt = so (get_or places k d) (all k d lt)
-
 -- what was held to digests, or covered, is shown
 pub shown_of_held : (listed : Place → Type 0) (code : CodeName) (survives set : Place → Bool) (places : List Place)
     → ((p : Place) → set p ≡ true → listed p) → AreHeld code survives set places → IsShown listed code survives places
-shown_of_held listed code survives set places so (inl all) = inl (each_known (λ p. set p ≡ true) listed places so all)
+shown_of_held listed code survives set places so (inl all) = inl (All-weaker (λ p. set p ≡ true) listed so places all)
 shown_of_held listed code survives set places so (inr covered) = inr covered
 
 module _ (listed : Place → Type 0) (code : CodeName) (survives : Place → Bool) where
