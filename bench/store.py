@@ -138,7 +138,7 @@ def mapped_row(bench):
     store = bench.make("mapped-store", 6, 64 * MIB)
     lost = [store / f"s{k:06}.{place}" for k in range(6) for place in ("x0", "y1")]
     made = put_aside(lost, bench.scratch / "kept")
-    ours = Run("ours", [PROGRAM, "repair", store, "--workers", WORKERS], lambda: remove(lost), made=made)
+    ours = Run("ours", [PROGRAM, "repair", "--reads", "all", store, "--workers", WORKERS], lambda: remove(lost), made=made)
     peer = Run("mapped files", [bench.scratch / "mapped", "repair", store, WORKERS], lambda: remove(lost), made=made)
     return Row("repair of 12 lost fragments of 64 MiB", ours, peer, "0.8")
 
@@ -162,7 +162,7 @@ def farm_row(bench):
         out.mkdir()
 
     theirs = tuple((out / f"rack0-{k}.{path.name}", kept) for k, (path, kept) in enumerate(made))
-    ours = Run("ours", [PROGRAM, "repair", store, "--workers", WORKERS], lambda: remove(lost), made=made)
+    ours = Run("ours", [PROGRAM, "repair", "--reads", "all", store, "--workers", WORKERS], lambda: remove(lost), made=made)
     peer = Run("farm", [FARM, "farm", served, out, "--workers", WORKERS], empty, made=theirs)
     return Row("repair of 2,000 lost fragments of 64 KiB", ours, peer, "1.0")
 
@@ -199,7 +199,7 @@ def small_row(bench):
     store = bench.make("small-store", 300, 64 * KIB)
     lost = [store / f"s{k:06}.{PLACES[k % 10]}" for k in range(300)]
     made = put_aside(lost, bench.scratch / "small-kept")
-    ours = Run("ours", [PROGRAM, "repair", store, "--workers", WORKERS], lambda: remove(lost), made=made)
+    ours = Run("ours", [PROGRAM, "repair", "--reads", "all", store, "--workers", WORKERS], lambda: remove(lost), made=made)
     peer = Run("mapped files", [bench.scratch / "mapped", "repair", store, WORKERS], lambda: remove(lost), made=made)
     return Row("repair of 300 lost fragments of 64 KiB", ours, peer, "5,000 page faults")
 

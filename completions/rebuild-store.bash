@@ -60,7 +60,7 @@ _rebuild_store() {
   case $before in
     --code) offered='6-2-2 12-2-2' ;;
     --layout) offered='plain groups' ;;
-    --reads) offered='all few' ;;
+    --reads) offered='all checked few' ;;
     --workers | -j) offered='1 2 3 4 5 6 7 8 9 10 11 12 13 14 15 16' ;;
     --names | --part | --rate | --as) return ;;
     --stripes | --sums | --report | --progress | --output | -o) kinds=file ;;

@@ -68,6 +68,6 @@ complete -c rebuild-store -n '__rebuild_store_command_is repair' -l replace-dama
 complete -c rebuild-store -n '__rebuild_store_command_is repair' -l assume-one-damaged -d 'Guess which fragment is damaged'
 complete -c rebuild-store -n '__rebuild_store_command_is repair' -l to -x -a '(__fish_complete_directories (commandline -ct) "Folder")' \
     -d 'Folder for rebuilt fragments'
-complete -c rebuild-store -n '__rebuild_store_command_is repair' -l reads -x -a 'all few' -d 'Survivors that are read'
+complete -c rebuild-store -n '__rebuild_store_command_is repair' -l reads -x -a 'all checked few' -d 'Survivors that are read'
 complete -c rebuild-store -n "__rebuild_store_place_is 1 1 $all" -a '(__fish_complete_directories (commandline -ct) "Folder")'
 complete -c rebuild-store -n '__rebuild_store_place_is 2 999 encode' -F

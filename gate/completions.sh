@@ -84,7 +84,7 @@ rebuild-store repair :lists served
 rebuild-store repair lists s:
 rebuild-store repair -:$repair
 rebuild-store repair lists --re:--reads --replace-damaged --report
-rebuild-store repair --reads :all few
+rebuild-store repair --reads :all checked few
 rebuild-store repair --code :12-2-2 6-2-2
 rebuild-store repair --code=6:6-2-2
 rebuild-store repair --workers :$workers

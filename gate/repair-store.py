@@ -6,6 +6,7 @@ the program leaves is compared byte by byte with what was there.
 
 Each expected line, status and file is worked out here; nothing is taken from the program's own output."""
 
+import errno
 import fcntl
 import hashlib
 import itertools
@@ -23,6 +24,7 @@ import time
 sys.dont_write_bytecode = True
 ROOT = pathlib.Path(__file__).resolve().parent.parent
 sys.path.append(str(ROOT / "tools"))
+from faults import Calls
 from reference import code_of, eliminated
 from store import is_covered, stripe
 
@@ -30,6 +32,9 @@ PROGRAM = pathlib.Path(sys.argv[1] if sys.argv[1:] else ROOT / "crates/rebuild_s
 CODES = ("6-2-2", "12-2-2")
 # The windows in which the program reads fragments have so many bytes; lengths around them are tried.
 WINDOW = 65_536
+# What is said of a rebuilt fragment that hasn't its digest.
+OTHER_DIGEST = "was rebuilt, and what was rebuilt differs from the checksums"
+HAS_STRACE = subprocess.run(["sh", "-c", "strace -f -o /dev/null true"], capture_output=True).returncode == 0
 # How often a run is killed in each code's store, and after how many seconds at most.
 KILLS = 20
 LONGEST_BEFORE_KILL = 0.06
@@ -153,6 +158,189 @@ def test_fewest(folder, code, choose):
     check(output.startswith("repaired 1 fragment, 1 KiB (1 unchecked: s000.x0); damaged: 1: s000.x1;"), output)
     (folder / "s000.x1").write_bytes(stripes["s000"]["x1"])
     check(is_whole(folder, stripes), "the store isn't what it was")
+
+
+def fewest_covering(code, place):
+    """How many survivors at least determine a lost fragment without any two of them: a set that has one that does does too, so that sets
+    with one place fewer are tried until none does."""
+    places, _ = code_of(code)
+    unread = [()]
+    while True:
+        fewer = [(*some, k) for some in unread for k in places if k != place and (not some or places.index(k) > places.index(some[-1]))]
+        left = [some for some in fewer if is_covered(code, [*some, place], place)]
+        if not left:
+            return len(places) - 1 - len(unread[0])
+        unread = left
+
+
+def traced(folder, *arguments, status):
+    """Runs the program, and gives what it says, how many bytes it was to read by its counters, and, if strace is there, how many it reads
+    of each fragment and which it opens."""
+    trace, counters = folder.with_name(folder.name + "-trace"), folder.with_name(folder.name + "-counters")
+    command = [PROGRAM, *map(str, arguments), "--progress", counters]
+    if HAS_STRACE:
+        # Each thread has a file of its own, so that no line is cut in two.
+        command = ["strace", "-ff", "-y", "-qq", "-e", "trace=pread64,openat", "-o", trace, *command]
+    done = subprocess.run(command, capture_output=True, text=True, timeout=300)
+    check(done.returncode == status, f"{arguments}: status {done.returncode}, not {status}:\n{done.stdout}{done.stderr}")
+    meant = int(re.search(r"^rebuild_store_bytes\{.*\} (\d+)$", counters.read_text(), re.M)[1])
+    if not HAS_STRACE:
+        return done.stdout, done.stderr, meant, None, None
+    text = ""
+    for path in folder.parent.glob(trace.name + ".*"):
+        text += path.read_text()
+        path.unlink()
+    read = {}
+    for name, many in re.findall(rf"pread64\(\d+<{re.escape(str(folder))}/([^>]*)>.* = (\d+)$", text, re.M):
+        read[name] = read.get(name, 0) + int(many)
+    opened = set(re.findall(rf"openat\(.*\) = \d+<{re.escape(str(folder))}/([^>]*)>$", text, re.M))
+    return done.stdout, done.stderr, meant, read, opened
+
+
+def sums_of(stripes, left_out=()):
+    """The checksums of the fragments of stripes, as `sha256sum` writes them."""
+    return "".join(f"{hashlib.sha256(data).hexdigest()}  {name}.{place}\n" for name, fragments in stripes.items()
+                   for place, data in fragments.items() if f"{name}.{place}" not in left_out)
+
+
+def test_what_is_read(folder, code, choose):
+    """By itself a repair reads as few as determine what is lost, each once, if the store has digests of that; else as few as cover it. A
+    stripe that lost nothing isn't opened. The bytes are those that strace counts, and that the counters say before."""
+    places, _ = code_of(code)
+    length = WINDOW + 100
+    group, parity = (3, 6) if code == "6-2-2" else (6, 12)
+    # Huang et al., section 2: one of a group takes the others of its group, and a global parity as many as there are data fragments.
+    digested = {place: parity if place in ("p0", "p1") else group for place in places}
+    covered = {place: len(places) - (1 if place in ("p0", "p1") else 2) for place in places}
+    for place in ("x0", "p1"):
+        check(fewest(code, [place]) == digested[place], f"the fewest for {place} are others")
+    for place in ("x0", "py", "p1"):
+        check(fewest_covering(code, place) == covered[place], f"the fewest that cover {place} are others")
+    stripes = make(folder, code, [length] * (len(places) + 1), choose)
+    whole = f"s{len(places):03}"
+    sums = sums_of(stripes)
+    for wanted, text in ((digested, sums), (covered, "")):
+        if text:
+            (folder / "SHA256SUMS").write_text(text)
+        for name, place in zip(stripes, places):
+            (folder / f"{name}.{place}").unlink()
+        (folder / f"{whole}.x1").write_bytes(b"!" * length)
+        output, errors, meant, read, opened = traced(folder, "repair", folder, "--code", code, status=0)
+        check(output.startswith(f"repaired {len(places)} fragments, ") and "(0 unchecked); damaged: 0; " in output, output)
+        check(errors == "", errors)
+        check(meant == sum(wanted.values()) * length, f"{meant} bytes were to be read")
+        if read is not None:
+            of_stripes = {name: sum(many for file, many in read.items() if file.startswith(name)) for name in stripes}
+            check(of_stripes == {**{name: wanted[place] * length for name, place in zip(stripes, places)}, whole: 0}, f"{of_stripes}")
+            check(all(many == length for file, many in read.items() if file != "SHA256SUMS"), f"{read}")
+            check(not any(file.startswith(whole) for file in opened), "a whole stripe was opened")
+        (folder / f"{whole}.x1").write_bytes(stripes[whole]["x1"])
+        (folder / "SHA256SUMS").unlink(missing_ok=True)
+        check(is_whole(folder, stripes), "the store isn't what it was")
+    # Two of a group take as many as there are data fragments, and nothing covers them: without digests all are read.
+    for text, wanted in ((sums, parity), ("", len(places) - 2)):
+        if text:
+            (folder / "SHA256SUMS").write_text(text)
+        (folder / "s000.x0").unlink()
+        (folder / "s000.x1").unlink()
+        output, errors, meant, read, _ = traced(folder, "repair", folder, "--code", code, status=0)
+        check(meant == wanted * length, f"{meant} bytes were to be read for two")
+        check(read is None or sum(many for file, many in read.items() if file[0] == "s") == meant, f"{read}")
+        check(f"({0 if text else 2} unchecked" in output and errors.count("rebuilt unchecked") == (0 if text else 2), output + errors)
+        (folder / "SHA256SUMS").unlink(missing_ok=True)
+        check(is_whole(folder, stripes), "the store isn't what it was")
+
+
+def test_damage_of_what_is_read(folder, code, choose):
+    """If what is read is damaged, or what is rebuilt differs from its digest, all survivors are read, with all digests: what they say is
+    what a repair of all says. Damage elsewhere isn't looked for, unless that is asked for."""
+    length = 2_000
+    stripes = make(folder, code, [length] * 3, choose)
+    name, fragments = "s001", stripes["s001"]
+    lost, near, far, whole = folder / f"{name}.x0", folder / f"{name}.x1", folder / f"{name}.y1", folder / "s002.y2"
+
+    def damaged(path, place, stripe_name=name):
+        path.write_bytes(bytes(255 - byte for byte in stripes[stripe_name][place]))
+
+    def mended(*paths):
+        for path in paths:
+            stripe_name, place = path.name.split(".")
+            path.write_bytes(stripes[stripe_name][place])
+
+    digests = folder / "SHA256SUMS"
+    digests.write_text(sums_of(stripes))
+    # One that is read is damaged: its digest says so, and the lost one comes back from the others.
+    lost.unlink()
+    damaged(near, "x1")
+    output, errors, _, read, _ = traced(folder, "repair", folder, "--code", code, status=1)
+    check(errors == f"{name}.x1: differs from the checksums\n" and "damaged: 1: s001.x1; " in output, output + errors)
+    check(lost.read_bytes() == fragments["x0"], "another fragment came back beside damage")
+    check(read is None or set(fragments) == {"x0", *(file.split(".")[1] for file in read if file[0] == "s")}, f"{read}")
+    mended(near)
+    # Its digest isn't known: that of the lost one is all that shows the damage, and the equations don't say which it is.
+    lost.unlink()
+    damaged(near, "x1")
+    digests.write_text(sums_of(stripes, [f"{name}.{place}" for place in fragments if place != "x0"]))
+    _, errors = run("repair", folder, "--code", code, status=1)
+    check(f"{name}: contradiction: one of these is damaged: " in errors and not lost.exists(), errors)
+    mended(near)
+    # One that isn't read is damaged: nothing is said, the lost one comes back; and with --reads all it is named.
+    digests.write_text(sums_of(stripes))
+    damaged(far, "y1")
+    damaged(whole, "y2", "s002")
+    output, errors = run("repair", folder, "--code", code, status=0)
+    check(errors == "" and lost.read_bytes() == fragments["x0"], output + errors)
+    _, errors = run("repair", folder, "--code", code, "--reads", "all", status=1)
+    check(errors == f"{name}.y1: differs from the checksums\ns002.y2: differs from the checksums\n", errors)
+    _, errors = run("repair", folder, "--code", code, "--reads", "checked", "--replace-damaged", status=0)
+    check(errors == "" and not [*folder.glob("*.damaged")], errors)
+    output, _, _, read, _ = traced(folder, "repair", folder, "--code", code, "--replace-damaged", status=0)
+    check("repaired 2 fragments, " in output and far.read_bytes() == fragments["y1"], output)
+    check(read is None or {file for file in read if file[0] == "s"} >= {f"{k}.{place}" for k in stripes for place in fragments}, f"{read}")
+    for path in (far, whole):
+        path.with_name(path.name + ".damaged").unlink()
+    # The digest is wrong: nothing gets the name, and no survivor is blamed.
+    digests.write_text(sums_of(stripes).replace(hashlib.sha256(fragments["x0"]).hexdigest(), "0" * 64))
+    lost.unlink()
+    output, errors = run("repair", folder, "--code", code, status=1)
+    check(errors == f"{name}.x0: {OTHER_DIGEST}\n" and "damaged: 0; not possible: 1" in output and not lost.exists(), output + errors)
+    digests.unlink()
+    # Without digests one of those that are read is damaged: the equations say which.
+    damaged(far, "y1")
+    output, errors = run("repair", folder, "--code", code, status=1)
+    check(errors.startswith(f"{name}.y1: is damaged: ") and errors.count("\n") == 1 and "damaged: 1: s001.y1; " in output, output + errors)
+    check(lost.read_bytes() == fragments["x0"], "another fragment came back beside damage")
+    mended(far)
+    check(is_whole(folder, stripes), "the store isn't what it was")
+
+
+def test_survivors_that_cannot_be_read(folder, code, choose):
+    """Each call that opens or reads a fragment fails in turn: all others are read, and the lost one comes back."""
+    stripes = make(folder, code, [700], choose)
+    calls = Calls(folder.parent)
+    lost = folder / "s000.x0"
+    for text in (sums_of(stripes), ""):
+        if text:
+            (folder / "SHA256SUMS").write_text(text)
+        command = [PROGRAM, "repair", folder, "--code", code, "--workers", "1"]
+        lost.unlink()
+        kinds = calls.run(command).kinds
+        many = 0
+        for number, kind in enumerate(kinds, 1):
+            if kind not in ("open", "read"):
+                continue
+            lost.unlink(missing_ok=True)
+            ran = calls.run(command, number, errno.EIO)
+            if not any(re.fullmatch(r"s000\.\w+", pathlib.Path(path).name) for path in ran.paths):
+                continue
+            many += 1
+            failed = pathlib.Path(ran.paths[0]).name
+            check(lost.read_bytes() == stripes["s000"]["x0"], f"{number}: {ran.text()}")
+            check(ran.status in (0, 3) and (ran.status == 0 or f"{failed}: can't be read: " in ran.err), f"{number}: {ran.text()}")
+        check(many >= 6, f"{many} calls of fragments fail")
+        run("repair", folder, "--code", code, status=0)
+        (folder / "SHA256SUMS").unlink(missing_ok=True)
+        check(is_whole(folder, stripes), "the store isn't what it was")
 
 
 def test_damage(folder, code, choose):
@@ -331,7 +519,7 @@ def test_other_stores(folder, code, choose):
     before = {path.name: path.read_bytes() for path in folder.iterdir()}
     _, errors = run("repair", folder, status=1)
     check("is this the store?" in errors and "s000" in errors, errors)
-    _, errors = run("repair", folder, "--code", code, status=1)
+    _, errors = run("repair", folder, "--code", code, "--reads", "all", status=1)
     check(all(f"{name}: contradiction" in errors for name in stripes), errors)
     check({path.name: path.read_bytes() for path in folder.iterdir()} == before, "a folder that is no store was changed")
 
@@ -355,8 +543,9 @@ def test_refusals(folder):
 
 def main():
     choose = random.Random(2026)
-    tests = (test_losses, test_fewest, test_damage, test_suspects, test_too_many, test_odd_files, test_owner_and_mode, test_requests,
-             test_odd_names, test_two_at_once, test_kills, test_other_stores)
+    tests = (test_losses, test_fewest, test_what_is_read, test_damage_of_what_is_read, test_survivors_that_cannot_be_read, test_damage,
+             test_suspects, test_too_many, test_odd_files, test_owner_and_mode, test_requests, test_odd_names,
+             test_two_at_once, test_kills, test_other_stores)
     with tempfile.TemporaryDirectory() as scratch:
         place = pathlib.Path(scratch)
         for code in CODES:

@@ -196,7 +196,7 @@ def test_another_folder(folder, code, choose):
     wrong = bytes(300)
     (store / "b.p1").write_bytes(wrong)
     before = {path.name: path.read_bytes() for path in store.iterdir()}
-    output, errors = run("repair", store, "--code", code, "--to", other, status=0)
+    output, errors = run("repair", store, "--code", code, "--reads", "all", "--to", other, status=0)
     check({path.name: path.read_bytes() for path in store.iterdir()} == before, "the store was changed")
     check({path.name: path.read_bytes() for path in other.iterdir()} == {"a.x0": stripes["a"]["x0"], "b.p1": stripes["b"]["p1"]}, errors)
 

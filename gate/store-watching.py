@@ -160,7 +160,7 @@ def test_rates(place, choose):
     # 16 stripes with nine survivors of 64 KiB are 9 MiB: three seconds and no less.
     for workers in ("1", "8"):
         began = time.monotonic()
-        run("repair", "--rate", "3M", "-j", workers, store)
+        run("repair", "--reads", "all", "--rate", "3M", "-j", workers, store)
         took = time.monotonic() - began
         check(2.9 <= took, f"{took} s with {workers} workers")
         check(is_whole(store, all_of_it), "the store isn't whole")
@@ -193,7 +193,7 @@ def test_rows_as_they_are_known(place, choose):
     all_of_it = make(store, choose, names, 64 * 1024)
     (store / "b.x0").write_bytes(b"alone")
     # 6.75 MiB take more than three seconds.
-    process = start("repair", "--json", "--report", report, "--rate", "2M", "-j", "3", store)
+    process = start("repair", "--reads", "all", "--json", "--report", report, "--rate", "2M", "-j", "3", store)
     came = lines_until_the_end(process)
     check(process.returncode == 0, f"status {process.returncode}: {process.stderr.read()}")
     rows = rows_of("".join(line for line, _ in came))
@@ -210,7 +210,7 @@ def test_what_a_kill_leaves(place, choose):
     names = [f"a{k:02}" for k in range(many)]
     all_of_it = make(store, choose, names, 64 * 1024)
     # 36 MiB take twelve seconds; counters are written after five.
-    process = start("repair", "--json", "--progress", file, "--rate", "3M", store)
+    process = start("repair", "--reads", "all", "--json", "--progress", file, "--rate", "3M", store)
     seen = set()
     began = time.monotonic()
     while time.monotonic() - began < 8 and process.poll() is None:

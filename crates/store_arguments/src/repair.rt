@@ -35,14 +35,13 @@ const TO: Argument = Argument {
     ..TEXT
 };
 
-const WAYS: &[&str] = &["all", "few"];
+const WAYS: &[&str] = &["all", "checked", "few"];
 
 const READS: Argument = Argument {
     id: "reads",
     form: Form::Choice(WAYS),
     value: "WHICH",
-    default: Some("all"),
-    help: "The survivors that are read: all, so that damage shows, or as few as are needed",
+    help: "The survivors that are read: all, as few as show damage (the default), or as few as are needed",
     ..TEXT
 };
 
@@ -79,13 +78,16 @@ impl<'a> RepairOptions<'a> {
     /// What matches ask for.
     pub(crate) fn of(matches: &ArgMatches<'a>) -> Result<RepairOptions<'a>, UsageFault> {
         let test = TestOptions::of(matches)?;
+        let replace_damaged = matches.get_flag("replace-damaged");
+        let assume_one_damaged = matches.get_flag("assume-one-damaged");
+        let looks_for_damage = replace_damaged || assume_one_damaged;
         Ok(RepairOptions {
             store: StoreOptions::of(matches)?,
             test,
-            reads: reads_of(matches.get_str("reads")),
+            reads: reads_of(matches.get_str("reads"), looks_for_damage),
             dry_run: matches.get_flag("dry-run"),
-            replace_damaged: matches.get_flag("replace-damaged"),
-            assume_one_damaged: matches.get_flag("assume-one-damaged"),
+            replace_damaged,
+            assume_one_damaged,
             to: matches.get_str("to"),
             trusts_writers: matches.get_flag("trust-writers"),
             allows_unmounted: matches.get_flag("allow-unmounted"),
@@ -93,10 +95,13 @@ impl<'a> RepairOptions<'a> {
     }
 }
 
-// Which survivors are read, by a name that the parser let pass.
-fn reads_of(name: Option<&str>) -> Reads {
+// Which survivors are read, by a name that the parser let pass; if none is given, all where damage is looked for.
+fn reads_of(name: Option<&str>, looks_for_damage: bool) -> Reads {
     match name {
+        Some("all") => Reads::All,
         Some("few") => Reads::Few,
-        _ => Reads::All,
+        Some(_) => Reads::Checked,
+        None if looks_for_damage => Reads::All,
+        None => Reads::Checked,
     }
 }

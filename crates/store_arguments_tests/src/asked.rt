@@ -85,6 +85,26 @@ fn flags_of(options: &RepairOptions<'_>) -> [bool; 6] {
     ]
 }
 
+// Which survivors a line has a repair read: as few as are checked, if it doesn't say, or all if it looks for damage.
+const READS: [(&str, Reads); 6] = [
+    ("repair s", Reads::Checked),
+    ("repair --reads checked --replace-damaged s", Reads::Checked),
+    ("repair --reads=all s", Reads::All),
+    ("repair --replace-damaged s", Reads::All),
+    ("repair s --assume-one-damaged", Reads::All),
+    ("repair --assume-one-damaged --reads few s", Reads::Few),
+];
+
+#[test]
+fn survivors_that_are_read(rt: HostRuntime) {
+    for (line, reads) in READS {
+        let is_so = |command: &Command<'_>| {
+            matches!(command, Command::Repair(options) if options.reads == reads)
+        };
+        assert!(&rt; asks(rt.alloc(), line, is_so) == Ok(true), "{line}");
+    }
+}
+
 // What files are encoded, verified, taken out, listed or read with.
 const OF_FILES: [&str; 5] = [
     "encode s a --as b --make-folders --replace --allow-unmounted -q",
@@ -174,7 +194,7 @@ fn is_plain(command: &Command<'_>) -> bool {
 
 fn is_plain_repair(options: &RepairOptions<'_>) -> bool {
     flags_of(options) == [false; 6]
-        && options.reads == Reads::All
+        && options.reads == Reads::Checked
         && options.to.is_none()
         && is_plain_store(&options.store)
         && is_plain_test(&options.test)

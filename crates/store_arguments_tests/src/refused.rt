@@ -54,8 +54,8 @@ static REFUSALS: [(&str, &str); 29] = [
         "error: invalid value '6-3' for '--code <CODE>'\n  [possible values: 6-2-2, 12-2-2]\n\nFor more information, try '--help'.\n",
     ),
     (
-        "repair --reads some s",
-        "error: invalid value 'some' for '--reads <WHICH>'\n  [possible values: all, few]\n\nFor more information, try '--help'.\n",
+        "repair --reads any s",
+        "error: invalid value 'any' for '--reads <WHICH>'\n  [possible values: all, checked, few]\n\nFor more information, try '--help'.\n",
     ),
     (
         "read --layout zig s n",

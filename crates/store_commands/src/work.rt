@@ -80,12 +80,17 @@ impl Work {
     }
 
     // How many bytes of a stripe are read.
-    fn bytes_of(&self, stripe: &Stripe<'_>) -> u64 {
+    fn bytes_of(
+        &self,
+        alloc: Global,
+        has_sums: bool,
+        stripe: &Stripe<'_>,
+    ) -> Result<u64, AllocError> {
         match self {
             Work::Repair(repair) | Work::Plan(repair) => {
-                bytes_read(repair.code, repair.reads, stripe)
+                bytes_read(alloc, repair, has_sums, stripe)
             }
-            Work::Scrub(code) => bytes_of(*code, stripe),
+            Work::Scrub(code) => Ok(bytes_of(*code, stripe)),
         }
     }
 
@@ -168,7 +173,8 @@ fn take_stripes(
         let Some(stripe) = stripes.opened.stripes.get(index) else {
             break;
         };
-        let bytes = work.bytes_of(stripe);
+        let has_sums = stripes.site.sums.is_some();
+        let bytes = work.bytes_of(system.alloc(), has_sums, stripe)?;
         reads.begin(bytes);
         let outcome = outcome_of(system.alloc(), &mut store, work, stripe)?;
         counters.progress.note(&outcome);

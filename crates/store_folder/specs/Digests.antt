@@ -1,5 +1,5 @@
 -- The digests of new files, and those that a store's sums say.
-use Rattle.std.specs.Prelude.{◌≡◌, ℕ, List, Option, IfSome, option_and_then}
+use Rattle.std.specs.Prelude.{◌≡◌, ℕ, List, Option, IfSome, IsSome, option_and_then}
 use Rattle.sha2.specs.Hashers.{Holds256}
 use Rattle.sha2.specs.Sha256.{sha256}
 use Rattle.sha2.specs.declared.Sha256.{Sha256}
@@ -24,6 +24,10 @@ digest_at site name = option_and_then (λ sums. digest_in sums.now name) site.su
 abbrev pub IsSumOf : Site → List ℕ → Place → Option (List ℕ) → Type 0
 IsSumOf site stripe place sum =
     (name : List ℕ) → IsNameOf site.pattern site.code stripe place name → digest_at site name ≡ sum
+
+-- they say one
+abbrev pub HasSum : Site → List ℕ → Place → Type 0
+HasSum site stripe place = (name : List ℕ) → IsNameOf site.pattern site.code stripe place name → IsSome (digest_at site name)
 
 -- the bytes of a file, if no append failed, have the digest that the sums say of a stripe's fragment at a place
 abbrev pub IsAsListed : Site → List ℕ → Place → Option (List ℕ) → Type 0

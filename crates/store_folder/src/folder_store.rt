@@ -3,14 +3,14 @@ ghost use Rattle.std.specs.Prelude.{◌≡◌, ◌⊎◌, [], true, false, ℕ, 
 ghost use Rattle.folders.specs.Disk.{IsOnDisk};
 ghost use Rattle.folders.specs.Files.{IsIn};
 ghost use Rattle.folders.specs.Placed.{WasRefused};
-ghost use Rattle.store_folder.specs.Digests.{IsAsListed};
+ghost use Rattle.store_folder.specs.Digests.{HasSum, IsAsListed};
 ghost use Rattle.store_folder.specs.Done.{HasFolderOf, HaveFoldersOf, IsDue, IsNamed, IsSettled};
 ghost use Rattle.store_folder.specs.Kept.{GivesIn, GivesOne, IsKeptIn, IsPathOf, KeepsEach, none_kept};
 ghost use Rattle.store_folder.specs.Stays.{settled_over};
 ghost use Rattle.store_folder.specs.Temporary.{is_temporary};
 ghost use Rattle.store_repair.specs.Store.{never};
 
-use crate::digesting::{digest_of, digests_of, refusal_of};
+use crate::digesting::digest_of;
 use crate::links::{Links, followed_in, refuse_linked_in, status_at};
 use crate::placing::{Tried, take_after, try_path};
 use crate::site::Site;
@@ -31,7 +31,7 @@ use store_repair::{NameFault, Placed, Refused, Store};
 pub struct FolderStore<'a, F: Folder> {
     pub(crate) rt: &'a HostRuntime,
     pub(crate) files: F,
-    site: Site<'a>,
+    pub(crate) site: Site<'a>,
     touched: Touched,
     // An unfinished file that could not be removed, and why.
     leftover: Option<NameFault>,
@@ -327,6 +327,8 @@ impl<F: Folder> Store for FolderStore<'_, F> {
     ghost settled_stays = { λ stripe given old new kept. settled_over stripe given old.site new.site (F.calls old.files)
         (F.calls new.files) kept };
 
+    ghost listed = { λ s stripe place. HasSum s.site stripe place };
+
     fn open(&self, stripe: &str, place: Place, length: usize) -> io::Result<FileFragment<F::Open>> {
         let path = self.path_of(self.site.folder, stripe, place)?;
         open_fragment_in(&self.files, path.as_str(), length as u64, self.site.links)
@@ -339,23 +341,20 @@ impl<F: Folder> Store for FolderStore<'_, F> {
         length: usize,
         fragments: &[Option<FileFragment<F::Open>>],
     ) -> Result<Vec<Refused>, AllocError> {
-        let mut refused = Vec::new(alloc);
-        let sums = self.site.sums_of(alloc, stripe)?;
-        let mut held = Vec::with_capacity(alloc, fragments.len())?;
-        for (fragment, sum) in fragments.iter().zip(sums.iter()) {
-            held.push(match sum {
-                Some(_) => fragment.as_ref(),
-                None => None,
-            })?;
-        }
-        let digests = digests_of(alloc, held.as_slice(), length)?;
-        for (place, (digest, sum)) in Place::ALL.iter().zip(digests.into_iter().zip(sums.iter())) {
-            if let Some(error) = refusal_of(digest, sum) {
-                let place = *place;
-                refused.push(Refused { place, error })?;
-            }
-        }
-        Ok(refused)
+        self.refused_fragments(alloc, stripe, length, fragments)
+    }
+
+    fn is_listed(&self, stripe: &str, place: Place) -> Result<bool, AllocError> {
+        self.has_digest_of(stripe, place)
+    }
+
+    fn is_as_listed(
+        &self,
+        file: &UnfinishedFile<F::New>,
+        stripe: &str,
+        place: Place,
+    ) -> Result<bool, AllocError> {
+        self.is_fragment_as_listed(file, stripe, place)
     }
 
     fn create(&mut self, stripe: &str, place: Place) -> io::Result<UnfinishedFile<F::New>> {

@@ -11,6 +11,7 @@ mod leaving;
 mod links;
 mod listed_descriptions;
 mod listed_folders;
+mod listed_fragments;
 mod listing;
 mod placing;
 mod regular;

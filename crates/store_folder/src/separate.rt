@@ -1,6 +1,7 @@
 //! A store in a folder in which each new fragment fails by itself: one that can't be made or written is refused when it is to get its name,
 //! so that the others of its stripe get theirs.
 ghost use Rattle.std.specs.Prelude.{◌≡◌, IfSome};
+ghost use Rattle.store_folder.specs.Digests.{HasSum};
 ghost use Rattle.store_folder.specs.Done.{IsNamed, IsSettled};
 ghost use Rattle.store_folder.specs.Kept.{IsKeptIn, KeepsEach, none_kept};
 ghost use Rattle.store_folder.specs.Stays.{settled_over};
@@ -116,6 +117,8 @@ impl<F: Folder> Store for SeparateStore<'_, F> {
     ghost settled_stays = { λ stripe given old new kept. settled_over stripe given old.store.site new.store.site (F.calls old.store.files)
         (F.calls new.store.files) kept };
 
+    ghost listed = { λ s stripe place. HasSum s.store.site stripe place };
+
     fn open(&self, stripe: &str, place: Place, length: usize) -> io::Result<FileFragment<F::Open>> {
         self.store.open(stripe, place, length)
     }
@@ -128,6 +131,22 @@ impl<F: Folder> Store for SeparateStore<'_, F> {
         fragments: &[Option<FileFragment<F::Open>>],
     ) -> Result<Vec<Refused>, AllocError> {
         self.store.refused(alloc, stripe, length, fragments)
+    }
+
+    fn is_listed(&self, stripe: &str, place: Place) -> Result<bool, AllocError> {
+        self.store.has_digest_of(stripe, place)
+    }
+
+    fn is_as_listed(
+        &self,
+        file: &SeparateFile<F::New>,
+        stripe: &str,
+        place: Place,
+    ) -> Result<bool, AllocError> {
+        match &file.whole {
+            Some(file) => self.store.is_fragment_as_listed(file, stripe, place),
+            None => Ok(true),
+        }
     }
 
     fn create(&mut self, stripe: &str, place: Place) -> io::Result<SeparateFile<F::New>> {

@@ -9,6 +9,7 @@ use crate::placing::PRIVATE;
 use crate::unfinished::{Unfinished, create_unfinished};
 use folders::{Folder, NewFile, folder_of};
 use sha2::{Digest as _, Sha256};
+use std::alloc::AllocError;
 use std::io::{self, ErrorKind};
 use store_records::Digest;
 use store_repair::NewFragment;
@@ -34,6 +35,14 @@ impl<N: NewFile> NewFragment for UnfinishedFile<N> {
 }
 
 impl<N: NewFile> UnfinishedFile<N> {
+    /// Whether a fragment has the bytes of a digest, if there is one.
+    pub(crate) fn has_digest(&self, sum: Option<Digest>) -> Result<bool, AllocError>
+        ensures { IfOk result (λ has. has ≡ true → HasDigest sum (N.written self.now.unfinished.file)) }
+    {
+        let digest = copy_of(&self.digest)?;
+        Ok(is_as_wanted(digest, sum))
+    }
+
     /// Refuses a fragment that lacks bytes, or has others than those of a digest, if there is one.
     pub(crate) fn refuse_part(&mut self, sum: Option<Digest>) -> io::Result<()>
         ensures same { self.new.unfinished ≡ self.old.unfinished }
@@ -65,6 +74,16 @@ fn with_more(digest: Option<Sha256>, bytes: &[u8]) -> Option<Sha256>
     let mut digest = digest;
     digest.update(bytes);
     Some(digest)
+}
+
+// What was digested so far.
+fn copy_of(digest: &Option<Sha256>) -> Result<Option<Sha256>, AllocError>
+    ensures { IfOk result (λ copy. copy ≡ digest.now) }
+{
+    match digest {
+        Some(digest) => Ok(Some(digest.clone()?)),
+        None => Ok(None),
+    }
 }
 
 // Whether what was digested has a digest, if there is one.

@@ -12,6 +12,7 @@ pub mod NamedLemmas
 pub mod RepairLemmas
 pub mod PutLemmas
 pub mod WholeLemmas
+pub mod ShownLemmas
 pub mod ScrubLemmas
 pub mod LengthLemmas
 pub mod CombiningLemmas

@@ -1,5 +1,5 @@
 -- What is lost of a stripe, and what shows of the rest.
-use Rattle.std.specs.Prelude.{◌≡◌, ℕ, List, Bool, true, false, ◌<◌, ◌^◌, ◌==◌, not, slice_index, slice_index_or}
+use Rattle.std.specs.Prelude.{◌≡◌, ◌⊎◌, ℕ, List, All, Bool, true, false, ◌<◌, ◌^◌, ◌==◌, not, slice_index, slice_index_or}
 use Rattle.lrc_code.specs.declared.codes.Code.{Code as CodeName}
 use Rattle.lrc_code.specs.Code.{has_place, IsInCode}
 use Rattle.lrc_code.specs.Codes.{tables_of}
@@ -60,6 +60,14 @@ pub record IsLostAmong (code : CodeName) (survives among : Place → Bool) (p : 
 -- without any two of the survivors the others determine the fragment at a place
 abbrev pub IsCovered : CodeName → (Place → Bool) → Place → Type 0
 IsCovered code survives p = (e f : Place) → IsDetermined code (without code (without code survives e) f) p
+
+-- the survivors cover the fragments at all of some places, and damage of them may show
+abbrev pub AreCovered : CodeName → (Place → Bool) → List Place → Type 0
+AreCovered code survives places = All (IsCovered code survives) places × CanContradict code survives
+
+-- the fragments at all of some places are held to what is listed, or the survivors cover them
+abbrev pub AreHeld : CodeName → (Place → Bool) → (Place → Bool) → List Place → Type 0
+AreHeld code survives listed places = All (λ p. listed p ≡ true) places ⊎ AreCovered code survives places
 
 -- without some two of them, stripes with the bytes of the others differ there
 abbrev pub IsOpenToTwo : CodeName → (Place → Bool) → Place → Type 0

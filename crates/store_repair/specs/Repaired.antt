@@ -10,14 +10,14 @@ use Rattle.std.specs.declared.io.Error.{Error}
 use Rattle.store_repair.specs.declared.outcomes.Finding.{Finding}
 use Rattle.store_repair.specs.declared.stripes.Found.{Found as FoundName}
 use Rattle.store_repair.specs.Findings.{named, said_differing}
-use Rattle.store_repair.specs.Losses.{has_other_file, IsCovered}
+use Rattle.store_repair.specs.Losses.{AreCovered, has_other_file, IsCovered}
 use Rattle.store_repair.specs.Scrubbed.{AreOfOneStripe, said_damaged}
 use Rattle.store_repair.specs.Store.{ShownFiles}
 use Rattle.lrc_code.specs.declared.places.Place.{Place}
 use Rattle.lrc_code.specs.declared.codes.Code.{Code as CodeName}
 use Rattle.lrc_code.specs.Code.{has_place}
 use Rattle.lrc_code.specs.Codes.{tables_of}
-use Rattle.std.specs.Prelude.{◌≡◌, ◌⊎◌, ℕ, List, Contains, Some, None, Bool, true, false, Result, Ok, Err}
+use Rattle.std.specs.Prelude.{◌≡◌, ◌⊎◌, ℕ, List, All, Contains, Some, None, Bool, true, false, Result, Ok, Err}
 
 -- what holds of the files, where some were made
 abbrev pub IfMade : {N : Type 0} → (Made N → Type 0) → Attempt N → Type 0
@@ -35,6 +35,16 @@ IfNotMade P attempt.GivenUp = P
 abbrev pub IsAccountedFor : CodeName → (Place → Bool) → List Place → List Finding → Place → Type 0
 IsAccountedFor code survives made findings p =
     has_place (tables_of code) p ≡ true → survives p ≡ false → Contains made p ⊎ Contains (named findings) p
+
+-- Damage of what was read shows, or of what was made of it, where not all survivors had to be read: the store knows digests of the
+-- fragments that were made, or those that were read cover them.
+abbrev pub IsShown : (Place → Type 0) → CodeName → (Place → Bool) → List Place → Type 0
+IsShown listed code survives made = All listed made ⊎ AreCovered code survives made
+
+-- damage of what was read shows as far as it can: all survivors were read, or it shows with fewer
+abbrev pub IsShownOrAll : (Place → Type 0) → CodeName → (Place → Bool) → List Place → List Finding → Type 0
+IsShownOrAll listed code survives made findings =
+    IsShown listed code survives made ⊎ ((p : Place) → IsAccountedFor code survives made findings p)
 
 -- none were made
 abbrev pub IsNotMade : {N : Type 0} → Attempt N → Type 0

@@ -3,6 +3,7 @@
 //! sections 2 and 3.
 #![tactic(auto)]
 
+mod attempting;
 mod combining;
 mod consistency;
 mod coverage;
@@ -33,6 +34,7 @@ pub use consistency::are_consistent;
 pub use coverage::is_covered;
 pub use damage::{Damage, Suspects, find_damaged, without};
 pub use encoding::encode;
+pub use fewest::survivors_read;
 pub use file_reading::read_file;
 pub use length_groups::{LengthGroup, Lengths};
 pub use lengths::{StripeLength, stripe_length};

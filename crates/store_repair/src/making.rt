@@ -164,7 +164,9 @@ pub(crate) fn to_be_rebuilt<F>(repair: &Repair, stripe: &Stripe<'_>, opened: &Op
     let code = repair.code;
     match repair.reads {
         Reads::All => code.others(opened.set),
-        Reads::Few => code.others(stripe.files.survivors(code, opened.length as u64)),
+        Reads::Checked | Reads::Few => code.others(
+            stripe.files.survivors(code, opened.length as u64),
+        ),
     }
 }
 

@@ -237,6 +237,19 @@ impl Store for MemoryStore {
         Ok(Vec::new(alloc))
     }
 
+    fn is_listed(&self, _stripe: &str, _place: Place) -> Result<bool, AllocError> {
+        Ok(false)
+    }
+
+    fn is_as_listed(
+        &self,
+        _file: &MemoryFragment,
+        _stripe: &str,
+        _place: Place,
+    ) -> Result<bool, AllocError> {
+        Ok(true)
+    }
+
     fn create(&mut self, _stripe: &str, _place: Place) -> io::Result<MemoryFragment> {
         Ok(MemoryFragment {
             bytes: Vec::new(self.alloc),

@@ -62,8 +62,8 @@ pub(crate) fn leave_out<F: Drop>(code: Code, opened: &mut Opened<F>, place: Plac
     opened.fragments[place.index()] = None;
 }
 
-// Opens the fragments of a stripe's length at the places of a code, and notes those that can't be opened.
-fn open_all<S: Store>(
+/// The same without asking the store which of them it refuses.
+pub(crate) fn open_all<S: Store>(
     alloc: Global,
     store: &S,
     code: Code,

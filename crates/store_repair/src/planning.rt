@@ -9,13 +9,13 @@ ghost use Rattle.store_repair.specs.Opened.{AreApart, IsThereWith};
 ghost use Rattle.store_repair.specs.Repaired.{IsAccountedFor};
 ghost use Rattle.store_repair.specs.declared.settings.Reads.TheVariants.{All as ReadsAll};
 
-use crate::fewest::to_be_read;
+use crate::fewest::open_fewest;
 use crate::lengths::length_or_note;
 use crate::losses::{are_checked, lost_places};
 use crate::making::{note_all, to_be_rebuilt};
-use crate::opening::open_survivors;
-use crate::outcomes::Outcome;
-use crate::settings::Repair;
+use crate::opening::{Opened, open_survivors};
+use crate::outcomes::{Finding, Outcome};
+use crate::settings::{Reads, Repair};
 use crate::store::Store;
 use crate::stripes::Stripe;
 use std::alloc::{AllocError, Global};
@@ -45,15 +45,48 @@ pub fn plan_stripe<S: Store>(
     let Some(length) = known else {
         return Ok(Outcome::of(alloc, findings));
     };
-    let read = to_be_read(alloc, repair, stripe, length)?;
-    let opened = open_survivors(alloc, store, code, &read, length, &mut findings)?;
-    let among = to_be_rebuilt(repair, stripe, &opened);
+    if !matches!(repair.reads, Reads::All) {
+        let mut noted = Vec::new(alloc);
+        if let Some(few) = open_fewest(alloc, store, repair, stripe, length, &mut noted)? {
+            let plan = planned(alloc, repair, stripe, &few.opened, findings)?;
+            return Ok(plan);
+        }
+    }
+    let all = Repair {
+        reads: Reads::All,
+        ..*repair
+    };
+    let opened = open_survivors(alloc, store, code, stripe, length, &mut findings)?;
+    let plan = planned(alloc, &all, stripe, &opened, findings)?;
+    Ok(plan)
+}
+
+// What a repair of a stripe from these survivors would do.
+fn planned<F>(
+    alloc: Global,
+    repair: &Repair,
+    stripe: &Stripe<'_>,
+    opened: &Opened<F>,
+    findings: Vec<Finding>,
+) -> Result<Outcome, AllocError>
+    ensures length { IfOk result (λ o. o.length ≡ opened.now.length) }
+    ensures survivors { IfOk result (λ o. o.survivors ≡ opened.now.set) }
+    ensures lost { IfOk result (λ o. AreLost repair.now.code (is_in o.survivors) o.rebuilt.items) }
+    ensures apart { IfOk result (λ o. AreApart o.rebuilt.items) }
+    ensures determined { IfOk result (λ o. All (IsDetermined repair.now.code (is_in o.survivors)) o.rebuilt.items) }
+    ensures all { repair.now.reads ≡ ReadsAll → IfOk result (λ o. HasAny (is_in o.survivors) → (p : Place)
+        → IsAccountedFor repair.now.code (is_in o.survivors) o.rebuilt.items o.findings.items p) }
+    ensures checked { IfOk result (λ o. o.is_checked ≡ true → AreChecked repair.now.code (is_in o.survivors) o.length) }
+{
+    let code = repair.code;
+    let among = to_be_rebuilt(repair, stripe, opened);
     let lost = lost_places(alloc, code, opened.set, among)?;
+    let mut findings = findings;
     note_all(lost.several.as_slice(), &mut findings)?;
     Ok(Outcome {
-        length,
+        length: opened.length,
         survivors: opened.set,
-        is_checked: are_checked(code, opened.set, length),
+        is_checked: are_checked(code, opened.set, opened.length),
         rebuilt: lost.determined,
         findings,
     })

@@ -1,16 +1,16 @@
 //! Repairing a stripe of a store: each lost fragment is rebuilt, with all checks that the survivors allow, and gets its name.
 ghost use Rattle.std.specs.Prelude.{◌≡◌, ◌≢◌, [], IfNone, IfOk, IfSome, false, true};
 ghost use Rattle.lrc_code.specs.declared.places.Place.{Place};
-ghost use Rattle.store_repair.specs.declared.settings.Reads.TheVariants.{All as ReadsAll};
+ghost use Rattle.store_repair.specs.declared.settings.Reads.TheVariants.{All as ReadsAll, Checked as ReadsChecked};
 ghost use Rattle.store_repair.specs.Findings.{AreAllMended, is_unsettled};
-ghost use Rattle.store_repair.specs.Repaired.{IsAccountedFor, IsWhole, MayReplace, OnlyReplaces};
+ghost use Rattle.store_repair.specs.Repaired.{IsAccountedFor, IsShownOrAll, IsWhole, MayReplace, OnlyReplaces};
 ghost use Rattle.store_repair.specs.Kept.{AreDone, Given, IsRepaired};
 ghost use Rattle.store_repair.specs.Losses.{AreChecked};
 ghost use Rattle.lrc_code.specs.Sets.{is_in};
 ghost use Rattle.store_repair.specs.Opened.{AreMade, AreRebuilt};
 ghost use Rattle.store_repair.specs.Store.{AreUntouched};
 
-use crate::fewest::make_from_fewest;
+use crate::attempting::make_from_fewest;
 use crate::lengths::length_or_note;
 use crate::making::{Made, discard_all, make};
 use crate::opening::open_survivors;
@@ -39,6 +39,8 @@ pub fn repair_stripe<S: Store>(
         o.is_checked o.length stripe.now.files.found o.findings.items) stripe.now.name.now (S.files store.old) (S.files store.new)) }
     ensures whole { repair.now.reads ≡ ReadsAll → IfOk result (λ o. AreAllMended o.findings.items o.rebuilt.items
         → IsWhole repair.now.code o.length stripe.now.name.now (S.files store.new)) }
+    ensures shown { repair.now.reads ≡ ReadsChecked → IfOk result (λ o. IsShownOrAll (S.listed store.old stripe.now.name.now)
+        repair.now.code (is_in o.survivors) o.rebuilt.items o.findings.items) }
     ensures rebuilt { IfOk result (λ o. AreRebuilt repair.now.code (is_in o.survivors) o.length stripe.now.name.now (S.files store.old)
         (S.files store.new) o.rebuilt.items) }
     ensures done { repair.now.replace_damaged ≡ false → IfOk result (λ o. is_unsettled o.findings.items ≡ false
@@ -106,9 +108,11 @@ fn make_lost<S: Store>(
     ensures checked { IfOk result (λ o. IfSome o (λ made. made.is_checked ≡ true → AreChecked repair.now.code (is_in made.set) length)) }
     ensures all { repair.now.reads ≡ ReadsAll → IfOk result (λ o. IfSome o (λ made. (p : Place)
         → IsAccountedFor repair.now.code (is_in made.set) made.places.items findings.new.items p)) }
+    ensures shown { repair.now.reads ≡ ReadsChecked → IfOk result (λ o. IfSome o (λ made.
+        IsShownOrAll (S.listed store.old stripe.now.name.now) repair.now.code (is_in made.set) made.places.items findings.new.items)) }
     ensures said { IfOk result (λ o. IfNone o (findings.new.items ≢ [])) }
 {
-    if matches!(repair.reads, Reads::Few) {
+    if !matches!(repair.reads, Reads::All) {
         if let Some(made) = make_from_fewest(alloc, store, repair, stripe, length, findings)? {
             return Ok(Some(made));
         }

@@ -6,6 +6,9 @@ use lrc_code::Code;
 pub enum Reads {
     /// All, so that damage among them shows.
     All,
+    /// As few as determine what is lost, if the store knows digests to which what is rebuilt is held; else as few as cover what is lost, if
+    /// all do. Where these can't be read or contradict each other, or what is made of them differs from its digest, all.
+    Checked,
     /// As few as determine what is lost. Where one of these can't be read, all.
     Few,
 }

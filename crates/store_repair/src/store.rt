@@ -79,6 +79,9 @@ pub trait Store {
     /// So it did, and its name and its bytes are on the disk.
     ghost settled: { Self → List ℕ → Place → Option (List ℕ) → Type 0 };
 
+    /// The store knows a digest of a stripe's fragment at a place, to which it holds what is to get that name.
+    ghost listed: { Self → List ℕ → Place → Type 0 } = { λ _ _ _. ⊥ };
+
     /// Opens a stripe's fragment, which has to have so many bytes.
     fn open(&self, stripe: &str, place: Place, length: usize) -> io::Result<Self::Survivor>
         ensures { IfOk result (λ f. IsOpened stripe.now place length (files self.now) (Self.Survivor.shown f)) };
@@ -92,6 +95,19 @@ pub trait Store {
         length: usize,
         fragments: &[Option<Self::Survivor>],
     ) -> Result<Vec<Refused>, AllocError>;
+
+    /// Whether the store knows a digest of a stripe's fragment at a place, to which it holds what is to get that name.
+    fn is_listed(&self, stripe: &str, place: Place) -> Result<bool, AllocError>
+        ensures { IfOk result (λ is. is ≡ true → listed self.now stripe.now place) };
+
+    /// Whether a whole new fragment for a place of a stripe has the digest that the store knows of that, if it knows one. No clause says
+    /// which: `place` and `replace` refuse one that hasn't.
+    fn is_as_listed(
+        &self,
+        file: &Self::New,
+        stripe: &str,
+        place: Place,
+    ) -> Result<bool, AllocError>;
 
     /// A new fragment for a place of a stripe, still without bytes and without a name.
     fn create(&mut self, stripe: &str, place: Place) -> io::Result<Self::New>

@@ -13,7 +13,8 @@ use store_repair::{Found, Outcome, Reads, Reason, Repair, Stripe, StripeFiles, r
 // More ways for a crash to go than these aren't tried at one call.
 const MOST_WAYS: u64 = 300;
 
-const SITE: Site<'static> = Site {
+/// Where the sample's folder is.
+pub(crate) const SITE: Site<'static> = Site {
     folder: "store",
     target: "store",
     pattern: Pattern::PLAIN,
@@ -23,16 +24,17 @@ const SITE: Site<'static> = Site {
     links: Links::NotFollowed,
 };
 
-const OTHER: &[u8] = b"\x77";
+/// The bytes of a damaged fragment.
+pub(crate) const OTHER: &[u8] = b"\x77";
 
-// The SHA-256 digest of the byte 02, as `sha256sum` prints it.
-const OF_02: [u8; 32] = [
+/// The SHA-256 digest of the byte 02, as `sha256sum` prints it.
+pub(crate) const OF_02: [u8; 32] = [
     0xdb, 0xc1, 0xb4, 0xc9, 0x00, 0xff, 0xe4, 0x8d, 0x57, 0x5b, 0x5d, 0xa5, 0xc6, 0x38, 0x04, 0x01,
     0x25, 0xf6, 0x5d, 0xb0, 0xfe, 0x3e, 0x24, 0x49, 0x4b, 0x76, 0xea, 0x98, 0x64, 0x57, 0xd9, 0x86,
 ];
 
-// The path of the sample's fragment at a place.
-fn path_of(alloc: Global, place: Place) -> Result<String, AllocError> {
+/// The path of the sample's fragment at a place.
+pub(crate) fn path_of(alloc: Global, place: Place) -> Result<String, AllocError> {
     let name = place.name();
     format!(in alloc; "store/a.{name}")
 }
@@ -42,8 +44,8 @@ fn second_path_of(alloc: Global, place: Place) -> Result<String, AllocError> {
     format!(in alloc; "store/a.{name}.damaged")
 }
 
-// A folder with the sample's fragments but for those at lost places, and with other bytes at the place of a damaged one.
-fn folder_without(
+/// A folder with the sample's fragments but for those at lost places, and with other bytes at the place of a damaged one.
+pub(crate) fn folder_without(
     alloc: Global,
     lost: &[Place],
     damaged: Option<Place>,
@@ -96,7 +98,6 @@ fn repaired_at(
     site: Site<'_>,
     replace_damaged: bool,
 ) -> Result<(Result<Outcome, AllocError>, MemoryFolder), AllocError> {
-    let alloc = rt.alloc();
     let repair = Repair {
         code: short().code,
         reads: Reads::All,
@@ -104,6 +105,17 @@ fn repaired_at(
         assume_one_damaged: false,
         elsewhere: false,
     };
+    repaired_as(rt, files, site, repair)
+}
+
+/// The same in some way.
+pub(crate) fn repaired_as(
+    rt: &HostRuntime,
+    files: MemoryFolder,
+    site: Site<'_>,
+    repair: Repair,
+) -> Result<(Result<Outcome, AllocError>, MemoryFolder), AllocError> {
+    let alloc = rt.alloc();
     let stripe = stripe_in(alloc, &files)?;
     let mut store = SeparateStore::new(FolderStore::over(rt, files, site));
     let outcome = repair_stripe(alloc, &mut store, &repair, &stripe);

@@ -5,6 +5,8 @@
 #[cfg(test)]
 mod asserting;
 #[cfg(test)]
+mod checked;
+#[cfg(test)]
 mod coverage;
 #[cfg(test)]
 mod crashes;

@@ -34,7 +34,8 @@ pub fn repair<R: Threads + Sync>(
     if !options.dry_run {
         refuse_long(system, store.code, stripes.as_slice())?;
     }
-    let task = repair_task(system.alloc(), &store, options.reads, stripes.as_slice())?;
+    let repair = repair_of(store.code, options);
+    let task = repair_task(system.alloc(), &store, &repair, stripes.as_slice())?;
     let is_quiet = options.test.quiet || options.dry_run;
     let counters = counters_of(system, task, is_quiet, &options.test, opening.folder)?;
     let opened = Opened {
@@ -192,7 +193,7 @@ fn repair_of(code: Code, options: &RepairOptions<'_>) -> Repair {
     }
 }
 
-// Says what became of the stripes and, where all survivors were read, what no check covered; gives the exit status.
+// Says what became of the stripes and, unless as few survivors were read as it takes, what no check covered; gives the exit status.
 fn say_repaired(
     rt: &HostRuntime,
     results: &Results<'_>,
@@ -203,7 +204,7 @@ fn say_repaired(
     let alloc = rt.alloc();
     for done in results.all {
         say_all(rt, finding_lines(alloc, results, done)?)?;
-        if options.reads == Reads::All {
+        if options.reads != Reads::Few {
             say_all(rt, unchecked_lines(alloc, results, done)?)?;
         }
     }

@@ -3,13 +3,13 @@ use lrc_code::Code;
 use std::alloc::{AllocError, Global};
 use store_opening::OpenStore;
 use store_progress::{Operation, Task};
-use store_repair::{Reads, Stripe};
+use store_repair::{Reads, Repair, Stripe, survivors_read};
 
 /// The repair of these stripes.
 pub(crate) fn repair_task(
     alloc: Global,
     store: &OpenStore,
-    reads: Reads,
+    repair: &Repair,
     stripes: &[Stripe<'_>],
 ) -> Result<Task, AllocError> {
     let mut fragments = 0u64;
@@ -19,13 +19,18 @@ pub(crate) fn repair_task(
             let lost = stripe.files.lost(alloc, store.code, length)?.len() as u64;
             fragments = fragments.saturating_add(lost);
         }
-        bytes = bytes.saturating_add(bytes_read(store.code, reads, stripe));
+        let read = bytes_read(alloc, repair, store.sums.is_some(), stripe)?;
+        bytes = bytes.saturating_add(read);
     }
     Ok(Task {
         operation: Operation::Repair,
         units: fragments,
         bytes,
-        passes: passes_over(store),
+        passes: if matches!(repair.reads, Reads::Checked) {
+            1
+        } else {
+            passes_over(store)
+        },
     })
 }
 
@@ -48,16 +53,18 @@ fn passes_over(store: &OpenStore) -> u64 {
     if store.sums.is_some() { 2 } else { 1 }
 }
 
-/// How many bytes of a stripe a repair reads: with few reads nothing of one that lost nothing.
-pub(crate) fn bytes_read(code: Code, reads: Reads, stripe: &Stripe<'_>) -> u64 {
-    let Some(length) = stripe.files.length() else {
-        return 0;
+/// How many bytes of a stripe a repair reads if none of them is damaged. Sums are taken to have a digest of each fragment.
+pub(crate) fn bytes_read(
+    alloc: Global,
+    repair: &Repair,
+    has_sums: bool,
+    stripe: &Stripe<'_>,
+) -> Result<u64, AllocError> {
+    let Some(length) = stripe.length() else {
+        return Ok(0);
     };
-    let is_whole = stripe.files.survivors(code, length).len() == code.places().len();
-    if is_whole && matches!(reads, Reads::Few) {
-        return 0;
-    }
-    bytes_of(code, stripe)
+    let survivors = survivors_read(alloc, repair, stripe, length, has_sums)?;
+    Ok((survivors.len() as u64).saturating_mul(length as u64))
 }
 
 /// How many bytes the files of a stripe have together.

@@ -3,7 +3,7 @@ use Rattle.lrc_code.specs.Sets.{is_in}
 use Rattle.store_repair.specs.Damage.{IsDetermined}
 use Rattle.store_repair.proofs.SuspectLemmas.{in_without}
 use Rattle.store_repair.proofs.fewest.without_group.Goals as goal
-use Rattle.store_repair.proofs.fewest.without_group.Goals.{then-has+then-eq+then-determine_all, then-has+then-eq+else-determine_all}
+use Rattle.store_repair.proofs.fewest.without_group.Goals.{then-has+then-eq+then-are_enough, then-has+then-eq+else-are_enough}
 use Rattle.store_repair.proofs.fewest.without_group.Goals.{else-has}
 
 pub loop-place-preserved : goal.loop-place-preserved
@@ -12,14 +12,14 @@ loop-place-preserved c =
     let so = c.loop-place.invariant in
     let places = c.args.places.now in
     elim c.if-has.branch [
-      | then-has+then-eq+then-determine_all w ↦ record {
+      | then-has+then-eq+then-are_enough w ↦ record {
         own = λ p h. so.own p
             (in_without code (is_in c.loop-place.left) _ p
             (sym (w.without-fewer.ensures p) ∙ (ap (λ set. is_in set p) (sym w.left-is) ∙ h))).1;
         enough = λ all. subst (λ set. All (IsDetermined code (is_in set)) places) (sym w.left-is)
-            (w.determine_all.ensures w.if-determine_all.true);
+            (w.are_enough.ensures w.if-are_enough.true);
       }
-      | then-has+then-eq+else-determine_all w ↦ record {
+      | then-has+then-eq+else-are_enough w ↦ record {
         own = λ p h. so.own p (ap (λ set. is_in set p) (sym w.left-is) ∙ h);
         enough = λ all. subst (λ set. All (IsDetermined code (is_in set)) places) (sym w.left-is) (so.enough all);
       }

@@ -2,7 +2,7 @@ use Rattle.std.proofs.Common.{◌≢◌, [], ◌++◌, All, IfSome, subst, sym, 
 use Rattle.std.specs.Prelude.{◌⊎◌, Contains, IfNone}
 use Rattle.lrc_code.specs.declared.places.Place.{Place}
 use Rattle.store_repair.specs.Findings.{AreAllMended, named}
-use Rattle.store_repair.specs.Repaired.{IsAccountedFor, MayReplace, OnlyReplaces, SameBeside}
+use Rattle.store_repair.specs.Repaired.{IsAccountedFor, IsShownOrAll, MayReplace, OnlyReplaces, SameBeside}
 use Rattle.store_repair.proofs.NamedLemmas.{none_mended, settled_later}
 use Rattle.store_repair.proofs.WholeLemmas.{is_whole, may_later, replaces_weaker}
 use Rattle.lrc_code.specs.Sets.{is_in}
@@ -10,6 +10,7 @@ use Rattle.store_repair.specs.Opened.{AreMade}
 use Rattle.store_repair.specs.Store.{AreUntouched}
 use Rattle.store_repair.proofs.KeptLemmas.{none_done, none_given, off_with, some_done, some_given}
 use Rattle.store_repair.proofs.RepairLemmas.{are_rebuilt, untouched_if, untouched_unless}
+use Rattle.store_repair.proofs.ShownLemmas.{none_shown, shown_later}
 use Rattle.store_repair.proofs.repairing.repair_stripe.Goals as goal
 
 pub returns-clause-rebuilt : goal.returns-clause-rebuilt
@@ -222,3 +223,39 @@ returns-clause-done g c = λ off settled.
     c.in-Some-made.is c.in_ok-made.ensures.made)
     (c.in_ok-rebuilt.ensures.done (off_with c.args.repair.now.replace_damaged made.is_checked off)
     (settled_later _ c.make_lost.new.findings.items c.put_all.new.later.items c.in_ok-append.ensures.items settled))
+
+pub returns-in_default-clause-shown : goal.returns-in_default-clause-shown
+returns-in_default-clause-shown g c = λ reads. none_shown (g.S.Store.listed c.args.store.now c.args.stripe.now.name.now) _ _
+    c.of.result.rebuilt.items c.of.result.findings.items c.of.ensures.rebuilt
+
+pub returns-in_default-made-clause-shown : goal.returns-in_default-made-clause-shown
+returns-in_default-made-clause-shown g c = λ reads. none_shown (g.S.Store.listed c.args.store.now c.args.stripe.now.name.now) _ _
+    c.of-in_default-made.result.rebuilt.items c.of-in_default-made.result.findings.items c.of-in_default-made.ensures.rebuilt
+
+pub returns-then-has_changed-clause-shown : goal.returns-then-has_changed-clause-shown
+returns-then-has_changed-clause-shown g c = λ reads. none_shown (g.S.Store.listed c.args.store.now c.args.stripe.now.name.now) _ _
+    c.of-then-has_changed.result.rebuilt.items c.of-then-has_changed.result.findings.items c.of-then-has_changed.ensures.rebuilt
+
+pub returns-clause-shown : goal.returns-clause-shown
+returns-clause-shown g c = λ reads.
+    let made = c.in-Some-made.made in
+    let code = c.args.repair.now.code in
+    let stripe = c.args.stripe.now.name.now in
+    let len = c.in-Some.length in
+    let old = g.S.Store.files c.args.store.now in
+    let new = g.S.Store.files c.put_all.new.store in
+    let shown = g.S.New.NewFragment.shown in
+    let listed = g.S.Store.listed c.args.store.now stripe in
+    let first = c.make_lost.new.findings.items in
+    let later = c.put_all.new.later.items in
+    let rebuilt = c.in_ok-rebuilt.rebuilt.items in
+    let places = made.places.items in
+    let are = subst (λ o. IfSome o (λ m. AreMade shown code (is_in m.set) len stripe old m.places.items m.files.items)) c.in-Some-made.is
+    c.in_ok-made.ensures.made in
+    subst (λ findings. IsShownOrAll listed code (is_in made.set) rebuilt findings) (sym c.in_ok-append.ensures.items)
+    (shown_later listed code (is_in made.set) shown stripe places made.files.items new rebuilt first later are.lengths
+    c.in_ok-rebuilt.ensures.put
+    (subst (λ findings. All (λ p. Contains rebuilt p ⊎ Contains (named findings ++ named later) p) places) c.as_slice-2.ensures.value
+    c.in_ok-rebuilt.ensures.all)
+    (subst (λ o. IfSome o (λ m. IsShownOrAll listed code (is_in m.set) m.places.items first)) c.in-Some-made.is
+    (c.in_ok-made.ensures.shown reads)))
