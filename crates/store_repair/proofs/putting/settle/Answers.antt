@@ -1,4 +1,4 @@
-use Rattle.std.proofs.Common.{◌≡◌, ◌∙◌, refl, true, false}
+use Rattle.std.proofs.Common.{◌≡◌, ◌∙◌, refl, true}
 use Rattle.std.proofs.lemmas.Bool.{or_right}
 use Rattle.std.proofs.lemmas.Result.{on_ok_weaker}
 use Rattle.store_repair.specs.Findings.{is_unsettled}
