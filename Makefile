@@ -32,7 +32,7 @@ LIBRARY := crates/lrc_c/$(if $(TARGET),out/$(TARGET),$(BUILT))
 LIBRARY_CC := $(if $(TARGET),$(subst -unknown,,$(TARGET))-gcc,$(CC))
 
 .PHONY: build notices store demo try install uninstall library link-library install-library uninstall-library ceph install-ceph \
-  uninstall-ceph try-ceph try-ceph-releases ceph-needs test levels wrong-bodies scale lifetime bench packages try-packages
+  uninstall-ceph try-ceph try-ceph-releases ceph-needs test levels wrong-bodies scale lifetime bench listing packages try-packages
 
 # The programs, each with its crate, in whose out/ it is built; and what is installed: each has a manual page and completions.
 PROGRAMS := rebuild rebuild-store
@@ -204,7 +204,7 @@ wrong-bodies:
 levels:
 	tools/levels.sh $(JOBS)
 
-# GNU parallel and Slurm over the built program, where they are installed. It is no part of the gate.
+# GNU parallel, sixty hosts of namespaces and Slurm over the built program, where they are installed. It is no part of the gate.
 scale: build
 	tools/scale.sh
 
@@ -226,3 +226,8 @@ bench: build library
 	bench/farm.py $(CPU)
 	bench/library.sh $(CPU)
 	bench/store.py $(CPU)
+	bench/listing.py
+
+# The table of docs/SCALE.md of what it takes to list a store, by the number of its files.
+listing: store
+	bench/listing.py

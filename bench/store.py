@@ -1,12 +1,12 @@
 #!/usr/bin/env python3
 """Times rebuild-store beside what else does the same: repairs beside a C program over the C library and mapped files and beside the farm,
-scrubbing beside sha256sum, files beside a C program over ISA-L and OpenSSL, and the listing of a million files.
+scrubbing beside sha256sum, and files beside a C program over ISA-L and OpenSSL. What it takes to list a store is listing.py's.
 
     store.py LEVEL [ROW ..]      for a level of the processor, as x86-64-v3; the rows by their numbers in the table, else all
 
 The runs of a row are made in turn, and the least time of each is shown (BENCH_PASSES of them, 5). What the C program and the farm
 rebuild is compared with what ours does. Page faults and switches of threads are those of the fastest run. The stores are in memory where
-there is room, 5 GB for the largest. par2 and zfec are timed on one file where they are installed."""
+6 GB are free. par2 and zfec are timed on one file where they are installed."""
 
 import dataclasses
 import filecmp
@@ -186,14 +186,6 @@ def sums_row(bench):
     return Row("scrub of 1 GiB with SHA256SUMS, one worker", ours, peer, "1.0")
 
 
-def listed_row(bench):
-    """The request list of a store of a million files."""
-    stripes = 100_000
-    store = bench.make("million", stripes, 1)
-    remove(store / f"s{k:06}.x0" for k in range(0, stripes, 100))
-    return Row("lost over 1,000,000 files", Run("ours", [PROGRAM, "lost", store], status=1), None, "10 s")
-
-
 def small_row(bench):
     """Repairs of many short fragments beside the C program, for the page faults."""
     store = bench.make("small-store", 300, 64 * KIB)
@@ -257,7 +249,6 @@ ROWS = (
     farm_row,
     scrub_row,
     sums_row,
-    listed_row,
     small_row,
     long_sums_row,
     encode_row,

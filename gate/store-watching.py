@@ -6,6 +6,7 @@ what is read in a second, and parts that look at nothing but their part.
 
 Stores are made by an independent encoder, and each expected number is worked out here."""
 
+import hashlib
 import json
 import os
 import pathlib
@@ -175,6 +176,11 @@ def test_rates(place, choose):
     check(2.4 <= time.monotonic() - began, "a scrub isn't held back")
 
 
+def part_of(name, parts):
+    """The part of a stripe, from 0 on."""
+    return int.from_bytes(hashlib.sha256(name.encode()).digest()[:8], "big") % parts
+
+
 def lines_until_the_end(process):
     """The lines of a process' standard output, each with when it came before the process ended, in seconds."""
     came, waiter = [], selectors.DefaultSelector()
@@ -202,6 +208,33 @@ def test_rows_as_they_are_known(place, choose):
     of_report = [line.split(",")[:3] for line in report.read_text().splitlines()[1:]]
     check(sorted([row["stripe"], row["place"], row["outcome"]] for row in rows[:-1]) == of_report[:-1], f"{of_report}")
     check(is_whole(store, {**all_of_it, "b.x0": b"alone"}), "the store isn't whole")
+
+
+def test_stripes_that_lost_most_come_first(place, choose):
+    """One thread works on stripes that have lost most fragments first, whatever their names are; so does that of a part, and a run of many
+    threads begins with them."""
+    names = [f"{choose.getrandbits(64):016x}" for _ in range(60)]
+    losses = {name: k % 4 for k, name in enumerate(names)} | {names[7]: 5}
+    for number, options in enumerate((["-j", "1"], ["-j", "1", "--part", "1/2"], ["-j", "16"])):
+        store = place / f"s{number}"
+        store.mkdir()
+        lost = {}
+        for name in names:
+            fragments = stripe("6-2-2", 100, choose)
+            # Of five lost fragments the code gives back none, if they are a group with both global parities.
+            lost[name] = ["x0", "x1", "x2", "p0", "p1"] if losses[name] == 5 else choose.sample(list(fragments), losses[name])
+            for of, data in fragments.items():
+                if of not in lost[name]:
+                    (store / f"{name}.{of}").write_bytes(data)
+        said, _ = run("repair", "--json", *options, store, status=1 if number != 1 or part_of(names[7], 2) == 0 else 0)
+        rows = [row for row in rows_of(said) if row["place"]]
+        found = [losses[row["stripe"]] for row in rows]
+        mine = [name for name in names if number != 1 or part_of(name, 2) == 0]
+        check(sorted(found) == sorted(losses[name] for name in mine for _ in lost[name]), f"{options}: {found}")
+        if number < 2:
+            check(found == sorted(found, reverse=True), f"{options}: stripes that lost so many come in this order: {found}")
+        else:
+            check(all(many > 1 for many in found[:20]), f"{options}: {found}")
 
 
 def test_what_a_kill_leaves(place, choose):

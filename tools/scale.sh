@@ -1,7 +1,7 @@
 #!/usr/bin/env bash
-# Runs what docs/SCALE.md shows, over a small store that is made here: the built program in several jobs, by GNU parallel, over
-# ssh and by a Slurm array, where these are installed. Compares each file that comes with that of a single run, and says what
-# was skipped. With the argument `times` it also times folders served by 1, 2 and 4 jobs. It is no part of the gate.
+# Runs what docs/SCALE.md shows, over small stores that are made here: the built program in several jobs, by GNU parallel, over
+# ssh, on sixty hosts of namespaces and by a Slurm array, where these are installed. Compares each file that comes with that of a single
+# run, and says what was skipped. With the argument `times` it also times folders served by 1, 2 and 4 jobs. It is no part of the gate.
 set -euo pipefail
 cd "$(dirname "$0")/.."
 repository=$PWD
@@ -9,13 +9,9 @@ program=$repository/crates/rebuild/out/rebuild
 document=$repository/docs/SCALE.md
 scratch=$(mktemp -d)
 finish() {
-  local it
-  for it in node store-node; do
-    if [ -e "$scratch/$it" ]; then tools/slurm-node.sh stop "$scratch/$it"; fi
-  done
-  for it in ssh store-ssh; do
-    if [ -e "$scratch/$it" ]; then tools/ssh-hosts.sh stop "$scratch/$it"; fi
-  done
+  if [ -e "$scratch/node" ]; then tools/slurm-node.sh stop "$scratch/node"; fi
+  if [ -e "$scratch/ssh" ]; then tools/ssh-hosts.sh stop "$scratch/ssh"; fi
+  if [ -e "$scratch/hosts" ]; then tools/hosts.sh stop "$scratch/hosts"; fi
   rm -rf "$scratch"
 }
 trap finish EXIT
@@ -34,7 +30,7 @@ for name in tools deploy; do
 done
 make -s install "PREFIX=$scratch/installed" > "$scratch/said" 2>&1 || fail "make install: $(cat "$scratch/said")"
 export PATH=$scratch/installed/bin:$PATH
-gate/examples.py section "$document" 'A list to try' "$scratch"
+gate/examples.py section "$document" 'Splitting a list' "$scratch"
 
 # The single run: the whole list as one rack of one folder, and all lines as one input.
 mkdir "$scratch/single" "$scratch/served"
@@ -56,35 +52,79 @@ compare() {
   echo "$name: the report and $number rebuilt fragments are those of a single run"
 }
 
-# A store in parts: the document's commands compare it with the whole one.
-store_in_parts() {
+# What is installed.
+has_parallel= has_sshd= has_slurm= lacks_for_hosts=()
+if command -v parallel > /dev/null && parallel --version 2> /dev/null | grep -q '^GNU parallel'; then has_parallel=1; fi
+if PATH=$PATH:/usr/sbin command -v sshd > /dev/null; then has_sshd=1; fi
+if PATH=$PATH:/usr/sbin command -v slurmctld > /dev/null && command -v sbatch > /dev/null; then has_slurm=1; fi
+[ -n "$has_parallel" ] || lacks_for_hosts+=("GNU parallel")
+[ -n "$has_sshd" ] || lacks_for_hosts+=("sshd (Debian's openssh-server)")
+for name in sshfs ip nsenter; do
+  PATH=$PATH:/usr/sbin:/sbin command -v "$name" > /dev/null || lacks_for_hosts+=("$name")
+done
+if [ "$(id -u)" != 0 ] || ! unshare --mount --net --uts --pid --fork --mount-proc true 2> /dev/null; then
+  lacks_for_hosts+=("the right to make namespaces")
+fi
+[ -c /dev/fuse ] || lacks_for_hosts+=("/dev/fuse")
+
+# The document's commands compare these stores with whole ones.
+if [ -n "$has_parallel" ]; then
   gate/examples.py section "$document" 'A store in parts' "$scratch"
-  if PATH=$PATH:/usr/sbin command -v sshd > /dev/null; then
-    gate/examples.py section "$document" 'A store by GNU parallel on two hosts' "$scratch"
+  if [ -n "$has_sshd" ]; then
+    gate/examples.py section "$document" 'Two hosts by ssh' "$scratch"
   else
     skipped+=("no sshd is installed (Debian's openssh-server): a store was not repaired from two hosts")
   fi
-}
-if command -v parallel > /dev/null && parallel --version 2> /dev/null | grep -q '^GNU parallel'; then
-  store_in_parts
 else
   skipped+=("GNU parallel isn't installed (Debian's parallel): a store was not repaired in parts by it")
 fi
-if PATH=$PATH:/usr/sbin command -v slurmctld > /dev/null && command -v sbatch > /dev/null; then
-  gate/examples.py section "$document" 'A store by a Slurm array' "$scratch"
+if [ -n "$has_slurm" ]; then
+  gate/examples.py section "$document" 'A Slurm array' "$scratch"
 else
   skipped+=("Slurm isn't installed (Debian's slurm-wlm): a store was not repaired by an array")
 fi
 
-gate/examples.py section "$document" 'Splitting a list' "$scratch"
-if command -v parallel > /dev/null && parallel --version 2> /dev/null | grep -q '^GNU parallel'; then
+# Another host of the sixty dies, and a Slurm array repairs its groups.
+groups_by_slurm() {
+  (
+    cd "$scratch"
+    export SLURM_CONF=$scratch/hosts-node/slurm.conf PARALLEL="--sshloginfile hosts/spare --workdir $scratch"
+    tools/hosts.sh cut hosts h25
+    sed -i s/h25:/s1:/ hosts/map
+    deploy/most-lost.sh hosts/map > lost 2> log
+    [ "$(cat lost)" = "$(printf 'g02 1 20\ng07 1 20')" ] || fail "h25 was lost, and not: $(cat lost)"
+    hosts/enter tools/slurm-node.sh start hosts-node > said || fail "$(cat said)"
+    hosts/enter sbatch --wait --array=1-2 --output=group-%a.log deploy/slurm-groups.sh hosts/map lost > said ||
+      fail "Slurm, groups: $(cat said group-*.log)"
+    parallel deploy/on-group.sh hosts/map {} diff -r hosts/whole/{} ::: g02 g07 > said || fail "Slurm, groups: $(cat said)"
+  )
+  echo 'Slurm array, groups: what a dead host held is on a spare one, byte by byte'
+}
+if [ "${#lacks_for_hosts[@]}" = 0 ]; then
+  gate/examples.py section "$document" 'Sixty hosts in placement groups' "$scratch"
+  if [ -n "$has_slurm" ]; then
+    groups_by_slurm
+  else
+    skipped+=("Slurm isn't installed (Debian's slurm-wlm): no placement groups were repaired by an array")
+  fi
+  tools/hosts.sh stop "$scratch/hosts"
+else
+  skipped+=("for sixty hosts these lack: $(printf '%s, ' "${lacks_for_hosts[@]}" | sed 's/, $//')")
+fi
+
+# merged NAME RESULT: merges what was served into a result, and compares it.
+merged() {
+  (cd "$scratch" && rebuild-lists merge work "$2" > said) || fail "$1: $(cat "$scratch/said")"
+  compare "$1" "$2"
+}
+if [ -n "$has_parallel" ]; then
   gate/examples.py section "$document" 'Folders by GNU parallel' "$scratch"
   compare 'GNU parallel, folders' result
   gate/examples.py section "$document" 'When a job dies' "$scratch"
-  compare 'GNU parallel, after a job that died' result-again
-  if PATH=$PATH:/usr/sbin command -v sshd > /dev/null; then
-    gate/examples.py section "$document" 'Folders on several hosts by ssh' "$scratch"
-    compare 'GNU parallel over ssh' result-ssh
+  merged 'GNU parallel, after a job that died' result-again
+  if [ -n "$has_sshd" ]; then
+    gate/examples.py section "$document" 'Folders by ssh' "$scratch"
+    merged 'GNU parallel over ssh' result-ssh
   else
     skipped+=("no sshd is installed (Debian's openssh-server): GNU parallel was not run over ssh")
   fi
@@ -98,28 +138,29 @@ else
   skipped+=("GNU parallel isn't installed (Debian's parallel): its examples were not run")
 fi
 
-if PATH=$PATH:/usr/sbin command -v slurmctld > /dev/null && command -v sbatch > /dev/null; then
+if [ -n "$has_slurm" ]; then
   gate/examples.py section "$document" 'Folders by a Slurm array' "$scratch"
-  compare 'Slurm array' result-slurm
+  merged 'Slurm array' result-slurm
 else
   skipped+=("Slurm isn't installed (Debian's slurm-wlm): its example was not run")
 fi
 
 if python3 -c 'import yaml' 2> /dev/null; then
-  python3 - deploy/kubernetes-job.yaml <<'END'
+  python3 - deploy/kubernetes-*.yaml <<'END'
 import sys
 import yaml
 
-job = yaml.safe_load(open(sys.argv[1]))
-pod = job["spec"]["template"]["spec"]
-assert (job["apiVersion"], job["kind"], job["spec"]["completionMode"]) == ("batch/v1", "Job", "Indexed")
-assert [mount["name"] for mount in pod["containers"][0]["volumeMounts"]] == [volume["name"] for volume in pod["volumes"]]
-print("deploy/kubernetes-job.yaml is the YAML of an indexed Job")
+for name in sys.argv[1:]:
+    job = yaml.safe_load(open(name))
+    pod = job["spec"]["template"]["spec"]
+    assert (job["apiVersion"], job["kind"], job["spec"]["completionMode"]) == ("batch/v1", "Job", "Indexed")
+    assert [mount["name"] for mount in pod["containers"][0]["volumeMounts"]] == [volume["name"] for volume in pod["volumes"]]
+    print(f"{name} is the YAML of an indexed Job")
 END
 else
-  skipped+=("python3-yaml isn't installed: deploy/kubernetes-job.yaml was not read")
+  skipped+=("python3-yaml isn't installed: the files for Kubernetes were not read")
 fi
-skipped+=('the Kubernetes Job was not run: that needs a cluster')
+skipped+=('the Kubernetes Jobs were not run: that needs a cluster')
 
 # Many folders of fragments of 64 KiB, in memory where there is room, so that no disk is timed.
 times() {
@@ -160,7 +201,7 @@ END
   echo
 }
 if [ "${1:-}" = times ]; then
-  if command -v parallel > /dev/null; then
+  if [ -n "$has_parallel" ]; then
     times
   else
     skipped+=("GNU parallel isn't installed: nothing was timed")

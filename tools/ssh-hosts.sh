@@ -6,7 +6,8 @@
 #   ssh-hosts.sh start FOLDER    makes FOLDER and starts sshd
 #   ssh-hosts.sh stop FOLDER     ends it
 #
-# `ssh -F FOLDER/config host-a` and `host-b` then reach them. There the PATH of the environment is that of `start`.
+# `ssh -F FOLDER/config host-a` and `host-b` then reach them, and FOLDER/hosts names both for GNU parallel, two jobs at once on each. There
+# the PATH of the environment is that of `start`.
 set -euo pipefail
 command=${1:?'start or stop'}
 folder=${2:?'the scratch folder'}
@@ -64,6 +65,7 @@ Host host-a host-b
   BatchMode yes
   LogLevel ERROR
 END
+printf '2/ssh -F %s %s\n' "$folder/config" host-a "$folder/config" host-b > "$folder/hosts"
 # As root sshd asks for this folder.
 if [ "$(id -u)" = 0 ]; then
   mkdir -p /run/sshd

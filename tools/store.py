@@ -11,7 +11,12 @@ that the store hasn't.
     store.py FOLDER STRIPES LENGTH SEED CODE
 
 makes FOLDER/store with stripes of this code, 6-2-2 or 12-2-2, each of which has lost up to three fragments, and FOLDER/whole, the same
-stripes with all fragments."""
+stripes with all fragments.
+
+    store.py FOLDER STRIPES LENGTH SEED CODE GROUPS
+
+makes so many whole stores, FOLDER/g00 and so on, each with a folder for each place, a disk, whose folder `fragments` has a fragment under
+its stripe's name."""
 
 import itertools
 import pathlib
@@ -64,6 +69,16 @@ def make_lossy(folder, number, greatest, code, choose):
                 (store / f"s{k:03}.{place}").write_bytes(data)
 
 
+def make_groups(folder, groups, number, greatest, code, choose):
+    """Whole stores of so many stripes each, with a folder for each place."""
+    for group in (folder / f"g{k:02}" for k in range(groups)):
+        for place in code_of(code)[0]:
+            (group / place / "fragments").mkdir(parents=True)
+        for k in range(number):
+            for place, data in stripe(code, choose.randrange(1, greatest + 1), choose).items():
+                (group / place / "fragments" / f"{group.name}-{k:03}").write_bytes(data)
+
+
 def make_listed(folder, number, greatest, seed):
     """Stripes of both codes, with requests for fragments that they have lost."""
     choose = random.Random(seed)
@@ -90,7 +105,10 @@ def make_listed(folder, number, greatest, seed):
 
 def main():
     folder, number, greatest, seed = pathlib.Path(sys.argv[1]), *map(int, sys.argv[2:5])
-    if sys.argv[5:]:
+    folder.mkdir(exist_ok=True)
+    if sys.argv[6:]:
+        make_groups(folder, int(sys.argv[6]), number, greatest, sys.argv[5], random.Random(seed))
+    elif sys.argv[5:]:
         make_lossy(folder, number, greatest, sys.argv[5], random.Random(seed))
     else:
         make_listed(folder, number, greatest, seed)

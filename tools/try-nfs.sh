@@ -15,8 +15,8 @@ mkdir -p "$folder"
 folder=$(cd "$folder" && pwd)
 cd "$folder"
 if [ ! -e root/made ]; then
-  debootstrap --variant=minbase --include=python3,nfs-kernel-server,nfs-common,iproute2,kmod,procps,e2fsprogs,xfsprogs,btrfs-progs,openssh-server,sshfs \
-    bookworm root http://deb.debian.org/debian > debootstrap.log
+  programs=python3,nfs-kernel-server,nfs-common,iproute2,kmod,procps,e2fsprogs,xfsprogs,btrfs-progs,openssh-server,sshfs
+  debootstrap --variant=minbase --include="$programs" bookworm root http://deb.debian.org/debian > debootstrap.log
   touch root/made
 fi
 if [ ! -e kernel ]; then
@@ -29,13 +29,10 @@ fi
 version=$(basename kernel/lib/modules/*)
 modules=root/lib/modules/$version
 rm -rf "$modules"
-mkdir -p "$modules/kernel/drivers/net"
+mkdir -p "$modules/kernel/"{net,drivers/net,drivers/block}
 cp -r "kernel/lib/modules/$version/kernel/"{fs,lib,crypto,arch} "$modules/kernel/"
-cp -r --parents "kernel/lib/modules/$version/kernel/net/"{sunrpc,core,802,8021q} root/ 2> /dev/null || true
-mkdir -p "$modules/kernel/net"
-cp -r "kernel/lib/modules/$version/kernel/net/"{sunrpc,dns_resolver} "$modules/kernel/net/" 2> /dev/null || true
+cp -r "kernel/lib/modules/$version/kernel/net/"{sunrpc,dns_resolver} "$modules/kernel/net/"
 cp "kernel/lib/modules/$version/kernel/drivers/net/veth.ko" "$modules/kernel/drivers/net/"
-mkdir -p "$modules/kernel/drivers/block"
 cp "kernel/lib/modules/$version/kernel/drivers/block/loop.ko" "$modules/kernel/drivers/block/"
 cp "kernel/lib/modules/$version/"modules.{order,builtin,builtin.modinfo} "$modules/" 2> /dev/null || true
 chroot root depmod "$version"
@@ -70,8 +67,11 @@ sleep 60
 END
 chmod 755 root/init
 # Without what nothing here reads.
-(cd root && find . -xdev \( -path ./var/cache -o -path ./var/lib/apt -o -path ./usr/share/doc -o -path ./usr/share/locale -o -path ./usr/share/man \
-  -o -path ./var/lib/dpkg \) -prune -o -print0 | cpio --null --quiet -o -H newc) > image
+unread=(-path ./var/cache)
+for it in var/lib/apt var/lib/dpkg usr/share/doc usr/share/locale usr/share/man; do
+  unread+=(-o -path "./$it")
+done
+(cd root && find . -xdev \( "${unread[@]}" \) -prune -o -print0 | cpio --null --quiet -o -H newc) > image
 timeout 3000 qemu-system-x86_64 -cpu max -smp 2 -m 3072 -kernel kernel/boot/vmlinuz-"$version" -initrd image -nographic -no-reboot \
   -append 'console=ttyS0 loglevel=4 panic=-1' < /dev/null | tee said
 grep -q '^try-nfs: status 0' said
