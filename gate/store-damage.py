@@ -174,7 +174,7 @@ def main(program):
     shared = pathlib.Path("/dev/shm")
     place = shared if shared.is_dir() and os.access(shared, os.W_OK) else None
     for code, kind, many in itertools.product(CODES, (exchanged, changed, torn, cut), (0, 1, 2)):
-        for options in ((), ("--replace-damaged",)):
+        for options in ((), ("--reads", "all"), ("--replace-damaged",)):
             with tempfile.TemporaryDirectory(dir=place) as scratch:
                 folder = pathlib.Path(scratch) / "store"
                 trials = lay(folder, code, kind, many, choose)

@@ -875,7 +875,8 @@ def test_stripe_that_changes_meanwhile(place, choose):
         (store / f"s.{name}").write_bytes(data)
     calls = Calls(place)
     code = ["--code", "6-2-2"]
-    for command in (["repair", store, *code], ["scrub", store], ["repair", store, *code, "--reads", "few"]):
+    for command in (["repair", store, *code], ["repair", store, *code, "--reads", "all"], ["scrub", store],
+                    ["repair", store, *code, "--reads", "few"]):
         if command[0] == "repair":
             (store / "s.x1").unlink(missing_ok=True)
         command = [PROGRAM, *command]
@@ -1112,7 +1113,7 @@ def test_line_on_a_terminal(place, choose):
     for name in names:
         (store / f"{name}.px").unlink()
     repair = line % ("repair", len(names), "fragments", re.escape(f"{len(names) * 36}.0"), "given up")
-    said, status = on_terminal("repair", store, "--workers", 1)
+    said, status = on_terminal("repair", store, "--reads", "all", "--workers", 1)
     hold(status == 0 and re.fullmatch(f"(?:{repair})+\x1b\\[A\r\x1b\\[K", said), f"status {status}: {said!r}")
 
 
@@ -1168,7 +1169,7 @@ def test_line_within_a_stripe(place, choose):
             if command == "repair":
                 fragment.unlink()
             all_of_it = many * mebibytes
-            said, status = on_terminal(command, fragment.parent)
+            said, status = on_terminal(command, fragment.parent, *(["--reads", "all"] if command == "repair" else []))
             seen = [float(it) for it in re.findall(line % (command, unit, rf"{all_of_it}\.0", others), said)]
             hold(status == 0 and len({it for it in seen if 0 < it < all_of_it}) > 1 and seen == sorted(seen),
                  f"{command} {fragment.name}: status {status}, {said!r}")
