@@ -1,16 +1,14 @@
 //! Files that a shelf over a folder reads ahead, in one thread to sixteen, and what a shelf is asked for.
-use crate::shared::{
-    MOST_FAILURES, assert_fails, assert_failures, assert_none, assert_reads, assert_writes,
-    input_of, serve_with, shelf_of,
-};
+use crate::scripts::{Found, Script, Step, are_given, assert_ahead, bytes_of, numbers};
+use crate::shared::{FRAGMENTS, NamedFiles, read, serve_with, shelf_of};
 use crate::watched::WatchedShelf;
 use farm_core::NoPause;
-use farm_files::{MemoryShelf, ReadAheadShelf, Shelf};
-use farm_shelves::FileRead;
+use farm_files::{MemoryShelf, ReadAheadShelf, ServeFault, Served, Shelf, ShelfFault};
 use std::alloc::{AllocError, Global};
 use std::fs;
-use std::process::Abort;
 use std::rt::Files;
+use std::sync::Wait;
+use std::thread::Threads;
 
 // A folder with 300 files of 0 to 6 bytes; number 7 of each ten is absent.
 fn make_files<R: Files>(rt: &R, alloc: Global, folder: &str) -> Result<bool, AllocError> {
@@ -28,183 +26,155 @@ fn make_files<R: Files>(rt: &R, alloc: Global, folder: &str) -> Result<bool, All
     Ok(true)
 }
 
-// The bytes of the file of that number.
-fn bytes_of(number: usize) -> &'static [u8] {
-    match number % 7 {
-        0 => b"",
-        1 => b"a",
-        2 => b"ab",
-        3 => b"abc",
-        4 => b"abcd",
-        5 => b"abcde",
-        _ => b"abcdef",
-    }
-}
+const NOTHING: Found = Found {
+    folders: &[],
+    files: &[],
+    links: &[],
+};
 
-// The names of the files of these numbers, each with a limit of 4 bytes.
-fn names(alloc: Global, first: usize, end: usize) -> Result<Vec<FileRead>, AllocError> {
-    let mut names = Vec::new(alloc);
-    for number in first..end {
-        names.push((format!(in alloc; "{number}")?, 4))?;
-    }
-    Ok(names)
-}
+// Over folders with these files.
+const SCRIPTS: &[Script] = &[
+    Script {
+        name: "files read ahead are given as they are",
+        found: NOTHING,
+        folder: "ahead/many",
+        threads: &[0, 1, 2, 3, 4, 5, 6, 7, 8, 9, 10, 11, 12, 13, 14, 15, 16],
+        steps: &[
+            Step::AheadNumbers(0, 0),
+            Step::Numbers(0, 0),
+            Step::Failed(0),
+            Step::AheadNumbers(0, 1),
+            Step::Numbers(0, 1),
+            Step::Failed(0),
+            Step::AheadNumbers(0, 5),
+            Step::Numbers(0, 5),
+            Step::Failed(0),
+            Step::AheadNumbers(0, 300),
+            Step::Numbers(0, 300),
+            Step::Failed(0),
+        ],
+    },
+    Script {
+        name: "what was read ahead is given once, of the next file alone, and not after a write",
+        found: NOTHING,
+        folder: "ahead/other",
+        threads: &[4],
+        steps: &[
+            Step::AheadNumbers(0, 300),
+            Step::Numbers(0, 1),
+            Step::Numbers(2, 3),
+            Step::Numbers(1, 2),
+            Step::Numbers(1, 2),
+            Step::AheadNumbers(0, 300),
+            Step::Write("0", b"new", Ok(())),
+            Step::Read("0", 4, Ok(Some(b"new"))),
+            Step::AheadNumbers(1, 2),
+            Step::Read("1", 0, Ok(Some(b""))),
+            Step::Failed(0),
+        ],
+    },
+    // A folder in a file's place can't be read.
+    Script {
+        name: "reads that fail ahead are counted once",
+        found: Found {
+            folders: &["ahead/failing/300", "ahead/failing/301"],
+            ..NOTHING
+        },
+        folder: "ahead/failing",
+        threads: &[1, 4, 16],
+        steps: &[
+            Step::AheadNumbers(290, 302),
+            Step::Numbers(290, 300),
+            Step::Failed(0),
+            Step::Read("300", 4, Err(ShelfFault::Device)),
+            Step::Failed(1),
+            Step::Read("301", 4, Err(ShelfFault::Device)),
+            Step::Failed(2),
+        ],
+    },
+];
 
-// Asserts that the shelf gives the first bytes of the file of a number, four at most, or says that there is no such file.
-fn assert_gives<S: Shelf>(
-    rt: &impl Abort,
-    shelf: &mut S,
-    alloc: Global,
-    number: usize,
-) -> Result<(), AllocError> {
-    let name = format!(in alloc; "{number}")?;
-    if number % 10 == 7 {
-        assert_none(rt, shelf, alloc, name.as_str());
-    } else {
-        let front = bytes_of((number % 7).min(4));
-        assert_reads(rt, shelf, alloc, name.as_str(), 4, front);
-    }
-    Ok(())
+fn scripts() -> &'static [Script] {
+    SCRIPTS
 }
-
-// Asserts the same of the files of these numbers, and that no read failed.
-fn assert_gives_all<S: Shelf>(
-    rt: &impl Abort,
-    shelf: &mut S,
-    alloc: Global,
-    first: usize,
-    end: usize,
-) -> Result<(), AllocError> {
-    for number in first..end {
-        assert_gives(rt, shelf, alloc, number)?;
-    }
-    assert_eq!(rt; shelf.failures(), 0);
-    Ok(())
-}
-
-// How many files are read ahead.
-const COUNTS: &[usize] = &[0, 1, 5, 300];
 
 #[test]
-fn files_read_ahead_are_given_as_they_are(rt: HostRuntime) -> Result<(), AllocError> {
-    let alloc = rt.alloc();
-    assert!(&rt; make_files(&rt, alloc, "ahead/many")?);
-    for threads in 0..17usize {
-        let mut shelf = ReadAheadShelf::open(&rt, alloc, "ahead/many")?;
-        for count in COUNTS {
-            shelf.read_ahead(&rt, alloc, names(alloc, 0, *count)?, threads);
-            assert_gives_all(&rt, &mut shelf, alloc, 0, *count)?;
-        }
+fn files_are_read_ahead(rt: HostRuntime) -> Result<(), AllocError> {
+    for script in scripts() {
+        assert!(&rt;
+            make_files(&rt, rt.alloc(), script.folder)?,
+            "{}",
+            script.name
+        );
     }
-    Ok(())
+    assert_ahead(&rt, &rt, rt.alloc(), scripts())
 }
 
-// What was read ahead is given once, of the next file alone, and not after a write.
-#[test]
-fn other_reads_and_writes_drop_what_was_read_ahead(rt: HostRuntime) -> Result<(), AllocError> {
-    let alloc = rt.alloc();
-    assert!(&rt; make_files(&rt, alloc, "ahead/other")?);
-    let mut shelf = ReadAheadShelf::open(&rt, alloc, "ahead/other")?;
-    shelf.read_ahead(&rt, alloc, names(alloc, 0, 300)?, 4);
-    for number in [0usize, 2, 1, 1] {
-        assert_gives(&rt, &mut shelf, alloc, number)?;
-    }
-    shelf.read_ahead(&rt, alloc, names(alloc, 0, 300)?, 4);
-    assert_writes(&rt, &mut shelf, alloc, "0", b"new");
-    assert_reads(&rt, &mut shelf, alloc, "0", 4, b"new");
-    shelf.read_ahead(&rt, alloc, names(alloc, 1, 2)?, 4);
-    assert_reads(&rt, &mut shelf, alloc, "1", 0, b"");
-    assert_failures(&rt, &shelf, 0);
-    Ok(())
-}
-
-// What the shelf gives of the files of these numbers, which it was to read ahead.
-fn taken(
-    shelf: &mut ReadAheadShelf,
-    alloc: Global,
-    first: usize,
-    end: usize,
-) -> Result<Vec<Vec<u8>>, AllocError> {
+// What the shelf gives of the first 290 files, which it was to read ahead.
+fn taken(shelf: &mut ReadAheadShelf, alloc: Global) -> Result<Vec<Vec<u8>>, AllocError> {
     let mut taken = Vec::new(alloc);
-    for number in first..end {
+    for number in 0..290usize {
         let name = format!(in alloc; "{number}")?;
-        if shelf.failures() < MOST_FAILURES {
-            if let Ok(Some(bytes)) = shelf.read(alloc, name.as_str(), 4) {
-                taken.push(bytes)?;
-            }
+        if let Ok(Some(bytes)) = read(shelf, alloc, name.as_str(), 4) {
+            taken.push(bytes)?;
         }
     }
     Ok(taken)
 }
 
+// Whether 290 files from a number on are given as they are where they are read into the memory of the first 290.
+fn are_given_in_rooms<R: Threads + Sync>(
+    rt: &R,
+    system: &HostRuntime,
+    alloc: Global,
+    first: usize,
+) -> Result<bool, AllocError> {
+    let mut shelf = ReadAheadShelf::open(system, alloc, "ahead/rooms")?;
+    shelf.read_ahead(rt, alloc, numbers(alloc, 0, 290)?, 4);
+    let rooms = taken(&mut shelf, alloc)?;
+    let count = rooms.len();
+    shelf.keep_rooms(rooms);
+    let end = first.saturating_add(290);
+    shelf.read_ahead(rt, alloc, numbers(alloc, first, end)?, 4);
+    let given = are_given(&mut shelf, alloc, first, end)?;
+    Ok(given && count == 261 && shelf.failures() == 0)
+}
+
 // Of memory that other files were read into nothing is given, whether the file now read into it is shorter, longer or absent.
 #[test]
-fn files_read_into_memory_of_others_are_given_as_they_are(
-    rt: HostRuntime,
-) -> Result<(), AllocError> {
-    let alloc = rt.alloc();
-    assert!(&rt; make_files(&rt, alloc, "ahead/rooms")?);
+fn files_read_into_memory_of_others_are_given_as_they_are(rt: HostRuntime) {
+    assert!(&rt; make_files(&rt, rt.alloc(), "ahead/rooms") == Ok(true));
     for first in 0..10usize {
-        let mut shelf = ReadAheadShelf::open(&rt, alloc, "ahead/rooms")?;
-        shelf.read_ahead(&rt, alloc, names(alloc, 0, 290)?, 4);
-        let rooms = taken(&mut shelf, alloc, 0, 290)?;
-        assert_eq!(&rt; rooms.len(), 261);
-        shelf.keep_rooms(rooms);
-        let end = first.saturating_add(290);
-        shelf.read_ahead(&rt, alloc, names(alloc, first, end)?, 4);
-        assert_gives_all(&rt, &mut shelf, alloc, first, end)?;
+        assert!(&rt;
+            are_given_in_rooms(&rt, &rt, rt.alloc(), first) == Ok(true),
+            "from {first} on"
+        );
     }
-    Ok(())
-}
-
-// Numbers of threads that meet a failure.
-const THREADS: &[usize] = &[1, 4, 16];
-
-// A folder in a file's place can't be read: each read of it fails, and counts.
-#[test]
-fn reads_that_fail_ahead_are_counted_once(rt: HostRuntime) -> Result<(), AllocError> {
-    let alloc = rt.alloc();
-    assert!(&rt; make_files(&rt, alloc, "ahead/failing")?);
-    assert!(&rt; fs::create_dir_all(&rt, "ahead/failing/300").is_ok());
-    assert!(&rt; fs::create_dir_all(&rt, "ahead/failing/301").is_ok());
-    for threads in THREADS {
-        let mut shelf = ReadAheadShelf::open(&rt, alloc, "ahead/failing")?;
-        shelf.read_ahead(&rt, alloc, names(alloc, 290, 302)?, *threads);
-        assert_gives_all(&rt, &mut shelf, alloc, 290, 300)?;
-        assert_fails(&rt, &mut shelf, alloc, "300");
-        assert_failures(&rt, &shelf, 1);
-        assert_fails(&rt, &mut shelf, alloc, "301");
-        assert_failures(&rt, &shelf, 2);
-    }
-    Ok(())
-}
-
-// A shelf in memory reads nothing ahead, so its call that fails is the read that it was asked for.
-#[test]
-fn memory_reads_nothing_ahead(rt: HostRuntime) -> Result<(), AllocError> {
-    let alloc = rt.alloc();
-    let mut shelf = shelf_of(alloc, &[("0", b""), ("1", b"a")])?;
-    shelf.fail_at(1);
-    shelf.read_ahead(&rt, alloc, names(alloc, 0, 300)?, 4);
-    assert_gives(&rt, &mut shelf, alloc, 0)?;
-    assert_failures(&rt, &shelf, 0);
-    assert_fails(&rt, &mut shelf, alloc, "1");
-    assert_gives(&rt, &mut shelf, alloc, 1)?;
-    assert_failures(&rt, &shelf, 1);
-    Ok(())
 }
 
 // A request without survivors, and one with three.
-const FIRST_WITHOUT: &[u8] =
-    b"order,stripe,target,length,survivors\nrebuild,abc,y0,3,\nrebuild,abc,x0,3,x1 x2 px\n";
+const FIRST_WITHOUT: NamedFiles = &[(
+    "rack0.csv",
+    b"order,stripe,target,length,survivors\nrebuild,abc,y0,3,\nrebuild,abc,x0,3,x1 x2 px\n",
+)];
+
+// What serving these gives, how many files were named to be read ahead, and how many of them were read.
+fn named_and_read<R: Threads + Wait + Sync>(
+    rt: &R,
+    alloc: Global,
+) -> Result<(Result<Served, ServeFault>, usize, usize), AllocError> {
+    let mut input = WatchedShelf::new(alloc, shelf_of(alloc, &[FRAGMENTS, FIRST_WITHOUT])?);
+    let mut output = MemoryShelf::new(alloc);
+    let served = serve_with(rt, alloc, (2, 1), &mut input, &mut output, &NoPause);
+    Ok((served, input.ahead.files.len(), input.ahead.next))
+}
 
 // Before a feed's survivors are read, the shelf is asked to read ahead just these.
 #[test]
-fn what_is_read_is_named_ahead(rt: HostRuntime) -> Result<(), AllocError> {
-    let mut input = WatchedShelf::new(rt.alloc(), input_of(rt.alloc(), FIRST_WITHOUT)?);
-    let mut output = MemoryShelf::new(rt.alloc());
-    let served = serve_with(&rt, rt.alloc(), (2, 1), &mut input, &mut output, &NoPause);
-    assert!(&rt; served.is_ok(), "{served:?}");
-    assert_eq!(&rt; (input.ahead.files.len(), input.ahead.next), (3, 3));
-    Ok(())
+fn what_is_read_is_named_ahead(rt: HostRuntime) {
+    let two = Served {
+        racks: 1,
+        answers: 2,
+    };
+    assert!(&rt; named_and_read(&rt, rt.alloc()) == Ok((Ok(two), 3, 3)));
 }

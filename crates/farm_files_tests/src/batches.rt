@@ -1,18 +1,18 @@
 //! Answering lists in batches: of one request, of a part of a list, and of whole racks.
 use crate::calls::Calls;
-use crate::shared::{LIST_OF_FOUR, OF_REQUEST, are_answered, serve_shelf, shelf_of};
+use crate::shared::{
+    HEADER, LIST_OF_FOUR, NamedFiles, OF_REQUEST, answers_to, lists_of, serve_with, shelf_of,
+};
 use crate::watched::WatchedShelf;
 use farm_core::{NoPause, Pause};
-use farm_files::{Answered, MemoryShelf, ReadRequest};
+use farm_files::{Answered, MemoryShelf, ReadRequest, Served};
 use lrc_code::{Outcome, Place};
 use std::alloc::{AllocError, Global};
 use std::sync::Wait;
 use std::thread::Threads;
 
-const HEADER: &[u8] = b"order,stripe,target,length,survivors\n";
-
 // The fragments that give the name of each stripe at x0. Of stripe c one is absent.
-const FRAGMENTS: [(&str, &[u8]); 11] = [
+const FRAGMENTS: NamedFiles = &[
     ("a.x1", &[0]),
     ("a.x2", &[0]),
     ("a.px", b"a"),
@@ -27,26 +27,12 @@ const FRAGMENTS: [(&str, &[u8]); 11] = [
 ];
 
 // A rack with one list, one with two feeds, and one with one list.
-fn input_of(alloc: Global) -> Result<MemoryShelf, AllocError> {
-    let mut input = shelf_of(alloc, &FRAGMENTS)?;
-    input.place(alloc, "rack0.csv", LIST_OF_FOUR)?;
-    input.place(alloc, "rack1.csv", LIST_OF_FOUR)?;
-    input.place(alloc, "rack1.feed1.csv", HEADER)?;
-    input.place(alloc, "rack2.csv", LIST_OF_FOUR)?;
-    Ok(input)
-}
-
-// Whether the three racks get their answers, with so many workers and batches of so many bytes.
-fn are_racks_answered<R: Threads + Wait + Sync, P: Pause>(
-    rt: &R,
-    alloc: Global,
-    workers: usize,
-    most: u64,
-    pause: &P,
-) -> Result<bool, AllocError> {
-    let mut input = input_of(alloc)?;
-    are_answered(rt, alloc, &mut input, (workers, most), pause, are_of_racks)
-}
+const RACKS: NamedFiles = &[
+    ("rack0.csv", LIST_OF_FOUR),
+    ("rack1.csv", LIST_OF_FOUR),
+    ("rack1.feed1.csv", HEADER),
+    ("rack2.csv", LIST_OF_FOUR),
+];
 
 fn is_rebuilt(answer: &(usize, Outcome), bytes: &[u8]) -> bool {
     match &answer.1 {
@@ -100,69 +86,67 @@ fn are_of_racks(answered: &Answered) -> bool {
     }
 }
 
-// In a run that refuses an allocation or a thread this ends with the refusal.
-#[test]
-fn racks_are_answered_a_request_at_a_time(rt: HostRuntime) -> Result<(), AllocError> {
-    assert!(&rt;
-        are_racks_answered(&rt, rt.alloc(), 2, 1, &NoPause)?,
-        "other answers"
-    );
-    Ok(())
-}
-
-// Of how many survivors the memory is given back, where the racks are cut into batches of so many bytes.
-fn given_back<R: Threads + Wait + Sync>(
+// Of how many survivors the memory is given back, where the racks get their answers with so many workers and batches of so many bytes.
+fn given_back<R: Threads + Wait + Sync, P: Pause>(
     rt: &R,
     alloc: Global,
-    most: u64,
-) -> Result<usize, AllocError> {
-    let mut input = WatchedShelf::new(alloc, input_of(alloc)?);
-    are_answered(rt, alloc, &mut input, (2, most), &NoPause, are_of_racks)?;
-    Ok(input.rooms)
+    settings: (usize, u64),
+    pause: &P,
+) -> Result<Option<usize>, AllocError> {
+    let mut input = WatchedShelf::new(alloc, shelf_of(alloc, &[FRAGMENTS, RACKS])?);
+    let lists = lists_of(alloc, &mut input)?;
+    let answered = answers_to(rt, alloc, &mut input, lists.as_slice(), settings, pause)?;
+    Ok(if are_of_racks(&answered) {
+        Some(input.rooms)
+    } else {
+        None
+    })
 }
 
-// The memory of all batches but the last, into which nothing is read, is given back: of 33 survivors those of all requests but one, of two
-// racks, of these again, and none.
+// In a run that refuses an allocation or a thread this ends with the refusal, or less memory is given back.
 #[test]
-fn the_memory_of_batches_is_given_back(rt: HostRuntime) -> Result<(), AllocError> {
-    for (most, rooms) in GIVEN_BACK {
-        assert_eq!(&rt; given_back(&rt, rt.alloc(), *most)?, *rooms);
-    }
+fn racks_are_answered_a_request_at_a_time(rt: HostRuntime) -> Result<(), AllocError> {
+    let given = given_back(&rt, rt.alloc(), (2, 1), &NoPause)?;
+    assert!(&rt; given.is_some(), "other answers");
     Ok(())
 }
 
-const GIVEN_BACK: &[(u64, usize)] = &[
-    (1, 30),
-    (5 * OF_REQUEST, 22),
-    (10 * OF_REQUEST, 22),
-    (15 * OF_REQUEST, 0),
+// Sizes of batches, each a request, two, three, a list, two racks or all; a rack with two feeds is cut as one with a list. Then of how many
+// survivors the memory is given back: of all batches but the last, into which nothing is read. So of 33 survivors it is those of all
+// requests but one, of two racks, of these again, and none.
+const MOST: &[(u64, Option<usize>)] = &[
+    (0, None),
+    (1, Some(30)),
+    (OF_REQUEST, None),
+    (2 * OF_REQUEST, None),
+    (3 * OF_REQUEST, None),
+    (4 * OF_REQUEST - 1, None),
+    (4 * OF_REQUEST, None),
+    (5 * OF_REQUEST, Some(22)),
+    (10 * OF_REQUEST, Some(22)),
+    (15 * OF_REQUEST, Some(0)),
+    (u64::MAX, None),
 ];
 
-const WORKERS: &[usize] = &[1, 3, 16];
+// Whether the racks get their answers in batches of a size, and the memory of as many survivors as said is given back.
+fn is_right(given: Result<Option<usize>, AllocError>, wanted: Option<usize>) -> bool {
+    match given {
+        Ok(Some(rooms)) => wanted.is_none() || wanted == Some(rooms),
+        _ => false,
+    }
+}
 
-const MOST: &[u64] = &[
-    0,
-    OF_REQUEST,
-    2 * OF_REQUEST,
-    3 * OF_REQUEST,
-    4 * OF_REQUEST - 1,
-    4 * OF_REQUEST,
-    5 * OF_REQUEST,
-    10 * OF_REQUEST,
-    15 * OF_REQUEST,
-    u64::MAX,
-];
-
-// A batch is a request, two, three, a list, two racks or all; a rack with two feeds is cut as one with a list.
 #[test]
-fn racks_are_answered_in_batches_of_any_size(rt: HostRuntime) -> Result<(), AllocError> {
-    for workers in WORKERS {
-        for most in MOST {
-            let are = are_racks_answered(&rt, rt.alloc(), *workers, *most, &NoPause)?;
-            assert!(&rt; are, "{workers} workers, batches of {most} bytes");
+fn racks_are_answered_in_batches_of_any_size(rt: HostRuntime) {
+    for workers in [1usize, 2, 3, 16] {
+        for (most, rooms) in MOST {
+            let given = given_back(&rt, rt.alloc(), (workers, *most), &NoPause);
+            assert!(&rt;
+                is_right(given, *rooms),
+                "{workers} workers, batches of {most} bytes"
+            );
         }
     }
-    Ok(())
 }
 
 // The numbers that name each request before a close once, and each request and close.
@@ -174,43 +158,52 @@ const CUTS: &[u64] = &[1, 2 * OF_REQUEST, 4 * OF_REQUEST, u64::MAX];
 
 // However the racks are cut, a pause is given each request once, by its rack's number and its own, and each close.
 #[test]
-fn a_pause_is_given_the_numbers_of_all_lists(rt: HostRuntime) -> Result<(), AllocError> {
+fn a_pause_is_given_the_numbers_of_all_lists(rt: HostRuntime) {
     for most in CUTS {
         let calls = Calls::new();
-        let are = are_racks_answered(&rt, rt.alloc(), 2, *most, &calls)?;
-        assert!(&rt; are, "batches of {most} bytes");
-        calls.assert_are(&rt, ALL_REQUESTS, ALL_ORDERS);
+        let given = given_back(&rt, rt.alloc(), (2, *most), &calls);
+        let is = is_right(given, None) && calls.are(ALL_REQUESTS, ALL_ORDERS);
+        assert!(&rt; is, "batches of {most} bytes");
     }
-    Ok(())
 }
 
 // Twice a hundred requests whose survivors are absent, and a small one after them.
 fn long_list(alloc: Global) -> Result<Vec<u8>, AllocError> {
     let mut list = Vec::from_slice(alloc, HEADER)?;
-    add_requests(&mut list, b"rebuild,a,x0,1,x1 x2 px\n")?;
-    add_requests(&mut list, b"rebuild,b,x0,1,x1 x2 px\n")?;
+    for small in [b"rebuild,a,x0,1,x1 x2 px\n", b"rebuild,b,x0,1,x1 x2 px\n"] {
+        for _request in 0..100 {
+            list.extend_from_slice(b"rebuild,none,x0,65536,x1 x2 px\n")?;
+        }
+        list.extend_from_slice(small)?;
+    }
     Ok(list)
 }
 
-fn add_requests(list: &mut Vec<u8>, small: &[u8]) -> Result<(), AllocError> {
-    for _request in 0..100 {
-        list.extend_from_slice(b"rebuild,none,x0,65536,x1 x2 px\n")?;
-    }
-    list.extend_from_slice(small)
+// What is written for these: the requests between and after those whose survivors are absent are answered.
+fn has_answers(output: &MemoryShelf) -> bool {
+    output.file("rack0-100.a.x0") == Some(b"a".as_slice())
+        && output.file("rack0-201.b.x0") == Some(b"b".as_slice())
+        && output.file("rack1-3.d.x0") == Some(b"d".as_slice())
+        && output.file("rack0-0.none.x0").is_none()
 }
 
-// Two hundred requests whose survivors are absent list more than a batch. The requests between and after them are answered.
+fn is_long_list_answered<R: Threads + Wait + Sync>(
+    rt: &R,
+    alloc: Global,
+) -> Result<bool, AllocError> {
+    let mut input = shelf_of(alloc, &[FRAGMENTS, &[("rack1.csv", LIST_OF_FOUR)]])?;
+    input.place(alloc, "rack0.csv", long_list(alloc)?.as_slice())?;
+    let mut output = MemoryShelf::new(alloc);
+    let served = serve_with(rt, alloc, (2, 1), &mut input, &mut output, &NoPause);
+    let all = Served {
+        racks: 2,
+        answers: 206,
+    };
+    Ok(served == Ok(all) && has_answers(&output))
+}
+
+// Two hundred requests whose survivors are absent list more than a batch.
 #[test]
-fn a_list_longer_than_a_batch_is_answered(rt: HostRuntime) -> Result<(), AllocError> {
-    let mut input = shelf_of(rt.alloc(), &FRAGMENTS)?;
-    input.place(rt.alloc(), "rack0.csv", long_list(rt.alloc())?.as_slice())?;
-    input.place(rt.alloc(), "rack1.csv", LIST_OF_FOUR)?;
-    let run = serve_shelf(&rt, rt.alloc(), &mut input);
-    let files: &[(&str, &[u8])] = &[
-        ("rack0-100.a.x0", b"a"),
-        ("rack0-201.b.x0", b"b"),
-        ("rack1-3.d.x0", b"d"),
-    ];
-    run.assert_gave(&rt, 2, 206, files, &["rack0-0.none.x0"]);
-    Ok(())
+fn a_list_longer_than_a_batch_is_answered(rt: HostRuntime) {
+    assert!(&rt; is_long_list_answered(&rt, rt.alloc()) == Ok(true));
 }

@@ -1,6 +1,6 @@
 //! Racks with several feeds that are cut into batches: which requests of each feed are answered.
 use crate::calls::Calls;
-use crate::shared::{OF_REQUEST, are_answered, shelf_of};
+use crate::shared::{HEADER, NamedFiles, OF_REQUEST, answers_to, lists_of, shelf_of};
 use farm_core::{NoPause, Pause};
 use farm_files::{Answered, MemoryShelf, ReadRequest};
 use lrc_code::Outcome;
@@ -9,7 +9,7 @@ use std::sync::Wait;
 use std::thread::Threads;
 
 // The fragments that give the name of each stripe at x0.
-const FRAGMENTS: [(&str, &[u8]); 12] = [
+const FRAGMENTS: NamedFiles = &[
     ("a.x1", &[0]),
     ("a.x2", &[0]),
     ("a.px", b"a"),
@@ -46,42 +46,28 @@ const RACKS: &[&[&str]] = &[
     &["ab.cd", "abcd.a", "d"],
 ];
 
-fn list_of(alloc: Global, orders: &str) -> Result<Vec<u8>, AllocError> {
-    let mut list = Vec::from_slice(alloc, b"order,stripe,target,length,survivors\n")?;
-    for order in orders.as_bytes() {
-        if *order == b'.' {
-            list.extend_from_slice(b"close,,,,\n")?;
-        } else {
-            list.extend_from_slice(b"rebuild,")?;
-            list.push(*order)?;
-            list.extend_from_slice(b",x0,1,x1 x2 px\n")?;
-        }
-    }
-    Ok(list)
-}
-
 // A shelf with the lists of these feeds.
 fn input_of(alloc: Global, feeds: &[&str]) -> Result<MemoryShelf, AllocError> {
-    let mut input = shelf_of(alloc, &FRAGMENTS)?;
+    let mut input = shelf_of(alloc, &[FRAGMENTS])?;
     for (name, orders) in FEEDS.iter().zip(feeds.iter()) {
-        input.place(alloc, name, list_of(alloc, orders)?.as_slice())?;
+        let mut list = Vec::from_slice(alloc, HEADER)?;
+        for order in orders.as_bytes() {
+            list.extend_from_slice(order_of(*order))?;
+        }
+        input.place(alloc, name, list.as_slice())?;
     }
     Ok(input)
 }
 
-// Whether the answers to the one rack with these feeds are as asked, with so many workers and batches of so many bytes.
-fn is_answered<R: Threads + Wait + Sync, P: Pause, F: Fn(&Answered) -> bool>(
-    rt: &R,
-    alloc: Global,
-    feeds: &[&str],
-    settings: (usize, u64),
-    pause: &P,
-    is_right: F,
-) -> Result<bool, AllocError>
-    requires { F.IsAlwaysCallable is_right }
-{
-    let mut input = input_of(alloc, feeds)?;
-    are_answered(rt, alloc, &mut input, settings, pause, is_right)
+// The line that asks for the stripe of this name, or closes.
+fn order_of(order: u8) -> &'static [u8] {
+    match order {
+        b'a' => b"rebuild,a,x0,1,x1 x2 px\n",
+        b'b' => b"rebuild,b,x0,1,x1 x2 px\n",
+        b'c' => b"rebuild,c,x0,1,x1 x2 px\n",
+        b'd' => b"rebuild,d,x0,1,x1 x2 px\n",
+        _ => b"close,,,,\n",
+    }
 }
 
 // The names before a feed's close.
@@ -155,29 +141,33 @@ fn are_read(feeds: &[&str], racks: &[Vec<Vec<ReadRequest>>]) -> bool {
     }
 }
 
-// Whether the one rack has lawful answers, and all of its requests with their survivors.
-fn is_whole(feeds: &[&str], answered: &Answered) -> bool {
+// How many answers the one rack has, if they are lawful, and all of its requests have their survivors.
+fn count_whole(feeds: &[&str], answered: &Answered) -> Option<usize> {
     match answered.answers.as_slice() {
-        [answers] => {
-            are_lawful(feeds, answers.as_slice()) && are_read(feeds, answered.requests.as_slice())
-        }
-        _ => false,
+        [answers]
+            if are_lawful(feeds, answers.as_slice())
+                && are_read(feeds, answered.requests.as_slice()) => Some(answers.len()),
+        _ => None,
     }
 }
 
-// Whether the answers to the one rack with these feeds are those to a lawful merge.
-fn is_merged<R: Threads + Wait + Sync, P: Pause>(
+// How many answers the one rack with these feeds gets, with so many workers and batches of so many bytes, where they are those to a lawful
+// merge.
+fn merged<R: Threads + Wait + Sync, P: Pause>(
     rt: &R,
     alloc: Global,
     feeds: &[&str],
     settings: (usize, u64),
     pause: &P,
-) -> Result<bool, AllocError> {
-    let whole = |answered: &Answered| is_whole(feeds, answered);
-    is_answered(rt, alloc, feeds, settings, pause, whole)
+) -> Result<usize, AllocError> {
+    let mut input = input_of(alloc, feeds)?;
+    let lists = lists_of(alloc, &mut input)?;
+    let answered = answers_to(rt, alloc, &mut input, lists.as_slice(), settings, pause)?;
+    match count_whole(feeds, &answered) {
+        Some(count) => Ok(count),
+        None => Err(AllocError),
+    }
 }
-
-const WORKERS: &[usize] = &[1, 4];
 
 const MOST: &[u64] = &[
     0,
@@ -190,33 +180,26 @@ const MOST: &[u64] = &[
 ];
 
 #[test]
-fn feeds_in_any_batches_are_merged_up_to_a_close(rt: HostRuntime) -> Result<(), AllocError> {
-    for workers in WORKERS {
+fn feeds_in_any_batches_are_merged_up_to_a_close(rt: HostRuntime) {
+    for workers in [1usize, 4] {
         for most in MOST {
             for feeds in RACKS {
-                let is = is_merged(&rt, rt.alloc(), feeds, (*workers, *most), &NoPause)?;
-                assert!(&rt; is, "{feeds:?}, {workers} workers, batches of {most} bytes");
+                let is = merged(&rt, rt.alloc(), feeds, (workers, *most), &NoPause);
+                assert!(&rt;
+                    is.is_ok(),
+                    "{feeds:?}, {workers} workers, batches of {most} bytes"
+                );
             }
         }
-    }
-    Ok(())
-}
-
-// Whether the one rack has four answers or five.
-fn has_four_or_five(answered: &Answered) -> bool {
-    match answered.answers.as_slice() {
-        [answers] => answers.len() >= 4 && answers.len() <= 5,
-        _ => false,
     }
 }
 
 // A close that a piece ends is not passed: with batches of one position each, no other feed goes on past it by more than that position.
 #[test]
-fn no_piece_is_run_after_a_close(rt: HostRuntime) -> Result<(), AllocError> {
-    let feeds: &[&str] = &["ab.", "abcdabcd"];
-    let is = is_answered(&rt, rt.alloc(), feeds, (2, 0), &NoPause, has_four_or_five)?;
-    assert!(&rt; is, "neither four answers nor five");
-    Ok(())
+fn no_piece_is_run_after_a_close(rt: HostRuntime) {
+    let answers = merged(&rt, rt.alloc(), &["ab.", "abcdabcd"], (2, 0), &NoPause);
+    let are = answers == Ok(4) || answers == Ok(5);
+    assert!(&rt; are, "neither four answers nor five: {answers:?}");
 }
 
 // Two feeds of four requests: the numbers 0 to 7, which both draw, and of each feed the positions 0 to 3.
@@ -226,13 +209,11 @@ const ALL_POSITIONS: [u64; 3] = [1_111, 1_111, 0];
 
 // However a rack of two feeds is cut, a pause is given each number of the rack once, and each position of each feed.
 #[test]
-fn a_pause_is_given_the_numbers_of_both_feeds(rt: HostRuntime) -> Result<(), AllocError> {
-    let feeds: &[&str] = &["abcd", "dcba"];
+fn a_pause_is_given_the_numbers_of_both_feeds(rt: HostRuntime) {
     for most in MOST {
         let calls = Calls::new();
-        let is = is_merged(&rt, rt.alloc(), feeds, (2, *most), &calls)?;
-        assert!(&rt; is, "batches of {most} bytes");
-        calls.assert_are(&rt, ALL_NUMBERS, ALL_POSITIONS);
+        let is = merged(&rt, rt.alloc(), &["abcd", "dcba"], (2, *most), &calls);
+        let are = is.is_ok() && calls.are(ALL_NUMBERS, ALL_POSITIONS);
+        assert!(&rt; are, "batches of {most} bytes");
     }
-    Ok(())
 }

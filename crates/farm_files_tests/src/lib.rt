@@ -11,6 +11,8 @@ mod beside;
 #[cfg(test)]
 mod calls;
 #[cfg(test)]
+mod cases;
+#[cfg(test)]
 mod cut_feeds;
 #[cfg(test)]
 mod devices;
@@ -21,7 +23,11 @@ mod folders;
 #[cfg(test)]
 mod links;
 #[cfg(test)]
+mod racks;
+#[cfg(test)]
 mod refusals;
+#[cfg(test)]
+mod scripts;
 #[cfg(test)]
 mod serving;
 #[cfg(test)]

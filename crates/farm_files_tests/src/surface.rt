@@ -1,14 +1,14 @@
 //! Each name that callers of `farm_files` are promised, at this crate: one that moves, or a variant or a field more, doesn't compile.
-use crate::shared::{MOST_FAILURES, written};
-use farm_core::{NoPause, Settings};
+use crate::shared::{serve_with, shelf_of, written};
+use farm_core::NoPause;
 use farm_files::{
-    FolderShelf, ListFault, Listed, MemoryShelf, Record, ReportRow, ReportShape, ServeFault,
-    Served, Shelf, ShelfFault, count_requests, merged_report_text, read_list, report_text, serve,
+    FolderShelf, ListFault, Listed, Record, ReportRow, ReportShape, ServeFault, Served, Shelf,
+    ShelfFault, count_requests, merged_report_text, read_list, report_text,
 };
 use farm_lists_tests::samples::{LIST, REPORT};
 use lrc_code::{Bytes, Code, Outcome, Place};
 use std::alloc::{AllocError, Global};
-use std::process::Abort;
+use std::rt::Files;
 use std::sync::Wait;
 use std::thread::Threads;
 
@@ -96,27 +96,29 @@ fn report_on_list(
     Ok(Some(text))
 }
 
-// Asserts that either call gives the report on a list's only request.
-fn assert_reports(rt: &impl Abort, alloc: Global, list: &[Record]) -> Result<(), AllocError> {
+// Whether either call gives the report on a list's only request.
+fn is_reported(alloc: Global, list: &[Record]) -> Result<bool, AllocError> {
     let Some(listed) = first_listed(list) else {
-        panic!(rt; "no request");
+        return Ok(false);
     };
-    assert!(rt; is_as_listed(listed), "{listed:?}");
     let outcome = Outcome::Rebuilt(Bytes::new(Vec::from_slice(alloc, b"abc")?));
-    assert!(rt; report_on(alloc, listed, &outcome)?.as_slice() == REPORT);
+    let is = is_as_listed(listed) && report_on(alloc, listed, &outcome)?.as_slice() == REPORT;
     match report_on_list(alloc, list, outcome)? {
-        Some(text) => assert!(rt; text.as_slice() == REPORT),
-        None => panic!(rt; "not one request"),
+        Some(text) => Ok(is && text.as_slice() == REPORT),
+        None => Ok(false),
     }
-    Ok(())
+}
+
+fn is_read_and_reported(alloc: Global) -> Result<bool, AllocError> {
+    match read_list(alloc, LIST) {
+        Ok(list) => is_reported(alloc, list.as_slice()),
+        Err(_) => Ok(false),
+    }
 }
 
 #[test]
-fn lists_and_reports_are_at_this_crate(rt: HostRuntime) -> Result<(), AllocError> {
-    match read_list(rt.alloc(), LIST) {
-        Ok(list) => assert_reports(&rt, rt.alloc(), list.as_slice()),
-        Err(_) => panic!(&rt; "the list is refused"),
-    }
+fn lists_and_reports_are_at_this_crate(rt: HostRuntime) {
+    assert!(&rt; is_read_and_reported(rt.alloc()) == Ok(true));
 }
 
 // Serves one shelf into another, and gives the number of the fault.
@@ -126,13 +128,7 @@ fn fault_of_serving<R: Threads + Wait + Sync, I: Shelf, O: Shelf>(
     input: &mut I,
     output: &mut O,
 ) -> Option<u8> {
-    let Ok(settings) = Settings::new(4, 16) else {
-        return None;
-    };
-    if input.failures() > MOST_FAILURES || output.failures() > MOST_FAILURES {
-        return None;
-    }
-    match serve(rt, alloc, input, output, settings, &NoPause) {
+    match serve_with(rt, alloc, (4, 16), input, output, &NoPause) {
         Ok(
             Served {
                 racks: _,
@@ -143,20 +139,31 @@ fn fault_of_serving<R: Threads + Wait + Sync, I: Shelf, O: Shelf>(
     }
 }
 
-// A folder that isn't there, and a shelf in memory of which the first read fails.
-#[test]
-fn shelves_are_at_this_crate(rt: HostRuntime) -> Result<(), AllocError> {
-    let alloc = rt.alloc();
-    let mut input = MemoryShelf::new(alloc);
-    input.place(alloc, "rack0.csv", LIST)?;
-    assert!(&rt; input.file("rack0.csv") == Some(LIST));
+// The number of a fault of writing.
+fn fault_of_writing<O: Shelf>(alloc: Global, output: &mut O) -> Option<u8> {
+    match written(output, alloc, "a", b"x") {
+        Ok(()) => None,
+        Err(fault) => Some(number_of_shelf_fault(fault)),
+    }
+}
+
+// Whether a folder that isn't there, and a shelf in memory of which the first read fails, give the fault of a device.
+fn are_failing<R: Files + Threads + Wait + Sync + Clone + Drop>(
+    rt: &R,
+    alloc: Global,
+) -> Result<bool, AllocError> {
+    let mut input = shelf_of(alloc, &[&[("rack0.csv", LIST)]])?;
+    let is_there = input.file("rack0.csv") == Some(LIST);
     input.fail_at(0);
-    let mut output = FolderShelf::open(&rt, alloc, "no such folder")?;
-    let refused = written(&mut output, alloc, "a", b"x");
-    assert_eq!(&rt; refused.map_err(number_of_shelf_fault), Err(24));
-    assert_eq!(&rt;
-        fault_of_serving(&rt, alloc, &mut input, &mut output),
-        Some(24)
-    );
-    Ok(())
+    let mut output = FolderShelf::open(rt, alloc, "no such folder")?;
+    Ok(
+        is_there
+            && fault_of_writing(alloc, &mut output) == Some(24)
+            && fault_of_serving(rt, alloc, &mut input, &mut output) == Some(24),
+    )
+}
+
+#[test]
+fn shelves_are_at_this_crate(rt: HostRuntime) {
+    assert!(&rt; are_failing(&rt, rt.alloc()) == Ok(true));
 }

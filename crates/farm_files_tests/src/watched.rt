@@ -46,8 +46,8 @@ impl Named {
     }
 }
 
-/// A shelf that keeps which files are named ahead of their reads, and which beside the latest work. It writes none, and its device
-/// never fails.
+/// A shelf that keeps which files are named ahead of their reads, and which beside the latest work. It counts its writes and keeps none
+/// of them, and its device never fails. It takes memory for what is read alone.
 #[derive(Drop)]
 pub(crate) struct WatchedShelf {
     shelf: MemoryShelf,
@@ -55,6 +55,8 @@ pub(crate) struct WatchedShelf {
     pub(crate) beside: Named,
     /// How many files' memory was given to be read into again, over all calls.
     pub(crate) rooms: usize,
+    /// How many files were written.
+    pub(crate) writes: u64,
 }
 
 impl WatchedShelf {
@@ -65,6 +67,7 @@ impl WatchedShelf {
             ahead: Named::new(alloc),
             beside: Named::new(alloc),
             rooms: 0,
+            writes: 0,
         }
     }
 }
@@ -123,6 +126,7 @@ impl Shelf for WatchedShelf {
     }
 
     fn write(&mut self, _alloc: Global, _name: &str, _bytes: &[u8]) -> Result<(), ShelfFault> {
+        self.writes = self.writes.saturating_add(1);
         Ok(())
     }
 }
