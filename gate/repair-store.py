@@ -299,6 +299,13 @@ def test_damage_of_what_is_read(folder, code, choose):
     check(read is None or {file for file in read if file[0] == "s"} >= {f"{k}.{place}" for k in stripes for place in fragments}, f"{read}")
     for path in (far, whole):
         path.with_name(path.name + ".damaged").unlink()
+    # One has another length: all are read, so that what replaces it is known to be checked.
+    (folder / f"{name}.y0").write_bytes(b"short")
+    output, errors = run("repair", folder, "--code", code, status=1)
+    check("damaged: 0; left without --replace-damaged: 1; not possible: 0" in output and errors.count("\n") == 1, output + errors)
+    run("repair", folder, "--code", code, "--reads", "checked", "--replace-damaged", status=0)
+    check((folder / f"{name}.y0").read_bytes() == fragments["y0"], "a file of another length wasn't replaced")
+    (folder / f"{name}.y0.damaged").unlink()
     # The digest is wrong: nothing gets the name, and no survivor is blamed.
     digests.write_text(sums_of(stripes).replace(hashlib.sha256(fragments["x0"]).hexdigest(), "0" * 64))
     lost.unlink()

@@ -614,10 +614,10 @@ def test_what_replacing_would_mend(place, choose):
     with open(store / "a.p0", "r+b") as file:
         file.write(b"damaged!")
     (store / "a.file").write_bytes(b"odd")
-    out, err = run("repair", store, status=1)
+    out, err = run("repair", "--reads", "all", store, status=1)
     want = b"damaged: 1: a.p0; left without --replace-damaged: 2; not possible: 0"
     hold(want in out and "a.p0: differs from the checksums" in err, out)
-    out, err = run("repair", "-n", store, status=1)
+    out, err = run("repair", "--reads", "all", "-n", store, status=1)
     hold(b"with --replace-damaged 2, 0 can't" in out and "another length" not in err, f"{out} {err}")
     out, _ = run("repair", "--replace-damaged", store, status=0)
     hold(b"left without" not in out and b"not possible: 0" in out, out)

@@ -164,7 +164,7 @@ def damage(store, sources, sizes):
     hold(out.startswith(f"disk2/{name}: differs from the checksums\n"), out)
     _, err = store.run("verify", *NAMES, store.folder, name)
     hold("read without" in err, err)
-    out, _ = store.run("repair", *CODED, store.folder, status=1)
+    out, _ = store.run("repair", "--reads", "all", *CODED, store.folder, status=1)
     hold("left without --replace-damaged: 1" in out and digest_of(path) == wrong, out)
     store.run("repair", "--replace-damaged", *CODED, store.folder)
     kept = path.with_name(f"{name}.damaged")

@@ -108,7 +108,7 @@ fn few_of(
             are_digested: true,
         }));
     }
-    if repair.replace_damaged && has_any_other(stripe, code, length) {
+    if has_any_other(stripe, code, length) {
         return Ok(None);
     }
     if are_among(listed, places) {

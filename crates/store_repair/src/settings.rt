@@ -7,7 +7,8 @@ pub enum Reads {
     /// All, so that damage among them shows.
     All,
     /// As few as determine what is lost, if the store knows digests to which what is rebuilt is held; else as few as cover what is lost, if
-    /// all do. Where these can't be read or contradict each other, or what is made of them differs from its digest, all.
+    /// all do. Where these can't be read or contradict each other, what is made of them differs from its digest, or a file has another
+    /// length, all.
     Checked,
     /// As few as determine what is lost. Where one of these can't be read, all.
     Few,

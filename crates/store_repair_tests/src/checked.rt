@@ -252,6 +252,23 @@ fn wrong_digest_is_said_of_what_is_rebuilt(rt: HostRuntime) -> Result<(), AllocE
     Ok(())
 }
 
+fn has_other_length(outcome: &Outcome, place: Place) -> bool {
+    matches!(said_of(outcome, place), Some(Reason::OtherLength))
+}
+
+// A fragment of another length has a digest, and all are read, so that it is known whether what would replace it is checked.
+#[test]
+fn all_are_read_where_one_has_another_length(rt: HostRuntime) -> Result<(), AllocError> {
+    let mut files = folder_without(rt.alloc(), &[Place::X1], None)?;
+    let path = path_of(rt.alloc(), Place::X1)?;
+    files.put(path.as_str(), b"\x02\x02")?;
+    let (outcome, _) = repaired_with(&rt, files, &[("a.x1", OF_02)])?;
+    assert_holds(&rt, has_other_length(&outcome, Place::X1), "x1 is longer");
+    assert_holds(&rt, outcome.survivors.len() == 9, "of all");
+    assert_holds(&rt, outcome.is_checked, "it is checked");
+    Ok(())
+}
+
 // Where one of two has no digest, as many are read as cover both: all eight.
 #[test]
 fn one_without_a_digest_is_covered(rt: HostRuntime) -> Result<(), AllocError> {
