@@ -72,14 +72,15 @@ impl Sharing {
         }
     }
 
-    /// The run that left a file of its own at a path, if it may still work on it though it doesn't hold the file's lock here: nothing is
-    /// known of locks there, and it isn't a run of this host that has ended.
+    /// The run that left a regular file of its own at a path, if it may still work on it though it doesn't hold the file's lock here:
+    /// nothing is known of locks there, and it isn't a run of this host that has ended.
     pub(crate) fn other_at(
         &self,
         rt: &HostRuntime,
         path: &str,
     ) -> Result<Option<OtherRun>, AllocError> {
-        if self.locking(rt, path)? != Locking::Unknown {
+        let is_file = fs::symlink_metadata(rt, path).is_ok_and(|there| there.is_file());
+        if !is_file || self.locking(rt, path)? != Locking::Unknown {
             return Ok(None);
         }
         match run_of(last_of(path)) {
