@@ -115,7 +115,7 @@ def limits():
             f"`E26`: a list has more than {records:,} records.",
             f"`E28`: a rack has no feed, or more than {feeds}.",
         ],
-        "docs/SCALE.md": [f"two batches of requests, the one being answered and the next: {batch // 2**20} MiB each"],
+        "docs/SCALE.md": [f"the survivors of two batches, {batch // 2**20} MiB each at most"],
         "man/rebuild.1": [
             f"1 to {racks} racks",
             f"threads that rebuild fragments, 1 to {workers}.",
