@@ -1,7 +1,8 @@
 #!/usr/bin/env python3
 """Draws docs/speeds.svg, a bar for each ratio of two tables of docs/BENCHMARKS.md: those of the farm and of stores.
 
-    speeds.py          tests that the plot is what the tables give, and so are the speeds and the memory that README says
+    speeds.py          tests that the plot is what the tables give, and so are the speeds and the memory that README says, with that of a
+                       million files, which docs/SCALE.md has
     speeds.py write    draws it"""
 
 import html
@@ -20,7 +21,8 @@ STORES = {
     "scrub of 1 GiB, 4 workers": (1e9, 2**30, "scrub {:.1f} GB/s"),
     "encode of 120 MB": (1e6, 120e6, "encode {:.0f} MB/s"),
 }
-LISTING = "lost over 1,000,000 files"
+# The row of SCALE's table of listings that says what a million files take, its last column but one in MiB.
+SCALE, LISTING = ROOT / "docs/SCALE.md", re.compile(r"^ +1,000,000 .* (\d+), \d+$", re.M)
 WIDTH, LEFT, STEP, TOP = 980, 640, 24, 66
 # The ratio at the right end of the axis.
 END = 3.0
@@ -74,8 +76,9 @@ def sentences():
     stores = {cells[0]: (number(cells[1]), number(cells[-1])) for cells in store_cells(lines)}
     for what, (unit, size, words) in STORES.items():
         yield words.format(size / stores[what][0] * 1e3 / unit)
-    most = [memory for what, (_, memory) in stores.items() if what != LISTING]
-    yield f"takes {min(most)} to {max(most)} MB, and {stores[LISTING][1]} to list a million files"
+    most = [memory for _, memory in stores.values()]
+    listing = int(LISTING.search(SCALE.read_text(encoding="utf-8"))[1]) * 2**20 / 1e6
+    yield f"takes {min(most)} to {max(most)} MB, and {listing:.0f} to list a million files"
 
 
 def text(x, y, words, more=""):
@@ -116,7 +119,7 @@ def main():
     for sentence in sentences():
         if sentence not in readme:
             sys.exit(f"speeds: docs/BENCHMARKS.md gives, and README.md doesn't say: {sentence}")
-    print(f"speeds: {len(rows())} bars of docs/speeds.svg and {len([*sentences()])} figures of README.md are those of docs/BENCHMARKS.md")
+    print(f"speeds: {len(rows())} bars of docs/speeds.svg and {len([*sentences()])} figures of README.md are those of the tables")
 
 
 main()
