@@ -2,6 +2,7 @@
 use std::alloc::{AllocError, Global};
 use std::fs;
 use std::io::ErrorKind;
+use store_faults::{StoreFault, device_fault};
 use store_names::{Locking, is_run, last_of, locking_at, run_named, run_of};
 
 // This process, as a link that is its number, and the name of this host.
@@ -19,7 +20,7 @@ const MOST_OF_LOCK: u64 = 200;
 pub(crate) struct Sharing {
     // As the names of its files say it; empty if the system doesn't say it.
     run: String,
-    // The kernel's table; empty if it can't be read.
+    // The kernel's table; empty if there is none.
     mounts: String,
 }
 
@@ -39,8 +40,8 @@ impl Sharing {
         }
     }
 
-    /// That of this run.
-    pub(crate) fn read(rt: &HostRuntime) -> Result<Sharing, AllocError> {
+    /// That of this run. A table of mounts that can't be read is a fault; without any nothing is known of locks.
+    pub(crate) fn read(rt: &HostRuntime) -> Result<Sharing, StoreFault> {
         let alloc = rt.alloc();
         let process = match fs::read_link(rt, PROCESS) {
             Ok(path) => String::from_str(alloc, path.as_str())?,
@@ -54,7 +55,7 @@ impl Sharing {
             } else {
                 String::new(alloc)
             },
-            mounts: text_of(rt, MOUNTS)?,
+            mounts: mounts_of(rt)?,
         })
     }
 
@@ -123,6 +124,16 @@ fn has_ended(rt: &HostRuntime, process: &str) -> Result<bool, AllocError> {
         Ok(_) => false,
         Err(error) => error.kind() == ErrorKind::NotFound,
     })
+}
+
+// The kernel's table of mounts; empty if there is none.
+fn mounts_of(rt: &HostRuntime) -> Result<String, StoreFault> {
+    let alloc = rt.alloc();
+    match fs::read_to_string(rt, MOUNTS) {
+        Ok(text) => Ok(text),
+        Err(error) if error.kind() == ErrorKind::NotFound => Ok(String::new(alloc)),
+        Err(error) => Err(device_fault(String::from_str(alloc, MOUNTS)?, error)),
+    }
 }
 
 // The text of a file; empty if it can't be read.
