@@ -180,7 +180,9 @@ class Encoding:
         hold(any(os.strerror(how) in line for line in ran.err.splitlines()), f"no line says {os.strerror(how)!r}: {ran.text()}")
         left = sorted(path.name for path in store.iterdir() if path.name.startswith(UNFINISHED))
         is_of_folder = any(path.rstrip("/") == str(store) for path in ran.paths) and ran.kind != "sync"
-        may_be_left = ran.kind == "unlink" or is_of_folder or (left == [LEFTOVER] and is_of_leftover(ran))
+        # Without the table of mounts nothing is begun, so what was left before stays.
+        is_of_mounts = left == [LEFTOVER] and any(path.endswith("/mountinfo") for path in ran.paths)
+        may_be_left = ran.kind == "unlink" or is_of_folder or is_of_mounts or (left == [LEFTOVER] and is_of_leftover(ran))
         hold(not left or may_be_left, f"a temporary file is left: {left}: {ran.text()}")
 
 

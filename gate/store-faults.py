@@ -204,7 +204,10 @@ class Trial:
         if not self.is_repair or (is_of_folder and ran.kind != "sync") or rest == "kind":
             return
         left = sorted(path.name for path in folder.iterdir() if path.name.startswith(UNFINISHED))
-        hold(not left or ran.kind == "unlink" or left == [LEFTOVER] and is_of_leftover, f"a temporary file is left: {left}: {ran.text()}")
+        # Without the table of mounts nothing is begun, so what was left before stays.
+        is_of_mounts = any(path.endswith("/mountinfo") for path in ran.paths)
+        may_be_left = ran.kind == "unlink" or left == [LEFTOVER] and (is_of_leftover or is_of_mounts)
+        hold(not left or may_be_left, f"a temporary file is left: {left}: {ran.text()}")
         # The other survivors of its stripe do, but for one of which it can't be told then which is damaged.
         holds_damage = any(name.endswith(".damaged") for name in self.store.after)
         is_of_new = any(pathlib.Path(path).name.startswith(UNFINISHED) for path in ran.paths)
