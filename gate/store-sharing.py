@@ -2,7 +2,7 @@
 """Tries runs of rebuild-store that share a store, on each file system that can be mounted here: two at once, what a killed one has left,
 locks and unfinished files that are another host's.
 
-    store-sharing.py [PROGRAM]
+    store-sharing.py [PROGRAM [KIND..]]
 
 The mounts are in memory, in files by a loop device, or of this host by sshfs, in a namespace of mounts that ends with this script; another
 host is a namespace with another name. What can't be mounted here, or what root alone can try, is said to be skipped."""
@@ -295,7 +295,7 @@ def by_nfs(_kind, place):
     system("mount", "-t", "tmpfs", "tmpfs", behind)
     system("mount", "-t", "nfsd", "nfsd", "/proc/fs/nfsd")
     system("rpc.mountd", "-N", "3")
-    system("rpc.nfsd", "-N", "3", "-G", "5", "-L", "5", "4")
+    system("rpc.nfsd", "-N", "3", "4")
     system("exportfs", "-o", "rw,no_root_squash,insecure,fsid=0", f"*:{behind}")
     for words in ("netns add beta", "link add to-beta type veth peer name eth0 netns beta", "addr add 10.99.0.1/24 dev to-beta",
                   "link set to-beta up", "link set lo up", "-n beta addr add 10.99.0.2/24 dev eth0", "-n beta link set eth0 up"):
@@ -315,6 +315,8 @@ MOUNTS = {"tmpfs": in_memory, "ext4": in_file, "xfs": in_file, "btrfs": in_file,
 
 def try_all(place):
     for kind, mounted in MOUNTS.items():
+        if kind not in (GIVEN[1:] or MOUNTS):
+            continue
         choose = random.Random(1)
         before = passed
         try:

@@ -34,6 +34,9 @@ pub fn remove_leftovers(
 
 // Removes a file, and says so. Says whether it could be removed, or is to stay.
 fn remove(rt: &HostRuntime, locks: &Locks, path: &str, is_known_dead: bool) -> io::Result<bool> {
+    if locks.is_worked_on(rt, path) {
+        return Ok(true);
+    }
     if let Some(OtherRun { words }) = locks.other_at(rt, path)? {
         say(
             rt,

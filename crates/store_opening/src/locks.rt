@@ -4,7 +4,7 @@ use std::alloc::{AllocError, Global};
 use std::fs::{self, File, TryLockError};
 use std::io::{self, ErrorKind, Write};
 use store_faults::{StoreFault, device_fault};
-use store_folder::{Links, Part, is_named, lock_name, open_as, open_regular, path_in};
+use store_folder::{Links, Part, is_named, lock_name, open_as, path_in};
 use store_names::Locking;
 
 // How often the file of a part's lock is opened anew where another run has removed it meanwhile.
@@ -73,15 +73,17 @@ impl Locks {
         format!(in alloc; "{part}{run}-")
     }
 
+    /// Whether a run works on the file at a path: this one, whose lock it is, or one that has locked it.
+    pub(crate) fn is_worked_on(&self, rt: &HostRuntime, path: &str) -> bool {
+        self.part.as_ref().is_some_and(|own| own.as_str() == path) || is_locked(rt, path)
+    }
+
     /// The run that left a file of its own at a path and may still work on it, though none has locked the file here.
     pub(crate) fn other_at(
         &self,
         rt: &HostRuntime,
         path: &str,
     ) -> Result<Option<OtherRun>, AllocError> {
-        if is_locked(rt, path) {
-            return Ok(None);
-        }
         self.sharing.other_at(rt, path)
     }
 
@@ -161,9 +163,11 @@ fn parts_of(path: &str) -> Option<u64> {
     count.parse::<u64>().ok()
 }
 
-// Whether a run holds a lock.
+// Whether a run holds a lock. By NFS a file is locked only if it is open for writing.
 fn is_locked(rt: &HostRuntime, path: &str) -> bool {
-    match open_regular(rt, path, Links::NotFollowed) {
+    let mut options = File::options();
+    options.write(true);
+    match open_as(rt, path, Links::NotFollowed, &options) {
         Ok(opened) => matches!(opened.file.try_lock(), Err(TryLockError::WouldBlock)),
         Err(_) => false,
     }
