@@ -1,7 +1,7 @@
 #!/usr/bin/env bash
-# Runs gate/store-sharing.py in a machine of its own, by qemu without the processor's help, since the kernel here may have no NFS: there a
-# store is shared by NFS between two namespaces of networks, and by all else that the script mounts. It needs root, Debian's
-# qemu-system-x86, debootstrap and cpio, and a network, from which it takes Debian's kernel and the programs of NFS.
+# Runs gate/store-sharing.py over NFS in a machine of its own, by qemu without the processor's help, since the kernel here may have no NFS:
+# there a store is shared between two namespaces of networks. It needs root, Debian's qemu-system-x86, debootstrap and cpio, and a network,
+# from which it takes Debian's kernel and the programs of NFS.
 #
 #   try-nfs.sh FOLDER [PROGRAM]    FOLDER is made, and has the machine's files, which a second run takes again
 set -euo pipefail
@@ -15,7 +15,7 @@ mkdir -p "$folder"
 folder=$(cd "$folder" && pwd)
 cd "$folder"
 if [ ! -e root/made ]; then
-  programs=python3,nfs-kernel-server,nfs-common,iproute2,kmod,procps,e2fsprogs,xfsprogs,btrfs-progs,openssh-server,sshfs
+  programs=python3,nfs-kernel-server,nfs-common,iproute2,kmod,procps
   debootstrap --variant=minbase --include="$programs" bookworm root http://deb.debian.org/debian > debootstrap.log
   touch root/made
 fi
@@ -29,18 +29,17 @@ fi
 version=$(basename kernel/lib/modules/*)
 modules=root/lib/modules/$version
 rm -rf "$modules"
-mkdir -p "$modules/kernel/"{net,drivers/net,drivers/block}
+mkdir -p "$modules/kernel/"{net,drivers/net}
 cp -r "kernel/lib/modules/$version/kernel/"{fs,lib,crypto,arch} "$modules/kernel/"
 cp -r "kernel/lib/modules/$version/kernel/net/"{sunrpc,dns_resolver} "$modules/kernel/net/"
 cp "kernel/lib/modules/$version/kernel/drivers/net/veth.ko" "$modules/kernel/drivers/net/"
-cp "kernel/lib/modules/$version/kernel/drivers/block/loop.ko" "$modules/kernel/drivers/block/"
 cp "kernel/lib/modules/$version/"modules.{order,builtin,builtin.modinfo} "$modules/" 2> /dev/null || true
 chroot root depmod "$version"
 
 rm -rf root/work
 mkdir -p root/work/gate root/work/tools root/work/crates/rebuild_store/out
 cp "$root/gate/store-sharing.py" root/work/gate/
-cp "$root/tools/"{store.py,reference.py,ssh-hosts.sh} root/work/tools/
+cp "$root/tools/"{store.py,reference.py} root/work/tools/
 cp "$program" root/work/crates/rebuild_store/out/rebuild_store
 cat > root/init <<'END'
 #!/bin/bash
@@ -53,14 +52,13 @@ mount -t devpts devpts /dev/pts
 mount -t tmpfs tmpfs /run
 mount -t tmpfs tmpfs /tmp
 echo alpha > /proc/sys/kernel/hostname
-for module in nfs nfsv4 nfsd veth loop ext4 xfs btrfs fuse; do
+for module in nfs nfsv4 nfsd veth; do
   modprobe "$module" || echo "no module $module"
 done
-mkdir -p /var/lib/nfs/rpc_pipefs /run/sshd
+mkdir -p /var/lib/nfs/rpc_pipefs
 ip link set lo up
-ssh-keygen -A > /dev/null
 cd /work
-python3 gate/store-sharing.py
+python3 gate/store-sharing.py crates/rebuild_store/out/rebuild_store nfs
 echo "try-nfs: status $?"
 echo o > /proc/sysrq-trigger
 sleep 60
