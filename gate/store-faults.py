@@ -196,18 +196,15 @@ class Trial:
         said = [line for line in (ran.out + ran.err).splitlines() if os.strerror(how) in line]
         # Where all further calls of its kind fail too, what is said may be of one of those.
         named = said if rest == "kind" else [line for line in said if any(name in line for name in names | unfinished)]
-        # A store whose checksums can't be read isn't repaired.
-        if any("SHA256SUMS: " in line for line in said):
+        # A store whose checksums can't be read isn't repaired, nor is any if the table of mounts can't be.
+        if any("SHA256SUMS: " in line or "/proc/self/mountinfo: " in line for line in said):
             return
         hold(named, f"no line names the file and the error: {sorted(names | unfinished)}, {os.strerror(how)!r}: {ran.text()}")
         is_of_folder = str(folder) in ran.paths or f"{folder}/" in ran.paths
         if not self.is_repair or (is_of_folder and ran.kind != "sync") or rest == "kind":
             return
         left = sorted(path.name for path in folder.iterdir() if path.name.startswith(UNFINISHED))
-        # Without the table of mounts nothing is begun, so what was left before stays.
-        is_of_mounts = any(path.endswith("/mountinfo") for path in ran.paths)
-        may_be_left = ran.kind == "unlink" or left == [LEFTOVER] and (is_of_leftover or is_of_mounts)
-        hold(not left or may_be_left, f"a temporary file is left: {left}: {ran.text()}")
+        hold(not left or ran.kind == "unlink" or left == [LEFTOVER] and is_of_leftover, f"a temporary file is left: {left}: {ran.text()}")
         # The other survivors of its stripe do, but for one of which it can't be told then which is damaged.
         holds_damage = any(name.endswith(".damaged") for name in self.store.after)
         is_of_new = any(pathlib.Path(path).name.startswith(UNFINISHED) for path in ran.paths)
